@@ -1,1 +1,4 @@
+pub mod Ranges
 pub mod Sectors
+pub mod Plain
+pub mod Pieces
