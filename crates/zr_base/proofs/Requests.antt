@@ -1,9 +1,8 @@
 -- The pieces of a request: the first, and then those of what is left.
-use Rattle.std.proofs.Common.{◌≡◌, ◌⊎◌, ℕ, zero, suc, ◌+◌, ◌-◌, ◌*◌, ◌/◌, ◌%◌, ◌<◌, ◌≤◌, min, max, Bool, true, false, IsTrue, nat_le, nat_lt, ◌&&◌, List, [], ◌∷◌, map, refl, sym, ap, ◌∙◌, inl, inr, cond, arith}
-use Rattle.std.specs.List.{range_with_len}
+use Rattle.std.proofs.Common.{◌≡◌, ◌⊎◌, ℕ, zero, suc, ◌+◌, ◌-◌, ◌*◌, ◌/◌, ◌%◌, ◌<◌, ◌≤◌, min, max, IsTrue, List, [], ◌∷◌, refl, sym, ap, ◌∙◌, inl, inr, arith}
 use Rattle.std.proofs.lemmas.Bool.Decides.{nat_tests}
 use Rattle.zr_base.specs.declared.op.Piece.{Piece}
-use Rattle.zr_base.specs.Plain.{covers, touches}
+use Rattle.zr_base.specs.Plain.{touches}
 use Rattle.zr_base.specs.Pieces.{pages_touched, piece_on, pieces_from, pieces_of, IsPieceOf, IsTouched}
 
 -- the sectors from m on, up to e, on a page

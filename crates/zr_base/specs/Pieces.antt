@@ -1,9 +1,8 @@
 -- The pieces of a request: for each page that it touches, in rising order, the request's sectors there.
 use Rattle.std.specs.Prelude.{◌≡◌, ℕ, ◌+◌, ◌-◌, ◌*◌, ◌/◌, ◌<◌, ◌≤◌, ◌==◌, ◌&&◌, nat_le, nat_lt, min, max, List, map, if◌then◌else◌}
 use Rattle.std.specs.List.{range_with_len}
-use Rattle.zr_base.specs.declared.page.PageIx.{PageIx}
 use Rattle.zr_base.specs.declared.op.Piece.{Piece}
-use Rattle.zr_base.specs.Plain.{covers, touches}
+use Rattle.zr_base.specs.Plain.{covers}
 
 -- how many pages a request touches
 abbrev pub pages_touched : ℕ → ℕ → ℕ

@@ -4,8 +4,16 @@
 
 mod op;
 mod page;
+mod planned;
+mod sink;
+mod source;
 mod walk;
 
 pub use op::{ActorOps, Bytes, Op, OpEnd, Piece, Stuff, Tag, Turns};
 pub use page::{Failed, Handle, Page, PageIx};
+pub use sink::{MemSink, Sink, StdSink};
+pub use source::{MemSource, Source, StdSource};
 pub use walk::{PieceWalk, pieces};
+
+#[cfg(test)]
+mod tests;

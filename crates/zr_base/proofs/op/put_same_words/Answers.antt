@@ -1,4 +1,4 @@
-use Rattle.std.proofs.Common.{◌≡◌, ◌∙◌, ◌<◌, ◌^◌, ℕ, arith}
+use Rattle.std.proofs.Common.{◌∙◌, arith}
 use Rattle.zr_base.proofs.Words.{words-fill}
 use Rattle.zr_base.proofs.op.put_same_words.Goals as goal
 

@@ -1,4 +1,4 @@
-use Rattle.std.proofs.Common.{◌≡◌, ℕ, ◌+◌, ◌*◌, ◌^◌, ◌%◌, length, take}
+use Rattle.std.proofs.Common.{◌≡◌, ◌+◌, ◌*◌, ◌^◌, ◌%◌, length, take}
 use Rattle.zr_base.specs.Plain.{words_from}
 use Rattle.zr_base.proofs.op.put_words.Given as goal
 

@@ -1,4 +1,4 @@
-use Rattle.std.proofs.Common.{◌≡◌, ◌*◌, ◌∙◌, sym, ap, take, drop}
+use Rattle.std.proofs.Common.{◌*◌, ◌∙◌, sym, ap, take, drop}
 use Rattle.zr_base.specs.Plain.{stuff_sector}
 use Rattle.zr_base.proofs.op.Stuff.sector.Goals as goal
 

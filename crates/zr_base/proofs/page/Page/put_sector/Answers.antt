@@ -1,4 +1,4 @@
-use Rattle.std.proofs.Common.{◌≡◌, ℕ, ◌+◌, ◌-◌, ◌*◌, ◌≤◌, length, refl, ap, ◌∙◌, arith}
+use Rattle.std.proofs.Common.{◌≡◌, ◌*◌, length, refl, ap, ◌∙◌, arith}
 use Rattle.zr_base.specs.Sectors.{page_sector}
 use Rattle.zr_base.proofs.Sectors.{page_sector-put, page_sector-put_other}
 use Rattle.zr_base.proofs.page.Page.put_sector.Goals as goal

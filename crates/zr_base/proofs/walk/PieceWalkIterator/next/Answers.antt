@@ -1,5 +1,4 @@
-use Rattle.std.proofs.Common.{◌≡◌, ℕ, ◌+◌, ◌-◌, ◌/◌, ◌%◌, List, ◌∷◌, sym, ap, ◌∙◌, arith, length}
-use Rattle.zr_base.specs.declared.op.Piece.{Piece}
+use Rattle.std.proofs.Common.{◌≡◌, ℕ, ◌+◌, ◌-◌, ◌/◌, ◌%◌, ◌∷◌, sym, ap, ◌∙◌, arith, length}
 use Rattle.zr_base.specs.Pieces.{pieces_of}
 use Rattle.zr_base.proofs.Requests.{pieces-some, piece_at}
 use Rattle.zr_base.proofs.walk.PieceWalkIterator.next.Goals as goal
