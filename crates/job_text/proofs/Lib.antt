@@ -1,0 +1,4 @@
+pub mod Digits
+pub mod Lawful
+pub mod Splits
+pub mod Spelling

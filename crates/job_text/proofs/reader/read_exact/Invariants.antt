@@ -1,0 +1,9 @@
+use Rattle.std.proofs.Common.{◌≡◌}
+use Rattle.job_text.specs.Reading.{job_of, lines_behind, bytes_behind, items_behind}
+use Rattle.job_text.proofs.reader.read_exact.Given as goal
+
+abbrev pub invariant-loop-rest : goal.invariant-loop-rest
+invariant-loop-rest l = job_of l.bytes ≡ items_behind l.reading (lines_behind l.rest)
+
+abbrev pub decreases-loop-rest : goal.decreases-loop-rest
+decreases-loop-rest l = bytes_behind l.rest

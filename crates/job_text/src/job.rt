@@ -1,0 +1,117 @@
+//! Jobs: attributes and phases, in the order of their lines.
+
+ghost use Rattle.std.specs.Prelude.{◌≡◌, List, [], ◌∷◌, ◌++◌, OnOk, OnErr, IfErr};
+
+use std::alloc::Global;
+use std::marker::Model;
+use zr_base::ActorOps;
+
+/// An attribute of the disk.
+#[derive(Clone, Copy, PartialEq, Eq, Debug)]
+pub enum Attr {
+    /// The disk's size in pages of 4096 bytes, 1 to 262,144.
+    DiskPages(u32),
+}
+
+/// The operations of a phase.
+#[derive(Drop)]
+pub struct PhaseText {
+    pub actors: ActorList,
+}
+
+/// An item of a job.
+#[derive(Drop)]
+pub enum Item {
+    Attr(Attr),
+    Phase(PhaseText),
+}
+
+/// The actors of a phase, each with its operations.
+#[derive(Drop)]
+pub struct ActorList {
+    items: Vec<ActorOps>,
+}
+
+impl Model for ActorList {
+    ghost use Rattle.std.specs.Prelude.{List};
+    ghost use Rattle.zr_base.specs.declared.op.Op.{Op};
+
+    ghost Value = { List (List Op) };
+
+    ghost view = { λ a. a.items.items };
+}
+
+impl ActorList {
+    /// The empty list; it takes no memory.
+    pub fn new(alloc: Global) -> Self
+        ensures { result ≡ [] }
+    {
+        ActorList {
+            items: Vec::new(alloc),
+        }
+    }
+
+    /// Puts an actor last. Err is want of memory, and hands the actor back.
+    pub fn push(&mut self, item: ActorOps) -> Result<(), ActorOps>
+        ensures ok { OnOk result (self.new ≡ self.old ++ item ∷ []) }
+        ensures err { OnErr result (self.new ≡ self.old) }
+        ensures back { IfErr result (λ actor. actor ≡ item) }
+    {
+        match self.items.push(item) {
+            Ok(()) => Ok(()),
+            Err(failed) => Err(failed.value),
+        }
+    }
+
+    /// The actors in order.
+    pub fn as_slice(&self) -> &[ActorOps]
+        ensures { result.now ≡ self.now }
+    {
+        &self.items
+    }
+}
+
+/// The items of a job.
+#[derive(Drop)]
+pub struct Job {
+    items: Vec<Item>,
+}
+
+impl Model for Job {
+    ghost use Rattle.std.specs.Prelude.{List};
+    ghost use Rattle.job_text.specs.declared.job.Item.{Item};
+
+    ghost Value = { List Item };
+
+    ghost view = { λ j. j.items.items };
+}
+
+impl Job {
+    /// The empty list; it takes no memory.
+    pub fn new(alloc: Global) -> Self
+        ensures { result ≡ [] }
+    {
+        Job {
+            items: Vec::new(alloc),
+        }
+    }
+
+    /// Puts an item last. Err is want of memory, and hands the item back.
+    pub fn push(&mut self, item: Item) -> Result<(), Item>
+        ensures ok { OnOk result (self.new ≡ self.old ++ item ∷ []) }
+        ensures err { OnErr result (self.new ≡ self.old) }
+        ensures back { IfErr result (λ it. it ≡ item) }
+    {
+        match self.items.push(item) {
+            Ok(()) => Ok(()),
+            Err(failed) => Err(failed.value),
+        }
+    }
+
+    /// The items in order.
+    pub fn as_slice(&self) -> &[Item]
+        ensures { result.now ≡ self.now }
+    {
+        &self.items
+    }
+}
