@@ -1,5 +1,7 @@
 -- The counters of a disk's memory, the rule of the limit, and what each piece of news changes.
-use Rattle.std.specs.Prelude.{ℕ, ◌+◌, ◌-◌, ◌*◌, ◌^◌, ◌<◌, ◌≤◌, ⊤, min, max}
+use Rattle.std.specs.Prelude.{◌≡◌, ℕ, ◌+◌, ◌-◌, ◌*◌, ◌^◌, ◌<◌, ◌≤◌, ⊤, min, max}
+use Rattle.mem_account.specs.declared.account.Charge.{Charge}
+use Rattle.mem_account.specs.declared.account.Charge.TheVariants.{Charged, AtLimit}
 use Rattle.mem_account.specs.declared.weight.Weight.{Weight}
 use Rattle.mem_account.specs.declared.weight.Weight.TheVariants.{Empty, Same, Packed, Huge, Back}
 use Rattle.mem_account.specs.declared.weight.Delta.{Delta}
@@ -49,6 +51,12 @@ IsPastLimit c need = (0 < c.limit) × (c.limit < c.pages + need)
 -- the other side of the limit rule
 abbrev pub IsWithinLimit : Counters → ℕ → Type 0
 IsWithinLimit c need = 0 < c.limit → c.pages + need ≤ c.limit
+
+-- the answer to a charge: a refusal has the frames charged, the need and the limit
+abbrev pub AnswersCharge : Counters → ℕ → Charge → Type 0
+AnswersCharge c need Charged = IsWithinLimit c need
+AnswersCharge c need (AtLimit pages more limit) =
+    IsPastLimit c need × (pages ≡ c.pages) × (more ≡ need) × (limit ≡ c.limit)
 
 -- the counters with so many frames more
 abbrev pub charged : Counters → ℕ → Counters

@@ -58,7 +58,8 @@ pub record IsTally (c : Counters) (pages : List Weight) : Type 0 where
 
 -- sums over pages stay sums over pages: one page changes its weight, or none
 abbrev pub KeepsTally : Counters → Counters → Delta → Type 0
-KeepsTally c d (Kept old new) = (front rest : List Weight) → IsTally c (front ++ old ∷ rest) → IsTally d (front ++ new ∷ rest)
+KeepsTally c d (Kept old new) =
+    (front rest : List Weight) → IsTally c (front ++ old ∷ rest) → IsTally d (front ++ new ∷ rest)
 KeepsTally c d FailedRead = (pages : List Weight) → IsTally c pages → IsTally d pages
 KeepsTally c d FailedWrite = (pages : List Weight) → IsTally c pages → IsTally d pages
 KeepsTally c d InvalidIo = (pages : List Weight) → IsTally c pages → IsTally d pages
@@ -66,7 +67,8 @@ KeepsTally c d NotifyFree = (pages : List Weight) → IsTally c pages → IsTall
 KeepsTally c d (Compacted frames) = (pages : List Weight) → IsTally c pages → IsTally d pages
 
 -- a page among those that the counters sum up is counted
-pub IsTally-counted : (c : Counters) (front rest : List Weight) (old : Weight) → IsTally c (front ++ old ∷ rest) → IsCounted c old
+pub IsTally-counted : (c : Counters) (front rest : List Weight) (old : Weight)
+    → IsTally c (front ++ old ∷ rest) → IsCounted c old
 IsTally-counted c front rest Empty t = tt
 IsTally-counted c front rest Same t = grind (arith, common_steps, t.same)
 IsTally-counted c front rest (Packed len) t = grind (arith, common_steps, t.packed, t.packed_bytes)

@@ -13,7 +13,7 @@ pub enum Charge {
     AtLimit { pages: u64, need: u64, limit: u64 },
 }
 
-/// The fields of zram's `mm_stat`, in its order: `orig`, `compr`, `used`, `limit` and `max` in bytes, the others in pages.
+/// The fields of zram's `mm_stat`, in its order. `orig`, `compr`, `used`, `limit` and `max` are bytes, the others pages.
 #[derive(Clone, Copy, PartialEq, Eq, Debug)]
 pub struct MmStat {
     /// Bytes of the pages that aren't empty, those on the backing device among them.
@@ -83,7 +83,8 @@ impl Model for Account {
 }
 
 impl Account {
-    ghost use Rattle.mem_account.specs.Counters.{no_counts, IsPastLimit, IsWithinLimit, charged, without, with_one, counted, IsCounted, IsOldCounted, HasFittingSizes};
+    ghost use Rattle.mem_account.specs.Counters.{no_counts, IsPastLimit, IsWithinLimit, AnswersCharge, charged};
+    ghost use Rattle.mem_account.specs.Counters.{without, with_one, counted, IsCounted, IsOldCounted, HasFittingSizes};
     ghost use Rattle.mem_account.specs.Stat.{mm_stat_of, io_stat_of};
     ghost use Rattle.mem_account.specs.Tally.{KeepsTally};
 
@@ -112,8 +113,7 @@ impl Account {
     /// Takes so many frames, or answers that they would pass the limit.
     pub fn charge(&mut self, need: u64) -> Charge
         requires { self.old.pages + need < 2 ^ 52 }
-        ensures at_limit { (result ≡ Charge.AtLimit self.old.pages need self.old.limit) ↔ IsPastLimit self.old need }
-        ensures within { (result ≡ Charge.Charged) ↔ IsWithinLimit self.old need }
+        ensures answer { AnswersCharge self.old need result }
         ensures refused { IsPastLimit self.old need → self.new ≡ self.old }
         ensures taken { IsWithinLimit self.old need → self.new ≡ charged self.old need }
     {
