@@ -1,0 +1,13 @@
+-- A device in memory.
+use Rattle.std.specs.Prelude.{ℕ, ◌+◌, List}
+use Rattle.backing_dev.specs.Plan.{Calls}
+
+-- the blocks' bytes in order, and the plans of reads and writes
+pub record Memory : Type 0 where
+  pub pages : List (List ℕ)
+  pub reads : Calls
+  pub writes : Calls
+
+-- all calls that failed
+abbrev pub faults_of : Memory → ℕ
+faults_of m = m.reads.failed + m.writes.failed
