@@ -1,1 +1,6 @@
+pub mod Faults
+pub mod Memory
+pub mod Pieces
+pub mod Plain
+pub mod Ranges
 pub mod Sectors

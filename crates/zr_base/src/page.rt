@@ -1,6 +1,7 @@
 //! A page of 4096 bytes, seen as a list of bytes, and the numbers of pages and objects.
 
-ghost use Rattle.std.specs.Prelude.{◌≡◌, ℕ, List, length, replicate};
+ghost use Rattle.std.specs.Prelude.{◌≡◌, ℕ, ◌<◌, List, length, replicate};
+ghost use Rattle.zr_base.specs.Sectors.{page_sector};
 
 use std::marker::Model;
 
@@ -52,5 +53,27 @@ impl Page {
         ensures size { length self.new ≡ 4096 }
     {
         self.bytes = *from;
+    }
+
+    /// The 512 bytes of a sector, counted from 0 within the page.
+    pub fn sector(&self, at: u8) -> &[u8; 512]
+        requires { at < 8 }
+        ensures { result.now ≡ page_sector self.now at }
+    {
+        let from_there = &self.bytes[512 * at as usize..];
+        match from_there.first_chunk() {
+            Some(sector) => sector,
+            None => unreachable!(),
+        }
+    }
+
+    /// Sets a sector; the other seven stay.
+    pub fn put_sector(&mut self, at: u8, from: &[u8; 512])
+        requires { at < 8 }
+        ensures put { page_sector self.new at ≡ from.now }
+        ensures others { (k : ℕ) → k < 8 → ¬ (k ≡ at) → page_sector self.new k ≡ page_sector self.old k }
+    {
+        let from_byte = 512 * at as usize;
+        self.bytes[from_byte..from_byte + 512].copy_from_slice(from);
     }
 }

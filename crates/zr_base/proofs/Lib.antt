@@ -1,0 +1,4 @@
+pub mod Sectors
+pub mod Words
+pub mod Supplies
+pub mod Requests

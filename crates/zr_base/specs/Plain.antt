@@ -1,0 +1,133 @@
+-- What a job's calls do to a plain disk: a list of sectors, and for each page the order of the calls on it.
+use Rattle.std.specs.Prelude.{◌≡◌, ℕ, ◌+◌, ◌-◌, ◌*◌, ◌<◌, ◌≤◌, ◌^◌, ◌/◌, ◌%◌, Bool, true, false, ◌&&◌, nat_lt, nat_le, ◌==◌, List, [], ◌∷◌, length, take, drop, replicate, count_by, Option, Some, None, option_and_then, slice_get, if◌then◌else◌}
+use Rattle.std.specs.List.{flat_map, range_with_len, AllByRecursion}
+use Rattle.std.specs.Int.{w64, to_le_bytes}
+use Rattle.zr_base.specs.declared.op.Tag.{Tag}
+use Rattle.zr_base.specs.declared.op.Stuff.{Stuff}
+use Rattle.zr_base.specs.declared.op.Stuff.TheVariants.{Fill, Seq, Hex}
+use Rattle.zr_base.specs.declared.op.Op.{Op}
+use Rattle.zr_base.specs.declared.op.Op.TheVariants.{Write, Read, Discard}
+use Rattle.zr_base.specs.declared.op.OpEnd.{OpEnd}
+use Rattle.zr_base.specs.declared.op.OpEnd.TheVariants as ends
+
+-- ---- what a write puts
+
+-- the words from one on, in order of address, little endian
+abbrev pub words_from : (ℕ → ℕ) → ℕ → ℕ → List ℕ
+words_from word from n = flat_map (λ j. to_le_bytes w64 (word j)) (range_with_len from n)
+
+-- the sector of what a write puts, counted over the request
+unfoldable pub stuff_sector : Stuff → ℕ → List ℕ
+stuff_sector (Fill word) k = words_from (λ j. word) (64 * k) 64
+stuff_sector (Seq base step) k = words_from (λ j. (base + j * step) % 2 ^ 64) (64 * k) 64
+stuff_sector (Hex bytes) k = take 512 (drop (512 * k) bytes)
+
+-- whether so many sectors are there
+abbrev pub HasSectors : Stuff → ℕ → Type 0
+HasSectors (Fill word) count = Unit {0}
+HasSectors (Seq base step) count = Unit {0}
+HasSectors (Hex bytes) count = 512 * count ≤ length bytes
+
+-- a sector of zeros
+unfoldable pub zero_sector : List ℕ
+zero_sector = replicate 512 0
+
+-- ---- requests
+
+-- whether a request has a sector
+abbrev pub covers : ℕ → ℕ → ℕ → Bool
+covers start count s = nat_le start s && nat_lt s (start + count)
+
+-- whether a request has a sector of a page
+abbrev pub touches : ℕ → ℕ → ℕ → Bool
+touches start count page = nat_lt start (8 * page + 8) && nat_lt (8 * page) (start + count)
+
+-- whether a request has all sectors of a page
+abbrev pub has_whole : ℕ → ℕ → ℕ → Bool
+has_whole start count page = nat_le start (8 * page) && nat_le (8 * page + 8) (start + count)
+
+abbrev pub start_of : Op → ℕ
+start_of (Write start count stuff) = start
+start_of (Read start count) = start
+start_of (Discard start count) = start
+
+abbrev pub count_of : Op → ℕ
+count_of (Write start count stuff) = count
+count_of (Read start count) = count
+count_of (Discard start count) = count
+
+-- a request's sectors in their bounds
+abbrev pub InBounds : ℕ → ℕ → Type 0
+InBounds start count = (start < 2 ^ 32) × (1 ≤ count) × (count ≤ 2048)
+
+-- a request has one sector at least, and at most 2048; a write has its bytes
+abbrev pub IsRequest : Op → Type 0
+IsRequest (Write start count stuff) = InBounds start count × HasSectors stuff count
+IsRequest (Read start count) = InBounds start count
+IsRequest (Discard start count) = InBounds start count
+
+-- whether a request lies beyond a disk of so many pages
+abbrev pub is_beyond : ℕ → Op → Bool
+is_beyond pages op = nat_lt (8 * pages) (start_of op + count_of op)
+
+-- whether an operation's piece on a page is carried out: that of a discard only where it has the whole page
+abbrev pub has_event : Op → ℕ → Bool
+has_event (Write start count stuff) page = true
+has_event (Read start count) page = true
+has_event (Discard start count) page = has_whole start count page
+
+-- ---- contents
+
+-- the sector that held these bytes, after an operation
+abbrev pub sector_after : Op → ℕ → List ℕ → List ℕ
+sector_after (Write start count stuff) s old = if covers start count s then stuff_sector stuff (s - start) else old
+sector_after (Read start count) s old = old
+sector_after (Discard start count) s old = if has_whole start count (s / 8) then zero_sector else old
+
+-- the operation that a tag names
+abbrev pub named : List (List Op) → Tag → Option Op
+named actors tag = option_and_then (λ ops. slice_get ops tag.op) (slice_get actors tag.actor)
+
+abbrev pub sector_after_named : Option Op → ℕ → List ℕ → List ℕ
+sector_after_named None s old = old
+sector_after_named (Some op) s old = sector_after op s old
+
+-- the sector that held these bytes, after the operations of an order, one after the other
+abbrev pub content : List (List Op) → ℕ → List ℕ → List Tag → List ℕ
+content actors s old [] = old
+content actors s old (tag ∷ tags) = content actors s (sector_after_named (named actors tag) s old) tags
+
+-- ---- orders
+
+-- whether an operation with its end stands in the order of a page
+abbrev pub stands_on : Op → OpEnd → ℕ → Bool
+stands_on op ends.Ok page = touches (start_of op) (count_of op) page && has_event op page
+stands_on op ends.Range page = false
+
+abbrev pub stands_named : Option Op → Option OpEnd → ℕ → Bool
+stands_named (Some op) (Some end) page = stands_on op end page
+stands_named (Some op) None page = false
+stands_named None end page = false
+
+-- whether the operation that a tag names stands in the order of a page
+abbrev pub is_noted : List (List Op) → List (List OpEnd) → ℕ → Tag → Bool
+is_noted actors ends page tag =
+    stands_named (named actors tag) (option_and_then (λ es. slice_get es tag.op) (slice_get ends tag.actor)) page
+
+abbrev pub same_tag : Tag → Tag → Bool
+same_tag s t = s.actor == t.actor && s.op == t.op
+
+-- the operations of each actor rise
+abbrev pub Rises : List Tag → Type 0
+Rises [] = Unit {0}
+Rises (tag ∷ tags) = AllByRecursion (λ later. tag.actor ≡ later.actor → tag.op < later.op) tags × Rises tags
+
+-- The order of a page has the tag of each operation that stands in it once, no other tag, and each actor's in turn.
+pub record IsOrder (actors : List (List Op)) (ends : List (List OpEnd)) (page : ℕ) (order : List Tag) : Type 0 where
+  pub once : (tag : Tag) → count_by (same_tag tag) order ≡ (if is_noted actors ends page tag then 1 else 0)
+  pub rises : Rises order
+
+-- the part of an order before a tag
+abbrev pub order_before : Tag → List Tag → List Tag
+order_before tag [] = []
+order_before tag (t ∷ ts) = if same_tag tag t then [] else t ∷ order_before tag ts

@@ -1,0 +1,201 @@
+//! Operations of a job, their pieces, tags and ends.
+
+ghost use Rattle.std.specs.Prelude.{◌≡◌, ℕ, ◌+◌, ◌*◌, ◌<◌, ◌≤◌, ◌^◌, List, [], ◌∷◌, ◌++◌, length, take, drop, OnOk, OnErr, IfErr, ◌%◌};
+ghost use Rattle.zr_base.specs.Plain.{words_from};
+
+use crate::page::PageIx;
+use std::alloc::Global;
+use std::marker::Model;
+
+/// Names an operation: the actor's number in its phase, and the operation's number among the actor's, both from 0.
+#[derive(Clone, Copy, PartialEq, Eq, Debug)]
+pub struct Tag {
+    pub actor: u32,
+    pub op: u32,
+}
+
+/// The sectors `first` to `first + count - 1` of a page, counted from 0 within the page.
+/// `count` is 1 to 8, and `first + count` at most 8.
+#[derive(Clone, Copy, PartialEq, Eq, Debug)]
+pub struct Piece {
+    pub page: PageIx,
+    pub first: u8,
+    pub count: u8,
+}
+
+/// Turns that a schedule gives to an actor.
+#[derive(Clone, Copy, PartialEq, Eq, Debug)]
+pub struct Turns {
+    pub actor: u32,
+    pub times: u32,
+}
+
+/// How an operation ended.
+#[derive(Clone, Copy, PartialEq, Eq, Debug)]
+pub enum OpEnd {
+    /// It was carried out.
+    Ok,
+    /// Its sectors lie beyond the disk, and nothing was done.
+    Range,
+}
+
+/// A list of bytes.
+#[derive(Drop)]
+pub struct Bytes {
+    items: Vec<u8>,
+}
+
+impl Model for Bytes {
+    ghost use Rattle.std.specs.Prelude.{ℕ, List};
+
+    ghost Value = { List ℕ };
+
+    ghost view = { λ b. b.items.items };
+}
+
+impl Bytes {
+    /// The empty list; it takes no memory.
+    pub fn new(alloc: Global) -> Self
+        ensures { result ≡ [] }
+    {
+        Bytes {
+            items: Vec::new(alloc),
+        }
+    }
+
+    /// Puts a byte last. Err is want of memory, and hands the byte back.
+    pub fn push(&mut self, item: u8) -> Result<(), u8>
+        ensures ok { OnOk result (self.new ≡ self.old ++ item ∷ []) }
+        ensures err { OnErr result (self.new ≡ self.old) }
+        ensures back { IfErr result (λ byte. byte ≡ item) }
+    {
+        match self.items.push(item) {
+            Ok(()) => Ok(()),
+            Err(failed) => Err(failed.value),
+        }
+    }
+
+    /// The bytes in order.
+    pub fn as_slice(&self) -> &[u8]
+        ensures { result.now ≡ self.now }
+    {
+        &self.items
+    }
+}
+
+/// What a write puts.
+#[derive(Drop)]
+pub enum Stuff {
+    /// Every word of 8 bytes is this one, little endian.
+    Fill(u64),
+    /// Word `j` of the request is `base + j * step` modulo `2^64`, little endian.
+    Seq { base: u64, step: u64 },
+    /// The bytes in order of address.
+    Hex(Bytes),
+}
+
+impl Stuff {
+    ghost use Rattle.std.specs.Prelude.{◌≡◌, ℕ, ◌+◌, ◌*◌, ◌≤◌, ◌^◌, ◌<◌, length};
+    ghost use Rattle.zr_base.specs.Plain.{HasSectors, stuff_sector};
+
+    /// The request's sector `k`, counted from 0. Of `Hex` that many bytes must be there.
+    pub fn sector(&self, k: u32, out: &mut [u8; 512])
+        requires { HasSectors self.now (k + 1) }
+        ensures { out.new ≡ stuff_sector self.now k }
+    {
+        match self {
+            Stuff::Fill(word) => put_same_words(*word, 64 * k as u64, out),
+            Stuff::Seq { base, step } => put_words(*base, *step, 64 * k as u64, out),
+            Stuff::Hex(bytes) => put_bytes(bytes.as_slice(), 512 * k as usize, out),
+        }
+    }
+}
+
+// Word j of the request is base + j * step; the sector begins with word `from`.
+fn put_words(base: u64, step: u64, from: u64, out: &mut [u8; 512])
+    requires { from < 2 ^ 40 }
+    ensures { out.new ≡ words_from (λ j. (base + j * step) % 2 ^ 64) from 64 }
+{
+    for i in 0..64 {
+        let word = base.wrapping_add((from + i as u64).wrapping_mul(step));
+        out[8 * i..8 * i + 8].copy_from_slice(&word.to_le_bytes());
+    }
+}
+
+fn put_same_words(word: u64, from: u64, out: &mut [u8; 512])
+    requires { from < 2 ^ 40 }
+    ensures { out.new ≡ words_from (λ j. word) from 64 }
+{
+    put_words(word, 0, from, out);
+}
+
+fn put_bytes(bytes: &[u8], from: usize, out: &mut [u8; 512])
+    requires { from + 512 ≤ length bytes.now }
+    ensures { out.new ≡ take 512 (drop from bytes.now) }
+{
+    out.copy_from_slice(&bytes[from..from + 512]);
+}
+
+/// An operation of an actor. A request has `count` sectors of 512 bytes, from sector `start` on.
+#[derive(Drop)]
+pub enum Op {
+    Write {
+        start: u64,
+        count: u32,
+        stuff: Stuff,
+    },
+    Read {
+        start: u64,
+        count: u32,
+    },
+    /// Discards the pages that the request has whole; of any other page nothing is discarded.
+    Discard {
+        start: u64,
+        count: u32,
+    },
+}
+
+/// The operations of an actor, in turn.
+#[derive(Drop)]
+pub struct ActorOps {
+    items: Vec<Op>,
+}
+
+impl Model for ActorOps {
+    ghost use Rattle.std.specs.Prelude.{List};
+    ghost use Rattle.zr_base.specs.declared.op.Op.{Op};
+
+    ghost Value = { List Op };
+
+    ghost view = { λ a. a.items.items };
+}
+
+impl ActorOps {
+    /// The empty list; it takes no memory.
+    pub fn new(alloc: Global) -> Self
+        ensures { result ≡ [] }
+    {
+        ActorOps {
+            items: Vec::new(alloc),
+        }
+    }
+
+    /// Puts an operation last. Err is want of memory, and hands the operation back.
+    pub fn push(&mut self, item: Op) -> Result<(), Op>
+        ensures ok { OnOk result (self.new ≡ self.old ++ item ∷ []) }
+        ensures err { OnErr result (self.new ≡ self.old) }
+        ensures back { IfErr result (λ op. op ≡ item) }
+    {
+        match self.items.push(item) {
+            Ok(()) => Ok(()),
+            Err(failed) => Err(failed.value),
+        }
+    }
+
+    /// The operations in order.
+    pub fn as_slice(&self) -> &[Op]
+        ensures { result.now ≡ self.now }
+    {
+        &self.items
+    }
+}
