@@ -1,5 +1,5 @@
--- What holds of a block map's fields: the tree finds the free blocks, the count is that of the owned
--- ones.
+-- What holds of a block map's fields: the tree finds the free blocks, the count is that of the
+-- owned ones.
 use Rattle.std.specs.Prelude.{◌≡◌, ◌≤◌, length}
 use Rattle.block_map.specs.declared.blocks.Blocks.TheInside.{Inside}
 use Rattle.block_map.specs.declared.tree.TheConstants.{NONE}

@@ -43,7 +43,8 @@ impl Model for Blocks {
 impl Blocks {
     ghost use Rattle.block_map.specs.BlockMap.{AnswersReserve, reserved, IsBudgetSpent, HasBudget, IsLeastFree, HasNoFree, with_state, IsHeldOrOwned, owned_blocks};
 
-    /// So many free blocks, with the limit off and no budget. This takes all memory that the map ever takes.
+    /// So many free blocks, with the limit off and no budget. This takes all memory that the map
+    /// ever takes.
     pub fn new(alloc: Global, blocks: u32) -> Result<Blocks, AllocError>
         ensures free { IfOk result (λ m. m.states ≡ replicate blocks BlockState.Free) }
         ensures unlimited { IfOk result (λ m. (m.budget ≡ 0) × (m.enabled ≡ false)) }
@@ -59,7 +60,8 @@ impl Blocks {
         })
     }
 
-    /// Holds the least free block for one write. An enabled limit pays one unit for it, which never comes back.
+    /// Holds the least free block for one write. An enabled limit pays one unit for it, which never
+    /// comes back.
     pub fn reserve(&mut self) -> Reserve
         ensures answer { AnswersReserve self.old result }
         ensures after { self.new ≡ reserved self.old result }

@@ -1,7 +1,9 @@
-//! The blocks of a backing device: which are free, held or owned, and how many may still be written.
+//! The blocks of a backing device: which are free, held or owned, and how many may still be
+//! written.
 //!
-//! A writeback reserves the least free block and holds it while it writes. Then it commits the block, which a
-//! page owns from then on, or releases it. A block has one owner, since only a free one is reserved.
+//! A writeback reserves the least free block and holds it while it writes. Then it commits the
+//! block, which a page owns from then on, or releases it. A block has one owner, since only a free
+//! one is reserved.
 //!
 //! | State | Who has it | Left by |
 //! |---|---|---|

@@ -1,8 +1,8 @@
 //! The least free block, found by a tournament.
 //!
-//! `n` blocks take `2 n` places. Place `n + b` has the number `b` while block `b` is free, else `NONE`. Each
-//! place `j` from 1 to `n - 1` has the lesser number of places `2 j` and `2 j + 1`, so place 1 has the least
-//! free block. Place 0 is not used.
+//! `n` blocks take `2 n` places. Place `n + b` has the number `b` while block `b` is free, else
+//! `NONE`. Each place `j` from 1 to `n - 1` has the lesser number of places `2 j` and `2 j + 1`, so
+//! place 1 has the least free block. Place 0 is not used.
 //!
 //! ```text
 //! n = 4, block 0 taken:            1: 1

@@ -13,7 +13,8 @@ pub enum Charge {
     AtLimit { pages: u64, need: u64, limit: u64 },
 }
 
-/// The fields of zram's `mm_stat`, in its order. `orig`, `compr`, `used`, `limit` and `max` are bytes, the others pages.
+/// The fields of zram's `mm_stat`, in its order. `orig`, `compr`, `used`, `limit` and `max` are
+/// bytes, the others pages.
 #[derive(Clone, Copy, PartialEq, Eq, Debug)]
 pub struct MmStat {
     /// Bytes of the pages that aren't empty, those on the backing device among them.
