@@ -1,10 +1,10 @@
 -- One block is written.
-use Rattle.std.proofs.Common.{◌≡◌, ◌≢◌, ℕ, ◌<◌, ◌≤◌, List, length, get_or, set, Some, slice_get, arith, ◌∙◌, sym, ap, inl, inr}
+use Rattle.std.proofs.Common.{◌≡◌, ◌≢◌, ℕ, ◌<◌, ◌≤◌, List, length, set, Some, slice_get, arith, ◌∙◌, sym, ap, inl, inr}
 use Rattle.std.proofs.Math.ListN.{length-set}
 use Rattle.std.proofs.lemmas.Bool.{cases_lt}
 use Rattle.std.proofs.lemmas.List.{get_or-set_same, get_or-set_other}
 use Rattle.std.proofs.lemmas.Option.{slice_get-get_or, slice_get_past}
-use Rattle.backing_dev.specs.Contents.{ChangesOnly, HasBlock}
+use Rattle.backing_dev.specs.Contents.{ChangesOnly}
 
 -- the written block has the page
 pub block_set : (pages : List (List ℕ)) (b : ℕ) (page : List ℕ) → b < length pages

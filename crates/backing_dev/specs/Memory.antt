@@ -1,5 +1,5 @@
 -- A device in memory.
-use Rattle.std.specs.Prelude.{ℕ, ◌+◌, List}
+use Rattle.std.specs.Prelude.{ℕ, ◌+◌, List, []}
 use Rattle.backing_dev.specs.Plan.{Calls}
 
 -- the blocks' bytes in order, and the plans of reads and writes
@@ -10,4 +10,8 @@ pub record Memory : Type 0 where
 
 -- all calls that failed
 abbrev pub faults_of : Memory → ℕ
-faults_of m = m.reads.failed + m.writes.failed
+faults_of m = m.reads.faults + m.writes.faults
+
+-- a device in memory is reached by itself
+abbrev pub references_of : Memory → List ℕ
+references_of m = []

@@ -1,23 +1,24 @@
 -- Calls of one kind that are planned to fail.
-use Rattle.std.specs.Prelude.{ℕ, ◌+◌, ◌-◌, ◌^◌, ◌<◌, min, Bool, List, if◌then◌else◌, Contains}
+use Rattle.std.specs.Prelude.{ℕ, ◌+◌, ◌-◌, ◌^◌, min, Bool, List, if◌then◌else◌}
+use Rattle.zr_base.specs.Faults.{FailsNext}
 
 -- the calls so far, how many of them failed, and the numbers of those that are to fail
 pub record Calls : Type 0 where
   pub calls : ℕ
-  pub failed : ℕ
-  pub planned : List ℕ
+  pub faults : ℕ
+  pub failing : List ℕ
 
 -- no calls so far
 abbrev pub planned_calls : List ℕ → Calls
-planned_calls planned = record { calls = 0; failed = 0; planned = planned }
+planned_calls failing = record { calls = 0; faults = 0; failing = failing }
 
--- the next call's number is planned, and isn't the one at which the count stands still
-abbrev pub FailsNext : Calls → Type 0
-FailsNext p = (p.calls + 1 < 2 ^ 64 - 1) × Contains p.planned (p.calls + 1)
+-- the next call is planned to fail
+abbrev pub IsNextPlanned : Calls → Type 0
+IsNextPlanned p = FailsNext p.calls p.failing
 
 -- one call more, which failed or not
 abbrev pub after_call : Calls → Bool → Calls
-after_call p failed = record p {
+after_call p fails = record p {
   calls = min (p.calls + 1) (2 ^ 64 - 1);
-  failed = if failed then p.failed + 1 else p.failed;
+  faults = if fails then p.faults + 1 else p.faults;
 }

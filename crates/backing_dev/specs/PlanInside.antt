@@ -7,12 +7,12 @@ use Rattle.backing_dev.specs.Plan.{Calls}
 abbrev pub due : ℕ → ℕ → ℕ
 due n number = if nat_le number n then 1 else 0
 
--- how many of the planned numbers are at most n
-abbrev pub planned_until : ℕ → List ℕ → ℕ
-planned_until n planned = sum_by (due n) planned
+-- how many of the numbers are at most n
+abbrev pub due_until : ℕ → List ℕ → ℕ
+due_until n failing = sum_by (due n) failing
 
 abbrev pub IsPlan : Inside → Type 0
-IsPlan p = p.failed ≤ planned_until p.calls p.planned.items
+IsPlan p = p.faults ≤ due_until p.calls p.failing.items
 
 abbrev pub calls_of : Inside → Calls
-calls_of p = record { calls = p.calls; failed = p.failed; planned = p.planned.items }
+calls_of p = record { calls = p.calls; faults = p.faults; failing = p.failing.items }

@@ -2,6 +2,7 @@
 
 ghost use Rattle.std.specs.Prelude.{◌≡◌, ◌<◌, ◌≤◌, OnOk, OnErr, IfErr};
 ghost use Rattle.backing_dev.specs.Contents.{HasBlock, ChangesOnly};
+ghost use Rattle.zr_base.specs.Faults.{HasCause};
 
 use crate::backing::Backing;
 use zr_base::Page;
@@ -60,11 +61,11 @@ impl<D: Backing> Dev<D> {
     pub fn read(&mut self, b: u32, into: &mut Page) -> Result<(), u64>
         requires { b < D.block_count (device_of self.old) }
         ensures blocks { D.block_count (device_of self.new) ≡ D.block_count (device_of self.old) }
+        ensures same { D.references (device_of self.new) ≡ D.references (device_of self.old) }
         ensures contents { D.contents (device_of self.new) ≡ D.contents (device_of self.old) }
         ensures read { OnOk result (HasBlock (D.contents (device_of self.new)) b into.new) }
         ensures failed { OnErr result (into.new ≡ into.old) }
-        ensures faults { D.fault_count (device_of self.old) ≤ D.fault_count (device_of self.new) }
-        ensures cause { IfErr result (λ f. D.fault_count (device_of self.old) < f) }
+        ensures cause { HasCause (D.fault_count (device_of self.old)) (D.fault_count (device_of self.new)) result }
         ensures fault { IfErr result (λ f. f ≡ D.fault_count (device_of self.new)) }
         ensures counted { reads_of self.new ≡ count_after result (reads_of self.old) }
         ensures writes { writes_of self.new ≡ writes_of self.old }
@@ -78,15 +79,15 @@ impl<D: Backing> Dev<D> {
         }
     }
 
-    /// Writes a block of the device. An error is the device's count of faults after the call; the block may have
-    /// changed then, but no other.
+    /// Writes a block of the device. An error is the device's count of faults after the call; the
+    /// block may have changed then, but no other.
     pub fn write(&mut self, b: u32, from: &Page) -> Result<(), u64>
         requires { b < D.block_count (device_of self.old) }
         ensures blocks { D.block_count (device_of self.new) ≡ D.block_count (device_of self.old) }
+        ensures same { D.references (device_of self.new) ≡ D.references (device_of self.old) }
         ensures written { OnOk result (HasBlock (D.contents (device_of self.new)) b from.now) }
         ensures others { ChangesOnly (D.contents (device_of self.old)) (D.contents (device_of self.new)) b }
-        ensures faults { D.fault_count (device_of self.old) ≤ D.fault_count (device_of self.new) }
-        ensures cause { IfErr result (λ f. D.fault_count (device_of self.old) < f) }
+        ensures cause { HasCause (D.fault_count (device_of self.old)) (D.fault_count (device_of self.new)) result }
         ensures fault { IfErr result (λ f. f ≡ D.fault_count (device_of self.new)) }
         ensures counted { writes_of self.new ≡ count_after result (writes_of self.old) }
         ensures reads { reads_of self.new ≡ reads_of self.old }

@@ -33,8 +33,8 @@ impl Model for MemBacking {
 impl MemBacking {
     ghost use Rattle.backing_dev.specs.Plan.{planned_calls};
 
-    /// So many blocks of zeros. The reads and the writes with these numbers, from 1, are to fail; a failed write
-    /// leaves its block full of the byte ff.
+    /// So many blocks of zeros. The reads and the writes with these numbers, from 1, are to fail; a
+    /// failed write leaves its block full of the byte ff.
     pub fn new(
         alloc: Global,
         blocks: u32,
@@ -82,14 +82,17 @@ fn zero_pages(alloc: Global, blocks: u32) -> Result<Vec<Page>, AllocError>
 impl Backing for MemBacking {
     ghost use Rattle.std.specs.Prelude.{◌≡◌, ◌<◌, ◌≤◌, ◌↔◌, Some, length, IsErr, is_err, OnOk, OnErr};
     ghost use Rattle.backing_dev.specs.Contents.{HasBlock, ChangesOnly, page_of};
-    ghost use Rattle.backing_dev.specs.Memory.{faults_of};
-    ghost use Rattle.backing_dev.specs.Plan.{FailsNext, after_call};
+    ghost use Rattle.backing_dev.specs.Memory.{faults_of, references_of};
+    ghost use Rattle.zr_base.specs.Faults.{HasCause};
+    ghost use Rattle.backing_dev.specs.Plan.{IsNextPlanned, after_call};
 
     ghost block_count = { λ d. length d.pages };
 
     ghost contents = { λ d. Some d.pages };
 
     ghost fault_count = { faults_of };
+
+    ghost references = { references_of };
 
     fn blocks(&self) -> u32 {
         self.blocks
@@ -98,14 +101,14 @@ impl Backing for MemBacking {
     fn read(&mut self, b: u32, into: &mut Page) -> Result<(), Failed>
         requires { b < length self.old.pages }
         ensures blocks { length self.new.pages ≡ length self.old.pages }
+        ensures same { references_of self.new ≡ references_of self.old }
         ensures contents { Some self.new.pages ≡ Some self.old.pages }
         ensures read { OnOk result (HasBlock (Some self.new.pages) b into.new) }
         ensures failed { OnErr result (into.new ≡ into.old) }
-        ensures faults { faults_of self.old ≤ faults_of self.new }
-        ensures cause { OnErr result (faults_of self.old < faults_of self.new) }
+        ensures cause { HasCause (faults_of self.old) (faults_of self.new) result }
 
         // It fails exactly at the planned calls.
-        ensures planned { IsErr result ↔ FailsNext self.old.reads }
+        ensures planned { IsErr result ↔ IsNextPlanned self.old.reads }
         ensures calls { self.new ≡ record self.old { reads = after_call self.old.reads (is_err result) } }
     {
         if self.reads.call() {
@@ -120,13 +123,13 @@ impl Backing for MemBacking {
     fn write(&mut self, b: u32, from: &Page) -> Result<(), Failed>
         requires { b < length self.old.pages }
         ensures blocks { length self.new.pages ≡ length self.old.pages }
+        ensures same { references_of self.new ≡ references_of self.old }
         ensures written { OnOk result (HasBlock (Some self.new.pages) b from.now) }
         ensures others { ChangesOnly (Some self.old.pages) (Some self.new.pages) b }
-        ensures faults { faults_of self.old ≤ faults_of self.new }
-        ensures cause { OnErr result (faults_of self.old < faults_of self.new) }
+        ensures cause { HasCause (faults_of self.old) (faults_of self.new) result }
 
         // It fails exactly at the planned calls, and then leaves the block full of ff.
-        ensures planned { IsErr result ↔ FailsNext self.old.writes }
+        ensures planned { IsErr result ↔ IsNextPlanned self.old.writes }
         ensures calls { self.new.writes ≡ after_call self.old.writes (is_err result) }
         ensures reads { self.new.reads ≡ self.old.reads }
         ensures spoilt { OnErr result (HasBlock (Some self.new.pages) b (page_of 255)) }
@@ -141,6 +144,6 @@ impl Backing for MemBacking {
     }
 
     fn faults(&self) -> u64 {
-        self.reads.failed() + self.writes.failed()
+        self.reads.faults() + self.writes.faults()
     }
 }

@@ -5,13 +5,13 @@ ghost use Rattle.std.specs.Prelude.{◌≡◌, ℕ, ◌^◌, ◌<◌, ◌↔◌,
 use std::alloc::{AllocError, Global};
 use std::marker::Model;
 
-/// The numbers, from 1, of the calls that are to fail, and how many calls there were. Call number 2^64 - 1, at
-/// which the count stands still, never fails.
+/// The numbers, from 1, of the calls that are to fail, and how many calls there were. Call number
+/// 2^64 - 1, at which the count stands still, never fails.
 #[derive(Drop)]
 pub struct Plan {
     calls: u64,
-    failed: u64,
-    planned: Vec<u64>,
+    faults: u64,
+    failing: Vec<u64>,
 }
 
 impl Model for Plan {
@@ -27,45 +27,44 @@ impl Model for Plan {
 }
 
 impl Plan {
-    ghost use Rattle.backing_dev.specs.Plan.{FailsNext, after_call};
+    ghost use Rattle.backing_dev.specs.Plan.{IsNextPlanned, planned_calls, after_call};
 
     /// No calls so far; those with these numbers are to fail.
-    pub fn new(alloc: Global, planned: &[u64]) -> Result<Plan, AllocError>
-        ensures planned { IfOk result (λ p. p.planned ≡ planned.now) }
-        ensures fresh { IfOk result (λ p. (p.calls ≡ 0) × (p.failed ≡ 0)) }
+    pub fn new(alloc: Global, failing: &[u64]) -> Result<Plan, AllocError>
+        ensures planned { IfOk result (λ p. p ≡ planned_calls failing.now) }
     {
         Ok(Plan {
             calls: 0,
-            failed: 0,
-            planned: Vec::from_slice(alloc, planned)?,
+            faults: 0,
+            failing: Vec::from_slice(alloc, failing)?,
         })
     }
 
     /// Counts a call, and says whether it is to fail.
     pub fn call(&mut self) -> bool
-        ensures fails { IsTrue result ↔ FailsNext self.old }
+        ensures fails { IsTrue result ↔ IsNextPlanned self.old }
         ensures after { self.new ≡ after_call self.old result }
     {
         let fails = self.fails_next();
         self.calls = self.calls.saturating_add(1);
         if fails {
-            self.failed += 1;
+            self.faults += 1;
         }
         fails
     }
 
     fn fails_next(&self) -> bool
-        ensures { IsTrue result ↔ FailsNext self.now }
+        ensures fails { IsTrue result ↔ IsNextPlanned self.now }
     {
         let number = self.calls.saturating_add(1);
-        number < u64::MAX && self.planned.contains(&number)
+        number < u64::MAX && self.failing.contains(&number)
     }
 
     /// How many calls failed.
-    pub fn failed(&self) -> u64
-        ensures count { result ≡ self.now.failed }
+    pub fn faults(&self) -> u64
+        ensures count { result ≡ self.now.faults }
         ensures few { result < 2 ^ 63 }
     {
-        self.failed
+        self.faults
     }
 }
