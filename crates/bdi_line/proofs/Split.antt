@@ -1,5 +1,5 @@
 -- Values beside a base: when they fit, what is written for them, and that no other payload will do.
-use Rattle.std.proofs.Common.{◌≡◌, ℕ, ◌+◌, ◌-◌, ◌/◌, ◌%◌, ◌^◌, ◌<◌, ◌≤◌, ◌⊎◌, inl, inr, List, ◌++◌, Bool, true, false, not, cond, length, get_or, map, refl, sym, ap, subst, ◌∙◌, arith, append_assoc}
+use Rattle.std.proofs.Common.{◌≡◌, ℕ, ◌+◌, ◌-◌, ◌/◌, ◌%◌, ◌^◌, ◌<◌, ◌≤◌, ◌⊎◌, inl, inr, List, [], ◌∷◌, ◌++◌, Bool, true, false, not, cond, length, get_or, map, refl, sym, ap, subst, ◌∙◌, arith, append_assoc}
 use Rattle.std.proofs.Math.Nat.{mod-eq_of_lt, mod-lt, add-mod_right}
 use Rattle.std.proofs.lemmas.Bool.{cases_lt}
 use Rattle.std.proofs.lemmas.Grind.{same_number_lists}
@@ -8,7 +8,7 @@ use Rattle.std.proofs.lemmas.Simd.{bit_mask_l, mask_l-lt, Each1-get_or}
 use Rattle.std.specs.List.{prefix_len}
 use Rattle.std.specs.Simd.Lanes.{digits_l, mask_l, Each1}
 use Rattle.bdi_line.specs.Line.{is_large, base_of, difference, low_bytes, Shape, half_of, modulus_of, IsSplit, FitsSplit}
-use Rattle.bdi_line.specs.Written.{delta_of, AreNear, IsParted, payload_of}
+use Rattle.bdi_line.specs.Written.{delta_of, AreNear, AreFar, IsParted, payload_of}
 use Rattle.bdi_line.proofs.Bits.{tested, no_mark, unmarked, mask_unique, bit_times}
 use Rattle.bdi_line.proofs.Large.{wrapped}
 
@@ -104,6 +104,19 @@ module _ (n h m : ℕ) (vs : List ℕ) (count : length vs ≡ n) where
       large_at ds j within
       ∙ ap (is_large h m) (ap (λ l. get_or l j 0) ed ∙ delta_at b j inside)
       ∙ small_delta h m b (get_or vs j 0) (subst Near (sym eb) (near j inside)))
+
+-- two values of a line that are far, the first of them the base
+pub far_misfits : (n h m j : ℕ) (vs : List ℕ) (first second : ℕ) → j < n → 0 < length vs → first ≡ get_or vs 0 0 → second ≡ get_or vs j 0 → AreFar h m first second → AreNear n h m vs → ⊥
+unfolding base_of
+far_misfits n h m j [] first second lt some e f far near = absurd (omega arith)
+far_misfits n h m j (v ∷ vs) first second lt some e f far near =
+    let large : is_large h m v ≡ true = ap (is_large h m) (sym e) ∙ far.one in
+    let none : prefix_len (λ x. not (is_large h m x)) (v ∷ vs) ≡ 0 = ap (λ b. cond (not b) (1 + prefix_len (λ x. not (is_large h m x)) vs) 0) large in
+    let base : get_or (v ∷ vs) (prefix_len (λ x. not (is_large h m x)) (v ∷ vs)) 0 ≡ first = ap (λ k. get_or (v ∷ vs) k 0) none ∙ sym e in
+    elim (near j lt) as (λ _. ⊥) [
+      | inl small ↦ let no : is_large h m second ≡ false = ap (is_large h m) f ∙ small in let yes = far.two in (cc)
+      | inr close ↦ let no : is_large h m (difference m first second) ≡ false = ap (λ b. is_large h m (difference m b second)) (sym base) ∙ ap (λ x. is_large h m (difference m (get_or (v ∷ vs) (prefix_len (λ y. not (is_large h m y)) (v ∷ vs)) 0) x)) f ∙ close in let yes = far.apart in (cc)
+    ]
 
 -- ---- the payload
 

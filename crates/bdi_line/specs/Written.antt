@@ -1,5 +1,5 @@
 -- What is written for the values of a line, step by step: private contracts cite it.
-use Rattle.std.specs.Prelude.{ℕ, ◌+◌, ◌-◌, ◌/◌, ◌%◌, ◌<◌, ◌≡◌, List, ◌++◌, cond, map, nat_le, ◌⊎◌, false, slice_index}
+use Rattle.std.specs.Prelude.{ℕ, ◌+◌, ◌-◌, ◌/◌, ◌%◌, ◌<◌, ◌≡◌, List, ◌++◌, cond, map, nat_le, ◌⊎◌, false, true, slice_index}
 use Rattle.std.specs.Simd.Lanes.{digits_l, mask_l}
 use Rattle.bdi_line.specs.Line.{is_large, base_of, difference, low_bytes, Shape, half_of, modulus_of}
 
@@ -10,6 +10,12 @@ delta_of h m base v = cond (is_large h m v) (difference m base v) v
 -- each value below m is small, or near the base
 abbrev pub AreNear : ℕ → ℕ → ℕ → List ℕ → Type 0
 AreNear count h m vs = (j : ℕ) → j < count → (is_large h m (slice_index vs j) ≡ false) ⊎ (is_large h m (difference m (base_of h m vs) (slice_index vs j)) ≡ false)
+
+-- both are large, and so is the second's difference from the first
+pub record AreFar (h m first second : ℕ) : Type 0 where
+  pub one : is_large h m first ≡ true
+  pub two : is_large h m second ≡ true
+  pub apart : is_large h m (difference m first second) ≡ true
 
 -- the marks of the large values, the base and the deltas
 pub record IsParted (h m : ℕ) (vs : List ℕ) (marks base : ℕ) (deltas : List ℕ) : Type 0 where

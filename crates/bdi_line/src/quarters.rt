@@ -3,7 +3,7 @@
 ghost use Rattle.std.specs.Prelude.{◌≡◌, ℕ, ◌+◌, ◌*◌, ◌/◌, ◌%◌, ◌^◌, ◌-◌, ◌<◌, ◌==◌, ◌↔◌, map, cond, length, slice_index, IfSome, IsSome, IsTrue, nat_le, ◌≤◌};
 ghost use Rattle.std.specs.Simd.Lanes.{digits_l, number_l, mask_l, chunk};
 ghost use Rattle.bdi_line.specs.Line.{values, is_large, base_of, low_bytes};
-ghost use Rattle.bdi_line.specs.Written.{AreNear, IsParted, delta_of, signed_of};
+ghost use Rattle.bdi_line.specs.Written.{AreFar, AreNear, IsParted, delta_of, signed_of};
 
 use std::simd::prelude::*;
 
@@ -65,6 +65,19 @@ fn deltas_of_quarters(values: u16x32, half: u16, whole: u16, base: u16) -> u16x3
     large.select(values - u16x32::splat(base), values)
 }
 
+/// Whether both are large and the second isn't near the first: most lines that do not fit are told
+/// so by their first values.
+#[inline]
+fn is_far_quarter(first: u16, second: u16, half: u16, whole: u16) -> bool
+    requires positive { 0 < half }
+    requires whole { whole ≡ 2 * half }
+    ensures { IsTrue result → AreFar half (2 ^ 16) first second }
+{
+    first.wrapping_add(half) >= whole
+        && second.wrapping_add(half) >= whole
+        && second.wrapping_sub(first).wrapping_add(half) >= whole
+}
+
 /// The values beside their base, where each is small or near it: `half` bounds a small value.
 #[inline]
 pub(crate) fn split_quarters(values: u16x32, half: u16, whole: u16) -> Option<QuarterSplit>
@@ -73,6 +86,12 @@ pub(crate) fn split_quarters(values: u16x32, half: u16, whole: u16) -> Option<Qu
     ensures some { IfSome result (λ split. IsParted half (2 ^ 16) values split.marks split.base split.deltas) }
     ensures fits { IsSome result ↔ AreNear 32 half (2 ^ 16) values }
 {
+    if is_far_quarter(values[0], values[1], half, whole) {
+        return None;
+    }
+    if is_far_quarter(values[0], values[2], half, whole) {
+        return None;
+    }
     let marks = marks_of_quarters(values, half, whole);
     let base = base_of_quarters(values, marks, half);
     let deltas = deltas_of_quarters(values, half, whole, base);

@@ -3,7 +3,7 @@
 ghost use Rattle.std.specs.Prelude.{◌≡◌, ℕ, ◌+◌, ◌*◌, ◌/◌, ◌%◌, ◌^◌, ◌-◌, ◌<◌, ◌==◌, ◌↔◌, map, cond, length, slice_index, IfSome, IsSome, IsTrue, nat_le, ◌≤◌};
 ghost use Rattle.std.specs.Simd.Lanes.{digits_l, number_l, mask_l, chunk};
 ghost use Rattle.bdi_line.specs.Line.{values, is_large, base_of, low_bytes};
-ghost use Rattle.bdi_line.specs.Written.{AreNear, IsParted, delta_of, signed_of};
+ghost use Rattle.bdi_line.specs.Written.{AreFar, AreNear, IsParted, delta_of, signed_of};
 
 use std::simd::prelude::*;
 
@@ -65,6 +65,19 @@ fn deltas_of_words(values: u64x8, half: u64, whole: u64, base: u64) -> u64x8
     large.select(values - u64x8::splat(base), values)
 }
 
+/// Whether both are large and the second isn't near the first: most lines that do not fit are told
+/// so by their first values.
+#[inline]
+fn is_far_word(first: u64, second: u64, half: u64, whole: u64) -> bool
+    requires positive { 0 < half }
+    requires whole { whole ≡ 2 * half }
+    ensures { IsTrue result → AreFar half (2 ^ 64) first second }
+{
+    first.wrapping_add(half) >= whole
+        && second.wrapping_add(half) >= whole
+        && second.wrapping_sub(first).wrapping_add(half) >= whole
+}
+
 /// The values beside their base, where each is small or near it: `half` bounds a small value.
 #[inline]
 pub(crate) fn split_words(values: u64x8, half: u64, whole: u64) -> Option<WordSplit>
@@ -73,6 +86,12 @@ pub(crate) fn split_words(values: u64x8, half: u64, whole: u64) -> Option<WordSp
     ensures some { IfSome result (λ split. IsParted half (2 ^ 64) values split.marks split.base split.deltas) }
     ensures fits { IsSome result ↔ AreNear 8 half (2 ^ 64) values }
 {
+    if is_far_word(values[0], values[1], half, whole) {
+        return None;
+    }
+    if is_far_word(values[0], values[2], half, whole) {
+        return None;
+    }
     let marks = marks_of_words(values, half, whole);
     let base = base_of_words(values, marks, half);
     let deltas = deltas_of_words(values, half, whole, base);
