@@ -26,10 +26,10 @@ pub(crate) fn halves_of(line: &[u8; 64]) -> u32x16
 
 /// The line of these values.
 #[inline]
-pub(crate) fn line_of_halves(values: u32x16) -> [u8; 64]
+pub(crate) fn line_of_halves(values: u32x16) -> u8x64
     ensures { result ≡ digits_l 256 64 (number_l (2 ^ 32) values) }
 {
-    values.to_le_bytes().to_array()
+    values.to_le_bytes()
 }
 
 /// The marks of the large values.

@@ -26,10 +26,10 @@ pub(crate) fn quarters_of(line: &[u8; 64]) -> u16x32
 
 /// The line of these values.
 #[inline]
-pub(crate) fn line_of_quarters(values: u16x32) -> [u8; 64]
+pub(crate) fn line_of_quarters(values: u16x32) -> u8x64
     ensures { result ≡ digits_l 256 64 (number_l (2 ^ 16) values) }
 {
-    values.to_le_bytes().to_array()
+    values.to_le_bytes()
 }
 
 /// The marks of the large values.

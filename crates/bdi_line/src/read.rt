@@ -4,7 +4,7 @@
 ghost use Rattle.std.specs.Prelude.{◌≡◌, ◌+◌, ◌≤◌, ◌<◌, ◌^◌, ◌↔◌, List, ℕ, length, take, IsTrue, IfSome, IsNone, replicate};
 ghost use Rattle.std.specs.Simd.Lanes.{number_l, chunk, digits_l};
 ghost use Rattle.bdi_line.specs.Line.{IsSplit, values, b8d1, b8d2, b8d4, b4d1, b4d2, b2d1};
-ghost use Rattle.bdi_line.specs.Coded.{IsCoded, IsLine};
+ghost use Rattle.bdi_line.specs.Coded.{IsCoded, IsLine, size_of};
 
 use crate::codes::Code;
 use crate::halves::{based_halves, halves_from_1, halves_from_2, line_of_halves, signed_halves};
@@ -23,7 +23,10 @@ pub fn unpack_line(code: Code, payload: &[u8]) -> Option<[u8; 64]>
     ensures only { IfSome result (λ found. (line : List ℕ) → IsLine line → IsCoded line code payload.now → line ≡ found) }
     ensures none { IsNone result → (line : List ℕ) → IsLine line → IsCoded line code payload.now → ⊥ }
 {
-    let line = candidate(code, payload)?;
+    if payload.len() != code.size() as usize {
+        return None;
+    }
+    let line = decoded(code, payload).to_array();
     if is_coded(&line, code, payload) {
         Some(line)
     } else {
@@ -53,14 +56,11 @@ fn same_bytes(a: &[u8], b: &[u8]) -> bool
 
 /// The only line that may have this code and payload.
 #[inline]
-fn candidate(code: Code, payload: &[u8]) -> Option<[u8; 64]>
-    ensures some { IfSome result (λ found. (line : List ℕ) → IsLine line → IsCoded line code payload.now → line ≡ found) }
-    ensures none { IsNone result → (line : List ℕ) → IsLine line → IsCoded line code payload.now → ⊥ }
+fn decoded(code: Code, payload: &[u8]) -> u8x64
+    requires { length payload.now ≡ size_of code }
+    ensures { (line : List ℕ) → IsLine line → IsCoded line code payload.now → line ≡ result }
 {
-    if payload.len() != code.size() as usize {
-        return None;
-    }
-    Some(match code {
+    match code {
         Code::Zeros => line_of_zeros(),
         Code::Repeated => line_of_words(read_repeated(payload)),
         Code::B8D1 => line_of_words(read_b8d1(payload)),
@@ -70,22 +70,22 @@ fn candidate(code: Code, payload: &[u8]) -> Option<[u8; 64]>
         Code::B4D2 => line_of_halves(read_b4d2(payload)),
         Code::B2D1 => line_of_quarters(read_b2d1(payload)),
         Code::Raw => line_at_front(payload),
-    })
+    }
 }
 
 #[inline]
-fn line_of_zeros() -> [u8; 64]
+fn line_of_zeros() -> u8x64
     ensures { result ≡ replicate 64 0 }
 {
-    [0; 64]
+    u8x64::splat(0)
 }
 
 #[inline]
-fn line_at_front(bytes: &[u8]) -> [u8; 64]
+fn line_at_front(bytes: &[u8]) -> u8x64
     requires { 64 ≤ length bytes.now }
     ensures { result ≡ chunk 0 64 bytes.now }
 {
-    u8x64::from_slice(bytes).to_array()
+    u8x64::from_slice(bytes)
 }
 
 #[inline]
