@@ -1,5 +1,5 @@
 -- What is written for the values of a line, step by step: private contracts cite it.
-use Rattle.std.specs.Prelude.{ℕ, ◌+◌, ◌-◌, ◌/◌, ◌%◌, ◌<◌, ◌≡◌, List, ◌++◌, cond, map, nat_le, ◌⊎◌, false, true, slice_index}
+use Rattle.std.specs.Prelude.{ℕ, ◌+◌, ◌-◌, ◌/◌, ◌%◌, ◌<◌, ◌≡◌, List, ◌++◌, cond, map, ◌⊎◌, false, true, slice_index}
 use Rattle.std.specs.Simd.Lanes.{digits_l, mask_l}
 use Rattle.bdi_line.specs.Line.{is_large, base_of, difference, low_bytes, Shape, half_of, modulus_of}
 
@@ -29,7 +29,3 @@ payload_of s vs =
     digits_l 256 (s.count / 8) (mask_l (map (is_large (half_of s) (modulus_of s)) vs))
     ++ digits_l 256 s.width (base_of (half_of s) (modulus_of s) vs)
     ++ low_bytes s.delta (map (delta_of (half_of s) (modulus_of s) (base_of (half_of s) (modulus_of s) vs)) vs)
-
--- a number below q that is at least h stands for itself less q, and wraps at m
-abbrev pub signed_of : ℕ → ℕ → ℕ → ℕ → ℕ
-signed_of h q m x = cond (nat_le h x) ((x + (m - q)) % m) x

@@ -3,7 +3,7 @@
 ghost use Rattle.std.specs.Prelude.{◌≡◌, ℕ, ◌+◌, ◌*◌, ◌/◌, ◌%◌, ◌^◌, ◌-◌, ◌<◌, ◌==◌, ◌↔◌, map, cond, length, slice_index, IfSome, IsSome, IsTrue, nat_le, ◌≤◌};
 ghost use Rattle.std.specs.Simd.Lanes.{digits_l, number_l, mask_l, chunk};
 ghost use Rattle.bdi_line.specs.Line.{values, is_large, base_of, low_bytes};
-ghost use Rattle.bdi_line.specs.Written.{AreFar, AreNear, IsParted, delta_of, signed_of};
+ghost use Rattle.bdi_line.specs.Written.{AreFar, AreNear, IsParted, delta_of};
 
 use std::simd::prelude::*;
 
