@@ -1,0 +1,6 @@
+pub mod Contents
+pub mod Dev
+pub mod Memory
+pub mod MemoryInside
+pub mod Plan
+pub mod PlanInside

@@ -1,0 +1,10 @@
+-- A memory device's fields.
+use Rattle.std.specs.Prelude.{◌≡◌, length}
+use Rattle.backing_dev.specs.declared.memory.MemBacking.TheInside.{Inside}
+use Rattle.backing_dev.specs.Memory.{Memory}
+
+abbrev pub IsMemory : Inside → Type 0
+IsMemory d = d.blocks ≡ length d.pages.items
+
+abbrev pub memory_of : Inside → Memory
+memory_of d = record { pages = d.pages.items; reads = d.reads; writes = d.writes }

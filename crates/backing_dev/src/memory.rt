@@ -1,0 +1,149 @@
+//! A backing device in memory, for tests and for disks without a file.
+
+ghost use Rattle.std.specs.Prelude.{◌≡◌, ℕ, ◌<◌, ◌≤◌, ◌↔◌, List, Some, length, replicate, IfOk, IsErr, OnOk, OnErr};
+ghost use Rattle.backing_dev.specs.Contents.{HasBlock, ChangesOnly, page_of};
+
+use crate::backing::Backing;
+use crate::plan::Plan;
+use std::alloc::{AllocError, Global};
+use std::marker::Model;
+use zr_base::{Failed, Page};
+
+/// Blocks in memory. They tell their contents, and their reads and writes fail at planned calls.
+#[derive(Drop)]
+pub struct MemBacking {
+    pages: Vec<Page>,
+    blocks: u32,
+    reads: Plan,
+    writes: Plan,
+}
+
+impl Model for MemBacking {
+    ghost use Rattle.backing_dev.specs.Memory.{Memory};
+
+    ghost Value = { Memory };
+
+    ghost use Rattle.backing_dev.specs.MemoryInside.{memory_of, IsMemory};
+
+    ghost view = { memory_of };
+
+    ghost invariant = { IsMemory };
+}
+
+impl MemBacking {
+    ghost use Rattle.backing_dev.specs.Plan.{planned_calls};
+
+    /// So many blocks of zeros. The reads and the writes with these numbers, from 1, are to fail; a
+    /// failed write leaves its block full of the byte ff.
+    pub fn new(
+        alloc: Global,
+        blocks: u32,
+        bad_reads: &[u64],
+        bad_writes: &[u64],
+    ) -> Result<MemBacking, AllocError>
+        ensures zeros { IfOk result (λ d. d.pages ≡ replicate blocks (page_of 0)) }
+        ensures reads { IfOk result (λ d. d.reads ≡ planned_calls bad_reads.now) }
+        ensures writes { IfOk result (λ d. d.writes ≡ planned_calls bad_writes.now) }
+    {
+        Ok(MemBacking {
+            pages: zero_pages(alloc, blocks)?,
+            blocks,
+            reads: Plan::new(alloc, bad_reads)?,
+            writes: Plan::new(alloc, bad_writes)?,
+        })
+    }
+}
+
+// Leaves a page full of the byte ff.
+#[tactic(auto, unfolding(crate::specs::Contents::page_of))]
+fn spoil(page: &mut Page)
+    ensures { page.new ≡ page_of 255 }
+{
+    page.put_bytes(&[0xff; 4096]);
+}
+
+#[tactic(auto, unfolding(crate::specs::Contents::page_of))]
+fn zero_page() -> Page
+    ensures { result ≡ page_of 0 }
+{
+    Page::zero()
+}
+
+fn zero_pages(alloc: Global, blocks: u32) -> Result<Vec<Page>, AllocError>
+    ensures { IfOk result (λ pages. pages.items ≡ replicate blocks (page_of 0)) }
+{
+    let mut pages = Vec::with_capacity(alloc, blocks as usize)?;
+    for _block in 0..blocks {
+        pages.push(zero_page())?;
+    }
+    Ok(pages)
+}
+
+impl Backing for MemBacking {
+    ghost use Rattle.std.specs.Prelude.{◌≡◌, ◌<◌, ◌≤◌, ◌↔◌, Some, length, IsErr, is_err, OnOk, OnErr};
+    ghost use Rattle.backing_dev.specs.Contents.{HasBlock, ChangesOnly, page_of};
+    ghost use Rattle.backing_dev.specs.Memory.{faults_of, references_of};
+    ghost use Rattle.zr_base.specs.Faults.{HasCause};
+    ghost use Rattle.backing_dev.specs.Plan.{IsNextPlanned, after_call};
+
+    ghost block_count = { λ d. length d.pages };
+
+    ghost contents = { λ d. Some d.pages };
+
+    ghost fault_count = { faults_of };
+
+    ghost references = { references_of };
+
+    fn blocks(&self) -> u32 {
+        self.blocks
+    }
+
+    fn read(&mut self, b: u32, into: &mut Page) -> Result<(), Failed>
+        requires { b < length self.old.pages }
+        ensures blocks { length self.new.pages ≡ length self.old.pages }
+        ensures same { references_of self.new ≡ references_of self.old }
+        ensures contents { Some self.new.pages ≡ Some self.old.pages }
+        ensures read { OnOk result (HasBlock (Some self.new.pages) b into.new) }
+        ensures failed { OnErr result (into.new ≡ into.old) }
+        ensures cause { HasCause (faults_of self.old) (faults_of self.new) result }
+
+        // It fails exactly at the planned calls.
+        ensures planned { IsErr result ↔ IsNextPlanned self.old.reads }
+        ensures calls { self.new ≡ record self.old { reads = after_call self.old.reads (is_err result) } }
+    {
+        if self.reads.call() {
+            return Err(Failed);
+        }
+        let page = &self.pages[b as usize];
+        into.put_bytes(page.bytes());
+        Ok(())
+    }
+
+    #[tactic(auto, using(crate::proofs::Blocks::block_set, crate::proofs::Blocks::others_set))]
+    fn write(&mut self, b: u32, from: &Page) -> Result<(), Failed>
+        requires { b < length self.old.pages }
+        ensures blocks { length self.new.pages ≡ length self.old.pages }
+        ensures same { references_of self.new ≡ references_of self.old }
+        ensures written { OnOk result (HasBlock (Some self.new.pages) b from.now) }
+        ensures others { ChangesOnly (Some self.old.pages) (Some self.new.pages) b }
+        ensures cause { HasCause (faults_of self.old) (faults_of self.new) result }
+
+        // It fails exactly at the planned calls, and then leaves the block full of ff.
+        ensures planned { IsErr result ↔ IsNextPlanned self.old.writes }
+        ensures calls { self.new.writes ≡ after_call self.old.writes (is_err result) }
+        ensures reads { self.new.reads ≡ self.old.reads }
+        ensures spoilt { OnErr result (HasBlock (Some self.new.pages) b (page_of 255)) }
+    {
+        if self.writes.call() {
+            spoil(&mut self.pages[b as usize]);
+            return Err(Failed);
+        }
+        let page = &mut self.pages[b as usize];
+        page.put_bytes(from.bytes());
+        Ok(())
+    }
+
+    fn faults(&self) -> u64 {
+        self.reads.faults() + self.writes.faults()
+    }
+}

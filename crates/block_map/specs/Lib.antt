@@ -1,0 +1,3 @@
+pub mod BlockMap
+pub mod Inside
+pub mod Tree

@@ -1,0 +1,50 @@
+-- Why a run was given up.
+use Rattle.std.specs.Prelude.{◌≡◌, ◌⊎◌, ℕ, ◌<◌, Bool, true, false, IsTrue, List, [], ◌∷◌, ◌++◌, map, Option, length, codes, ⊤}
+use Rattle.std.specs.Borrow.{Bor}
+use Rattle.std.specs.Io.KnownBytes.{Appends, Consumes, IsAtEnd}
+use Rattle.std.specs.Str.{bytes_eq}
+use Rattle.job_text.specs.declared.job.Item.{Item}
+use Rattle.job_text.specs.Jobs.{IsJob}
+use Rattle.job_session.specs.declared.stop.Stop.{Stop}
+use Rattle.job_session.specs.declared.stop.Stop.TheVariants as stops
+use Rattle.job_session.specs.declared.stop.NoText.{NoText}
+use Rattle.job_session.specs.declared.stop.NoText.TheVariants as no
+
+-- a write fault comes only where the sink has failed since, or has taken nothing of some bytes
+abbrev pub WriteCause : ℕ → ℕ → Bool → Type 0
+WriteCause before now stopped = (before < now) ⊎ (stopped ≡ true)
+
+-- why a call that only writes was given up
+abbrev pub StopCause : ℕ → ℕ → Bool → Stop → Type 0
+StopCause before now stopped stops.Memory = ⊤
+StopCause before now stopped stops.Write = WriteCause before now stopped
+
+-- more bytes were read than a job has at most
+abbrev pub IsLong : Option (List ℕ) → Option (List ℕ) → Type 0
+IsLong before after = (bytes : List ℕ) × Consumes before after bytes × (16777216 < length bytes)
+
+-- why no text was read
+abbrev pub ReadCause : Option (List ℕ) → Option (List ℕ) → ℕ → ℕ → NoText → Type 0
+ReadCause left left_after before now no.Memory = ⊤
+ReadCause left left_after before now no.Failed = before < now
+ReadCause left left_after before now no.Long = IsLong left left_after
+
+-- some bytes of these were sent, from the first on
+pub record SendsSome (written written_after : Option (List ℕ)) (bytes : List ℕ) : Type 0 where
+  pub sent : List ℕ
+  pub rest : List ℕ
+  pub parts : bytes ≡ sent ++ rest
+  pub appended : Appends written written_after sent
+
+-- whether the words are the one word `run`
+abbrev pub is_run_word : List (List ℕ) → Bool
+is_run_word [] = false
+is_run_word (word ∷ []) = bytes_eq word (codes "run")
+is_run_word (word ∷ other ∷ more) = false
+
+abbrev pub IsRunWord : List (Bor (List ℕ)) → Type 0
+IsRunWord words = IsTrue (is_run_word (map (λ word. word.now) words))
+
+-- the source was read to its end, and what it had is no job
+abbrev pub HasNoJob : Option (List ℕ) → Option (List ℕ) → Type 0
+HasNoJob before after = (bytes : List ℕ) × Consumes before after bytes × IsAtEnd after × ((job : List Item) → IsJob bytes job → ⊥)

@@ -1,0 +1,51 @@
+-- The text of an output.
+use Rattle.std.specs.Prelude.{◌≡◌, ℕ, ◌+◌, ◌/◌, ◌%◌, nat_lt, List, [], ◌∷◌, ◌++◌, take, drop, reverse, codes, if◌then◌else◌}
+use Rattle.std.specs.List.{flat_map}
+use Rattle.std.specs.Str.{bytes_eq}
+use Rattle.std.specs.Fmt.{decimal}
+use Rattle.zr_base.specs.declared.op.Tag.{Tag}
+use Rattle.zr_base.specs.declared.op.OpEnd.{OpEnd}
+use Rattle.zr_base.specs.declared.op.OpEnd.TheVariants as ends
+use Rattle.plain_disk.specs.Output.{OutLine, ended, sector, ordered}
+
+abbrev pub end_text : OpEnd → List ℕ
+end_text ends.Ok = codes "ok"
+end_text ends.Range = codes "range"
+
+abbrev pub hex_digit : ℕ → ℕ
+hex_digit d = if nat_lt d 10 then 48 + d else 87 + d
+
+abbrev pub hex_byte : ℕ → List ℕ
+hex_byte b = hex_digit (b / 16) ∷ hex_digit (b % 16) ∷ []
+
+-- The word that all words of a sector are, as a number, or else each byte in order of address.
+unfoldable pub sector_text : List ℕ → List ℕ
+sector_text bytes =
+    if bytes_eq (drop 8 bytes) (take 504 bytes)
+    then codes "fill " ++ flat_map hex_byte (reverse (take 8 bytes)) ++ 10 ∷ []
+    else codes "hex " ++ flat_map hex_byte bytes ++ 10 ∷ []
+
+abbrev pub tag_text : Tag → List ℕ
+tag_text tag = 32 ∷ decimal tag.actor ++ 58 ∷ decimal tag.op
+
+unfoldable pub ended_text : Tag → OpEnd → List ℕ
+ended_text tag end = codes "op " ++ decimal tag.actor ++ 32 ∷ decimal tag.op ++ 32 ∷ end_text end ++ 10 ∷ []
+
+unfoldable pub ordered_text : ℕ → List Tag → List ℕ
+ordered_text page tags = codes "order " ++ decimal page ++ flat_map tag_text tags ++ 10 ∷ []
+
+abbrev pub line_text : OutLine → List ℕ
+line_text (ended tag end) = ended_text tag end
+line_text (sector bytes) = sector_text bytes
+line_text (ordered page tags) = ordered_text page tags
+
+-- the text of an output
+abbrev pub text : List OutLine → List ℕ
+text lines = flat_map line_text lines
+
+abbrev pub usage_text : List ℕ
+usage_text = codes "usage: zramsim run" ++ 10 ∷ []
+
+-- the one line of a text that is no job
+abbrev pub refusal_text : List ℕ
+refusal_text = codes "job 0 word" ++ 10 ∷ []

@@ -1,0 +1,127 @@
+//! The text of output lines.
+
+ghost use Rattle.std.specs.Prelude.{◌≡◌, ℕ, ◌+◌, ◌≤◌, List, ◌∷◌, ◌++◌, take, drop, length, reverse, OnOk, IfOk, codes, []};
+ghost use Rattle.std.specs.List.{flat_map};
+ghost use Rattle.job_session.specs.Texts.{end_text, hex_digit, hex_byte, sector_text, ended_text, ordered_text, tag_text};
+
+use std::alloc::{AllocError, Global};
+use zr_base::{OpEnd, Tag};
+
+fn end_word(end: OpEnd) -> &'static str
+    ensures { result.now ≡ end_text end }
+{
+    match end {
+        OpEnd::Ok => "ok",
+        OpEnd::Range => "range",
+    }
+}
+
+fn hex_of(digit: u8) -> u8
+    requires { digit ≤ 15 }
+    ensures { result ≡ hex_digit digit }
+{
+    if digit < 10 {
+        b'0' + digit
+    } else {
+        b'a' + (digit - 10)
+    }
+}
+
+// The bytes as two lower-case digits each.
+fn put_hex(out: &mut Vec<u8>, bytes: &[u8]) -> Result<(), AllocError>
+    ensures { OnOk result (out.new.items ≡ out.old.items ++ flat_map hex_byte bytes.now) }
+{
+    for byte in bytes {
+        out.push(hex_of(*byte / 16))?;
+        out.push(hex_of(*byte % 16))?;
+    }
+    Ok(())
+}
+
+// The line of a sector whose words are all one.
+fn put_fill(out: &mut Vec<u8>, word: &[u8]) -> Result<(), AllocError>
+    requires { length word.now ≡ 8 }
+    ensures { OnOk result (out.new.items ≡ out.old.items ++ (codes "fill " ++ flat_map hex_byte (reverse word.now) ++ 10 ∷ [])) }
+{
+    let mut digits = [0; 8];
+    digits.copy_from_slice(word);
+    digits.reverse();
+    out.extend_from_slice(b"fill ")?;
+    put_hex(out, &digits)?;
+    out.push(b'\n')?;
+    Ok(())
+}
+
+fn put_bytes(out: &mut Vec<u8>, bytes: &[u8]) -> Result<(), AllocError>
+    ensures { OnOk result (out.new.items ≡ out.old.items ++ (codes "hex " ++ flat_map hex_byte bytes.now ++ 10 ∷ [])) }
+{
+    out.extend_from_slice(b"hex ")?;
+    put_hex(out, bytes)?;
+    out.push(b'\n')?;
+    Ok(())
+}
+
+/// The line of a sector that was read.
+#[tactic(auto, unfolding(crate::specs::Texts::sector_text))]
+pub(crate) fn put_sector(out: &mut Vec<u8>, sector: &[u8; 512]) -> Result<(), AllocError>
+    ensures { OnOk result (out.new.items ≡ out.old.items ++ sector_text sector.now) }
+{
+    let (front, _) = sector.split_at(504);
+    let (word, rest) = sector.split_at(8);
+    if rest == front {
+        return put_fill(out, word);
+    }
+    put_bytes(out, sector)
+}
+
+/// The line of an operation's end.
+#[tactic(auto, unfolding(crate::specs::Texts::ended_text))]
+pub(crate) fn put_end(
+    out: &mut Vec<u8>,
+    alloc: Global,
+    tag: Tag,
+    end: OpEnd,
+) -> Result<(), AllocError>
+    ensures { OnOk result (out.new.items ≡ out.old.items ++ ended_text tag end) }
+{
+    let Tag { actor, op } = tag;
+    let word = end_word(end);
+    let text = format!(in alloc; "op {actor} {op} {word}\n")?;
+    out.extend_from_slice(text.as_bytes())?;
+    Ok(())
+}
+
+fn put_tag(out: &mut Vec<u8>, alloc: Global, tag: Tag) -> Result<(), AllocError>
+    ensures { OnOk result (out.new.items ≡ out.old.items ++ tag_text tag) }
+{
+    let Tag { actor, op } = tag;
+    let text = format!(in alloc; " {actor}:{op}")?;
+    out.extend_from_slice(text.as_bytes())?;
+    Ok(())
+}
+
+fn put_tags(out: &mut Vec<u8>, alloc: Global, tags: &[Tag]) -> Result<(), AllocError>
+    ensures { OnOk result (out.new.items ≡ out.old.items ++ flat_map tag_text tags.now) }
+{
+    for tag in tags {
+        put_tag(out, alloc, *tag)?;
+    }
+    Ok(())
+}
+
+/// The line of a page's order.
+#[tactic(auto, unfolding(crate::specs::Texts::ordered_text))]
+pub(crate) fn put_order(
+    out: &mut Vec<u8>,
+    alloc: Global,
+    page: u32,
+    tags: &[Tag],
+) -> Result<(), AllocError>
+    ensures { OnOk result (out.new.items ≡ out.old.items ++ ordered_text page tags.now) }
+{
+    let text = format!(in alloc; "order {page}")?;
+    out.extend_from_slice(text.as_bytes())?;
+    put_tags(out, alloc, tags)?;
+    out.push(b'\n')?;
+    Ok(())
+}

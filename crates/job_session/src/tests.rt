@@ -1,0 +1,48 @@
+//! Whole jobs over a source and a sink in memory, and what each fault leaves.
+
+use crate::{Status, sim_main};
+use std::alloc::{AllocError, Global};
+use std::test::Fail;
+use zr_base::{MemSink, MemSource};
+
+const JOB: &str =
+    "disksize 4K\nactor\nwrite 0 4 fill 1\nwrite 3 1 fill 2\nread 2 3\nread 8 1\nrun\n";
+
+const OUTPUT: &str =
+    "op 0 0 ok\nop 0 1 ok\nop 0 2 ok\nfill 0000000000000001\nfill 0000000000000002\nfill 0000000000000000\nop 0 3 range\norder 0 0:0 0:1 0:2\n";
+
+// The status of a run, and whether it wrote this.
+fn ends(
+    alloc: Global,
+    words: &[&str],
+    text: &str,
+    failing: &[u64],
+    room: usize,
+    wanted: &str,
+) -> Result<(Status, bool), AllocError> {
+    let mut job = MemSource::new(alloc, text.as_bytes(), failing)?;
+    let mut out = MemSink::new(alloc, room, &[])?;
+    let status = sim_main(alloc, words, &mut job, &mut out);
+    Ok((status, out.bytes() == wanted.as_bytes()))
+}
+
+#[test]
+fn runs_jobs(rt: HostRuntime) -> Result<(), Fail> {
+    let run: &[&str] = &["run"];
+    let usage = "usage: zramsim run\n";
+    let table: [(&[&str], &str, &[u64], usize, Status, &str); 8] = [
+        (run, JOB, &[], 1000, Status::Refused, OUTPUT),
+        (run, "run\n", &[], 1000, Status::Done, ""),
+        (run, "stop\n", &[], 1000, Status::Job, "job 0 word\n"),
+        (&[], JOB, &[], 1000, Status::Words, usage),
+        (&["run", "now"], JOB, &[], 1000, Status::Words, usage),
+        (&["gen", "0", "0"], JOB, &[], 1000, Status::Words, usage),
+        (run, JOB, &[1], 1000, Status::ReadFault, ""),
+        (run, JOB, &[], 3, Status::WriteFault, "op "),
+    ];
+    for (words, text, failing, room, status, wanted) in table {
+        let end = ends(rt.alloc(), words, text, failing, room, wanted)?;
+        assert_eq!(rt; end, (status, true), "at {text}");
+    }
+    Ok(())
+}

@@ -1,0 +1,4 @@
+pub mod Counters
+pub mod Stat
+pub mod Tally
+pub mod Views

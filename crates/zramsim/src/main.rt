@@ -1,0 +1,27 @@
+//! `zramsim run` reads a job from standard input, runs it and writes its output to standard output.
+//! The exit status is that of the top call; where no memory is found for the words, it is 6.
+#![tactic(auto)]
+
+use job_session::{Status, sim_main};
+use std::process::ExitCode;
+use std::{env, io};
+use zr_base::{StdSink, StdSource};
+
+fn run(rt: &HostRuntime) -> io::Result<Status> {
+    let mut args = Vec::new(rt.alloc());
+    for word in env::args(rt)?.skip(1) {
+        args.push(word)?;
+    }
+    let mut words = Vec::new(rt.alloc());
+    for word in &args {
+        words.push(word.as_str())?;
+    }
+    let mut job = StdSource::new(rt.stdin());
+    let mut out = StdSink::new(rt.stdout());
+    Ok(sim_main(rt.alloc(), &words, &mut job, &mut out))
+}
+
+fn main(rt: HostRuntime) -> ExitCode {
+    let status = run(&rt).unwrap_or(Status::NoMemory);
+    ExitCode::from(status as u8)
+}
