@@ -1,0 +1,5 @@
+pub mod Told
+pub mod Room
+pub mod Joint
+pub mod Finished
+pub mod Starts

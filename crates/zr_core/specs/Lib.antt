@@ -1,0 +1,3 @@
+pub mod Steps
+pub mod Joint
+pub mod Machines

@@ -1,0 +1,6 @@
+//! The disk and its actors: phases by turns, the joint rule, and what a phase prints.
+#![tactic(auto)]
+
+mod laws;
+
+pub use laws::{phases_are_legal, turns_keep};
