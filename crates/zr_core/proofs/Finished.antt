@@ -22,12 +22,8 @@ use Rattle.lock_row.specs.declared.names.State.{State}
 use Rattle.slot_entry.specs.Entries.{EntryState, page_of}
 use Rattle.zr_core.specs.Steps.{DiskHeld, Here, plan_at}
 use Rattle.zr_core.specs.Joint.{done_by, dones, Shows, locks_at, Joint}
+use Rattle.zr_core.proofs.Places.{there_is}
 use Rattle.zr_core.specs.Machines.{AllFinished, order_in, page_in, orders_of, sector_in, histories, printed}
-
-there_is : {A : Type 0} (xs : List A) (i : ℕ) → i < length xs → (x : A) × (slice_get xs i ≡ Some x)
-there_is [] i h = absurd (omega arith)
-there_is (x ∷ xs) zero h = (x, refl)
-there_is (x ∷ xs) (suc i) h = there_is xs i (omega arith)
 
 map_nil : {A B : Type 0} (f : A → B) (xs : List A) → map f xs ≡ [] → xs ≡ []
 map_nil f [] e = refl

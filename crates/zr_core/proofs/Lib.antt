@@ -3,3 +3,5 @@ pub mod Room
 pub mod Joint
 pub mod Finished
 pub mod Starts
+pub mod Places
+pub mod Sectors

@@ -1,3 +1,5 @@
 pub mod Steps
 pub mod Joint
 pub mod Machines
+pub mod Places
+pub mod Work

@@ -2,5 +2,7 @@
 #![tactic(auto)]
 
 mod laws;
+mod place;
+mod work;
 
 pub use laws::{phases_are_legal, turns_keep};
