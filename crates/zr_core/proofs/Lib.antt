@@ -5,3 +5,4 @@ pub mod Finished
 pub mod Starts
 pub mod Places
 pub mod Sectors
+pub mod Turns

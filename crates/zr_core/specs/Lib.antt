@@ -3,3 +3,4 @@ pub mod Joint
 pub mod Machines
 pub mod Places
 pub mod Work
+pub mod Workers

@@ -4,5 +4,6 @@
 mod laws;
 mod place;
 mod work;
+mod worker;
 
 pub use laws::{phases_are_legal, turns_keep};

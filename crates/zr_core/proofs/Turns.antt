@@ -1,0 +1,93 @@
+-- A worker's steps are events of the actor that it stands for.
+use Rattle.std.proofs.Common.{◌≡◌, ◌≢◌, ◌⊎◌, ℕ, zero, suc, ◌+◌, ◌-◌, ◌*◌, ◌<◌, ◌≤◌, ◌^◌, Bool, true, false, cond, eqb, max, min, List, [], ◌∷◌, ◌++◌, length, drop, Option, Some, None, slice_get, refl, sym, ap, ◌∙◌, subst, arith, inl, inr, ⊎_elim, vec_len, vec_capacity}
+use mathlib.Core.Logic.{dite}
+use native.Mathlib.Decide.{ℕ_discrete}
+use Rattle.std.proofs.lemmas.Bool.{eq-eqb, ne_eqb}
+use Rattle.std.proofs.lemmas.List.{append-nil}
+use Rattle.zr_base.specs.declared.op.Tag.{Tag}
+use Rattle.zr_base.specs.declared.op.Op.{Op}
+use Rattle.zr_base.specs.declared.op.Op.TheVariants.{Write, Read, Discard}
+use Rattle.zr_base.specs.declared.op.OpEnd.TheVariants as ends
+use Rattle.zr_base.specs.Sectors.{page_sector}
+use Rattle.zr_base.specs.Plain.{is_beyond, has_event, sector_after, IsRequest}
+use Rattle.call_history.specs.declared.part.Part.{Part}
+use Rattle.call_history.specs.declared.part.PartEnd.TheVariants.{Carried}
+use Rattle.call_history.specs.declared.part.Done.{Done}
+use Rattle.call_history.specs.Parts.{parts_from, program, got_by, got_of}
+use Rattle.call_history.specs.Shows.{tag_by, got_from}
+use Rattle.call_history.proofs.Ends.{got_append}
+use Rattle.lock_row.specs.declared.names.LockNo.{LockNo}
+use Rattle.lock_row.specs.declared.names.Held.TheVariants as holds
+use Rattle.lock_row.specs.declared.names.At.TheVariants as at
+use Rattle.lock_row.specs.declared.names.Plan.{Plan}
+use Rattle.lock_row.specs.declared.names.Plan.TheVariants.{Finished, Take, Give}
+use Rattle.slot_entry.specs.Entries.{EntryState, page_of}
+use Rattle.zr_core.specs.declared.place.Place.{Place}
+use Rattle.zr_core.specs.declared.worker.Reply.{Reply}
+use Rattle.zr_core.specs.declared.worker.Worker.{Worker}
+use Rattle.zr_core.specs.declared.worker.Turn.TheVariants as turn
+use Rattle.zr_core.specs.Steps.{DiskHeld, Here, slot, plan, plan_at, took, lock_of, gave, gave_by, got_in, over, CarriesOut, Works, carries}
+use Rattle.zr_core.specs.Places.{todo_by, todo_at, IsPlace, IsSettled, IsOnward}
+use Rattle.zr_core.specs.Work.{IsPiece, reads}
+use Rattle.zr_core.specs.Workers.{at_of, held_by, here, next_event, Keeps, Fits, HasRoomIn, ReadFits, ReplyFits, IsFit, HasMore, WorksAlways, Turned, waited, took_it, gave_it, finished, Advanced}
+use Rattle.zr_core.proofs.Places.{there_is, todo_here, on_here, has_settled, no_todo, place_here}
+
+abbrev pub part_at : Place → Op → Part
+part_at pl op = record { nr = pl.nr; op = op; page = pl.page }
+
+-- the place after the piece
+abbrev pub behind : Place → Place
+behind pl = record { nr = pl.nr; page = pl.page + 1; left = pl.left - 1 }
+
+abbrev pub with_entry : Worker → Option EntryState → Worker
+with_entry w o = record { actor = w.actor; place = w.place; entry = o; replies = w.replies }
+
+-- the next piece
+pub todo_next : (size : ℕ) (ops : List Op) (pl : Place) (op : Op) → slice_get ops pl.nr ≡ Some op → IsSettled ops pl → todo_at size ops pl ≡ part_at pl op ∷ todo_at size ops (behind pl)
+todo_next size ops pl op at s =
+    todo_here size ops pl.nr op at pl.page pl.left
+    ∙ ap (λ (ps : List Part). ps ++ program size (pl.nr + 1) (drop (suc pl.nr) ops)) one
+    ∙ sym (ap (λ (ps : List Part). part_at pl op ∷ ps) (todo_here size ops pl.nr op at (pl.page + 1) (pl.left - 1))) where
+      one : parts_from pl.nr op pl.page pl.left ≡ part_at pl op ∷ parts_from pl.nr op (pl.page + 1) (pl.left - 1)
+      one =
+          let h = has_settled size ops pl.nr op at pl.page pl.left s in
+          ap (parts_from pl.nr op pl.page) (let q = h.0 in let r : pl.left ≡ suc (pl.left - 1) = omega arith in r)
+          ∙ ap (λ (b : Bool). cond b (part_at pl op ∷ []) [] ++ parts_from pl.nr op (pl.page + 1) (pl.left - 1)) h.1
+
+module _ {X : Type 0} (takes : X → LockNo → (Here → DiskHeld → Here) → DiskHeld → X → Type 0) (misses : X → LockNo → X → Type 0) (gives : X → LockNo → (Here → DiskHeld → Here) → DiskHeld → X → Type 0)
+    (size : ℕ) (ops : List Op) (w : Worker) (h g : X) where
+  -- nothing is left
+  pub at_end : (done : List Done) → length ops ≤ w.place.nr → Keeps w done → Advanced takes misses gives size ops w h w h turn.Finished done
+  at_end done le keeps = (done, keeps, finished (ap (λ ps. plan_at ps (at_of w.entry)) (no_todo size w.place.nr ops w.place.page w.place.left le)) refl refl)
+
+  module _ (fit : IsFit size ops w) (empty : w.entry ≡ None) (more : w.place.nr < length ops) where
+    pub takes_slot : next_event size ops w ≡ Take (slot w.place.page)
+    takes_slot =
+        let op = there_is ops w.place.nr more in
+        λ i. plan_at (todo_next size ops w.place op.0 op.1 fit.settled i) (at_of (empty i))
+
+    pub misses_slot : (done : List Done) → Keeps w done → misses h (slot w.place.page) g → Advanced takes misses gives size ops w h w g (turn.Waited (slot w.place.page)) done
+    misses_slot done keeps miss = (done, keeps, waited (slot w.place.page) takes_slot miss refl)
+
+    pub has_slot : (done : List Done) (v : DiskHeld) (e : EntryState) → v ≡ holds.Slot e → Keeps w done → takes h (slot w.place.page) took v g
+        → Advanced takes misses gives size ops w h (with_entry w (Some e)) g turn.Went done
+    has_slot done v e is keeps take = (
+      done,
+      record { sectors = keeps.sectors },
+      took_it (slot w.place.page) v takes_slot take
+          (λ i. record { actor = w.actor; at = at.Entered; todo = todo_at size ops w.place; held = held_is i; done = done }),
+    ) where
+      held_is : (slot w.place.page, holds.Slot e) ∷ [] ≡ (lock_of (next_event size ops w), v) ∷ held_by w.place.page w.entry
+      held_is = λ i. (ap lock_of (sym takes_slot) i, sym is i) ∷ ap (held_by w.place.page) (sym empty) i
+
+  pub fits_slot : IsFit size ops w → (v : DiskHeld) (e : EntryState) → v ≡ holds.Slot e → Fits v → IsFit size ops (with_entry w (Some e))
+  fits_slot fit v e is fits = record {
+    requests = fit.requests;
+    few = fit.few;
+    place = fit.place;
+    settled = fit.settled;
+    room = subst Fits is fits;
+    replies = fit.replies;
+    ends = fit.ends;
+    reads = fit.reads;
+  }
