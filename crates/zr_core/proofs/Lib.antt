@@ -6,3 +6,4 @@ pub mod Starts
 pub mod Places
 pub mod Sectors
 pub mod Turns
+pub mod Leaves

@@ -29,7 +29,7 @@ use Rattle.zr_core.specs.declared.worker.Turn.TheVariants as turn
 use Rattle.zr_core.specs.Steps.{DiskHeld, Here, slot, plan, plan_at, took, lock_of, gave, gave_by, got_in, over, CarriesOut, Works, carries}
 use Rattle.zr_core.specs.Places.{todo_by, todo_at, IsPlace, IsSettled, IsOnward}
 use Rattle.zr_core.specs.Work.{IsPiece, reads}
-use Rattle.zr_core.specs.Workers.{at_of, held_by, here, next_event, Keeps, Fits, HasRoomIn, ReadFits, ReplyFits, IsFit, HasMore, WorksAlways, Turned, waited, took_it, gave_it, finished, Advanced}
+use Rattle.zr_core.specs.Workers.{at_of, held_by, here, next_event, Keeps, Fits, HasRoomIn, ReadFits, ReplyFits, IsFit, HasMore, WorksAlways, Turned, waited, took_it, gave_it, finished, Advanced, with_entry}
 use Rattle.zr_core.proofs.Places.{there_is, todo_here, on_here, has_settled, no_todo, place_here}
 
 abbrev pub part_at : Place → Op → Part
@@ -39,8 +39,9 @@ part_at pl op = record { nr = pl.nr; op = op; page = pl.page }
 abbrev pub behind : Place → Place
 behind pl = record { nr = pl.nr; page = pl.page + 1; left = pl.left - 1 }
 
-abbrev pub with_entry : Worker → Option EntryState → Worker
-with_entry w o = record { actor = w.actor; place = w.place; entry = o; replies = w.replies }
+-- the worker with the entry that was in its hand
+pub same_worker : (w : Worker) (e : EntryState) → Some e ≡ w.entry → with_entry w (Some e) ≡ w
+same_worker w e is = ap (with_entry w) is
 
 -- the next piece
 pub todo_next : (size : ℕ) (ops : List Op) (pl : Place) (op : Op) → slice_get ops pl.nr ≡ Some op → IsSettled ops pl → todo_at size ops pl ≡ part_at pl op ∷ todo_at size ops (behind pl)

@@ -38,6 +38,10 @@ here size ops w done = record { actor = w.actor; at = at_of w.entry; todo = todo
 abbrev pub next_event : ℕ → List Op → Worker → Plan
 next_event size ops w = plan_at (todo_at size ops w.place) (at_of w.entry)
 
+-- the worker with this entry in its hand
+abbrev pub with_entry : Worker → Option EntryState → Worker
+with_entry w o = record { actor = w.actor; place = w.place; entry = o; replies = w.replies }
+
 -- the replies have what the pieces that are over have read
 pub record Keeps (w : Worker) (done : List Done) : Type 0 where
   pub sectors : (k : ℕ) (r : Reply) → slice_get w.replies.items k ≡ Some r → r.sectors.items ≡ got_of k done

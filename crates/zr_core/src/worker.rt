@@ -12,7 +12,7 @@ ghost use Rattle.lock_row.specs.declared.names.Plan.TheVariants.{Take, Give};
 ghost use Rattle.slot_entry.specs.Entries.{page_of};
 ghost use Rattle.zr_core.specs.Steps.{took, gave, DiskHeld};
 ghost use Rattle.zr_core.specs.Work.{IsPiece, reads};
-ghost use Rattle.zr_core.specs.Workers.{next_event, Keeps, Fits, IsFit, HasMore, WorksAlways, Advanced};
+ghost use Rattle.zr_core.specs.Workers.{next_event, Keeps, Fits, IsFit, HasMore, WorksAlways, Advanced, with_entry};
 
 use crate::place::{Place, settled};
 use crate::work::carry_out;
@@ -117,6 +117,50 @@ impl Worker {
                 self.entry = Some(entry_of(value));
                 Turn::Went
             }
+        }
+    }
+
+    // Carries the next piece out, and gives the slot back.
+    fn leave<H: Hand<Value = DiskHeld>>(&mut self, size: u32, ops: &[Op], entry: Entry, hand: &mut H) -> Turn
+        requires fit { IsFit size ops.now (with_entry self.old (Some entry)) }
+        requires empty { self.old.entry ≡ None }
+        requires more { self.old.place.nr < length ops.now }
+        requires gives { (k : LockNo) (v : DiskHeld) → next_event size ops.now (with_entry self.old (Some entry)) ≡ Give k → WorksAlways size ops.now (with_entry self.old (Some entry)) v → H.can_give hand.old k gave v }
+        ensures fit { IsFit size ops.now self.new }
+        ensures turn { (done : List Done) → Keeps self.old done → Advanced H.takes H.misses H.gives size ops.now (with_entry self.old (Some entry)) hand.old self.new hand.new result done }
+    {
+        let Place { nr, page, left } = self.place;
+        let mut worked = entry;
+        work(&mut self.replies, nr, &ops[nr], page, &mut worked);
+        worked.note(Tag {
+            actor: self.actor,
+            op: nr as u32,
+        });
+        hand.give::<Gave>(LockNo::Slot(PageIx(page)), Held::Slot(worked));
+        let behind = Place {
+            nr,
+            page: page + 1,
+            left: left - 1,
+        };
+        self.place = settled(size, ops, behind);
+        Turn::Went
+    }
+
+    /// One turn of the actor, by this hand.
+    pub fn advance<H: Hand<Value = DiskHeld>>(&mut self, size: u32, ops: &[Op], hand: &mut H) -> Turn
+        requires fit { IsFit size ops.now self.old }
+        requires takes { (k : LockNo) → next_event size ops.now self.old ≡ Take k → H.can_take hand.old k took }
+        requires fits { (k : LockNo) (v : DiskHeld) (after : H) → next_event size ops.now self.old ≡ Take k → H.takes hand.old k took v after → Fits v }
+        requires gives { (k : LockNo) (v : DiskHeld) → next_event size ops.now self.old ≡ Give k → WorksAlways size ops.now self.old v → H.can_give hand.old k gave v }
+        ensures fit { IsFit size ops.now self.new }
+        ensures turn { (done : List Done) → Keeps self.old done → Advanced H.takes H.misses H.gives size ops.now self.old hand.old self.new hand.new result done }
+    {
+        if self.is_done(ops) {
+            return Turn::Finished;
+        }
+        match self.entry.take() {
+            None => self.enter(size, ops, hand),
+            Some(entry) => self.leave(size, ops, entry, hand),
         }
     }
 }
