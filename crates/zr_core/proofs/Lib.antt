@@ -7,3 +7,5 @@ pub mod Places
 pub mod Sectors
 pub mod Turns
 pub mod Leaves
+pub mod States
+pub mod Worlds

@@ -4,3 +4,4 @@ pub mod Machines
 pub mod Places
 pub mod Work
 pub mod Workers
+pub mod States

@@ -5,5 +5,8 @@ mod laws;
 mod place;
 mod work;
 mod worker;
+mod world;
 
 pub use laws::{phases_are_legal, turns_keep};
+pub use worker::{DiskHeld, Turn};
+pub use world::{Phase, World};
