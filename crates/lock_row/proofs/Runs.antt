@@ -28,7 +28,7 @@ module _ {A : Type 0} where
   get_else (x ∷ xs) (suc i) (suc j) a n = get_else xs i j a (λ e. n (ap suc e))
 
 module _ {V : Type 0} (spot : LockNo → ℕ) (plan : Local V → Plan) (took : Local V → V → Local V) (works : Local V → V → Local V → Type 0) where
-  run_both : (xs ys : List ℕ) (u v w : State V) → Run spot plan took works xs u v → Run spot plan took works ys v w → Run spot plan took works (xs ++ ys) u w
+  pub run_both : (xs ys : List ℕ) (u v w : State V) → Run spot plan took works xs u v → Run spot plan took works ys v w → Run spot plan took works (xs ++ ys) u w
   run_both [] ys u v w r s = subst (λ (x : State V). Run spot plan took works ys x w) r s
   run_both (a ∷ xs) ys u v w r s = (r.0, r.1, run_both xs ys r.0 v w r.2 s)
 

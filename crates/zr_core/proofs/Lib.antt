@@ -9,3 +9,4 @@ pub mod Turns
 pub mod Leaves
 pub mod States
 pub mod Worlds
+pub mod Runs

@@ -5,3 +5,4 @@ pub mod Places
 pub mod Work
 pub mod Workers
 pub mod States
+pub mod Runs

@@ -1,12 +1,16 @@
 //! The world of a disk: its row of entries, which the actors of a phase work on by turns.
 
-ghost use Rattle.std.specs.Prelude.{◌≡◌, ◌<◌, length};
+ghost use Rattle.std.specs.Prelude.{◌≡◌, ℕ, ◌<◌, ◌≤◌, length, vec_len, replicate, slice_get, Some};
+ghost use Rattle.std.specs.Bool.{OnTrue, OnFalse};
+ghost use Rattle.std.specs.List.{range_with_len};
+ghost use Rattle.zr_core.specs.Runs.{turns_of, GoesBy, IsBusy, AllOver, left_of};
+ghost use Rattle.zr_core.specs.Machines.{rounds_of};
 ghost use Rattle.zr_core.specs.States.{slots_of, AreFit, AreKept, CanGoOn, TurnsOnce};
 
 use crate::worker::{DiskHeld, Turn, Worker};
 use lock_row::SimRow;
 use std::alloc::Global;
-use zr_base::ActorOps;
+use zr_base::{ActorOps, Turns};
 
 /// The actors of a phase.
 #[derive(Drop)]
@@ -37,5 +41,81 @@ impl World {
         let worker = &mut phase.workers[actor as usize];
         let mut hand = self.row.hand(actor);
         worker.advance(self.pages, ops[actor as usize].as_slice(), &mut hand)
+    }
+
+    // Whether some actor of the phase isn't finished.
+    fn is_busy(phase: &Phase, ops: &[ActorOps]) -> bool
+        requires { vec_len phase.now.workers ≡ length ops.now }
+        ensures busy { OnTrue result (IsBusy ops.now phase.now.workers.items) }
+        ensures over { OnFalse result (AllOver ops.now phase.now.workers.items) }
+    {
+        for actor in 0..ops.len() {
+            if !phase.workers[actor].is_done(ops[actor].as_slice()) {
+                return true;
+            }
+        }
+        false
+    }
+
+    // One turn of each actor.
+    fn round(&mut self, phase: &mut Phase, ops: &[ActorOps])
+        requires few { length ops.now ≤ 64 }
+        requires fit { AreFit self.old.pages ops.now phase.old.workers.items }
+        requires joint { CanGoOn self.old.pages ops.now self.old.row.cells phase.old.workers.items }
+        ensures pages { self.new.pages ≡ self.old.pages }
+        ensures fit { AreFit self.new.pages ops.now phase.new.workers.items }
+        ensures joint { CanGoOn self.new.pages ops.now self.new.row.cells phase.new.workers.items }
+        ensures turns { (dones : _) → AreKept phase.old.workers.items dones → GoesBy (range_with_len 0 (length ops.now)) self.old.pages ops.now self.old.row.cells phase.old.workers.items self.new.row.cells phase.new.workers.items dones }
+        ensures falls { IsBusy ops.now phase.old.workers.items → left_of self.new.pages ops.now phase.new.workers.items < left_of self.old.pages ops.now phase.old.workers.items }
+    {
+        for actor in 0..ops.len() as u32 {
+            let _turn = self.step(phase, ops, actor);
+        }
+    }
+
+    // So many turns of an actor.
+    fn repeat(&mut self, phase: &mut Phase, ops: &[ActorOps], turns: Turns)
+        requires actor { turns.actor < length ops.now }
+        requires fit { AreFit self.old.pages ops.now phase.old.workers.items }
+        requires joint { CanGoOn self.old.pages ops.now self.old.row.cells phase.old.workers.items }
+        ensures pages { self.new.pages ≡ self.old.pages }
+        ensures fit { AreFit self.new.pages ops.now phase.new.workers.items }
+        ensures joint { CanGoOn self.new.pages ops.now self.new.row.cells phase.new.workers.items }
+        ensures turns { (dones : _) → AreKept phase.old.workers.items dones → GoesBy (replicate turns.times turns.actor) self.old.pages ops.now self.old.row.cells phase.old.workers.items self.new.row.cells phase.new.workers.items dones }
+    {
+        for time in 0..turns.times {
+            let _turn = self.step(phase, ops, turns.actor);
+        }
+    }
+
+    // The turns of a schedule, one after the other.
+    fn play(&mut self, phase: &mut Phase, ops: &[ActorOps], schedule: &[Turns])
+        requires actors { (k : ℕ) (t : _) → slice_get schedule.now k ≡ Some t → t.actor < length ops.now }
+        requires fit { AreFit self.old.pages ops.now phase.old.workers.items }
+        requires joint { CanGoOn self.old.pages ops.now self.old.row.cells phase.old.workers.items }
+        ensures pages { self.new.pages ≡ self.old.pages }
+        ensures fit { AreFit self.new.pages ops.now phase.new.workers.items }
+        ensures joint { CanGoOn self.new.pages ops.now self.new.row.cells phase.new.workers.items }
+        ensures turns { (dones : _) → AreKept phase.old.workers.items dones → GoesBy (turns_of schedule.now) self.old.pages ops.now self.old.row.cells phase.old.workers.items self.new.row.cells phase.new.workers.items dones }
+    {
+        for turns in schedule {
+            self.repeat(phase, ops, *turns);
+        }
+    }
+
+    // Rounds, until all actors are finished.
+    fn finish(&mut self, phase: &mut Phase, ops: &[ActorOps])
+        requires few { length ops.now ≤ 64 }
+        requires fit { AreFit self.old.pages ops.now phase.old.workers.items }
+        requires joint { CanGoOn self.old.pages ops.now self.old.row.cells phase.old.workers.items }
+        ensures pages { self.new.pages ≡ self.old.pages }
+        ensures fit { AreFit self.new.pages ops.now phase.new.workers.items }
+        ensures joint { CanGoOn self.new.pages ops.now self.new.row.cells phase.new.workers.items }
+        ensures turns { (rounds : ℕ) × ((dones : _) → AreKept phase.old.workers.items dones → GoesBy (rounds_of (length ops.now) rounds) self.old.pages ops.now self.old.row.cells phase.old.workers.items self.new.row.cells phase.new.workers.items dones) }
+        ensures over { AllOver ops.now phase.new.workers.items }
+    {
+        while World::is_busy(phase, ops) {
+            self.round(phase, ops);
+        }
     }
 }
