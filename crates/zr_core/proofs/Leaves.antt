@@ -43,33 +43,33 @@ more_at nr got n old new m k r e = dite (ℕ_discrete k nr)
 
 -- a later place asks for no more room
 fits_later : (size : ℕ) (pl pl' : Place) (k : ℕ) (op : Op) (r : Reply) → k ≢ pl.nr → IsOnward (behind pl) pl' → ReplyFits size pl k op r → ReplyFits size pl' k op r
-fits_later size pl pl' k (Write start count stuff) r ne on f = tt
-fits_later size pl pl' k (Discard start count) r ne on f = tt
-fits_later size pl pl' k (Read start count) r ne on f = record {
-  later = λ lt inside. f.later (⊎_elim (λ h. omega arith) (λ h. let q = h.0 in omega arith) on) inside;
+fits_later size pl pl' k (Write start count stuff) r ne on f = f
+fits_later size pl pl' k (Discard start count) r ne on f = f
+fits_later size pl pl' k (Read start count) r ne on f = (record {
+  later = λ lt inside. f.0.later (⊎_elim (λ h. omega arith) (λ h. let q = h.0 in omega arith) on) inside;
   here = λ e inside. ⊎_elim
-      (λ h. let q = f.later (omega arith) inside in omega arith)
+      (λ h. let q = f.0.later (omega arith) inside in omega arith)
       (λ h. absurd (ne (sym (h.0 ∙ e))))
       on;
-}
+}, f.1)
 
 -- the piece's own reply
 fits_here : (size : ℕ) (pl pl' : Place) (op : Op) (was is : Reply) → IsOnward (behind pl) pl' → vec_len is.sectors ≡ vec_len was.sectors + reads op pl.page → vec_capacity is.sectors ≡ vec_capacity was.sectors
-    → ReplyFits size pl pl.nr op was → ReplyFits size pl' pl.nr op is
-fits_here size pl pl' (Write start count stuff) was is on len cap f = tt
-fits_here size pl pl' (Discard start count) was is on len cap f = tt
-fits_here size pl pl' (Read start count) was is on len cap f = record {
+    → is_beyond size op ≡ false → (bytes : ℕ → List ℕ) → is.sectors.items ≡ was.sectors.items ++ got_by op pl.page bytes → ReplyFits size pl pl.nr op was → ReplyFits size pl' pl.nr op is
+fits_here size pl pl' (Write start count stuff) was is on len cap inside bytes got f = got ∙ append-nil was.sectors.items ∙ f
+fits_here size pl pl' (Discard start count) was is on len cap inside bytes got f = got ∙ append-nil was.sectors.items ∙ f
+fits_here size pl pl' (Read start count) was is on len cap inside₀ bytes got f = (record {
   later = λ lt inside. absurd (⊎_elim (λ h. let none : ⊥ = omega arith in none) (λ h. let q = h.0 in let none : ⊥ = omega arith in none) on);
   here = λ e inside. ⊎_elim
       (λ h. absurd (let none : ⊥ = omega arith in none))
-      (λ h. let q = f.here refl inside in let p = h.1 in omega arith)
+      (λ h. let q = f.0.here refl inside in let p = h.1 in omega arith)
       on;
-}
+}, λ beyond. absurd (let q : true ≡ false = sym beyond ∙ inside₀ in cc))
 
 room_for : (size : ℕ) (pl : Place) (op : Op) (r : Reply) → is_beyond size op ≡ false → ReplyFits size pl pl.nr op r → vec_len r.sectors ≤ vec_capacity r.sectors → vec_len r.sectors + reads op pl.page ≤ vec_capacity r.sectors
 room_for size pl (Write start count stuff) r inside f le = omega arith
 room_for size pl (Discard start count) r inside f le = omega arith
-room_for size pl (Read start count) r inside f le = let q = f.here refl inside in omega arith
+room_for size pl (Read start count) r inside f le = let q = f.0.here refl inside in omega arith
 
 -- ---- the piece
 
@@ -162,4 +162,4 @@ module _ (size : ℕ) (ops : List Op) (v : Worker) (e : EntryState) where
         } where
           mine : (k : ℕ) (o : Op) (r : Reply) → k ≡ v.place.nr → m.is ≡ r → op ≡ o → ReplyFits size w'.place k o r
           mine k o r s t u = subst (λ (x : ℕ × Op × Reply). ReplyFits size w'.place x.0 x.1 x.2) (λ i. (sym s i, u i, t i))
-              (fits_here size v.place w'.place op m.was m.is onward m.len m.room (fit.reads v.place.nr op m.was at m.before))
+              (fits_here size v.place w'.place op m.was m.is onward m.len m.room (on.inside some_left) (λ s. page_sector (page_of e.kept) (s - 8 * v.place.page)) m.sectors (fit.reads v.place.nr op m.was at m.before))

@@ -10,3 +10,4 @@ pub mod Leaves
 pub mod States
 pub mod Worlds
 pub mod Runs
+pub mod Shown

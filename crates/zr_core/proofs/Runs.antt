@@ -272,3 +272,12 @@ module _ (size size' : ℕ) (same : size' ≡ size) (actors : List (List Op)) (c
 
   pub then_round : (n : ℕ) → ((r : ℕ) × Before (rounds_of n r)) → ((ds : List (List Done)) → AreKept ws₁ ds → GoesBy (range_with_len 0 n) size' actors cells₁ ws₁ cells₂ ws₂ ds) → (r : ℕ) × After (rounds_of n r)
   then_round n before more = (suc before.0, subst After (rounds_push n before.0) (then_turns (rounds_of n before.0) (range_with_len 0 n) before.1 more))
+
+-- a schedule, and then rounds until all actors are finished
+pub runs_out : (size size' : ℕ) → size' ≡ size → (actors : List (List Op)) (cells cells₁ cells₂ : List (Option DiskHeld)) (ws ws₁ ws₂ : List Worker) (turns : List ℕ)
+    → ((dones : List (List Done)) → AreKept ws dones → GoesBy turns size actors cells ws cells₁ ws₁ dones)
+    → ((r : ℕ) × ((dones : List (List Done)) → AreKept ws₁ dones → GoesBy (rounds_of (length actors) r) size' actors cells₁ ws₁ cells₂ ws₂ dones))
+    → AllOver actors ws₂ → (dones : List (List Done)) → AreKept ws dones → RunsOut turns size actors cells ws cells₂ ws₂ dones
+runs_out size size' same actors cells cells₁ cells₂ ws ws₁ ws₂ turns play finish over dones kept =
+    let x = then_turns size size' same actors cells cells₁ cells₂ ws ws₁ ws₂ turns (rounds_of (length actors) finish.0) play finish.1 dones kept in
+    (finish.0, x.0, x.1, x.2, all_finished size actors cells₂ ws₂ x.0 over)

@@ -31,6 +31,13 @@ heres size (ops ∷ more) (w ∷ ws) (done ∷ dones) = here size ops w done ∷
 abbrev pub state : ℕ → List (List Op) → List (Option DiskHeld) → List Worker → List (List Done) → State DiskHeld
 state size actors cells ws dones = record { row = cells; locals = heres size actors ws dones }
 
+-- how the operations ended, and the sectors that they read
+abbrev pub ends_shown : List Worker → List (List OpEnd)
+ends_shown ws = map (λ (w : Worker). map (λ (r : Reply). r.end) w.replies.items) ws
+
+abbrev pub sectors_shown : List Worker → List (List (List (List ℕ)))
+sectors_shown ws = map (λ (w : Worker). map (λ (r : Reply). r.sectors.items) w.replies.items) ws
+
 -- Each worker is fit for its operations.
 pub record AreFit (size : ℕ) (actors : List (List Op)) (ws : List Worker) : Type 0 where
   pub count : length ws ≡ length actors

@@ -1,5 +1,5 @@
 -- A worker, which has an actor's place and replies, and the local that it stands for.
-use Rattle.std.specs.Prelude.{◌≡◌, ◌≢◌, ◌⊎◌, ℕ, ◌+◌, ◌-◌, ◌*◌, ◌<◌, ◌≤◌, ◌^◌, max, false, List, [], ◌∷◌, ◌++◌, length, Option, Some, None, slice_get, vec_len, vec_capacity, if◌then◌else◌}
+use Rattle.std.specs.Prelude.{◌≡◌, ◌≢◌, ◌⊎◌, ℕ, ◌+◌, ◌-◌, ◌*◌, ◌<◌, ◌≤◌, ◌^◌, max, true, false, List, [], ◌∷◌, ◌++◌, length, Option, Some, None, slice_get, vec_len, vec_capacity, if◌then◌else◌}
 use Rattle.zr_base.specs.declared.op.Op.{Op}
 use Rattle.zr_base.specs.declared.op.Op.TheVariants.{Write, Read, Discard}
 use Rattle.zr_base.specs.declared.op.OpEnd.TheVariants as ends
@@ -60,15 +60,16 @@ Fits (holds.Account x) = Unit {0}
 Fits (holds.Blocks x) = Unit {0}
 Fits (holds.Device x) = Unit {0}
 
--- the reply of the k-th operation has room for the sectors that are left to read
+-- A reply has room for the sectors that are left to read, where the operation is the k-th.
 pub record ReadFits (size : ℕ) (pl : Place) (k start count len room : ℕ) : Type 0 where
   pub later : pl.nr < k → is_beyond size (Read start count) ≡ false → len + count ≤ room
   pub here : pl.nr ≡ k → is_beyond size (Read start count) ≡ false → len + (start + count - max start (8 * pl.page)) ≤ room
 
+-- the reply of the k-th operation has room for what is left to read; only reads on the disk have sectors
 abbrev pub ReplyFits : ℕ → Place → ℕ → Op → Reply → Type 0
-ReplyFits size pl k (Write start count stuff) r = Unit {0}
-ReplyFits size pl k (Read start count) r = ReadFits size pl k start count (vec_len r.sectors) (vec_capacity r.sectors)
-ReplyFits size pl k (Discard start count) r = Unit {0}
+ReplyFits size pl k (Write start count stuff) r = r.sectors.items ≡ []
+ReplyFits size pl k (Read start count) r = ReadFits size pl k start count (vec_len r.sectors) (vec_capacity r.sectors) × (is_beyond size (Read start count) ≡ true → r.sectors.items ≡ [])
+ReplyFits size pl k (Discard start count) r = r.sectors.items ≡ []
 
 -- The worker is at a piece with events, or behind all of them, with room for what is left to do.
 pub record IsFit (size : ℕ) (ops : List Op) (w : Worker) : Type 0 where

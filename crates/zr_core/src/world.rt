@@ -3,9 +3,12 @@
 ghost use Rattle.std.specs.Prelude.{◌≡◌, ℕ, ◌<◌, ◌≤◌, length, vec_len, replicate, slice_get, Some};
 ghost use Rattle.std.specs.Bool.{OnTrue, OnFalse};
 ghost use Rattle.std.specs.List.{range_with_len};
-ghost use Rattle.zr_core.specs.Runs.{turns_of, GoesBy, IsBusy, AllOver, left_of};
-ghost use Rattle.zr_core.specs.Machines.{rounds_of};
-ghost use Rattle.zr_core.specs.States.{slots_of, AreFit, AreKept, CanGoOn, TurnsOnce};
+ghost use Rattle.zr_core.specs.Runs.{turns_of, GoesBy, RunsOut, IsBusy, AllOver, left_of};
+ghost use Rattle.plain_disk.specs.Output.{phase_lines};
+ghost use Rattle.plain_disk.specs.Phases.{IsPhase};
+ghost use Rattle.zr_core.specs.Joint.{Joint};
+ghost use Rattle.zr_core.specs.Machines.{rounds_of, orders_of, sector_in};
+ghost use Rattle.zr_core.specs.States.{slots_of, state, ends_shown, sectors_shown, AreFit, AreKept, CanGoOn, TurnsOnce};
 
 use crate::worker::{DiskHeld, Turn, Worker};
 use lock_row::SimRow;
@@ -117,5 +120,21 @@ impl World {
         while World::is_busy(phase, ops) {
             self.round(phase, ops);
         }
+    }
+
+    /// The schedule's turns, and then rounds of a turn for each actor, until all actors are finished.
+    pub fn run(&mut self, phase: &mut Phase, ops: &[ActorOps], schedule: &[Turns])
+        requires few { length ops.now ≤ 64 }
+        requires actors { (k : ℕ) (t : _) → slice_get schedule.now k ≡ Some t → t.actor < length ops.now }
+        requires fit { AreFit self.old.pages ops.now phase.old.workers.items }
+        requires joint { CanGoOn self.old.pages ops.now self.old.row.cells phase.old.workers.items }
+        ensures pages { self.new.pages ≡ self.old.pages }
+        ensures fit { AreFit self.new.pages ops.now phase.new.workers.items }
+        ensures joint { CanGoOn self.new.pages ops.now self.new.row.cells phase.new.workers.items }
+        ensures runs { (dones : _) → AreKept phase.old.workers.items dones → RunsOut (turns_of schedule.now) self.old.pages ops.now self.old.row.cells phase.old.workers.items self.new.row.cells phase.new.workers.items dones }
+        ensures legal { (g : _) (dones : _) → g.size ≡ self.old.pages → g.actors ≡ ops.now → AreKept phase.old.workers.items dones → Joint g (state self.old.pages ops.now self.old.row.cells phase.old.workers.items dones) → IsPhase g (phase_lines (ends_shown phase.new.workers.items) (sectors_shown phase.new.workers.items) (orders_of self.new.row.cells)) (sector_in self.new.row.cells) }
+    {
+        self.play(phase, ops, schedule);
+        self.finish(phase, ops);
     }
 }
