@@ -53,6 +53,18 @@ fn place(names: &[LockNo], lock: LockNo) -> Option<usize>
 }
 
 impl<V: Drop> SimRow<V> {
+    /// The row of no locks. It takes no memory.
+    pub fn empty(alloc: Global) -> SimRow<V>
+        ensures names { result.names ≡ [] }
+        ensures cells { result.cells ≡ [] }
+    {
+        SimRow {
+            names: Vec::new(alloc),
+            cells: Vec::new(alloc),
+            spare: Vec::new(alloc),
+        }
+    }
+
     /// The row of these values, all at home. Err is want of memory, and hands the values back.
     pub fn new(alloc: Global, values: Vec<(LockNo, V)>) -> Result<SimRow<V>, Vec<(LockNo, V)>>
         requires { IsDistinct (names_of values.items) }

@@ -11,3 +11,4 @@ pub mod States
 pub mod Worlds
 pub mod Runs
 pub mod Shown
+pub mod Blank

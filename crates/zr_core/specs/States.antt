@@ -1,11 +1,14 @@
 -- The state that a row and its workers stand for, where these pieces of each actor are over.
-use Rattle.std.specs.Prelude.{◌≡◌, ℕ, ◌+◌, List, [], ◌∷◌, map, length, Option, Some, None, slice_get}
+use Rattle.std.specs.Prelude.{◌≡◌, ℕ, ◌<◌, List, [], ◌∷◌, map, length, Option, Some, None, slice_get, option_and_then}
 use Rattle.std.specs.List.{range_with_len}
 use Rattle.zr_base.specs.declared.op.Op.{Op}
 use Rattle.zr_base.specs.declared.op.OpEnd.{OpEnd}
 use Rattle.plain_disk.specs.Phases.{Given}
 use Rattle.call_history.specs.declared.part.Done.{Done}
 use Rattle.lock_row.specs.declared.names.LockNo.{LockNo}
+use Rattle.lock_row.specs.declared.names.Held.TheVariants as holds
+use Rattle.slot_entry.specs.declared.entry.Kept.TheVariants.{Empty}
+use Rattle.slot_entry.specs.Entries.{EntryState}
 use Rattle.lock_row.specs.declared.names.Plan.TheVariants.{Finished, Take, Give}
 use Rattle.lock_row.specs.declared.names.State.{State}
 use Rattle.lock_row.specs.Machine.{Taking, Giving}
@@ -71,3 +74,12 @@ TurnIs a w n turn.Finished = (l : Here) × (slice_get w.locals a ≡ Some l) × 
 -- a turn from the state that was to one that is, whatever was over before
 abbrev pub TurnsOnce : ℕ → ℕ → List (List Op) → List (Option DiskHeld) → List Worker → List (Option DiskHeld) → List Worker → Turn → List (List Done) → Type 0
 TurnsOnce a size actors cells ws cells' ws' t dones = (dones' : List (List Done)) × AreKept ws' dones' × TurnIs a (state size actors cells ws dones) (state size actors cells' ws' dones') t
+
+-- an item of an actor's operation
+abbrev pub of_op : {A : Type 0} → List (List A) → ℕ → ℕ → Option A
+of_op all actor op = option_and_then (λ xs. slice_get xs op) (slice_get all actor)
+
+-- Each page has an entry at home, with nothing kept and no calls.
+pub record IsBlank (pages : ℕ) (cells : List (Option DiskHeld)) : Type 0 where
+  pub size : length cells ≡ pages
+  pub each : (p : ℕ) → p < pages → (e : EntryState) × (slice_get cells p ≡ Some (Some (holds.Slot e))) × (e.kept ≡ Empty) × (e.order ≡ [])

@@ -1,19 +1,21 @@
 //! The world of a disk: its row of entries, which the actors of a phase work on by turns.
 
-ghost use Rattle.std.specs.Prelude.{◌≡◌, ℕ, ◌<◌, ◌≤◌, length, vec_len, replicate, slice_get, Some};
+ghost use Rattle.std.specs.Prelude.{◌≡◌, ℕ, ◌<◌, ◌≤◌, [], length, vec_len, replicate, slice_get, Some, IsSome, OnOk, OnErr};
 ghost use Rattle.std.specs.Bool.{OnTrue, OnFalse};
-ghost use Rattle.std.specs.List.{range_with_len};
+ghost use Rattle.std.specs.List.{range_with_len, flat_map};
 ghost use Rattle.zr_core.specs.Runs.{turns_of, GoesBy, RunsOut, IsBusy, AllOver, left_of};
+ghost use Rattle.lock_row.specs.declared.names.Held.TheVariants as holds;
 ghost use Rattle.plain_disk.specs.Output.{phase_lines};
 ghost use Rattle.plain_disk.specs.Phases.{IsPhase};
 ghost use Rattle.zr_core.specs.Joint.{Joint};
 ghost use Rattle.zr_core.specs.Machines.{rounds_of, orders_of, sector_in};
-ghost use Rattle.zr_core.specs.States.{slots_of, state, ends_shown, sectors_shown, AreFit, AreKept, CanGoOn, TurnsOnce};
+ghost use Rattle.zr_core.specs.States.{slots_of, state, ends_shown, sectors_shown, of_op, IsBlank, AreFit, AreKept, CanGoOn, TurnsOnce};
 
 use crate::worker::{DiskHeld, Turn, Worker};
-use lock_row::SimRow;
-use std::alloc::Global;
-use zr_base::{ActorOps, Turns};
+use lock_row::{Held, LockNo, SimRow};
+use slot_entry::Entry;
+use std::alloc::{AllocError, Global};
+use zr_base::{ActorOps, OpEnd, PageIx, Turns};
 
 /// The actors of a phase.
 #[derive(Drop)]
@@ -30,7 +32,88 @@ pub struct World {
     ghost slots: { row.names ≡ slots_of pages },
 }
 
+// The entry that a slot's lock guards.
+fn entry_in(value: &DiskHeld) -> &Entry
+    ensures { value.now ≡ holds.Slot result.now }
+{
+    match value {
+        Held::Slot(entry) => entry,
+        Held::Class(never) | Held::Account(never) | Held::Blocks(never) | Held::Device(never) => match *never {},
+    }
+}
+
+impl Phase {
+    /// How an operation ended.
+    pub fn end(&self, actor: u32, op: u32) -> &OpEnd
+        requires { IsSome (of_op (ends_shown self.now.workers.items) actor op) }
+        ensures { of_op (ends_shown self.now.workers.items) actor op ≡ Some result.now }
+    {
+        &self.workers[actor as usize].replies[op as usize].end
+    }
+
+    /// The bytes of the sectors that an operation has read.
+    pub fn sectors(&self, actor: u32, op: u32) -> &[u8]
+        requires { IsSome (of_op (sectors_shown self.now.workers.items) actor op) }
+        ensures { (sectors : _) → of_op (sectors_shown self.now.workers.items) actor op ≡ Some sectors → result.now ≡ flat_map (λ x. x) sectors }
+    {
+        self.workers[actor as usize].replies[op as usize].sectors.as_flattened()
+    }
+}
+
 impl World {
+    /// A disk without pages. It takes no memory.
+    pub fn new(alloc: Global) -> World
+        ensures pages { result.pages ≡ 0 }
+        ensures cells { result.row.cells ≡ [] }
+    {
+        World {
+            alloc,
+            pages: 0,
+            row: SimRow::empty(alloc),
+        }
+    }
+
+    /// Gives the disk so many pages of zeros, from 1 to 262,144. On Err nothing changed.
+    pub fn set_disk(&mut self, pages: u32) -> Result<(), AllocError>
+        requires none { self.old.pages ≡ 0 }
+        requires some { 1 ≤ pages }
+        requires most { pages ≤ 262144 }
+        ensures pages { OnOk result (self.new.pages ≡ pages) }
+        ensures blank { OnOk result (IsBlank pages self.new.row.cells) }
+        ensures err { OnErr result ((self.new.pages ≡ 0) × (self.new.row ≡ self.old.row)) }
+    {
+        let mut values = Vec::with_capacity(self.alloc, pages as usize)?;
+        for page in 0..pages {
+            let slot = LockNo::Slot(PageIx(page));
+            values.push_reserved((slot, Held::Slot(Entry::new(self.alloc))));
+        }
+        let Ok(row) = SimRow::new(self.alloc, values) else {
+            return Err(AllocError);
+        };
+        self.row = row;
+        self.pages = pages;
+        Ok(())
+    }
+
+    /// How many pages the disk has.
+    pub fn pages(&self) -> u32
+        ensures { result ≡ self.now.pages }
+    {
+        self.pages
+    }
+
+    /// The entry of a page that is at home.
+    pub fn entry(&self, page: PageIx) -> &Entry
+        requires page { page.0 < self.now.pages }
+        requires home { (e : _) × (slice_get self.now.row.cells page.0 ≡ Some (Some (holds.Slot e))) }
+        ensures { slice_get self.now.row.cells page.0 ≡ Some (Some (holds.Slot result.now)) }
+    {
+        let Some(value) = self.row.value(LockNo::Slot(page)) else {
+            unreachable!()
+        };
+        entry_in(value)
+    }
+
     /// One turn of an actor.
     pub fn step(&mut self, phase: &mut Phase, ops: &[ActorOps], actor: u32) -> Turn
         requires actor { actor < length ops.now }
