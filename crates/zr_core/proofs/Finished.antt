@@ -1,15 +1,14 @@
 -- A state with the joint rule in which all actors are finished prints a phase that the plain disk allows.
-use Rattle.std.proofs.Common.{◌≡◌, ℕ, zero, suc, ◌+◌, ◌*◌, ◌/◌, ◌%◌, ◌<◌, ◌≤◌, true, List, [], ◌∷◌, map, length, get_or, Option, Some, None, slice_get, refl, sym, ap, ◌∙◌, subst, arith, ◌⊎◌, inl, inr}
+use Rattle.std.proofs.Common.{◌≡◌, ℕ, zero, suc, ◌+◌, ◌*◌, ◌/◌, ◌%◌, ◌<◌, List, [], ◌∷◌, map, length, Option, Some, None, slice_get, refl, sym, ap, ◌∙◌, subst, arith}
 use Rattle.std.proofs.lemmas.Bool.{and_from, eq-eqb}
 use Rattle.std.proofs.lemmas.List.{length-map}
-use Rattle.std.proofs.lemmas.Option.{get_or_from_slice_get, slice_get_within, slice_get-map}
-use Rattle.zr_base.specs.declared.op.Tag.{Tag}
+use Rattle.std.proofs.lemmas.Option.{get_or_from_slice_get}
 use Rattle.zr_base.specs.declared.op.Op.{Op}
 use Rattle.zr_base.specs.Sectors.{page_sector}
 use Rattle.plain_disk.specs.Phases.{Given, held_after, nth_order, IsPhase}
 use Rattle.call_history.specs.declared.part.Part.{Part}
 use Rattle.call_history.specs.declared.part.Done.{Done}
-use Rattle.call_history.specs.Parts.{program, Follows, is_on, stands_so, noted_on, ops_of}
+use Rattle.call_history.specs.Parts.{program, Follows, stands_so, noted_on, ops_of}
 use Rattle.call_history.specs.Shows.{ShowsPage, IsTold}
 use Rattle.call_history.specs.Histories.{history, HasSomeEach, Agree}
 use Rattle.call_history.proofs.Phases.{is_phase}
@@ -21,7 +20,7 @@ use Rattle.lock_row.specs.declared.names.Plan.TheVariants.{Finished}
 use Rattle.lock_row.specs.declared.names.State.{State}
 use Rattle.slot_entry.specs.Entries.{EntryState, page_of}
 use Rattle.zr_core.specs.Steps.{DiskHeld, Here, plan_at}
-use Rattle.zr_core.specs.Joint.{done_by, dones, Shows, locks_at, Joint}
+use Rattle.zr_core.specs.Joint.{dones, Shows, locks_at, Joint}
 use Rattle.zr_core.proofs.Places.{there_is}
 use Rattle.zr_core.specs.Machines.{AllFinished, order_in, page_in, orders_of, sector_in, histories, printed}
 

@@ -1,13 +1,13 @@
 -- Each turn keeps the joint rule.
-use Rattle.std.proofs.Common.{◌≡◌, ℕ, List, [], ◌∷◌, Some, None, slice_get, sym, ap, subst}
+use Rattle.std.proofs.Common.{ℕ, List, [], ◌∷◌, sym, ap, subst}
 use Rattle.plain_disk.specs.Phases.{Given}
 use Rattle.lock_row.specs.declared.names.State.{State}
 use Rattle.lock_row.specs.Machine.{finished, missed, taken, given}
 use Rattle.lock_row.proofs.Values.{take_exclusive, give_exclusive}
 use Rattle.lock_row.specs.declared.names.Held.TheVariants as holds
-use Rattle.zr_core.specs.Steps.{DiskHeld, Here, spot, plan, took, lock_of}
+use Rattle.zr_core.specs.Steps.{DiskHeld, spot, took, lock_of}
 use Rattle.zr_core.specs.Joint.{Joint}
-use Rattle.zr_core.specs.Machines.{OneTurn, Turns, IsReached}
+use Rattle.zr_core.specs.Machines.{OneTurn, Turns}
 use Rattle.zr_core.proofs.Told.{gift, told_take, told_give}
 use Rattle.zr_core.proofs.Room.{room_take, room_give}
 

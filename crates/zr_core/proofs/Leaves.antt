@@ -1,19 +1,18 @@
 -- The giving of a slot with its piece's work.
-use Rattle.std.proofs.Common.{◌≡◌, ◌≢◌, ◌⊎◌, ℕ, zero, suc, ◌+◌, ◌-◌, ◌*◌, ◌<◌, ◌≤◌, ◌^◌, Bool, true, false, cond, eqb, max, min, List, [], ◌∷◌, ◌++◌, length, drop, Option, Some, None, slice_get, refl, sym, ap, ◌∙◌, subst, arith, inl, inr, ⊎_elim, vec_len, vec_capacity}
+use Rattle.std.proofs.Common.{◌≡◌, ◌≢◌, ◌⊎◌, ℕ, ◌+◌, ◌-◌, ◌*◌, ◌<◌, ◌≤◌, Bool, true, false, cond, List, [], ◌∷◌, ◌++◌, Some, None, slice_get, refl, sym, ap, ◌∙◌, subst, arith, inl, inr, ⊎_elim, vec_len, vec_capacity}
 use mathlib.Core.Logic.{dite}
 use native.Mathlib.Decide.{ℕ_discrete}
 use Rattle.std.proofs.lemmas.Bool.{eq-eqb, ne_eqb}
 use Rattle.std.proofs.lemmas.List.{append-nil}
-use Rattle.zr_base.specs.declared.op.Tag.{Tag}
 use Rattle.zr_base.specs.declared.op.Op.{Op}
 use Rattle.zr_base.specs.declared.op.Op.TheVariants.{Write, Read, Discard}
 use Rattle.zr_base.specs.declared.op.OpEnd.TheVariants as ends
 use Rattle.zr_base.specs.Sectors.{page_sector}
-use Rattle.zr_base.specs.Plain.{is_beyond, has_event, sector_after, IsRequest}
+use Rattle.zr_base.specs.Plain.{is_beyond, sector_after}
 use Rattle.call_history.specs.declared.part.Part.{Part}
 use Rattle.call_history.specs.declared.part.PartEnd.TheVariants.{Carried}
 use Rattle.call_history.specs.declared.part.Done.{Done}
-use Rattle.call_history.specs.Parts.{first_page, pages_of, got_by, got_of}
+use Rattle.call_history.specs.Parts.{got_by, got_of}
 use Rattle.call_history.specs.Shows.{tag_by, got_from}
 use Rattle.call_history.proofs.Ends.{got_append}
 use Rattle.lock_row.specs.declared.names.LockNo.{LockNo}
@@ -25,10 +24,10 @@ use Rattle.zr_core.specs.declared.place.Place.{Place}
 use Rattle.zr_core.specs.declared.worker.Reply.{Reply}
 use Rattle.zr_core.specs.declared.worker.Worker.{Worker}
 use Rattle.zr_core.specs.declared.worker.Turn.TheVariants as turn
-use Rattle.zr_core.specs.Steps.{DiskHeld, Here, slot, plan_at, gave, gave_by, over, CarriesOut, Works, carries}
+use Rattle.zr_core.specs.Steps.{DiskHeld, Here, slot, plan_at, gave, gave_by, carries}
 use Rattle.zr_core.specs.Places.{todo_at, IsPlace, IsSettled, IsOnward, IsOn}
 use Rattle.zr_core.specs.Work.{IsPiece, reads}
-use Rattle.zr_core.specs.Workers.{at_of, held_by, here, next_event, Keeps, HasRoomIn, ReadFits, ReplyFits, IsFit, HasMore, WorksAlways, gave_it, Advanced, with_entry}
+use Rattle.zr_core.specs.Workers.{at_of, held_by, here, next_event, Keeps, HasRoomIn, ReplyFits, IsFit, HasMore, WorksAlways, gave_it, Advanced, with_entry}
 use Rattle.zr_core.proofs.Places.{on_here, has_settled, place_here}
 use Rattle.zr_core.proofs.Turns.{part_at, behind, todo_next}
 
@@ -45,26 +44,32 @@ more_at nr got n old new m k r e = dite (ℕ_discrete k nr)
 fits_later : (size : ℕ) (pl pl' : Place) (k : ℕ) (op : Op) (r : Reply) → k ≢ pl.nr → IsOnward (behind pl) pl' → ReplyFits size pl k op r → ReplyFits size pl' k op r
 fits_later size pl pl' k (Write start count stuff) r ne on f = f
 fits_later size pl pl' k (Discard start count) r ne on f = f
-fits_later size pl pl' k (Read start count) r ne on f = (record {
-  later = λ lt inside. f.0.later (⊎_elim (λ h. omega arith) (λ h. let q = h.0 in omega arith) on) inside;
-  here = λ e inside. ⊎_elim
-      (λ h. let q = f.0.later (omega arith) inside in omega arith)
-      (λ h. absurd (ne (sym (h.0 ∙ e))))
-      on;
-}, f.1)
+fits_later size pl pl' k (Read start count) r ne on f = (
+  record {
+    later = λ lt inside. f.0.later (⊎_elim (λ h. omega arith) (λ h. let q = h.0 in omega arith) on) inside;
+    here = λ e inside. ⊎_elim
+        (λ h. let q = f.0.later (omega arith) inside in omega arith)
+        (λ h. absurd (ne (sym (h.0 ∙ e))))
+        on;
+  },
+  f.1,
+)
 
 -- the piece's own reply
 fits_here : (size : ℕ) (pl pl' : Place) (op : Op) (was is : Reply) → IsOnward (behind pl) pl' → vec_len is.sectors ≡ vec_len was.sectors + reads op pl.page → vec_capacity is.sectors ≡ vec_capacity was.sectors
     → is_beyond size op ≡ false → (bytes : ℕ → List ℕ) → is.sectors.items ≡ was.sectors.items ++ got_by op pl.page bytes → ReplyFits size pl pl.nr op was → ReplyFits size pl' pl.nr op is
 fits_here size pl pl' (Write start count stuff) was is on len cap inside bytes got f = got ∙ append-nil was.sectors.items ∙ f
 fits_here size pl pl' (Discard start count) was is on len cap inside bytes got f = got ∙ append-nil was.sectors.items ∙ f
-fits_here size pl pl' (Read start count) was is on len cap inside₀ bytes got f = (record {
-  later = λ lt inside. absurd (⊎_elim (λ h. let none : ⊥ = omega arith in none) (λ h. let q = h.0 in let none : ⊥ = omega arith in none) on);
-  here = λ e inside. ⊎_elim
-      (λ h. absurd (let none : ⊥ = omega arith in none))
-      (λ h. let q = f.0.here refl inside in let p = h.1 in omega arith)
-      on;
-}, λ beyond. absurd (let q : true ≡ false = sym beyond ∙ inside₀ in cc))
+fits_here size pl pl' (Read start count) was is on len cap inside₀ bytes got f = (
+  record {
+    later = λ lt inside. absurd (⊎_elim (λ h. let none : ⊥ = omega arith in none) (λ h. let q = h.0 in let none : ⊥ = omega arith in none) on);
+    here = λ e inside. ⊎_elim
+        (λ h. absurd (let none : ⊥ = omega arith in none))
+        (λ h. let q = f.0.here refl inside in let p = h.1 in omega arith)
+        on;
+  },
+  λ beyond. absurd (let q : true ≡ false = sym beyond ∙ inside₀ in cc),
+)
 
 room_for : (size : ℕ) (pl : Place) (op : Op) (r : Reply) → is_beyond size op ≡ false → ReplyFits size pl pl.nr op r → vec_len r.sectors ≤ vec_capacity r.sectors → vec_len r.sectors + reads op pl.page ≤ vec_capacity r.sectors
 room_for size pl (Write start count stuff) r inside f le = omega arith

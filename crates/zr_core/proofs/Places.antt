@@ -1,14 +1,14 @@
 -- The places of an actor among its operations.
-use Rattle.std.proofs.Common.{◌≡◌, ◌⊎◌, ℕ, zero, suc, ◌+◌, ◌-◌, ◌*◌, ◌/◌, ◌^◌, ◌<◌, ◌≤◌, Bool, true, false, cond, eqb, List, [], ◌∷◌, ◌++◌, length, drop, get_or, Option, Some, None, slice_get, refl, sym, ap, ◌∙◌, subst, arith, inl, inr, ⊎_elim}
+use Rattle.std.proofs.Common.{◌≡◌, ℕ, zero, suc, ◌+◌, ◌-◌, ◌/◌, ◌^◌, ◌<◌, ◌≤◌, Bool, true, false, cond, List, [], ◌∷◌, ◌++◌, length, drop, get_or, Some, slice_get, refl, sym, ap, ◌∙◌, subst, arith, inl, inr}
 use Rattle.std.proofs.lemmas.Bool.{cases_Bool, ne_eqb}
-use Rattle.std.proofs.lemmas.Option.{slice_get-get_or, slice_get_within}
+use Rattle.std.proofs.lemmas.Option.{slice_get-get_or}
 use Rattle.zr_base.specs.declared.op.Op.{Op}
 use Rattle.zr_base.specs.declared.op.Op.TheVariants.{Write, Read, Discard}
 use Rattle.zr_base.specs.Plain.{start_of, count_of, is_beyond, has_event, IsRequest, InBounds}
 use Rattle.call_history.specs.declared.part.Part.{Part}
-use Rattle.call_history.specs.Parts.{first_page, pages_of, parts_from, parts, program}
+use Rattle.call_history.specs.Parts.{first_page, pages_of, parts_from, program}
 use Rattle.zr_core.specs.declared.place.Place.{Place}
-use Rattle.zr_core.specs.Places.{AreRequests, todo_by, todo_at, IsOn, IsPlaceBy, IsPlace, IsSettledBy, IsSettled, IsOnward, steps_left}
+use Rattle.zr_core.specs.Places.{todo_by, IsOn, IsPlaceBy, IsSettledBy, IsOnward}
 
 module _ {A : Type 0} where
   pub at_index : (xs : List A) (i : ℕ) (x : A) → i < length xs → x ≡ get_or xs i x → slice_get xs i ≡ Some x

@@ -1,16 +1,15 @@
 -- Each event keeps spare room for the pieces that are left.
-use Rattle.std.proofs.Common.{◌≡◌, ◌≢◌, ℕ, suc, ◌+◌, ◌≤◌, Bool, true, false, cond, eqb, List, [], ◌∷◌, Option, Some, None, slice_get, slice_set, refl, sym, ap, ◌∙◌, subst, arith}
-use Rattle.std.proofs.lemmas.Bool.{ne_eqb, eq-eqb}
+use Rattle.std.proofs.Common.{◌≡◌, ℕ, ◌+◌, ◌≤◌, Bool, cond, eqb, List, ◌∷◌, Some, None, slice_get, slice_set, refl, sym, ap, ◌∙◌, subst, arith}
+use Rattle.std.proofs.lemmas.Bool.{eq-eqb}
 use Rattle.call_history.specs.declared.part.Part.{Part}
 use Rattle.lock_row.specs.declared.names.LockNo.{LockNo}
 use Rattle.lock_row.specs.declared.names.Held.TheVariants as holds
 use Rattle.lock_row.specs.declared.names.Plan.TheVariants.{Take}
 use Rattle.lock_row.specs.declared.names.State.{State}
 use Rattle.lock_row.specs.Values.{Everywhere, Exclusive}
-use Rattle.lock_row.specs.Totals.{locals_sum}
 use Rattle.lock_row.proofs.Values.{take_everywhere, give_everywhere}
-use Rattle.lock_row.proofs.Totals.{locals_set, locals_le}
-use Rattle.zr_core.specs.Steps.{DiskHeld, Here, slot, spot, plan, took, lock_of}
+use Rattle.lock_row.proofs.Totals.{locals_set}
+use Rattle.zr_core.specs.Steps.{DiskHeld, Here, spot, plan, took, lock_of}
 use Rattle.zr_core.specs.Joint.{pieces_on, owed_by, owed, HasRoom}
 use Rattle.zr_core.proofs.Told.{Gift}
 

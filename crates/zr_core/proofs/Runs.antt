@@ -1,9 +1,9 @@
 -- No state with the joint rule is stuck, and each event leaves fewer.
-use Rattle.std.proofs.Common.{◌≡◌, ◌≢◌, ◌⊎◌, ℕ, zero, suc, ◌+◌, ◌-◌, ◌*◌, ◌<◌, ◌≤◌, List, [], ◌∷◌, ◌++◌, map, length, Option, Some, None, slice_get, slice_set, sym, refl, ap, ◌∙◌, subst, arith, inl, inr, ⊎_elim, append_assoc, add-one}
+use Rattle.std.proofs.Common.{◌≡◌, ◌≢◌, ◌⊎◌, ℕ, zero, suc, ◌+◌, ◌*◌, ◌<◌, ◌≤◌, List, [], ◌∷◌, ◌++◌, map, length, Option, Some, None, slice_get, slice_set, sym, refl, ap, ◌∙◌, subst, arith, inl, inr, ⊎_elim, append_assoc, add-one}
 use Rattle.std.specs.Prelude.{replicate, take}
 use Rattle.std.specs.List.{range_with_len}
-use Rattle.std.proofs.lemmas.List.{append-nil, length-map}
-use Rattle.std.proofs.lemmas.Option.{slice_get_within, slice_get-map}
+use Rattle.std.proofs.lemmas.List.{append-nil}
+use Rattle.std.proofs.lemmas.Option.{slice_get_within}
 use mathlib.Core.Logic.{dite}
 use native.Mathlib.Decide.{ℕ_discrete}
 use Rattle.zr_base.specs.declared.op.Op.{Op}
@@ -16,7 +16,7 @@ use Rattle.lock_row.specs.declared.names.At.TheVariants.{Start, Entered}
 use Rattle.lock_row.specs.declared.names.Plan.{Plan}
 use Rattle.lock_row.specs.declared.names.Plan.TheVariants.{Finished, Take, Give}
 use Rattle.lock_row.specs.declared.names.State.{State}
-use Rattle.lock_row.specs.Machine.{Turn, finished, missed, taken, given}
+use Rattle.lock_row.specs.Machine.{finished, missed, taken, given}
 use Rattle.lock_row.specs.Totals.{locals_sum}
 use Rattle.lock_row.proofs.Totals.{locals_set}
 use Rattle.lock_row.proofs.Runs.{run_on, run_both}
@@ -28,7 +28,7 @@ use Rattle.zr_core.specs.Joint.{locks_at, Joint}
 use Rattle.zr_core.specs.Machines.{OneTurn, Turns, AllFinished, rounds_of}
 use Rattle.zr_core.specs.Workers.{here, at_of}
 use Rattle.zr_core.specs.States.{heres, state, AreFit, AreKept, CanGoOn, TurnsOnce}
-use Rattle.zr_core.specs.Runs.{turns_of, GoesBy, RunsOut, IsBusy, AllOver, left_at, left_by, all_left, nothing_over, left_of, IsFree, Round}
+use Rattle.zr_core.specs.Runs.{turns_of, GoesBy, RunsOut, IsBusy, AllOver, left_at, left_by, all_left, left_of, IsFree, Round}
 use Rattle.zr_core.proofs.Places.{there_is, no_todo}
 use Rattle.zr_core.proofs.States.{heres_get, takes_here, in_row}
 use Rattle.zr_core.proofs.Turns.{todo_next}
@@ -58,8 +58,12 @@ module _ (g : Given) (w : State DiskHeld) (j : Joint g w) where
   free_give a l m who what = (l, who, (λ e. absurd (let q : Give m ≡ Finished = sym what ∙ e in cc)), (λ k e. absurd (let q : Give m ≡ Take k = sym what ∙ e in cc)))
 
   free_take : (a : ℕ) (l : Here) (k : LockNo) (v : DiskHeld) → slice_get w.locals a ≡ Some l → plan l ≡ Take k → slice_get w.row (spot k) ≡ Some (Some v) → IsFree w a
-  free_take a l k v who what there = (l, who, (λ e. absurd (let q : Take k ≡ Finished = sym what ∙ e in cc)),
-      (λ m e. let q : k ≡ m = (let z : Take k ≡ Take m = sym what ∙ e in cc) in (v, ap (λ (c : LockNo). slice_get w.row (spot c)) (sym q) ∙ there)))
+  free_take a l k v who what there = (
+    l,
+    who,
+    (λ e. absurd (let q : Take k ≡ Finished = sym what ∙ e in cc)),
+    (λ m e. let q : k ≡ m = (let z : Take k ≡ Take m = sym what ∙ e in cc) in (v, ap (λ (c : LockNo). slice_get w.row (spot c)) (sym q) ∙ there)),
+  )
 
   lock_held : (h : ℕ) (m : Here) (i : ℕ) (x : LockNo × DiskHeld) → slice_get w.locals h ≡ Some m → slice_get m.held i ≡ Some x → slice_get (locks_at m.at m.todo) i ≡ Some x.0
   lock_held h m i x who at = ap (λ ks. slice_get ks i) (sym (j.told.actors h m who).locks) ∙ get_map (λ (y : LockNo × DiskHeld). y.0) m.held i x at
@@ -117,10 +121,13 @@ pub round_more : (start now next : State DiskHeld) (i : ℕ) → Round start now
 round_more start now next i (inl less) t = inl (⊎_elim (λ same. let q : all_left next ≡ all_left now = ap all_left same in omega arith) (λ fell. omega arith) (falls i now next t))
 round_more start now next i (inr r) t =
     let base : all_left now ≡ all_left start = ap all_left r.0 in ⊎_elim
-    (λ same. inr (same ∙ r.0, λ f free. dite (ℕ_discrete f i)
-        (λ e. absurd (let g : IsFree now i = subst (λ (p : State DiskHeld × ℕ). IsFree p.0 p.1) (λ k. (sym r.0 k, e k)) free in
-            let h = free_falls i now next g t in let q : all_left next ≡ all_left now = ap all_left same in let none : ⊥ = omega arith in none))
-        (λ ne. let h = r.1 f free in omega arith)))
+    (λ same. inr (
+      same ∙ r.0,
+      λ f free. dite (ℕ_discrete f i)
+          (λ e. absurd (let g : IsFree now i = subst (λ (p : State DiskHeld × ℕ). IsFree p.0 p.1) (λ k. (sym r.0 k, e k)) free in
+          let h = free_falls i now next g t in let q : all_left next ≡ all_left now = ap all_left same in let none : ⊥ = omega arith in none))
+          (λ ne. let h = r.1 f free in omega arith),
+    ))
     (λ fell. inl (omega arith))
     (falls i now next t)
 

@@ -1,16 +1,11 @@
 -- What a piece does to its page, sector by sector.
-use Rattle.std.proofs.Common.{◌≡◌, ◌⊎◌, ℕ, zero, suc, ◌+◌, ◌-◌, ◌*◌, ◌/◌, ◌^◌, ◌<◌, ◌≤◌, Bool, true, false, ◌&&◌, cond, leb, ltb, min, max, List, [], ◌∷◌, ◌++◌, length, map, take, drop, refl, sym, ap, ◌∙◌, subst, arith, inl, inr, ⊎_elim, add-one}
+use Rattle.std.proofs.Common.{◌≡◌, ℕ, zero, suc, ◌+◌, ◌-◌, ◌*◌, ◌/◌, ◌<◌, ◌≤◌, Bool, true, cond, min, max, List, [], ◌∷◌, ◌++◌, map, take, drop, refl, sym, ap, ◌∙◌, arith, add-one}
 use Rattle.std.specs.Prelude.{replicate}
 use Rattle.std.specs.List.{range_with_len}
-use Rattle.std.proofs.lemmas.Bool.{cases_lt, and_left, and_right, and_from, le-leb, lt-leb, lt-ltb, le-ltb, leb-true}
-use Rattle.zr_base.specs.declared.op.Op.{Op}
-use Rattle.zr_base.specs.declared.op.Op.TheVariants.{Write, Read, Discard}
-use Rattle.zr_base.specs.declared.op.Stuff.{Stuff}
+use Rattle.zr_base.specs.declared.op.Op.TheVariants.{Read, Discard}
 use Rattle.zr_base.specs.Sectors.{page_sector}
-use Rattle.zr_base.specs.Plain.{start_of, count_of, stuff_sector, zero_sector, covers, has_whole, sector_after, InBounds}
-use Rattle.call_history.specs.Parts.{first_page, pages_of, sectors_on, got_by}
-use Rattle.zr_core.specs.Work.{IsPiece}
-use Rattle.zr_core.proofs.Places.{in_bounds, pages_some}
+use Rattle.zr_base.specs.Plain.{zero_sector, has_whole, sector_after}
+use Rattle.call_history.specs.Parts.{got_by}
 
 -- ---- lists
 

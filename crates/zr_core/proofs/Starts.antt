@@ -1,5 +1,5 @@
 -- The state before the first turn has the joint rule.
-use Rattle.std.proofs.Common.{◌≡◌, ℕ, ◌+◌, ◌*◌, ◌<◌, true, List, [], map, Option, Some, None, slice_get, refl, sym, ap, ◌∙◌, subst}
+use Rattle.std.proofs.Common.{◌≡◌, ℕ, ◌+◌, ◌*◌, ◌<◌, List, [], map, Option, Some, None, slice_get, refl, sym, ap, ◌∙◌, subst}
 use Rattle.zr_base.specs.declared.op.Tag.{Tag}
 use Rattle.zr_base.specs.Sectors.{page_sector}
 use Rattle.plain_disk.specs.Phases.{Given, held_after}
@@ -11,9 +11,8 @@ use Rattle.lock_row.specs.declared.names.LockNo.{LockNo}
 use Rattle.lock_row.specs.declared.names.Held.TheVariants as holds
 use Rattle.lock_row.specs.declared.names.At.{At}
 use Rattle.lock_row.specs.declared.names.State.{State}
-use Rattle.lock_row.specs.Values.{Everywhere, Exclusive}
 use Rattle.slot_entry.specs.Entries.{EntryState, page_of}
-use Rattle.zr_core.specs.Steps.{DiskHeld, Here, spot}
+use Rattle.zr_core.specs.Steps.{DiskHeld, Here}
 use Rattle.zr_core.specs.Joint.{done_by, dones, Shows, HasRoom, locks_at, Joint}
 use Rattle.zr_core.specs.Machines.{IsFresh, IsStart}
 

@@ -1,10 +1,10 @@
 -- The state that a row and its workers stand for, and its turns.
-use Rattle.std.proofs.Common.{◌≡◌, ◌≢◌, ◌⊎◌, ℕ, zero, suc, ◌+◌, ◌-◌, ◌*◌, ◌/◌, ◌<◌, ◌≤◌, Bool, true, false, cond, eqb, List, [], ◌∷◌, ◌++◌, map, length, Option, Some, None, slice_get, slice_set, refl, sym, ap, ◌∙◌, subst, arith, inl, inr, ⊎_elim, length-set}
+use Rattle.std.proofs.Common.{◌≡◌, ◌⊎◌, ℕ, zero, suc, ◌+◌, ◌*◌, ◌<◌, ◌≤◌, Bool, cond, eqb, List, [], ◌∷◌, map, length, Option, Some, None, slice_get, slice_set, refl, sym, ap, ◌∙◌, subst, arith, inl, inr, ⊎_elim, length-set}
 use Rattle.std.specs.List.{range_with_len}
 use Rattle.std.proofs.lemmas.Bool.{cases_lt, eq-eqb, ltb-false}
 use Rattle.std.proofs.lemmas.Option.{slice_get_within}
 use Rattle.zr_base.specs.declared.op.Op.{Op}
-use Rattle.zr_base.specs.Plain.{start_of, count_of, is_beyond, IsRequest}
+use Rattle.zr_base.specs.Plain.{start_of, count_of, IsRequest}
 use Rattle.plain_disk.specs.Phases.{Given}
 use Rattle.call_history.specs.declared.part.Part.{Part}
 use Rattle.call_history.specs.declared.part.Done.{Done}
@@ -12,7 +12,6 @@ use Rattle.lock_row.specs.declared.names.LockNo.{LockNo}
 use Rattle.lock_row.specs.declared.names.Held.TheVariants as holds
 use Rattle.lock_row.specs.declared.names.At.{At}
 use Rattle.lock_row.specs.declared.names.At.TheVariants as stage
-use Rattle.lock_row.specs.declared.names.Plan.{Plan}
 use Rattle.lock_row.specs.declared.names.Plan.TheVariants.{Finished, Take, Give}
 use Rattle.lock_row.specs.declared.names.State.{State}
 use Rattle.lock_row.specs.Rows.{Row, IsDistinct, place_in, cell, with_cell}
@@ -22,13 +21,13 @@ use Rattle.lock_row.proofs.Totals.{locals_le}
 use Rattle.slot_entry.specs.Entries.{EntryState}
 use Rattle.zr_core.specs.declared.worker.Worker.{Worker}
 use Rattle.zr_core.specs.declared.worker.Turn.{Turn}
-use Rattle.zr_core.specs.Steps.{DiskHeld, Here, slot, spot, plan, plan_at, took, gave, lock_of, Works}
+use Rattle.zr_core.specs.Steps.{DiskHeld, Here, slot, spot, plan, plan_at, took, gave}
 use Rattle.zr_core.specs.Joint.{pieces_on, owed_by, owed, HasRoom, Joint}
 use Rattle.zr_core.specs.Places.{IsOn}
-use Rattle.zr_core.specs.Workers.{at_of, held_by, here, next_event, Keeps, Fits, IsFit, WorksAlways, Turned, finished, waited, took_it, gave_it}
-use Rattle.zr_core.specs.States.{slots_of, heres, state, AreFit, AreKept, CanGoOn, IsEvent, taken, given, TurnIs}
+use Rattle.zr_core.specs.Workers.{at_of, held_by, here, next_event, Keeps, Fits, IsFit, Turned, finished, waited, took_it, gave_it}
+use Rattle.zr_core.specs.States.{slots_of, heres, AreFit, AreKept, taken, given, TurnIs}
 use Rattle.zr_core.proofs.Places.{there_is, no_todo, on_here, has_settled, in_bounds, pages_some}
-use Rattle.zr_core.proofs.Turns.{part_at, behind, todo_next}
+use Rattle.zr_core.proofs.Turns.{part_at, todo_next}
 
 -- ---- lists
 
@@ -223,12 +222,17 @@ module _ {X : Type 0} {takes : X → LockNo → (Here → DiskHeld → Here) →
   turn_is row_of cells ls a who is tp gp t n w (took_it k v what take same) =
       let z = t k took v take in
       taken l k v record {
-        who = who; what = what; there = (λ i. slice_get (sym is i) (sym (tp k what) i)) ∙ z.0;
+        who = who;
+        what = what;
+        there = (λ i. slice_get (sym is i) (sym (tp k what) i)) ∙ z.0;
         after = λ i. record { row = (ap (λ (x : Row DiskHeld). x.cells) z.1 ∙ (λ j. slice_set (is j) (tp k what j) None)) i; locals = slice_set ls a (same i) };
       }
   turn_is row_of cells ls a who is tp gp t n w (gave_it k v what give work same) =
       let z = w k gave v give in
       given l k v (gave l v) record {
-        who = who; what = what; there = (λ i. slice_get (sym is i) (sym (gp k what) i)) ∙ z.0; work = work;
+        who = who;
+        what = what;
+        there = (λ i. slice_get (sym is i) (sym (gp k what) i)) ∙ z.0;
+        work = work;
         after = λ i. record { row = (ap (λ (x : Row DiskHeld). x.cells) z.1 ∙ (λ j. slice_set (is j) (gp k what j) (Some v))) i; locals = slice_set ls a (same i) };
       }

@@ -1,17 +1,16 @@
 -- Each event keeps orders, contents and replies.
-use Rattle.std.proofs.Common.{◌≡◌, ◌≢◌, ℕ, zero, suc, ◌+◌, ◌<◌, ◌≤◌, Bool, true, false, ◌&&◌, cond, eqb, List, [], ◌∷◌, ◌++◌, map, length, Option, Some, None, option_and_then, slice_get, slice_set, refl, sym, ap, ◌∙◌, subst, arith, length-set, ◌⊎◌, inl, inr, ⊎_elim}
+use Rattle.std.proofs.Common.{◌≡◌, ◌≢◌, ℕ, false, eqb, List, [], ◌∷◌, ◌++◌, map, Option, Some, None, option_and_then, slice_get, slice_set, refl, sym, ap, ◌∙◌, subst, length-set, ⊎_elim}
 use mathlib.Core.Logic.{dite}
 use mathlib.Core.Path.{fun_ext}
 use native.Mathlib.Decide.{ℕ_discrete}
 use Rattle.std.proofs.lemmas.Bool.{ne_eqb, and_left}
-use Rattle.zr_base.specs.declared.op.Tag.{Tag}
 use Rattle.zr_base.specs.declared.op.Op.{Op}
 use Rattle.zr_base.specs.Plain.{named}
 use Rattle.plain_disk.specs.Phases.{Given}
 use Rattle.call_history.specs.declared.part.Part.{Part}
 use Rattle.call_history.specs.declared.part.PartEnd.TheVariants.{Carried}
 use Rattle.call_history.specs.declared.part.Done.{Done}
-use Rattle.call_history.specs.Parts.{program, Follows, is_on, stands_so, is_carried, left_by}
+use Rattle.call_history.specs.Parts.{program, Follows, is_on, stands_so}
 use Rattle.call_history.specs.Shows.{ShowsPage, Carries, Grown, tag_by, got_from}
 use Rattle.call_history.proofs.Told.{follows_on, next_named}
 use Rattle.call_history.proofs.Grown.{page_still, page_here}
@@ -20,13 +19,13 @@ use Rattle.lock_row.specs.declared.names.Held.TheVariants as holds
 use Rattle.lock_row.specs.declared.names.At.{At}
 use Rattle.lock_row.specs.declared.names.At.TheVariants.{Start, Entered}
 use Rattle.lock_row.specs.declared.names.Plan.{Plan}
-use Rattle.lock_row.specs.declared.names.Plan.TheVariants.{Finished, Take, Give}
+use Rattle.lock_row.specs.declared.names.Plan.TheVariants.{Take, Give}
 use Rattle.lock_row.specs.declared.names.State.{State}
 use Rattle.lock_row.specs.Values.{Everywhere, Exclusive}
 use Rattle.lock_row.proofs.Runs.{get_here, get_else}
 use Rattle.lock_row.proofs.Values.{get_set, take_everywhere, give_everywhere}
 use Rattle.slot_entry.specs.Entries.{EntryState, page_of}
-use Rattle.zr_core.specs.Steps.{DiskHeld, Here, slot, spot, plan, plan_at, took, lock_of, over, CarriesOut, Works, carries}
+use Rattle.zr_core.specs.Steps.{DiskHeld, Here, slot, spot, plan, plan_at, took, lock_of, CarriesOut, Works, carries}
 use Rattle.zr_core.specs.Joint.{done_by, dones, Shows, locks_at, IsActor, Told}
 
 -- ---- locals
@@ -79,7 +78,10 @@ pub gift : (l : Here) (k : LockNo) (v : DiskHeld) (m : Here) → plan l ≡ Give
 gift l k v m what (carries p rest e f todo at held v_is work m_is) =
     let k_is : k ≡ slot p.page = give_is (plan l) k (slot p.page) what (λ i. plan_at (todo i) (at i)) in
     subst (λ (n : Here). Gift l k v n) (sym m_is) record {
-      p = p; rest = rest; e = e; f = f;
+      p = p;
+      rest = rest;
+      e = e;
+      f = f;
       lock = k_is;
       value = v_is;
       held = held ∙ (λ i. (sym k_is i, holds.Slot e) ∷ []);

@@ -1,36 +1,21 @@
 -- A worker's steps are events of the actor that it stands for.
-use Rattle.std.proofs.Common.{◌≡◌, ◌≢◌, ◌⊎◌, ℕ, zero, suc, ◌+◌, ◌-◌, ◌*◌, ◌<◌, ◌≤◌, ◌^◌, Bool, true, false, cond, eqb, max, min, List, [], ◌∷◌, ◌++◌, length, drop, Option, Some, None, slice_get, refl, sym, ap, ◌∙◌, subst, arith, inl, inr, ⊎_elim, vec_len, vec_capacity}
-use mathlib.Core.Logic.{dite}
-use native.Mathlib.Decide.{ℕ_discrete}
-use Rattle.std.proofs.lemmas.Bool.{eq-eqb, ne_eqb}
-use Rattle.std.proofs.lemmas.List.{append-nil}
-use Rattle.zr_base.specs.declared.op.Tag.{Tag}
+use Rattle.std.proofs.Common.{◌≡◌, ℕ, suc, ◌+◌, ◌-◌, ◌<◌, ◌≤◌, Bool, cond, List, [], ◌∷◌, ◌++◌, length, drop, Some, None, slice_get, refl, sym, ap, ◌∙◌, subst, arith}
 use Rattle.zr_base.specs.declared.op.Op.{Op}
-use Rattle.zr_base.specs.declared.op.Op.TheVariants.{Write, Read, Discard}
-use Rattle.zr_base.specs.declared.op.OpEnd.TheVariants as ends
-use Rattle.zr_base.specs.Sectors.{page_sector}
-use Rattle.zr_base.specs.Plain.{is_beyond, has_event, sector_after, IsRequest}
 use Rattle.call_history.specs.declared.part.Part.{Part}
-use Rattle.call_history.specs.declared.part.PartEnd.TheVariants.{Carried}
 use Rattle.call_history.specs.declared.part.Done.{Done}
-use Rattle.call_history.specs.Parts.{parts_from, program, got_by, got_of}
-use Rattle.call_history.specs.Shows.{tag_by, got_from}
-use Rattle.call_history.proofs.Ends.{got_append}
+use Rattle.call_history.specs.Parts.{parts_from, program}
 use Rattle.lock_row.specs.declared.names.LockNo.{LockNo}
 use Rattle.lock_row.specs.declared.names.Held.TheVariants as holds
 use Rattle.lock_row.specs.declared.names.At.TheVariants as at
-use Rattle.lock_row.specs.declared.names.Plan.{Plan}
-use Rattle.lock_row.specs.declared.names.Plan.TheVariants.{Finished, Take, Give}
-use Rattle.slot_entry.specs.Entries.{EntryState, page_of}
+use Rattle.lock_row.specs.declared.names.Plan.TheVariants.{Take}
+use Rattle.slot_entry.specs.Entries.{EntryState}
 use Rattle.zr_core.specs.declared.place.Place.{Place}
-use Rattle.zr_core.specs.declared.worker.Reply.{Reply}
 use Rattle.zr_core.specs.declared.worker.Worker.{Worker}
 use Rattle.zr_core.specs.declared.worker.Turn.TheVariants as turn
-use Rattle.zr_core.specs.Steps.{DiskHeld, Here, slot, plan, plan_at, took, lock_of, gave, gave_by, got_in, over, CarriesOut, Works, carries}
-use Rattle.zr_core.specs.Places.{todo_by, todo_at, IsPlace, IsSettled, IsOnward}
-use Rattle.zr_core.specs.Work.{IsPiece, reads}
-use Rattle.zr_core.specs.Workers.{at_of, held_by, here, next_event, Keeps, Fits, HasRoomIn, ReadFits, ReplyFits, IsFit, HasMore, WorksAlways, Turned, waited, took_it, gave_it, finished, Advanced, with_entry}
-use Rattle.zr_core.proofs.Places.{there_is, todo_here, on_here, has_settled, no_todo, place_here}
+use Rattle.zr_core.specs.Steps.{DiskHeld, Here, slot, plan_at, took, lock_of}
+use Rattle.zr_core.specs.Places.{todo_at, IsSettled}
+use Rattle.zr_core.specs.Workers.{at_of, held_by, next_event, Keeps, Fits, IsFit, waited, took_it, finished, Advanced, with_entry}
+use Rattle.zr_core.proofs.Places.{there_is, todo_here, has_settled, no_todo}
 
 abbrev pub part_at : Place → Op → Part
 part_at pl op = record { nr = pl.nr; op = op; page = pl.page }

@@ -1,25 +1,23 @@
 -- A turn of a worker over the world's row is a turn of the machine.
-use Rattle.std.proofs.Common.{◌≡◌, ◌≢◌, ℕ, ◌+◌, ◌<◌, ◌≤◌, List, [], ◌∷◌, ◌++◌, length, Option, Some, None, slice_get, slice_set, refl, sym, ap, ◌∙◌, subst, arith}
+use Rattle.std.proofs.Common.{◌≡◌, ℕ, ◌<◌, List, length, Option, Some, None, slice_get, slice_set, sym, ap, ◌∙◌, subst, arith}
 use Rattle.std.proofs.lemmas.Option.{slice_get_within}
 use Rattle.zr_base.specs.declared.op.Op.{Op}
-use Rattle.plain_disk.specs.Phases.{Given}
 use Rattle.call_history.specs.declared.part.Done.{Done}
 use Rattle.lock_row.specs.declared.names.LockNo.{LockNo}
-use Rattle.lock_row.specs.declared.names.Plan.TheVariants.{Finished, Take, Give}
+use Rattle.lock_row.specs.declared.names.Plan.TheVariants.{Take, Give}
 use Rattle.lock_row.specs.declared.names.State.{State}
 use Rattle.lock_row.specs.Machine as one
 use Rattle.lock_row.specs.Rows.{Row, place_in, cell, with_cell}
 use Rattle.zr_core.specs.declared.worker.Worker.{Worker}
 use Rattle.zr_core.specs.declared.worker.Turn.{Turn}
 use Rattle.zr_core.specs.declared.worker.Turn.TheVariants as turn
-use Rattle.zr_core.specs.Steps.{DiskHeld, Here, slot, spot, plan}
-use Rattle.zr_core.specs.Joint.{Joint}
+use Rattle.zr_core.specs.Steps.{DiskHeld, Here, slot, spot}
 use Rattle.zr_core.specs.Machines.{OneTurn}
 use Rattle.zr_core.specs.Workers.{here, next_event, Keeps, Fits, IsFit, Advanced}
-use Rattle.zr_core.specs.States.{slots_of, heres, state, AreFit, AreKept, CanGoOn, IsEvent, taken, given, TurnIs, TurnsOnce}
+use Rattle.zr_core.specs.States.{slots_of, heres, state, AreFit, AreKept, CanGoOn, taken, given, TurnIs, TurnsOnce}
 use Rattle.zr_core.proofs.Places.{there_is}
 use Rattle.zr_core.proofs.Joint.{joint_keeps}
-use Rattle.zr_core.proofs.States.{heres_get, heres_set, fit_set, kept_set, takes_here, gives_here, slot_place, in_row, value_fits, is_out, turn_is, turn_keeps}
+use Rattle.zr_core.proofs.States.{heres_get, heres_set, kept_set, takes_here, gives_here, slot_place, in_row, value_fits, is_out, turn_is, turn_keeps}
 
 pub one_turn : (a : ℕ) (w n : State DiskHeld) (t : Turn) → TurnIs a w n t → OneTurn a w n
 one_turn a w n turn.Went (taken l k v e) = one.taken l k v e

@@ -1,6 +1,5 @@
 -- The joint rule of a disk and its actors, in parts.
 use Rattle.std.specs.Prelude.{◌≡◌, ℕ, ◌+◌, ◌≤◌, ◌==◌, List, [], ◌∷◌, map, length, Option, Some, None, slice_get, if◌then◌else◌}
-use Rattle.std.specs.declared.convert.Infallible.{Infallible}
 use Rattle.zr_base.specs.declared.op.Op.{Op}
 use Rattle.plain_disk.specs.Phases.{Given}
 use Rattle.call_history.specs.declared.part.Part.{Part}

@@ -9,10 +9,9 @@ use Rattle.lock_row.specs.declared.names.LockNo.{LockNo}
 use Rattle.lock_row.specs.declared.names.Held.TheVariants as holds
 use Rattle.slot_entry.specs.declared.entry.Kept.TheVariants.{Empty}
 use Rattle.slot_entry.specs.Entries.{EntryState}
-use Rattle.lock_row.specs.declared.names.Plan.TheVariants.{Finished, Take, Give}
+use Rattle.lock_row.specs.declared.names.Plan.TheVariants.{Finished, Take}
 use Rattle.lock_row.specs.declared.names.State.{State}
 use Rattle.lock_row.specs.Machine.{Taking, Giving}
-use Rattle.lock_row.specs.Rows.{Row}
 use Rattle.zr_core.specs.declared.worker.Reply.{Reply}
 use Rattle.zr_core.specs.declared.worker.Worker.{Worker}
 use Rattle.zr_core.specs.declared.worker.Turn.{Turn}

@@ -1,7 +1,6 @@
 -- What an actor does next, and what its events do to its local.
 use Rattle.std.specs.Prelude.{◌≡◌, ℕ, ◌+◌, ◌≤◌, List, [], ◌∷◌, ◌++◌}
 use Rattle.std.specs.declared.convert.Infallible.{Infallible}
-use Rattle.zr_base.specs.declared.page.PageIx.{PageIx}
 use Rattle.call_history.specs.declared.part.Part.{Part}
 use Rattle.call_history.specs.declared.part.PartEnd.{PartEnd}
 use Rattle.call_history.specs.declared.part.PartEnd.TheVariants.{Carried}

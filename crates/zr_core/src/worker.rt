@@ -121,7 +121,13 @@ impl Worker {
     }
 
     // Carries the next piece out, and gives the slot back.
-    fn leave<H: Hand<Value = DiskHeld>>(&mut self, size: u32, ops: &[Op], entry: Entry, hand: &mut H) -> Turn
+    fn leave<H: Hand<Value = DiskHeld>>(
+        &mut self,
+        size: u32,
+        ops: &[Op],
+        entry: Entry,
+        hand: &mut H,
+    ) -> Turn
         requires fit { IsFit size ops.now (with_entry self.old (Some entry)) }
         requires empty { self.old.entry ≡ None }
         requires more { self.old.place.nr < length ops.now }
@@ -132,10 +138,11 @@ impl Worker {
         let Place { nr, page, left } = self.place;
         let mut worked = entry;
         work(&mut self.replies, nr, &ops[nr], page, &mut worked);
-        worked.note(Tag {
+        let tag = Tag {
             actor: self.actor,
             op: nr as u32,
-        });
+        };
+        worked.note(tag);
         hand.give::<Gave>(LockNo::Slot(PageIx(page)), Held::Slot(worked));
         let behind = Place {
             nr,
@@ -147,7 +154,12 @@ impl Worker {
     }
 
     /// One turn of the actor, by this hand.
-    pub fn advance<H: Hand<Value = DiskHeld>>(&mut self, size: u32, ops: &[Op], hand: &mut H) -> Turn
+    pub fn advance<H: Hand<Value = DiskHeld>>(
+        &mut self,
+        size: u32,
+        ops: &[Op],
+        hand: &mut H,
+    ) -> Turn
         requires fit { IsFit size ops.now self.old }
         requires takes { (k : LockNo) → next_event size ops.now self.old ≡ Take k → H.can_take hand.old k took }
         requires fits { (k : LockNo) (v : DiskHeld) (after : H) → next_event size ops.now self.old ≡ Take k → H.takes hand.old k took v after → Fits v }

@@ -38,7 +38,8 @@ fn entry_in(value: &DiskHeld) -> &Entry
 {
     match value {
         Held::Slot(entry) => entry,
-        Held::Class(never) | Held::Account(never) | Held::Blocks(never) | Held::Device(never) => match *never {},
+        Held::Class(never) | Held::Account(never) | Held::Blocks(never) | Held::Device(never) =>
+            match *never {},
     }
 }
 
@@ -56,7 +57,9 @@ impl Phase {
         requires { IsSome (of_op (sectors_shown self.now.workers.items) actor op) }
         ensures { (sectors : _) → of_op (sectors_shown self.now.workers.items) actor op ≡ Some sectors → result.now ≡ flat_map (λ x. x) sectors }
     {
-        self.workers[actor as usize].replies[op as usize].sectors.as_flattened()
+        self.workers[actor as usize].replies[op as usize]
+            .sectors
+            .as_flattened()
     }
 }
 

@@ -1,4 +1,4 @@
-use Rattle.std.proofs.Common.{◌≡◌, List, Option, sym, subst}
+use Rattle.std.proofs.Common.{List, Option, sym, subst}
 use Rattle.plain_disk.specs.Output.{OutLine}
 use Rattle.plain_disk.specs.Phases.{IsPhase}
 use Rattle.zr_core.specs.Steps.{DiskHeld}

@@ -1,6 +1,5 @@
-use Rattle.std.proofs.Common.{◌≡◌, ◌<◌, ◌^◌, ℕ, length, get_or, Some, slice_get, refl, sym, ap, ◌∙◌, arith}
-use Rattle.zr_base.specs.declared.op.Op.{Op}
-use Rattle.zr_core.specs.Places.{todo_by, todo_at}
+use Rattle.std.proofs.Common.{ℕ, sym, ap, ◌∙◌, arith}
+use Rattle.zr_core.specs.Places.{todo_at}
 use Rattle.zr_core.proofs.Places.{there_is, low_page, few_pages, on_here, next_todo, pass_todo}
 use Rattle.zr_core.proofs.place.passed.Goals as goal
 

@@ -1,4 +1,4 @@
-use Rattle.std.proofs.Common.{◌≡◌, ◌<◌, length, Some, slice_get, refl, arith, length-set}
+use Rattle.std.proofs.Common.{◌<◌, length, refl, arith, length-set}
 use Rattle.lock_row.proofs.Runs.{get_here, get_else}
 use Rattle.zr_core.proofs.Places.{at_index}
 use Rattle.zr_core.proofs.worker.work.Goals as goal

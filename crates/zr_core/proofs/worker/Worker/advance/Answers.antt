@@ -1,9 +1,7 @@
-use Rattle.std.proofs.Common.{◌≡◌, length, Some, sym, ap, subst, ◌∙◌}
+use Rattle.std.proofs.Common.{length, sym, ap, subst, ◌∙◌}
 use Rattle.std.proofs.lemmas.Bool.{leb-true}
-use Rattle.call_history.specs.declared.part.Done.{Done}
-use Rattle.lock_row.specs.declared.names.Plan.TheVariants.{Give}
 use Rattle.zr_core.specs.declared.worker.Worker.{Worker}
-use Rattle.zr_core.specs.Workers.{next_event, WorksAlways, Advanced, with_entry}
+use Rattle.zr_core.specs.Workers.{next_event, WorksAlways, Advanced}
 use Rattle.zr_core.proofs.Turns.{at_end, same_worker}
 use Rattle.zr_core.proofs.worker.Worker.advance.Goals as goal
 

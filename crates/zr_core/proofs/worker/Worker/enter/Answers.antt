@@ -1,5 +1,3 @@
-use Rattle.std.proofs.Common.{sym, subst}
-use Rattle.zr_core.specs.Workers.{Fits}
 use Rattle.zr_core.proofs.Turns.{takes_slot, misses_slot, has_slot, fits_slot}
 use Rattle.zr_core.proofs.worker.Worker.enter.Goals as goal
 

@@ -1,6 +1,5 @@
-use Rattle.std.proofs.Common.{◌≡◌, ◌+◌, ◌≤◌, ◌<◌, ℕ, List, Option, Some, ◌∷◌, [], ◌++◌, slice_get, sym, ap, ◌∙◌, refl, arith}
+use Rattle.std.proofs.Common.{List, ◌∷◌, [], ◌++◌, ap, ◌∙◌, refl, arith}
 use Rattle.zr_base.specs.declared.op.Tag.{Tag}
-use Rattle.zr_base.specs.declared.op.Op.{Op}
 use Rattle.zr_base.specs.Sectors.{page_sector}
 use Rattle.slot_entry.specs.declared.entry.Kept.{Kept}
 use Rattle.slot_entry.specs.Entries.{page_of}

@@ -1,8 +1,6 @@
-use Rattle.std.proofs.Common.{◌≡◌, Option, Some, None, slice_get, sym, ap, ◌∙◌}
+use Rattle.std.proofs.Common.{◌≡◌, Some, None, sym, ap, ◌∙◌}
 use Rattle.std.specs.Option.{option_copied}
 use Rattle.lock_row.specs.declared.names.Held.TheVariants as holds
-use Rattle.lock_row.specs.Rows.{cell, at_home}
-use Rattle.zr_core.specs.Steps.{DiskHeld, slot}
 use Rattle.zr_core.proofs.Blank.{value_at}
 use Rattle.zr_core.proofs.world.World.entry.Goals as goal
 

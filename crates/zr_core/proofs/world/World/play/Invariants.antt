@@ -1,5 +1,4 @@
-use Rattle.std.proofs.Common.{◌≡◌, ℕ, ◌<◌, List, take, length, Some, slice_get}
-use Rattle.zr_base.specs.declared.op.Turns.{Turns}
+use Rattle.std.proofs.Common.{◌≡◌, List, take}
 use Rattle.call_history.specs.declared.part.Done.{Done}
 use Rattle.zr_core.specs.States.{AreFit, AreKept, CanGoOn}
 use Rattle.zr_core.specs.Runs.{turns_of, GoesBy}

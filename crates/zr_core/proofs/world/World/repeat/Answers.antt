@@ -1,5 +1,5 @@
 use Rattle.std.proofs.Common.{refl, ◌∙◌}
-use Rattle.zr_core.proofs.Runs.{goes_nowhere, then_once}
+use Rattle.zr_core.proofs.Runs.{then_once}
 use Rattle.zr_core.proofs.world.World.repeat.Goals as goal
 
 pub loop-time-init : goal.loop-time-init

@@ -1,11 +1,9 @@
-use Rattle.std.proofs.Common.{◌≡◌, ◌<◌, ◌≤◌, ℕ, List, length, refl, sym, ap, ◌∙◌, subst, arith}
-use Rattle.std.specs.List.{range_with_len}
-use Rattle.call_history.specs.declared.part.Done.{Done}
+use Rattle.std.proofs.Common.{◌<◌, ℕ, refl, sym, ◌∙◌, subst, arith}
 use Rattle.zr_core.specs.Machines.{OneTurn}
-use Rattle.zr_core.specs.States.{state, AreKept}
-use Rattle.zr_core.specs.Runs.{Round, left_of}
+use Rattle.zr_core.specs.States.{state}
+use Rattle.zr_core.specs.Runs.{left_of}
 use Rattle.zr_core.proofs.Worlds.{one_turn}
-use Rattle.zr_core.proofs.Runs.{RoundTo, turn_more, round_none, round_left}
+use Rattle.zr_core.proofs.Runs.{turn_more, round_none, round_left}
 use Rattle.zr_core.proofs.world.World.round.Goals as goal
 
 pub loop-actor-init : goal.loop-actor-init

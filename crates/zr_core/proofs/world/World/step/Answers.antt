@@ -1,12 +1,9 @@
-use Rattle.std.proofs.Common.{◌≡◌, ◌<◌, ℕ, List, Option, Some, None, length, slice_get, slice_set, sym, ap, refl, ◌∙◌, subst, arith}
-use Rattle.zr_base.specs.declared.op.Op.{Op}
-use Rattle.call_history.specs.declared.part.Done.{Done}
-use Rattle.lock_row.specs.declared.names.LockNo.{LockNo}
-use Rattle.lock_row.specs.Rows.{Row, cell}
+use Rattle.std.proofs.Common.{◌≡◌, Some, slice_get, sym, ap, refl, ◌∙◌, arith}
+use Rattle.lock_row.specs.Rows.{Row}
 use Rattle.zr_core.specs.Steps.{DiskHeld}
-use Rattle.zr_core.specs.States.{slots_of, AreKept, CanGoOn, TurnsOnce}
+use Rattle.zr_core.specs.States.{slots_of}
 use Rattle.zr_core.proofs.Places.{at_index}
-use Rattle.zr_core.proofs.States.{fit_set, turn_keeps}
+use Rattle.zr_core.proofs.States.{fit_set}
 use Rattle.zr_core.proofs.Worlds.{may_take, may_fit, may_give, turns_once, goes_on, keeps_name}
 use Rattle.zr_core.proofs.world.World.step.Goals as goal
 use Rattle.zr_core.proofs.world.World.step.Goals.{After-as_slice, After-advance}
@@ -57,11 +54,11 @@ shape_of-self c = let a = (goal.at.shape_of-self c).After-as_slice in
 pub invariant_of-self : goal.invariant_of-self
 invariant_of-self c = let a = (goal.at.invariant_of-self c).After-as_slice in record {
   slots =
-    keeps_name c.args.self.now.pages c.args.ops.now c.args.self.now.row.cells c.args.phase.now.workers.items c.requires.fit c.args.actor c.as_slice.result.now c.index_mut-worker.result.now
-    (ops_at a) (worker_at a) c.hand-hand.result.row.now (names_are a) (cells_are a) c.hand-hand.result c.advance.new.hand (λ h. h.row.now) refl
-    (λ k f v t. (t.2, t.3)) (λ k t. (t.2, t.3)) (λ k f v t. (t.2, t.3)) c.advance.new.self c.advance.result c.advance.ensures.turn
-    (λ h. h.row.now.names) c.requires.joint (λ k f v t. ap (λ (r : Row DiskHeld). r.names) t.3) (λ k t. ap (λ (r : Row DiskHeld). r.names) t.3) (λ k f v t. ap (λ (r : Row DiskHeld). r.names) t.3)
-    ∙ names_are a;
+      keeps_name c.args.self.now.pages c.args.ops.now c.args.self.now.row.cells c.args.phase.now.workers.items c.requires.fit c.args.actor c.as_slice.result.now c.index_mut-worker.result.now
+      (ops_at a) (worker_at a) c.hand-hand.result.row.now (names_are a) (cells_are a) c.hand-hand.result c.advance.new.hand (λ h. h.row.now) refl
+      (λ k f v t. (t.2, t.3)) (λ k t. (t.2, t.3)) (λ k f v t. (t.2, t.3)) c.advance.new.self c.advance.result c.advance.ensures.turn
+      (λ h. h.row.now.names) c.requires.joint (λ k f v t. ap (λ (r : Row DiskHeld). r.names) t.3) (λ k t. ap (λ (r : Row DiskHeld). r.names) t.3) (λ k f v t. ap (λ (r : Row DiskHeld). r.names) t.3)
+      ∙ names_are a;
 }
 
 pub returns-clause-fit : goal.returns-clause-fit
