@@ -1,0 +1,26 @@
+//! Pieces that have events, as the machine of a phase speaks of them.
+
+use std::collections::LinkedList;
+use zr_base::Op;
+
+/// A piece that has events: the operation's number among the actor's, counted from 0, the operation,
+/// and the page. No running code makes one.
+pub struct Part {
+    pub nr: u32,
+    pub op: Op,
+    pub page: u32,
+}
+
+/// How a piece ended. An end other than `Carried` ends its operation too.
+#[derive(Clone, Copy, PartialEq, Eq)]
+pub enum PartEnd {
+    /// It was carried out.
+    Carried,
+}
+
+/// A piece that is over, with the sectors that it read. No running code makes one.
+pub struct Done {
+    pub part: Part,
+    pub end: PartEnd,
+    pub got: LinkedList<LinkedList<u8>>,
+}

@@ -1,0 +1,4 @@
+pub mod Runs
+pub mod Values
+pub mod Places
+pub mod Totals

@@ -1,0 +1,120 @@
+-- A state with the joint rule in which all actors are finished prints a phase that the plain disk allows.
+use Rattle.std.proofs.Common.{◌≡◌, ℕ, zero, suc, ◌+◌, ◌*◌, ◌/◌, ◌%◌, ◌<◌, List, [], ◌∷◌, map, length, Option, Some, None, slice_get, refl, sym, ap, ◌∙◌, subst, arith}
+use Rattle.std.proofs.lemmas.Bool.{and_from, eq-eqb}
+use Rattle.std.proofs.lemmas.List.{length-map}
+use Rattle.std.proofs.lemmas.Option.{get_or_from_slice_get}
+use Rattle.zr_base.specs.declared.op.Op.{Op}
+use Rattle.zr_base.specs.Sectors.{page_sector}
+use Rattle.plain_disk.specs.Phases.{Given, held_after, nth_order, IsPhase}
+use Rattle.call_history.specs.declared.part.Part.{Part}
+use Rattle.call_history.specs.declared.part.Done.{Done}
+use Rattle.call_history.specs.Parts.{program, Follows, stands_so, noted_on, ops_of}
+use Rattle.call_history.specs.Shows.{ShowsPage, IsTold}
+use Rattle.call_history.specs.Histories.{history, HasSomeEach, Agree}
+use Rattle.call_history.proofs.Phases.{is_phase}
+use Rattle.lock_row.specs.declared.names.LockNo.{LockNo}
+use Rattle.lock_row.specs.declared.names.Held.TheVariants as holds
+use Rattle.lock_row.specs.declared.names.At.{At}
+use Rattle.lock_row.specs.declared.names.At.TheVariants.{Start, Entered}
+use Rattle.lock_row.specs.declared.names.Plan.TheVariants.{Finished}
+use Rattle.lock_row.specs.declared.names.State.{State}
+use Rattle.slot_entry.specs.Entries.{EntryState, page_of}
+use Rattle.zr_core.specs.Steps.{DiskHeld, Here, plan_at}
+use Rattle.zr_core.specs.Joint.{dones, Shows, locks_at, Joint}
+use Rattle.zr_core.proofs.Places.{there_is}
+use Rattle.zr_core.specs.Machines.{AllFinished, order_in, page_in, orders_of, sector_in, histories, printed}
+
+map_nil : {A B : Type 0} (f : A → B) (xs : List A) → map f xs ≡ [] → xs ≡ []
+map_nil f [] e = refl
+map_nil f (x ∷ xs) e = absurd (let q : f x ∷ map f xs ≡ [] = e in cc)
+
+pub finished_is : (ps : List Part) (at : At) → plan_at ps at ≡ Finished → ps ≡ []
+finished_is [] at e = refl
+finished_is (p ∷ ps) Start e = absurd (cc)
+finished_is (p ∷ ps) Entered e = absurd (cc)
+
+locks_none : (at : At) → locks_at at [] ≡ []
+locks_none Start = refl
+locks_none Entered = refl
+
+nth_is : (row : List (Option DiskHeld)) (p : ℕ) (c : Option DiskHeld) → slice_get row p ≡ Some c → nth_order (orders_of row) p ≡ order_in c
+nth_is [] p c e = absurd (cc)
+nth_is (x ∷ xs) zero c e = ap order_in (let q : x ≡ c = (let h : Some x ≡ Some c = e in cc) in q)
+nth_is (x ∷ xs) (suc p) c e = nth_is xs p c e
+
+history_is : (ls : List Here) (a : ℕ) → history (histories ls) a ≡ dones ls a
+history_is [] a = refl
+history_is (l ∷ ls) zero = refl
+history_is (l ∷ ls) (suc a) = history_is ls a
+
+local_of : (ls : List Here) (a : ℕ) (done : List Done) → slice_get (histories ls) a ≡ Some done → (l : Here) × (slice_get ls a ≡ Some l) × (l.done ≡ done)
+local_of [] a done e = absurd (cc)
+local_of (l ∷ ls) zero done e = (l, refl, (let h : Some l.done ≡ Some done = e in cc))
+local_of (l ∷ ls) (suc a) done e = local_of ls a done e
+
+module _ (g : Given) (w : State DiskHeld) (j : Joint g w) (fin : AllFinished w) where
+  no_todo : (a : ℕ) (l : Here) → slice_get w.locals a ≡ Some l → l.todo ≡ []
+  no_todo a l who = finished_is l.todo l.at (fin a l who)
+
+  nothing_held : (a : ℕ) (l : Here) → slice_get w.locals a ≡ Some l → l.held ≡ []
+  nothing_held a l who = map_nil (λ (x : LockNo × DiskHeld). x.0) l.held ((j.told.actors a l who).locks ∙ ap (locks_at l.at) (no_todo a l who) ∙ locks_none l.at)
+
+  -- each value is in the row
+  by_cell : (p : ℕ) (c : Option DiskHeld) → slice_get w.row p ≡ Some c → (v : DiskHeld) × (slice_get w.row p ≡ Some (Some v))
+  by_cell p (Some v) e = (v, e)
+  by_cell p None e =
+      let h = j.apart.keeper p e in
+      let none : slice_get (let xs : List (LockNo × DiskHeld) = [] in xs) h.2 ≡ Some h.3 = ap (λ (ys : List (LockNo × DiskHeld)). slice_get ys h.2) (sym (nothing_held h.0 h.1 h.4)) ∙ h.5 in absurd (cc)
+
+  pub all_home : (p : ℕ) → p < length w.row → (v : DiskHeld) × (slice_get w.row p ≡ Some (Some v))
+  all_home p lt = let c = there_is w.row p lt in by_cell p c.0 c.1
+
+  record Page (p : ℕ) : Type 0 where
+    entry : EntryState
+    there : slice_get w.row p ≡ Some (Some (holds.Slot entry))
+    shows : ShowsPage g (dones w.locals) p (page_of entry.kept) entry.order
+
+  by_value : (p : ℕ) (v : DiskHeld) → slice_get w.row p ≡ Some (Some v) → Shows g (dones w.locals) p v → Page p
+  by_value p (holds.Slot e) there h = record { entry = e; there = there; shows = h }
+  by_value p (holds.Class x) there h = elim x [ ]
+  by_value p (holds.Account x) there h = elim x [ ]
+  by_value p (holds.Blocks x) there h = elim x [ ]
+  by_value p (holds.Device x) there h = elim x [ ]
+
+  page : (p : ℕ) → p < g.size → Page p
+  page p lt =
+      let v = all_home p (let q = j.told.row in omega arith) in
+      by_value p v.0 v.1 (j.told.values.in_row p v.0 v.1)
+
+  order_is : (p : ℕ) (x : Page p) → nth_order (orders_of w.row) p ≡ x.entry.order
+  order_is p x = nth_is w.row p (Some (holds.Slot x.entry)) x.there
+
+  follows : (a : ℕ) (ops : List Op) (done : List Done) → slice_get g.actors a ≡ Some ops → slice_get (histories w.locals) a ≡ Some done → Follows (program g.size 0 ops) done []
+  follows a ops done named there =
+      let l = local_of w.locals a done there in
+      let h = j.told.actors a l.0 l.1 in
+      let same : h.ops ≡ ops = (let z : Some h.ops ≡ Some ops = sym h.named ∙ named in cc) in
+      subst (λ (c : List Op × List Done × List Part). Follows (program g.size 0 c.0) c.1 c.2) (λ i. (same i, l.2 i, no_todo a l.0 l.1 i)) h.follows
+
+  agree : Agree g (histories w.locals) (orders_of w.row)
+  agree = record {
+    count = length-map w.locals (λ (l : Here). l.done) ∙ j.told.count;
+    follows = follows;
+    every_page = length-map w.row order_in ∙ j.told.row;
+    turns = λ p a lt. let x = page p lt in ap (ops_of a) (order_is p x) ∙ x.shows.turns a ∙ ap (noted_on p) (sym (history_is w.locals a));
+    reads = λ a i d at lt stands.
+        let x = page d.part.page lt in
+        subst (IsTold g a d) (sym (order_is d.part.page x))
+        (x.shows.reads a i d (ap (λ (ds : List Done). slice_get ds i) (sym (history_is w.locals a)) ∙ at)
+        (and_from _ (stands_so d.part.op d.end) (eq-eqb d.part.page d.part.page refl) stands));
+  }
+
+  holds_now : (s : ℕ) → s < 8 * g.size → sector_in w.row s ≡ held_after g (nth_order (orders_of w.row) (s / 8)) s
+  holds_now s lt =
+      let x = page (s / 8) (omega arith) in
+      ap (λ (c : Option DiskHeld). page_sector (page_in c) (s % 8)) (get_or_from_slice_get w.row (s / 8) (Some (holds.Slot x.entry)) None x.there)
+      ∙ x.shows.holds (s % 8) (omega arith)
+      ∙ (λ i. held_after g (sym (order_is (s / 8) x) i) ((let q : 8 * (s / 8) + s % 8 ≡ s = omega arith in q) i))
+
+  pub finished_prints : HasSomeEach g.actors → IsPhase g (printed g w) (sector_in w.row)
+  finished_prints some = is_phase g (histories w.locals) (orders_of w.row) some agree (sector_in w.row) holds_now

@@ -1,0 +1,14 @@
+pub mod Told
+pub mod Room
+pub mod Joint
+pub mod Finished
+pub mod Starts
+pub mod Places
+pub mod Sectors
+pub mod Turns
+pub mod Leaves
+pub mod States
+pub mod Worlds
+pub mod Runs
+pub mod Shown
+pub mod Blank

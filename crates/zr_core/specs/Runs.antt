@@ -1,0 +1,69 @@
+-- Runs of a world, and the events that are left.
+use Rattle.std.specs.Prelude.{◌≡◌, ◌≢◌, ◌⊎◌, ℕ, ◌+◌, ◌*◌, ◌<◌, ◌≤◌, List, [], ◌∷◌, ◌++◌, length, map, replicate, Option, Some, slice_get}
+use Rattle.std.specs.List.{flat_map}
+use Rattle.zr_base.specs.declared.op.Op.{Op}
+use Rattle.zr_base.specs.declared.op.Turns.{Turns}
+use Rattle.call_history.specs.declared.part.Part.{Part}
+use Rattle.call_history.specs.declared.part.Done.{Done}
+use Rattle.lock_row.specs.declared.names.LockNo.{LockNo}
+use Rattle.lock_row.specs.declared.names.At.{At}
+use Rattle.lock_row.specs.declared.names.At.TheVariants.{Start, Entered}
+use Rattle.lock_row.specs.declared.names.Plan.TheVariants.{Finished, Take}
+use Rattle.lock_row.specs.declared.names.State.{State}
+use Rattle.lock_row.specs.Totals.{locals_sum}
+use Rattle.zr_core.specs.declared.worker.Worker.{Worker}
+use Rattle.zr_core.specs.Steps.{DiskHeld, Here, spot, plan}
+use Rattle.zr_core.specs.Machines.{Turns as Makes, rounds_of, AllFinished}
+use Rattle.zr_core.specs.States.{heres, state, AreKept}
+
+-- the turns of a schedule, one after the other
+abbrev pub turns_of : List Turns → List ℕ
+turns_of schedule = flat_map (λ t. replicate t.times t.actor) schedule
+
+-- these turns lead from the state that was to one that is, whatever was over before
+abbrev pub GoesBy : List ℕ → ℕ → List (List Op) → List (Option DiskHeld) → List Worker → List (Option DiskHeld) → List Worker → List (List Done) → Type 0
+GoesBy turns size actors cells ws cells' ws' dones = (dones' : List (List Done)) × AreKept ws' dones' × Makes turns (state size actors cells ws dones) (state size actors cells' ws' dones')
+
+-- the schedule's turns, and then rounds until all actors are finished
+abbrev pub RunsOut : List ℕ → ℕ → List (List Op) → List (Option DiskHeld) → List Worker → List (Option DiskHeld) → List Worker → List (List Done) → Type 0
+RunsOut turns size actors cells ws cells' ws' dones = (rounds : ℕ) × (dones' : List (List Done)) × AreKept ws' dones'
+    × Makes (turns ++ rounds_of (length actors) rounds) (state size actors cells ws dones) (state size actors cells' ws' dones') × AllFinished (state size actors cells' ws' dones')
+
+-- some actor isn't finished
+pub record IsBusy (actors : List (List Op)) (ws : List Worker) : Type 0 where
+  pub actor : ℕ
+  pub ops : List Op
+  pub worker : Worker
+  pub named : slice_get actors actor ≡ Some ops
+  pub there : slice_get ws actor ≡ Some worker
+  pub more : worker.place.nr < length ops
+
+-- all are finished
+abbrev pub AllOver : List (List Op) → List Worker → Type 0
+AllOver actors ws = (a : ℕ) (ops : List Op) (w : Worker) → slice_get actors a ≡ Some ops → slice_get ws a ≡ Some w → length ops ≤ w.place.nr
+
+-- the events that are left: two for each piece, and one less where its slot is taken
+abbrev pub left_at : List Part → At → ℕ
+left_at [] at = 0
+left_at (p ∷ ps) Start = 2 + 2 * length ps
+left_at (p ∷ ps) Entered = 1 + 2 * length ps
+
+abbrev pub left_by : Here → ℕ
+left_by l = left_at l.todo l.at
+
+abbrev pub all_left : State DiskHeld → ℕ
+all_left w = locals_sum left_by w.locals
+
+abbrev pub nothing_over : List Worker → List (List Done)
+nothing_over ws = map (λ w. []) ws
+
+abbrev pub left_of : ℕ → List (List Op) → List Worker → ℕ
+left_of size actors ws = locals_sum left_by (heres size actors ws (nothing_over ws))
+
+-- the next turn of this actor is an event
+abbrev pub IsFree : State DiskHeld → ℕ → Type 0
+IsFree w a = (l : Here) × (slice_get w.locals a ≡ Some l) × (plan l ≢ Finished) × ((k : LockNo) → plan l ≡ Take k → (v : DiskHeld) × (slice_get w.row (spot k) ≡ Some (Some v)))
+
+-- in a round so far, up to the actor i: fewer events are left, or nothing happened and no actor below i was free
+abbrev pub Round : State DiskHeld → State DiskHeld → ℕ → Type 0
+Round start now i = (all_left now < all_left start) ⊎ ((now ≡ start) × ((f : ℕ) → IsFree start f → i ≤ f))

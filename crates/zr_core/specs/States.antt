@@ -1,0 +1,84 @@
+-- The state that a row and its workers stand for, where these pieces of each actor are over.
+use Rattle.std.specs.Prelude.{◌≡◌, ℕ, ◌<◌, List, [], ◌∷◌, map, length, Option, Some, None, slice_get, option_and_then}
+use Rattle.std.specs.List.{range_with_len}
+use Rattle.zr_base.specs.declared.op.Op.{Op}
+use Rattle.zr_base.specs.declared.op.OpEnd.{OpEnd}
+use Rattle.plain_disk.specs.Phases.{Given}
+use Rattle.call_history.specs.declared.part.Done.{Done}
+use Rattle.lock_row.specs.declared.names.LockNo.{LockNo}
+use Rattle.lock_row.specs.declared.names.Held.TheVariants as holds
+use Rattle.slot_entry.specs.declared.entry.Kept.TheVariants.{Empty}
+use Rattle.slot_entry.specs.Entries.{EntryState}
+use Rattle.lock_row.specs.declared.names.Plan.TheVariants.{Finished, Take}
+use Rattle.lock_row.specs.declared.names.State.{State}
+use Rattle.lock_row.specs.Machine.{Taking, Giving}
+use Rattle.zr_core.specs.declared.worker.Reply.{Reply}
+use Rattle.zr_core.specs.declared.worker.Worker.{Worker}
+use Rattle.zr_core.specs.declared.worker.Turn.{Turn}
+use Rattle.zr_core.specs.declared.worker.Turn.TheVariants as turn
+use Rattle.zr_core.specs.Steps.{DiskHeld, Here, slot, spot, plan, took, Works}
+use Rattle.zr_core.specs.Joint.{Joint}
+use Rattle.zr_core.specs.Workers.{here, Keeps, IsFit}
+
+-- the names of a disk's locks: the slots of its pages, in rising order
+abbrev pub slots_of : ℕ → List LockNo
+slots_of size = map slot (range_with_len 0 size)
+
+abbrev pub heres : ℕ → List (List Op) → List Worker → List (List Done) → List Here
+heres size [] ws dones = []
+heres size (ops ∷ more) [] dones = []
+heres size (ops ∷ more) (w ∷ ws) [] = []
+heres size (ops ∷ more) (w ∷ ws) (done ∷ dones) = here size ops w done ∷ heres size more ws dones
+
+abbrev pub state : ℕ → List (List Op) → List (Option DiskHeld) → List Worker → List (List Done) → State DiskHeld
+state size actors cells ws dones = record { row = cells; locals = heres size actors ws dones }
+
+-- how the operations ended, and the sectors that they read
+abbrev pub ends_shown : List Worker → List (List OpEnd)
+ends_shown ws = map (λ (w : Worker). map (λ (r : Reply). r.end) w.replies.items) ws
+
+abbrev pub sectors_shown : List Worker → List (List (List (List ℕ)))
+sectors_shown ws = map (λ (w : Worker). map (λ (r : Reply). r.sectors.items) w.replies.items) ws
+
+-- Each worker is fit for its operations.
+pub record AreFit (size : ℕ) (actors : List (List Op)) (ws : List Worker) : Type 0 where
+  pub count : length ws ≡ length actors
+  pub each : (a : ℕ) (ops : List Op) (w : Worker) → slice_get actors a ≡ Some ops → slice_get ws a ≡ Some w → IsFit size ops w
+
+-- The workers' replies have what these pieces have read.
+pub record AreKept (ws : List Worker) (dones : List (List Done)) : Type 0 where
+  pub count : length dones ≡ length ws
+  pub each : (a : ℕ) (w : Worker) (done : List Done) → slice_get ws a ≡ Some w → slice_get dones a ≡ Some done → Keeps w done
+
+-- The joint rule holds for some phase's start.
+pub record CanGoOn (size : ℕ) (actors : List (List Op)) (cells : List (Option DiskHeld)) (ws : List Worker) : Type 0 where
+  pub given : Given
+  pub dones : List (List Done)
+  pub pages : given.size ≡ size
+  pub ops : given.actors ≡ actors
+  pub kept : AreKept ws dones
+  pub joint : Joint given (state size actors cells ws dones)
+
+-- one event of an actor
+pub data IsEvent (a : ℕ) (w n : State DiskHeld) : Type 0 where
+  taken : (l : Here) (k : LockNo) (v : DiskHeld) → Taking spot plan took Works a l k v w n → IsEvent a w n
+  given : (l : Here) (k : LockNo) (v : DiskHeld) (m : Here) → Giving spot plan took Works a l k v m w n → IsEvent a w n
+
+-- what a turn was: one event, a miss at the lock that is next and out, or nothing where the actor is finished
+abbrev pub TurnIs : ℕ → State DiskHeld → State DiskHeld → Turn → Type 0
+TurnIs a w n turn.Went = IsEvent a w n
+TurnIs a w n (turn.Waited k) = (l : Here) × (slice_get w.locals a ≡ Some l) × (plan l ≡ Take k) × (slice_get w.row (spot k) ≡ Some None) × (n ≡ w)
+TurnIs a w n turn.Finished = (l : Here) × (slice_get w.locals a ≡ Some l) × (plan l ≡ Finished) × (n ≡ w)
+
+-- a turn from the state that was to one that is, whatever was over before
+abbrev pub TurnsOnce : ℕ → ℕ → List (List Op) → List (Option DiskHeld) → List Worker → List (Option DiskHeld) → List Worker → Turn → List (List Done) → Type 0
+TurnsOnce a size actors cells ws cells' ws' t dones = (dones' : List (List Done)) × AreKept ws' dones' × TurnIs a (state size actors cells ws dones) (state size actors cells' ws' dones') t
+
+-- an item of an actor's operation
+abbrev pub of_op : {A : Type 0} → List (List A) → ℕ → ℕ → Option A
+of_op all actor op = option_and_then (λ xs. slice_get xs op) (slice_get all actor)
+
+-- Each page has an entry at home, with nothing kept and no calls.
+pub record IsBlank (pages : ℕ) (cells : List (Option DiskHeld)) : Type 0 where
+  pub size : length cells ≡ pages
+  pub each : (p : ℕ) → p < pages → (e : EntryState) × (slice_get cells p ≡ Some (Some (holds.Slot e))) × (e.kept ≡ Empty) × (e.order ≡ [])
