@@ -1,6 +1,6 @@
 -- The end of a phase of one actor, or of none.
 use Rattle.std.proofs.Common.{◌≡◌, ◌⊎◌, ℕ, zero, suc, ◌+◌, ◌*◌, ◌/◌, ◌%◌, ◌<◌, ◌≤◌, Bool, true, false, ◌||◌, cond, List, [], ◌∷◌, ◌++◌, length, map, get_or, take, drop, Option, refl, sym, ap, ◌∙◌, subst, arith, inl, inr}
-use Rattle.std.specs.List.{flat_map, range_with_len}
+use Rattle.std.specs.List.{range_with_len}
 use Rattle.std.proofs.Math.Path.{fun_ext}
 use Rattle.std.proofs.lemmas.List.{append-nil, ext_get_or}
 use Rattle.std.proofs.lemmas.List.Concat.{flat_map-append}
@@ -11,10 +11,10 @@ use Rattle.zr_base.specs.declared.op.OpEnd.TheVariants as ends
 use Rattle.zr_base.specs.Plain.{content, is_beyond, IsOrder}
 use Rattle.plain_disk.specs.Ends.{MayEnd, MayEndAll}
 use Rattle.plain_disk.specs.Output.{OutLine, order_lines, any_refusal}
-use Rattle.plain_disk.specs.Phases.{Given, IsPhase, nth_order}
+use Rattle.plain_disk.specs.Phases.{IsPhase, nth_order}
 use Rattle.job_session.specs.Runs.{PhaseTold}
 use Rattle.job_session.specs.Slots.{Shown, nothing_shown, sector_at, order_at, orders_at}
-use Rattle.job_session.specs.Steps.{end_on, ends_on, tags_on, orders_of, alone, lines_from}
+use Rattle.job_session.specs.Steps.{ends_on, tags_on, orders_of, alone, lines_from}
 use Rattle.job_session.specs.Texts.{text, line_text}
 use Rattle.job_session.specs.Told.{Tells, Tells-none, Tells-more}
 use Rattle.job_session.proofs.Lines.{any_refusal-append, any_refusal-orders}

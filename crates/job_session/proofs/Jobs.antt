@@ -1,5 +1,5 @@
 -- Jobs item by item.
-use Rattle.std.proofs.Common.{◌≡◌, ℕ, ◌+◌, ◌≤◌, ◌<◌, Bool, true, ◌||◌, ◌&&◌, nat_le, List, [], ◌∷◌, ◌++◌, length, Option, refl, sym, ap, ◌∙◌, subst, append_assoc, arith}
+use Rattle.std.proofs.Common.{ℕ, ◌+◌, ◌≤◌, Bool, ◌||◌, List, [], ◌∷◌, ◌++◌, length, Option, refl, sym, ap, ◌∙◌, subst, append_assoc, arith}
 use Rattle.std.specs.List.{AllByRecursion}
 use Rattle.std.proofs.lemmas.Bool.Decides.{nat_tests}
 use Rattle.std.proofs.lemmas.List.{append-nil}
@@ -10,7 +10,7 @@ use Rattle.plain_disk.specs.Output.{OutLine, any_refusal}
 use Rattle.job_text.specs.declared.job.Attr.TheVariants.{DiskPages}
 use Rattle.job_text.specs.declared.job.Item.{Item}
 use Rattle.job_text.specs.declared.job.Item.TheVariants as items
-use Rattle.job_text.specs.Jobs.{Used, nothing_used, with_disk, with_phase, with_op, with_ops, with_actors, is_within, MayOperate, MayAct, MayFollow}
+use Rattle.job_text.specs.Jobs.{Used, nothing_used, with_disk, with_phase, with_op, with_ops, with_actors, MayOperate, MayAct, MayFollow}
 use Rattle.job_session.specs.Legal.{Rest, Legal, ItemIsLegal}
 use Rattle.job_session.specs.Runs.{MayActAlone, MayStand, ItemTold, ItemsTold}
 use Rattle.job_session.specs.Texts.{text, line_text}

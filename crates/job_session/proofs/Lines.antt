@@ -1,6 +1,6 @@
 -- The lines of one actor's operations, one after the other.
-use Rattle.std.proofs.Common.{◌≡◌, ℕ, zero, suc, ◌+◌, ◌*◌, ◌/◌, ◌%◌, ◌<◌, ◌≤◌, Bool, true, false, ◌||◌, cond, List, [], ◌∷◌, ◌++◌, length, map, take, drop, get_or, Option, Some, slice_get, refl, sym, ap, ◌∙◌, subst, arith, length-take-le}
-use Rattle.std.specs.List.{flat_map, range_with_len, AllByRecursion}
+use Rattle.std.proofs.Common.{◌≡◌, ℕ, zero, suc, ◌+◌, ◌*◌, ◌/◌, ◌<◌, ◌≤◌, Bool, true, false, ◌||◌, cond, List, [], ◌∷◌, ◌++◌, length, map, take, drop, get_or, Some, refl, sym, ap, ◌∙◌, subst, arith, length-take-le}
+use Rattle.std.specs.List.{range_with_len, AllByRecursion}
 use Rattle.std.proofs.lemmas.List.{append-nil, drop_more, take_more, take-append-drop}
 use Rattle.std.proofs.lemmas.Option.{slice_get-get_or}
 use Rattle.std.proofs.lemmas.List.Concat.{flat_map-append}
@@ -12,10 +12,10 @@ use Rattle.zr_base.specs.declared.op.Op.TheVariants.{Write, Read, Discard}
 use Rattle.zr_base.specs.declared.op.OpEnd.{OpEnd}
 use Rattle.zr_base.specs.declared.op.OpEnd.TheVariants as ends
 use Rattle.zr_base.specs.Plain.{content, order_before, is_beyond, IsRequest, count_of, stands_on}
-use Rattle.plain_disk.specs.Ends.{read_by, due_from}
-use Rattle.plain_disk.specs.Output.{OutLine, ended, sector, ordered, op_lines, actor_lines, order_line, order_lines, is_refusal, any_refusal}
-use Rattle.plain_disk.specs.Phases.{Given, nth_order, held_after, sector_read}
-use Rattle.job_session.specs.Steps.{end_on, ends_on, sector_ended, tag_where, tags_on, orders_of, alone, lines_from}
+use Rattle.plain_disk.specs.Ends.{read_by}
+use Rattle.plain_disk.specs.Output.{OutLine, ended, sector, op_lines, order_lines, is_refusal, any_refusal}
+use Rattle.plain_disk.specs.Phases.{held_after, sector_read}
+use Rattle.job_session.specs.Steps.{end_on, sector_ended, tag_where, tags_on, orders_of, alone, lines_from}
 use Rattle.job_session.specs.Slots.{Shown, sector_at, order_at}
 use Rattle.job_session.specs.Texts.{text, line_text}
 use Rattle.job_session.proofs.Orders.{before_is, covers-stands, content-more, tags_on-append}

@@ -1,5 +1,5 @@
 -- The orders of one actor's operations.
-use Rattle.std.proofs.Common.{◌≡◌, ◌≢◌, ℕ, zero, suc, ◌+◌, ◌*◌, ◌/◌, ◌<◌, ◌≤◌, Bool, true, false, ◌&&◌, nat_le, nat_lt, cond, eqb, List, [], ◌∷◌, ◌++◌, length, map, get_or, Option, Some, None, option_and_then, slice_get, refl, sym, ap, ◌∙◌, subst, arith, zero-add, add-zero, inl, inr, append_assoc}
+use Rattle.std.proofs.Common.{◌≡◌, ℕ, zero, suc, ◌+◌, ◌/◌, ◌<◌, ◌≤◌, Bool, true, false, ◌&&◌, cond, List, [], ◌∷◌, ◌++◌, length, Option, Some, slice_get, refl, sym, ap, ◌∙◌, arith, zero-add, add-zero, inl, inr, append_assoc}
 use Rattle.std.specs.Prelude.{count_by}
 use Rattle.std.specs.List.{AllByRecursion}
 use Rattle.std.proofs.lemmas.Bool.{cases_Bool, eq-eqb, ne_eqb, and_right}
@@ -8,9 +8,8 @@ use Rattle.std.proofs.lemmas.List.Sums.{sum_by-cons}
 use Rattle.zr_base.specs.declared.op.Tag.{Tag}
 use Rattle.zr_base.specs.declared.op.Op.{Op}
 use Rattle.zr_base.specs.declared.op.Op.TheVariants.{Write, Read, Discard}
-use Rattle.zr_base.specs.declared.op.OpEnd.{OpEnd}
 use Rattle.zr_base.specs.declared.op.OpEnd.TheVariants as ends
-use Rattle.zr_base.specs.Plain.{same_tag, Rises, IsOrder, order_before, stands_on, stands_named, is_noted, named, content, sector_after, sector_after_named, covers, touches, has_whole, start_of, count_of, is_beyond}
+use Rattle.zr_base.specs.Plain.{same_tag, Rises, IsOrder, order_before, stands_on, stands_named, is_noted, named, content, sector_after, sector_after_named, covers, has_whole, count_of, is_beyond}
 use Rattle.job_session.specs.Steps.{end_on, ends_on, tags_on, tag_where, sector_ended}
 
 abbrev tag_at : ℕ → ℕ → Tag

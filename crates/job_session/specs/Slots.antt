@@ -1,5 +1,5 @@
 -- What a slot holds, and what a row of slots has at a place.
-use Rattle.std.specs.Prelude.{◌≡◌, ℕ, ◌/◌, ◌%◌, List, [], get_or, map, length}
+use Rattle.std.specs.Prelude.{ℕ, ◌/◌, ◌%◌, List, [], get_or, map, length}
 use Rattle.zr_base.specs.declared.op.Tag.{Tag}
 use Rattle.job_session.specs.Legal.{Rest}
 use Rattle.zr_base.specs.Sectors.{page_sector}

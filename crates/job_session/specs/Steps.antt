@@ -1,14 +1,14 @@
 -- What one operation does to a row of slots, and what an actor's operations do one after the other.
-use Rattle.std.specs.Prelude.{◌≡◌, ℕ, ◌+◌, ◌*◌, ◌/◌, ◌&&◌, nat_lt, List, [], ◌∷◌, ◌++◌, map, if◌then◌else◌}
+use Rattle.std.specs.Prelude.{ℕ, ◌+◌, List, [], ◌∷◌, ◌++◌, map, if◌then◌else◌}
 use Rattle.std.specs.List.{range_with_len}
 use Rattle.zr_base.specs.declared.op.Tag.{Tag}
 use Rattle.zr_base.specs.declared.op.Op.{Op}
 use Rattle.zr_base.specs.declared.op.OpEnd.{OpEnd}
 use Rattle.zr_base.specs.declared.op.OpEnd.TheVariants as ends
-use Rattle.zr_base.specs.Plain.{is_beyond, sector_after, stands_on, content}
+use Rattle.zr_base.specs.Plain.{is_beyond, sector_after, stands_on}
 use Rattle.plain_disk.specs.Output.{OutLine, actor_lines}
 use Rattle.plain_disk.specs.Ends.{due_from}
-use Rattle.plain_disk.specs.Phases.{Given, held_after, sector_read}
+use Rattle.plain_disk.specs.Phases.{Given, sector_read}
 
 -- how an operation ends
 abbrev pub end_on : ℕ → Op → OpEnd

@@ -1,10 +1,10 @@
 -- What a line says is in its range.
-use Rattle.std.proofs.Common.{◌≡◌, ℕ, ◌+◌, ◌<◌, ◌≤◌, ◌^◌, Bool, true, false, ◌||◌, ◌&&◌, nat_lt, nat_le, cond, List, [], ◌∷◌, Option, Some, None, option_and_then, refl, sym, ap, ◌∙◌, subst, arith, codes}
+use Rattle.std.proofs.Common.{◌≡◌, ℕ, ◌^◌, Bool, true, false, ◌&&◌, nat_lt, nat_le, cond, List, [], ◌∷◌, Option, Some, None, option_and_then, refl, arith, codes}
 use Rattle.std.specs.Str.{bytes_eq}
 use Rattle.std.proofs.lemmas.Bool.Decides.{nat_tests}
-use Rattle.zr_base.specs.Plain.{IsRequest, InBounds}
+use Rattle.zr_base.specs.Plain.{InBounds}
 use Rattle.job_text.specs.declared.line.Line.{Line}
-use Rattle.job_text.specs.declared.line.Line.TheVariants.{Blank, Disk, Actor, Operation, Run}
+use Rattle.job_text.specs.declared.line.Line.TheVariants.{Disk, Actor, Operation, Run}
 use Rattle.zr_base.specs.declared.op.Op.TheVariants.{Read, Write}
 use Rattle.zr_base.specs.declared.op.Stuff.TheVariants.{Fill}
 use Rattle.job_text.specs.Numbers.{number_of, word_of, pages_of}

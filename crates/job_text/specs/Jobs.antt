@@ -1,11 +1,10 @@
 -- The job that a text is.
-use Rattle.std.specs.Prelude.{◌≡◌, ℕ, ◌+◌, ◌<◌, ◌≤◌, Bool, true, false, ◌==◌, ◌||◌, ◌&&◌, nat_le, List, [], ◌∷◌, ◌++◌, length, map, Option, Some, None, option_and_then, ⊤}
+use Rattle.std.specs.Prelude.{◌≡◌, ℕ, ◌+◌, ◌≤◌, Bool, true, false, ◌==◌, ◌&&◌, nat_le, List, [], ◌∷◌, ◌++◌, length, map, Option, Some, option_and_then, ⊤}
 use Rattle.std.specs.List.{slice_split, flat_map}
 use Rattle.zr_base.specs.Plain.{IsRequest, start_of, count_of}
 use Rattle.zr_base.specs.Pieces.{pages_touched}
 use Rattle.zr_base.specs.declared.op.Op.{Op}
 use Rattle.zr_base.specs.declared.op.Op.TheVariants.{Write, Read, Discard}
-use Rattle.job_text.specs.declared.job.Attr.{Attr}
 use Rattle.job_text.specs.declared.job.Attr.TheVariants.{DiskPages}
 use Rattle.job_text.specs.declared.job.Item.{Item}
 use Rattle.job_text.specs.declared.job.Item.TheVariants as items

@@ -1,13 +1,10 @@
 -- How far the reading of a job has come.
-use Rattle.std.specs.Prelude.{◌≡◌, ℕ, ◌≤◌, Bool, true, false, not, ◌+◌, ◌||◌, ◌&&◌, nat_lt, if◌then◌else◌, option_map, option_and_then, option_to_list, List, [], ◌∷◌, ◌++◌, length, Option, Some, None, ⊤}
+use Rattle.std.specs.Prelude.{ℕ, not, ◌+◌, ◌||◌, nat_lt, if◌then◌else◌, option_map, option_and_then, option_to_list, List, [], ◌∷◌, ◌++◌, length, Option, Some, None}
 use Rattle.std.specs.Borrow.{Bor}
-use Rattle.std.specs.List.{flat_map}
-use Rattle.zr_base.specs.Plain.{IsRequest}
 use Rattle.zr_base.specs.declared.op.Op.{Op}
 use Rattle.job_text.specs.declared.job.Item.{Item}
 use Rattle.job_text.specs.declared.job.Item.TheVariants as items
 use Rattle.job_text.specs.declared.job.Attr.TheVariants.{DiskPages}
-use Rattle.job_text.specs.declared.job.PhaseText.{PhaseText}
 use Rattle.job_text.specs.declared.line.Line.{Line}
 use Rattle.job_text.specs.declared.line.Line.TheVariants.{Blank, Disk, Actor, Operation, Run}
 use Rattle.job_text.specs.declared.reading.Reading.{Reading}

@@ -1,4 +1,4 @@
-use Rattle.std.proofs.Common.{◌≡◌, ℕ, ◌*◌, ◌<◌, ◌≤◌, ◌++◌, Bool, ◌&&◌, max, nat_le, nat_lt, [], ◌∷◌, cond, length}
+use Rattle.std.proofs.Common.{◌≡◌, ℕ, ◌*◌, ◌<◌, ◌≤◌, ◌++◌, ◌&&◌, max, nat_le, nat_lt, [], ◌∷◌, cond, length}
 use Rattle.zr_base.specs.Plain.{has_event}
 use Rattle.job_session.specs.Slots.{sector_at, order_at}
 use Rattle.job_session.proofs.disk.note.Given as goal

@@ -1,4 +1,4 @@
-use Rattle.std.proofs.Common.{◌≡◌, ℕ, ◌+◌, ◌/◌, ◌≤◌, Bool, List, cond, length, refl, ap, ◌∙◌, arith}
+use Rattle.std.proofs.Common.{◌+◌, ◌/◌, Bool, cond, refl, ap, ◌∙◌, arith}
 use Rattle.zr_base.specs.Plain.{zero_sector}
 use Rattle.job_session.specs.Slots.{sector_at}
 use Rattle.job_session.proofs.Zeros.{whole_is}

@@ -1,12 +1,12 @@
-use Rattle.std.proofs.Common.{◌≡◌, ℕ, ◌+◌, ◌||◌, Bool, List, length, drop, refl, sym, ap, ◌∙◌, subst}
+use Rattle.std.proofs.Common.{◌≡◌, ℕ, List, length, subst}
 use Rattle.zr_base.specs.declared.op.Op.{Op}
 use Rattle.plain_disk.specs.Ends.{read_by}
-use Rattle.plain_disk.specs.Output.{OutLine, op_lines, any_refusal}
+use Rattle.plain_disk.specs.Output.{op_lines, any_refusal}
 use Rattle.job_session.specs.Slots.{Shown, sector_at}
-use Rattle.job_session.specs.Steps.{end_on, lines_from}
+use Rattle.job_session.specs.Steps.{end_on}
 use Rattle.job_session.specs.Texts.{text}
 use Rattle.job_session.specs.Told.{Tells}
-use Rattle.job_session.proofs.Lines.{Progress, Does, next_text, progress_more, progress_start, request_at, some_sector}
+use Rattle.job_session.proofs.Lines.{Does, next_text, progress_more, progress_start, request_at, some_sector}
 use Rattle.job_session.proofs.Telling.{SoFar-more, SoFar-start}
 use Rattle.job_session.proofs.run.run_actor.Goals as goal
 

@@ -1,4 +1,4 @@
-use Rattle.std.proofs.Common.{ℕ, List, length, drop}
+use Rattle.std.proofs.Common.{length, drop}
 use Rattle.job_session.specs.Slots.{sector_at}
 use Rattle.job_session.specs.Steps.{lines_from}
 use Rattle.job_session.specs.Texts.{text}

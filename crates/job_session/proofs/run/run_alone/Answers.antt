@@ -1,4 +1,4 @@
-use Rattle.std.proofs.Common.{◌≡◌, length}
+use Rattle.std.proofs.Common.{length}
 use Rattle.job_session.specs.Slots.{sector_at}
 use Rattle.job_session.proofs.Ended.{phase_told}
 use Rattle.job_session.proofs.run.run_alone.Goals as goal

@@ -1,4 +1,4 @@
-use Rattle.std.proofs.Common.{◌≡◌, ℕ, List, length, ◌∙◌}
+use Rattle.std.proofs.Common.{length, ◌∙◌}
 use Rattle.zr_base.specs.declared.op.Tag.{Tag}
 use Rattle.plain_disk.specs.Ends.{read_by}
 use Rattle.job_session.specs.Slots.{sector_at}

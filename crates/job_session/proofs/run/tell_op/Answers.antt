@@ -1,1 +1,0 @@
-use Rattle.job_session.proofs.run.tell_op.Goals as goal

@@ -1,8 +1,8 @@
-use Rattle.std.proofs.Common.{◌≡◌, ◌∷◌, ◌+◌, ◌++◌, ◌<◌, List, ℕ, [], length, get_or, ap, sym, ◌∙◌, map, drop}
+use Rattle.std.proofs.Common.{◌≡◌, ◌+◌, ◌++◌, ◌<◌, List, ℕ, length, get_or, ap, sym, ◌∙◌, drop}
 use Rattle.std.proofs.lemmas.List.{drop_more}
 use Rattle.std.proofs.lemmas.List.Concat.{flat_map-append}
 use Rattle.zr_base.specs.declared.op.Tag.{Tag}
-use Rattle.plain_disk.specs.Output.{OutLine, order_line, order_lines}
+use Rattle.plain_disk.specs.Output.{order_line, order_lines}
 use Rattle.job_session.specs.Slots.{Shown, orders_at}
 use Rattle.job_session.specs.Texts.{text, line_text}
 use Rattle.job_session.proofs.Telling.{SoFar-more}

@@ -1,5 +1,5 @@
-use Rattle.std.proofs.Common.{◌≡◌, ℕ, ◌≤◌, List, ◌++◌, drop, map}
-use Rattle.plain_disk.specs.Output.{OutLine, order_lines}
+use Rattle.std.proofs.Common.{drop}
+use Rattle.plain_disk.specs.Output.{order_lines}
 use Rattle.job_session.specs.Texts.{text}
 use Rattle.job_session.specs.Slots.{orders_at}
 use Rattle.job_session.proofs.Telling.{SoFar}

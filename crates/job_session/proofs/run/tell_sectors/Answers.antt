@@ -1,6 +1,6 @@
-use Rattle.std.proofs.Common.{◌≡◌, ◌∷◌, List, ℕ, [], ap, map, drop, replicate}
+use Rattle.std.proofs.Common.{[], ap, map}
 use Rattle.std.proofs.lemmas.List.{drop_more}
-use Rattle.plain_disk.specs.Output.{OutLine, sector}
+use Rattle.plain_disk.specs.Output.{sector}
 use Rattle.job_session.specs.Texts.{text}
 use Rattle.job_session.proofs.Telling.{SoFar-more}
 use Rattle.job_session.proofs.run.tell_sectors.Goals as goal

@@ -1,5 +1,5 @@
-use Rattle.std.proofs.Common.{◌≡◌, ℕ, ◌≤◌, List, ◌++◌, drop, map}
-use Rattle.plain_disk.specs.Output.{OutLine, sector}
+use Rattle.std.proofs.Common.{drop, map}
+use Rattle.plain_disk.specs.Output.{sector}
 use Rattle.job_session.specs.Texts.{text}
 use Rattle.job_session.proofs.Telling.{SoFar}
 use Rattle.job_session.proofs.run.tell_sectors.Given as goal

@@ -1,4 +1,4 @@
-use Rattle.std.proofs.Common.{ℕ, ◌≤◌, List, [], length, take}
+use Rattle.std.proofs.Common.{◌≤◌, [], length, take}
 use Rattle.job_session.specs.Runs.{ItemsTold}
 use Rattle.job_session.specs.Slots.{rest_of}
 use Rattle.job_session.proofs.session.run_items.Given as goal

@@ -1,4 +1,4 @@
-use Rattle.std.proofs.Common.{◌≡◌, List, Some, None, Ok, Err, Result, IfOk, sym, ◌∙◌}
+use Rattle.std.proofs.Common.{◌≡◌, List, Some, Ok, Err, Result, IfOk, sym, ◌∙◌}
 use Rattle.job_text.specs.declared.job.Item.{Item}
 use Rattle.job_text.specs.declared.reader.ReadFault.{ReadFault}
 use Rattle.job_text.specs.Jobs.{IsJob}

@@ -1,0 +1,18 @@
+-- The lane at the lowest mark is the first large value; where no bit is set there is none.
+use Rattle.std.proofs.Common.{◌^◌, sym, ◌∙◌, arith}
+use Rattle.std.proofs.lemmas.Grind.{get_or_default_zero}
+use Rattle.std.proofs.lemmas.List.{get_or_past}
+use Rattle.std.specs.Int.Count.{count_trailing_zeros}
+use Rattle.bdi_line.proofs.Large.{base_at}
+use Rattle.bdi_line.proofs.words.base_of_words.Goals as goal
+
+pub returns-then-first-lt8 : goal.returns-then-first-lt8
+returns-then-first-lt8 c =
+    c.index.ensures
+    ∙ get_or_default_zero c.args.values _ c.index.result.now (omega (arith, c.fits-values.0))
+    ∙ base_at c.args.half (2 ^ 64) c.args.values c.args.marks (omega (arith, c.fits-values.0)) c.requires
+
+pub returns-else-first-lt8 : goal.returns-else-first-lt8
+returns-else-first-lt8 c =
+    sym (get_or_past c.args.values (count_trailing_zeros 64 c.args.marks) 0 (omega (arith, c.fits-values.0)))
+    ∙ base_at c.args.half (2 ^ 64) c.args.values c.args.marks (omega (arith, c.fits-values.0)) c.requires

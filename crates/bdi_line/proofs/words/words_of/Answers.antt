@@ -1,0 +1,7 @@
+use Rattle.std.proofs.Common.{refl}
+use Rattle.bdi_line.specs.Line.{values}
+use Rattle.bdi_line.proofs.words.words_of.Goals as goal
+
+pub returns : goal.returns
+unfolding values
+returns c = refl

@@ -1,0 +1,570 @@
+//! Outside vectors, and lines at the edges of what each code holds.
+use super::{Code, pack_line, unpack_line};
+use arrayvec::ArrayVec;
+use std::process::Abort;
+use std::simd::prelude::*;
+
+/// A line as eight words, and the number of its code.
+struct Row {
+    words: [u64; 8],
+    code: u8,
+}
+
+/// For each code a line at the edges of its deltas (greatest and least, beside the base and by
+/// themselves), four that pass one edge by one, and one whose sums wrap at the sign. The last line
+/// is a tie of B4D2 and B2D1.
+const EDGES: [Row; 37] = [
+    Row {
+        words: [
+            0x123456789abcdef0,
+            0x123456789abcdf6f,
+            0x123456789abcde70,
+            0x7f,
+            0xffffffffffffff80,
+            0x0,
+            0x0,
+            0x1,
+        ],
+        code: 2,
+    },
+    Row {
+        words: [
+            0x123456789abcdef0,
+            0x123456789abcdf70,
+            0x123456789abcde70,
+            0x7f,
+            0xffffffffffffff80,
+            0x0,
+            0x0,
+            0x1,
+        ],
+        code: 3,
+    },
+    Row {
+        words: [
+            0x123456789abcdef0,
+            0x123456789abcde6f,
+            0x123456789abcde70,
+            0x7f,
+            0xffffffffffffff80,
+            0x0,
+            0x0,
+            0x1,
+        ],
+        code: 3,
+    },
+    Row {
+        words: [
+            0x123456789abcdef0,
+            0x80,
+            0x123456789abcde70,
+            0x7f,
+            0xffffffffffffff80,
+            0x0,
+            0x0,
+            0x1,
+        ],
+        code: 3,
+    },
+    Row {
+        words: [
+            0x123456789abcdef0,
+            0xffffffffffffff7f,
+            0x123456789abcde70,
+            0x7f,
+            0xffffffffffffff80,
+            0x0,
+            0x0,
+            0x1,
+        ],
+        code: 3,
+    },
+    Row {
+        words: [
+            0x7ffffffffffffffb,
+            0x800000000000007a,
+            0x7fffffffffffff7b,
+            0x7f,
+            0xffffffffffffff80,
+            0x0,
+            0x0,
+            0x1,
+        ],
+        code: 2,
+    },
+    Row {
+        words: [
+            0x123456789abcdef0,
+            0x123456789abd5eef,
+            0x123456789abc5ef0,
+            0x7fff,
+            0xffffffffffff8000,
+            0x0,
+            0x0,
+            0x1,
+        ],
+        code: 3,
+    },
+    Row {
+        words: [
+            0x123456789abcdef0,
+            0x123456789abd5ef0,
+            0x123456789abc5ef0,
+            0x7fff,
+            0xffffffffffff8000,
+            0x0,
+            0x0,
+            0x1,
+        ],
+        code: 4,
+    },
+    Row {
+        words: [
+            0x123456789abcdef0,
+            0x123456789abc5eef,
+            0x123456789abc5ef0,
+            0x7fff,
+            0xffffffffffff8000,
+            0x0,
+            0x0,
+            0x1,
+        ],
+        code: 4,
+    },
+    Row {
+        words: [
+            0x123456789abcdef0,
+            0x8000,
+            0x123456789abc5ef0,
+            0x7fff,
+            0xffffffffffff8000,
+            0x0,
+            0x0,
+            0x1,
+        ],
+        code: 4,
+    },
+    Row {
+        words: [
+            0x123456789abcdef0,
+            0xffffffffffff7fff,
+            0x123456789abc5ef0,
+            0x7fff,
+            0xffffffffffff8000,
+            0x0,
+            0x0,
+            0x1,
+        ],
+        code: 4,
+    },
+    Row {
+        words: [
+            0x7ffffffffffffedd,
+            0x8000000000007edc,
+            0x7fffffffffff7edd,
+            0x7fff,
+            0xffffffffffff8000,
+            0x0,
+            0x0,
+            0x1,
+        ],
+        code: 3,
+    },
+    Row {
+        words: [
+            0x123456789abcdef0,
+            0x123456791abcdeef,
+            0x123456781abcdef0,
+            0x7fffffff,
+            0xffffffff80000000,
+            0x0,
+            0x0,
+            0x1,
+        ],
+        code: 4,
+    },
+    Row {
+        words: [
+            0x123456789abcdef0,
+            0x123456791abcdef0,
+            0x123456781abcdef0,
+            0x7fffffff,
+            0xffffffff80000000,
+            0x0,
+            0x0,
+            0x1,
+        ],
+        code: 8,
+    },
+    Row {
+        words: [
+            0x123456789abcdef0,
+            0x123456781abcdeef,
+            0x123456781abcdef0,
+            0x7fffffff,
+            0xffffffff80000000,
+            0x0,
+            0x0,
+            0x1,
+        ],
+        code: 8,
+    },
+    Row {
+        words: [
+            0x123456789abcdef0,
+            0x80000000,
+            0x123456781abcdef0,
+            0x7fffffff,
+            0xffffffff80000000,
+            0x0,
+            0x0,
+            0x1,
+        ],
+        code: 8,
+    },
+    Row {
+        words: [
+            0x123456789abcdef0,
+            0xffffffff7fffffff,
+            0x123456781abcdef0,
+            0x7fffffff,
+            0xffffffff80000000,
+            0x0,
+            0x0,
+            0x1,
+        ],
+        code: 8,
+    },
+    Row {
+        words: [
+            0x7ffffffffedcba99,
+            0x800000007edcba98,
+            0x7fffffff7edcba99,
+            0x7fffffff,
+            0xffffffff80000000,
+            0x0,
+            0x0,
+            0x1,
+        ],
+        code: 4,
+    },
+    Row {
+        words: [
+            0x123456f712345678,
+            0x7f123455f8,
+            0xffffff80,
+            0x100000000,
+            0x300000002,
+            0x100000000,
+            0x300000002,
+            0x100000000,
+        ],
+        code: 5,
+    },
+    Row {
+        words: [
+            0x123456f812345678,
+            0x7f123455f8,
+            0xffffff80,
+            0x100000000,
+            0x300000002,
+            0x100000000,
+            0x300000002,
+            0x100000000,
+        ],
+        code: 6,
+    },
+    Row {
+        words: [
+            0x123455f712345678,
+            0x7f123455f8,
+            0xffffff80,
+            0x100000000,
+            0x300000002,
+            0x100000000,
+            0x300000002,
+            0x100000000,
+        ],
+        code: 6,
+    },
+    Row {
+        words: [
+            0x8012345678,
+            0x7f123455f8,
+            0xffffff80,
+            0x100000000,
+            0x300000002,
+            0x100000000,
+            0x300000002,
+            0x100000000,
+        ],
+        code: 6,
+    },
+    Row {
+        words: [
+            0xffffff7f12345678,
+            0x7f123455f8,
+            0xffffff80,
+            0x100000000,
+            0x300000002,
+            0x100000000,
+            0x300000002,
+            0x100000000,
+        ],
+        code: 6,
+    },
+    Row {
+        words: [
+            0x8000007a7ffffffb,
+            0x7f7fffff7b,
+            0xffffff80,
+            0x100000000,
+            0x300000002,
+            0x100000000,
+            0x300000002,
+            0x100000000,
+        ],
+        code: 5,
+    },
+    Row {
+        words: [
+            0x1234d67712345678,
+            0x7fff1233d678,
+            0xffff8000,
+            0x100000000,
+            0x300000002,
+            0x100000000,
+            0x300000002,
+            0x100000000,
+        ],
+        code: 6,
+    },
+    Row {
+        words: [
+            0x1234d67812345678,
+            0x7fff1233d678,
+            0xffff8000,
+            0x100000000,
+            0x300000002,
+            0x100000000,
+            0x300000002,
+            0x100000000,
+        ],
+        code: 8,
+    },
+    Row {
+        words: [
+            0x1233d67712345678,
+            0x7fff1233d678,
+            0xffff8000,
+            0x100000000,
+            0x300000002,
+            0x100000000,
+            0x300000002,
+            0x100000000,
+        ],
+        code: 8,
+    },
+    Row {
+        words: [
+            0x800012345678,
+            0x7fff1233d678,
+            0xffff8000,
+            0x100000000,
+            0x300000002,
+            0x100000000,
+            0x300000002,
+            0x100000000,
+        ],
+        code: 8,
+    },
+    Row {
+        words: [
+            0xffff7fff12345678,
+            0x7fff1233d678,
+            0xffff8000,
+            0x100000000,
+            0x300000002,
+            0x100000000,
+            0x300000002,
+            0x100000000,
+        ],
+        code: 8,
+    },
+    Row {
+        words: [
+            0x80007edc7ffffedd,
+            0x7fff7fff7edd,
+            0xffff8000,
+            0x100000000,
+            0x300000002,
+            0x100000000,
+            0x300000002,
+            0x100000000,
+        ],
+        code: 6,
+    },
+    Row {
+        words: [
+            0x7f11b412b31234,
+            0x100000000ff80,
+            0x1000000030002,
+            0x1000000030002,
+            0x1000000030002,
+            0x1000000030002,
+            0x1000000030002,
+            0x1000000030002,
+        ],
+        code: 7,
+    },
+    Row {
+        words: [
+            0x7f11b412b41234,
+            0x100000000ff80,
+            0x1000000030002,
+            0x1000000030002,
+            0x1000000030002,
+            0x1000000030002,
+            0x1000000030002,
+            0x1000000030002,
+        ],
+        code: 8,
+    },
+    Row {
+        words: [
+            0x7f11b411b31234,
+            0x100000000ff80,
+            0x1000000030002,
+            0x1000000030002,
+            0x1000000030002,
+            0x1000000030002,
+            0x1000000030002,
+            0x1000000030002,
+        ],
+        code: 8,
+    },
+    Row {
+        words: [
+            0x7f11b400801234,
+            0x100000000ff80,
+            0x1000000030002,
+            0x1000000030002,
+            0x1000000030002,
+            0x1000000030002,
+            0x1000000030002,
+            0x1000000030002,
+        ],
+        code: 8,
+    },
+    Row {
+        words: [
+            0x7f11b4ff7f1234,
+            0x100000000ff80,
+            0x1000000030002,
+            0x1000000030002,
+            0x1000000030002,
+            0x1000000030002,
+            0x1000000030002,
+            0x1000000030002,
+        ],
+        code: 8,
+    },
+    Row {
+        words: [
+            0x7f7f7b807a7ffb,
+            0x100000000ff80,
+            0x1000000030002,
+            0x1000000030002,
+            0x1000000030002,
+            0x1000000030002,
+            0x1000000030002,
+            0x1000000030002,
+        ],
+        code: 7,
+    },
+    Row {
+        words: [
+            0x300030003000,
+            0x3000300000003000,
+            0x300030003000,
+            0x3000300000003000,
+            0x300030003000,
+            0x3000300000003000,
+            0x300030003000,
+            0x3000300000003000,
+        ],
+        code: 6,
+    },
+];
+
+fn line_of(words: &[u64; 8]) -> [u8; 64] {
+    u64x8::from_array(*words).to_le_bytes().to_array()
+}
+
+fn check(rt: &impl Abort, words: [u64; 8], code: Code, payload: &[u8]) {
+    let line = line_of(&words);
+    let mut out = ArrayVec::<u8, 4128>::new();
+    assert_eq!(rt; pack_line(&line, &mut out).number(), code.number());
+    assert_eq!(rt; out.as_slice(), payload);
+    assert_eq!(rt; unpack_line(code, payload), Some(line));
+}
+
+#[test]
+fn packs_the_vectors(rt: HostRuntime) {
+    check(
+        &rt,
+        [
+            1000000, 1000001, 1000002, 1000003, 1000004, 1000005, 1000006, 1000007,
+        ],
+        Code::B8D1,
+        &[
+            0xff, 0x40, 0x42, 0x0f, 0, 0, 0, 0, 0, 0, 1, 2, 3, 4, 5, 6, 7,
+        ],
+    );
+    check(
+        &rt,
+        [0, 1, 2, 3, 4, 5, 6, 7],
+        Code::B8D1,
+        &[0, 0, 0, 0, 0, 0, 0, 0, 0, 0, 1, 2, 3, 4, 5, 6, 7],
+    );
+    check(&rt, [1; 8], Code::Repeated, &[1, 0, 0, 0, 0, 0, 0, 0]);
+    check(
+        &rt,
+        [
+            0x000f4240000f4240,
+            0x000f4241000f4241,
+            0x000f4242000f4242,
+            0x000f4243000f4243,
+            0x000f4244000f4244,
+            0x000f4245000f4245,
+            0x000f4246000f4246,
+            0x000f4247000f4247,
+        ],
+        Code::B4D1,
+        &[
+            0xff, 0xff, 0x40, 0x42, 0x0f, 0, 0, 0, 1, 1, 2, 2, 3, 3, 4, 4, 5, 5, 6, 6, 7, 7,
+        ],
+    );
+    check(
+        &rt,
+        [
+            0, 0x15000000, 0x2a000000, 0x3f000000, 0x54000000, 0x69000000, 0x7e000000, 0x93000000,
+        ],
+        Code::B8D4,
+        &[
+            0x80, 0, 0, 0, 0x93, 0, 0, 0, 0, 0, 0, 0, 0, 0, 0, 0, 0x15, 0, 0, 0, 0x2a, 0, 0, 0,
+            0x3f, 0, 0, 0, 0x54, 0, 0, 0, 0x69, 0, 0, 0, 0x7e, 0, 0, 0, 0,
+        ],
+    );
+}
+
+#[test]
+fn codes_the_edges(rt: HostRuntime) {
+    for row in EDGES.iter() {
+        let line = line_of(&row.words);
+        let mut out = ArrayVec::<u8, 4128>::new();
+        let code = pack_line(&line, &mut out);
+        assert_eq!(rt; code.number(), row.code);
+        assert_eq!(rt; unpack_line(code, out.as_slice()), Some(line));
+    }
+}

@@ -1,0 +1,194 @@
+//! A line as 8 values of 8 bytes, a value a lane.
+
+ghost use Rattle.std.specs.Prelude.{◌≡◌, ℕ, ◌+◌, ◌*◌, ◌/◌, ◌%◌, ◌^◌, ◌-◌, ◌<◌, ◌==◌, ◌↔◌, map, cond, length, slice_index, IfSome, IsSome, IsTrue, nat_le, ◌≤◌};
+ghost use Rattle.std.specs.Simd.Lanes.{digits_l, number_l, mask_l, chunk};
+ghost use Rattle.bdi_line.specs.Line.{values, is_large, base_of, low_bytes};
+ghost use Rattle.bdi_line.specs.Written.{AreFar, AreNear, IsParted, delta_of};
+
+use std::simd::prelude::*;
+
+/// The values of a line beside a base.
+#[derive(Clone, Copy)]
+pub(crate) struct WordSplit {
+    /// Bit j is set where value j is large.
+    pub(crate) marks: u64,
+    pub(crate) base: u64,
+    pub(crate) deltas: u64x8,
+}
+
+/// The values of the line.
+#[inline]
+pub(crate) fn words_of(line: &[u8; 64]) -> u64x8
+    ensures { result ≡ values 8 8 line.now }
+{
+    u64x8::from_le_bytes(u8x64::from_array(*line))
+}
+
+/// The line of these values.
+#[inline]
+pub(crate) fn line_of_words(values: u64x8) -> u8x64
+    ensures { result ≡ digits_l 256 64 (number_l (2 ^ 64) values) }
+{
+    values.to_le_bytes()
+}
+
+/// The marks of the large values.
+#[inline]
+fn marks_of_words(values: u64x8, half: u64, whole: u64) -> u64
+    requires positive { 0 < half }
+    requires whole { whole ≡ 2 * half }
+    ensures { result ≡ mask_l (map (is_large half (2 ^ 64)) values) }
+{
+    (values + u64x8::splat(half))
+        .simd_ge(u64x8::splat(whole))
+        .to_bitmask()
+}
+
+/// The first value that is marked, or 0.
+#[inline]
+fn base_of_words(values: u64x8, marks: u64, half: u64) -> u64
+    requires { marks ≡ mask_l (map (is_large half (2 ^ 64)) values) }
+    ensures { result ≡ base_of half (2 ^ 64) values }
+{
+    let first = marks.trailing_zeros() as usize;
+    if first < 8 { values[first] } else { 0 }
+}
+
+/// What is kept of each value.
+#[inline]
+fn deltas_of_words(values: u64x8, half: u64, whole: u64, base: u64) -> u64x8
+    requires positive { 0 < half }
+    requires whole { whole ≡ 2 * half }
+    ensures { result ≡ map (delta_of half (2 ^ 64) base) values }
+{
+    let large = (values + u64x8::splat(half)).simd_ge(u64x8::splat(whole));
+    large.select(values - u64x8::splat(base), values)
+}
+
+/// Whether both are large and the second isn't near the first: most lines that do not fit are told
+/// so by their first values.
+#[inline]
+fn is_far_word(first: u64, second: u64, half: u64, whole: u64) -> bool
+    requires positive { 0 < half }
+    requires whole { whole ≡ 2 * half }
+    ensures { IsTrue result → AreFar half (2 ^ 64) first second }
+{
+    first.wrapping_add(half) >= whole
+        && second.wrapping_add(half) >= whole
+        && second.wrapping_sub(first).wrapping_add(half) >= whole
+}
+
+/// The values beside their base, where each is small or near it: `half` bounds a small value.
+#[inline]
+pub(crate) fn split_words(values: u64x8, half: u64, whole: u64) -> Option<WordSplit>
+    requires positive { 0 < half }
+    requires whole { whole ≡ 2 * half }
+    ensures some { IfSome result (λ split. IsParted half (2 ^ 64) values split.marks split.base split.deltas) }
+    ensures fits { IsSome result ↔ AreNear 8 half (2 ^ 64) values }
+{
+    if is_far_word(values[0], values[1], half, whole) {
+        return None;
+    }
+    if is_far_word(values[0], values[2], half, whole) {
+        return None;
+    }
+    let marks = marks_of_words(values, half, whole);
+    let base = base_of_words(values, marks, half);
+    let deltas = deltas_of_words(values, half, whole, base);
+    if marks_of_words(deltas, half, whole) != 0 {
+        return None;
+    }
+    Some(WordSplit {
+        marks,
+        base,
+        deltas,
+    })
+}
+
+/// The low byte of each delta.
+#[inline]
+pub(crate) fn low_1_of_words(deltas: u64x8) -> [u8; 8]
+    ensures { result ≡ low_bytes 1 deltas }
+{
+    deltas
+        .to_le_bytes()
+        .swizzle::<8>([0, 8, 16, 24, 32, 40, 48, 56])
+        .to_array()
+}
+
+/// The low two bytes of each delta.
+#[inline]
+pub(crate) fn low_2_of_words(deltas: u64x8) -> [u8; 16]
+    ensures { result ≡ low_bytes 2 deltas }
+{
+    deltas
+        .to_le_bytes()
+        .swizzle::<16>([0, 1, 8, 9, 16, 17, 24, 25, 32, 33, 40, 41, 48, 49, 56, 57])
+        .to_array()
+}
+
+/// The low four bytes of each delta.
+#[inline]
+pub(crate) fn low_4_of_words(deltas: u64x8) -> [u8; 32]
+    ensures { result ≡ low_bytes 4 deltas }
+{
+    deltas
+        .to_le_bytes()
+        .swizzle::<32>([
+            0, 1, 2, 3, 8, 9, 10, 11, 16, 17, 18, 19, 24, 25, 26, 27, 32, 33, 34, 35, 40, 41, 42,
+            43, 48, 49, 50, 51, 56, 57, 58, 59,
+        ])
+        .to_array()
+}
+
+/// Each delta as a number that wraps: `rest` is what a wrapped number of the delta's width lacks.
+#[inline]
+pub(crate) fn signed_words(low: u64x8, half: u64, rest: u64) -> u64x8
+    ensures { result ≡ map (λ x. cond (nat_le half x) ((x + rest) % 2 ^ 64) x) low }
+{
+    low.simd_ge(u64x8::splat(half))
+        .select(low + u64x8::splat(rest), low)
+}
+
+/// The deltas, with the base added to those that are marked.
+#[inline]
+pub(crate) fn based_words(deltas: u64x8, marks: u64, base: u64) -> u64x8
+    requires { length deltas ≡ 8 }
+    ensures len { length result ≡ 8 }
+    ensures lanes { (j : ℕ) → j < 8 → slice_index result j ≡ cond (marks / 2 ^ j % 2 == 1) ((slice_index deltas j + base) % 2 ^ 64) (slice_index deltas j) }
+{
+    let mut values = deltas.to_array();
+    for j in 0..8usize {
+        if (marks >> j) % 2 == 1 {
+            values[j] = values[j].wrapping_add(base);
+        }
+    }
+    u64x8::from_array(values)
+}
+
+/// The numbers of one byte at the front.
+#[inline]
+pub(crate) fn words_from_1(bytes: &[u8]) -> u64x8
+    requires { 8 ≤ length bytes.now }
+    ensures { result ≡ digits_l 256 8 (number_l 256 (chunk 0 8 bytes.now)) }
+{
+    u8x8::from_slice(bytes).cast::<u64>()
+}
+
+/// The numbers of two bytes at the front.
+#[inline]
+pub(crate) fn words_from_2(bytes: &[u8]) -> u64x8
+    requires { 16 ≤ length bytes.now }
+    ensures { result ≡ digits_l (2 ^ 16) 8 (number_l 256 (chunk 0 16 bytes.now)) }
+{
+    u16x8::from_le_bytes(u8x16::from_slice(bytes)).cast::<u64>()
+}
+
+/// The numbers of four bytes at the front.
+#[inline]
+pub(crate) fn words_from_4(bytes: &[u8]) -> u64x8
+    requires { 32 ≤ length bytes.now }
+    ensures { result ≡ digits_l (2 ^ 32) 8 (number_l 256 (chunk 0 32 bytes.now)) }
+{
+    u32x8::from_le_bytes(u8x32::from_slice(bytes)).cast::<u64>()
+}

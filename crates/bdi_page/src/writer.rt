@@ -1,0 +1,60 @@
+//! A page is read once, two lines at a time, and its packing is written behind room for the codes.
+
+ghost use Rattle.std.specs.Prelude.{◌≡◌, ◌+◌, ◌*◌, ◌<◌, ◌≤◌, ℕ, List, [], ◌++◌, length, drop};
+ghost use Rattle.std.specs.Simd.Lanes.{chunk};
+ghost use Rattle.arrayvec.specs.ArrayVec.{array_vec_len};
+ghost use Rattle.bdi_page.specs.Packing.{IsPacking};
+ghost use Rattle.bdi_page.specs.Steps.{IsPairPacked};
+
+use arrayvec::ArrayVec;
+use bdi_line::pack_line;
+use std::simd::prelude::*;
+use zr_base::Page;
+
+/// Leaves the page's packing in `out`, which is empty before: 32 to 4128 bytes.
+pub fn pack(page: &Page, out: &mut ArrayVec<u8, 4128>)
+    requires { out.old.items ≡ [] }
+    ensures packing { IsPacking page.now out.new.items }
+    ensures one { (bytes : List ℕ) → IsPacking page.now bytes → bytes ≡ out.new.items }
+{
+    let bytes = page.bytes();
+    let mut codes = [0u8; 32];
+    out.try_extend_from_slice(&codes).unwrap();
+    for j in 0..32usize {
+        codes[j] = pack_pair(bytes, j, out);
+    }
+    put_codes(out, &codes);
+}
+
+/// Appends the payloads of the lines 2j and 2j + 1, and answers the byte of their codes.
+#[inline]
+fn pack_pair(page: &[u8], j: usize, out: &mut ArrayVec<u8, 4128>) -> u8
+    requires size { length page.now ≡ 4096 }
+    requires pair { j < 32 }
+    requires room { array_vec_len out.old + 128 ≤ 4128 }
+    ensures packed { IsPairPacked page.now j result out.old.items out.new.items }
+    ensures room { array_vec_len out.new ≤ array_vec_len out.old + 128 }
+    ensures grows { array_vec_len out.old ≤ array_vec_len out.new }
+{
+    let low = pack_line(&line_at(page, 128 * j), out);
+    let high = pack_line(&line_at(page, 128 * j + 64), out);
+    low.number() + 16 * high.number()
+}
+
+#[inline]
+fn line_at(page: &[u8], at: usize) -> [u8; 64]
+    requires { at + 64 ≤ length page.now }
+    ensures { result ≡ chunk at 64 page.now }
+{
+    u8x64::from_slice(&page[at..]).to_array()
+}
+
+/// Writes the codes over the first 32 bytes.
+fn put_codes(out: &mut ArrayVec<u8, 4128>, codes: &[u8; 32])
+    requires { 32 ≤ array_vec_len out.old }
+    ensures { out.new.items ≡ codes.now ++ drop 32 out.old.items }
+{
+    for k in 0..32usize {
+        out[k] = codes[k];
+    }
+}

@@ -1,0 +1,36 @@
+-- The new zspage stands at its id, which was absent or the next.
+use Rattle.std.proofs.Common.{◌≡◌, ◌<◌, ◌≤◌, ◌+◌, ◌^◌, [], ◌∷◌, ◌++◌, Some, None, length, replicate, map, arith, ap, sym, subst, ◌∙◌}
+use Rattle.std.proofs.lemmas.List.{length-map, map-append}
+use Rattle.class_pool.specs.Zspages.{cells_of}
+use Rattle.class_pool.proofs.Ranks.{slot_changes, put_at-set, put_at-end, appended, new_fits, zspages_made}
+use Rattle.class_pool.proofs.zspages.Zspages.add.Goals as goal
+
+pub returns-then-id-len-clause-ok : goal.returns-then-id-len-clause-ok
+returns-then-id-len-clause-ok c =
+    let low : c.args.id < length c.self.inside.items.items = omega arith in
+    let cells : c.in_ok-zspage.zspage.cells ≡ replicate c.self.inside.per None =
+    ap (λ z. z.cells) c.in_ok-zspage.ensures ∙ ap (λ n. replicate n None) (sym c.self.invariant.cells) in
+    rw (← c.self.view_is)
+    (ap (λ zs. zspages_made c.self.inside.size c.self.inside.chain c.self.inside.per zs)
+    (slot_changes _ _ _ _ cells ∙ sym (put_at-set _ _ _ (rw length-map low))))
+
+pub invariant_of-self-in_default : goal.invariant_of-self-in_default
+invariant_of-self-in_default c =
+    let within : c.args.id ≤ length c.self.inside.items.items =
+    rw length-map at (subst (λ z. c.args.id ≤ length z.zspages) (sym c.self.view_is) c.requires.absent.within) in
+    let last : c.args.id ≡ length c.self.inside.items.items = omega arith in
+    let short : length c.self.inside.items.items + 1 < 2 ^ 32 = omega (arith, last, c.requires.short) in
+    rw (c.in_ok-push.ensures.items, c.in_default.ensures.ok)
+    (appended _ _ _ _ _ _ _ c.self.invariant (new_fits _ _ _ _ _ _ c.self.invariant.cells last c.in_ok-zspage.ensures) c.rank-rank.ensures short)
+
+pub returns-clause-ok : goal.returns-clause-ok
+returns-clause-ok c =
+    let within : c.args.id ≤ length c.self.inside.items.items =
+    rw length-map at (subst (λ z. c.args.id ≤ length z.zspages) (sym c.self.view_is) c.requires.absent.within) in
+    let last : c.args.id ≡ length c.self.inside.items.items = omega arith in
+    let cells : c.in_ok-zspage.zspage.cells ≡ replicate c.self.inside.per None =
+    ap (λ z. z.cells) c.in_ok-zspage.ensures ∙ ap (λ n. replicate n None) (sym c.self.invariant.cells) in
+    rw (← c.self.view_is)
+    (ap (λ zs. zspages_made c.self.inside.size c.self.inside.chain c.self.inside.per zs)
+    (ap (map cells_of) c.in_ok-push.ensures.items ∙ map-append cells_of _ _ ∙ ap (λ cs. map cells_of c.self.inside.items.items ++ Some cs ∷ []) cells
+    ∙ sym (put_at-end _ _ _ (last ∙ sym (length-map _ _)))))

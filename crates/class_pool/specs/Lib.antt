@@ -1,0 +1,4 @@
+pub mod Zspages
+pub mod Places
+pub mod Pool
+pub mod Index

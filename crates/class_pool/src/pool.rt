@@ -1,0 +1,250 @@
+//! A pool of one size class. Its index finds an object by its handle in one step, and the zspage of the next object in
+//! a time that grows with the logarithm of the number of zspages.
+
+ghost use Rattle.std.specs.Prelude.{◌≡◌, ◌-◌, ◌+◌, ◌*◌, ◌<◌, ◌≤◌, ◌^◌, ◌↔◌, ℕ, List, [], length, Some, None, true, false, IfOk, OnErr, IsTrue, slice_set};
+ghost use Rattle.zspage.specs.Cells.{Fits, IsStored, UsedCell, used_of, entry, IsLowestFree};
+ghost use Rattle.class_pool.specs.Zspages.{Cells, HasRoom};
+ghost use Rattle.class_pool.specs.Pool.{objects, used_cells, HasOneMore, PoolHasRoom, IsFresh, IsAtHome, IsLent, IsPlace, Stores, Makes, Frees, IsPool, IsClass, AreGroups, with_cells, new_use};
+ghost use Rattle.class_pool.specs.Index.{IsIndex};
+ghost use Rattle.class_pool.specs.declared.places.Place.{Place};
+
+use crate::places::{Place, Places};
+use crate::zspages::Zspages;
+use size_class::{ClassStat, group};
+use std::alloc::{AllocError, Global};
+use std::marker::Model;
+use zr_base::Handle;
+use zspage::Cell;
+
+/// The objects of one size class.
+#[derive(Drop)]
+pub struct ClassPool {
+    alloc: Global,
+    class: u8,
+    size: u32,
+    chain: u32,
+    per: u32,
+    used: u32,
+    zspages: Zspages,
+    places: Places,
+}
+
+impl Model for ClassPool {
+    ghost use Rattle.class_pool.specs.Pool.{PoolState};
+    ghost use Rattle.class_pool.specs.Index.{IsPooled};
+
+    ghost Value = { PoolState };
+
+    ghost view = { λ p. record { class = p.class; size = p.size; chain = p.chain; per = p.per; zspages = p.zspages.zspages } };
+
+    ghost invariant = { λ p. IsPooled p.size p.chain p.per p.used p.zspages p.places };
+}
+
+impl ClassPool {
+    /// A pool without zspages. It takes no memory.
+    pub fn new(alloc: Global, class: u8, size: u32, chain: u32, per: u32) -> ClassPool
+        requires { IsClass class size chain per }
+        ensures { result ≡ record { class = class; size = size; chain = chain; per = per; zspages = [] } }
+    {
+        let zspages = Zspages::new(alloc, size, chain, per);
+        ClassPool {
+            alloc,
+            class,
+            size,
+            chain,
+            per,
+            used: 0,
+            zspages,
+            places: Places::new(alloc),
+        }
+    }
+
+    /// Whether some cell is free.
+    pub fn room(&self) -> bool
+        ensures room { IsTrue result → PoolHasRoom self.now }
+        ensures none { result ≡ false → PoolHasRoom self.now → ⊥ }
+        ensures pool { IsPool self.now }
+    {
+        self.zspages.has_room()
+    }
+
+    /// The live objects, those whose cells are out among them.
+    pub fn used(&self) -> u32
+        ensures used { result ≡ length (objects self.now) }
+        ensures cells { result ≡ length (used_cells self.now.zspages) }
+    {
+        self.used
+    }
+
+    /// The pool's statistics. It looks at each zspage once.
+    pub fn stat(&self) -> ClassStat
+        ensures class { result.class ≡ self.now.class }
+        ensures size { result.size ≡ self.now.size }
+        ensures chain { result.chain ≡ self.now.chain }
+        ensures per { result.per ≡ self.now.per }
+        ensures used { result.used ≡ length (objects self.now) }
+        ensures zspages { result.zspages ≡ used_of self.now.zspages }
+        ensures groups { AreGroups self.now result.groups }
+    {
+        let mut zspages = 0;
+        let mut groups = [0; 11];
+        for id in 0..self.zspages.len() {
+            let used = self.zspages.used(id);
+            if used > 0 {
+                zspages += 1;
+                let place = group(used, self.per) as usize - 1;
+                groups[place] += 1;
+            }
+        }
+        ClassStat {
+            class: self.class,
+            size: self.size,
+            chain: self.chain,
+            per: self.per,
+            used: self.used,
+            zspages,
+            groups,
+        }
+    }
+
+    /// Adds an object under a handle that no live object has. It takes no memory.
+    pub fn alloc(&mut self, bytes: &[u8]) -> Handle
+        requires room { PoolHasRoom self.old }
+        requires few { length (used_cells self.old.zspages) < 2 ^ 32 - 1 }
+        requires fits { Fits (length bytes.now) self.old.size }
+        ensures fresh { IsFresh self.old result.0 }
+        ensures home { IsAtHome self.new result.0 }
+        ensures object { HasOneMore (objects self.old) (objects self.new) (record { handle = result.0; bytes = bytes.now }) }
+        ensures place { (id : ℕ) × (ix : ℕ) × (cells : Cells) × (cell : List ℕ) × Stores self.old self.new result.0 bytes.now id ix cells cell }
+        ensures pool { IsPool self.new }
+    {
+        let id = self.zspages.fullest();
+        let handle = store(&mut self.zspages, &mut self.places, id, bytes);
+        self.used += 1;
+        handle
+    }
+
+    /// Makes a zspage with an object in it, under a handle that no live object has. Err is want of memory.
+    pub fn alloc_new(&mut self, bytes: &[u8]) -> Result<Handle, AllocError>
+        requires full { PoolHasRoom self.old → ⊥ }
+        requires few { length (used_cells self.old.zspages) < 2 ^ 32 - 1 }
+        requires fits { Fits (length bytes.now) self.old.size }
+        ensures fresh { IfOk result (λ h. IsFresh self.old h.0) }
+        ensures home { IfOk result (λ h. IsAtHome self.new h.0) }
+        ensures object { IfOk result (λ h. HasOneMore (objects self.old) (objects self.new) (record { handle = h.0; bytes = bytes.now })) }
+        ensures place { IfOk result (λ h. (id : ℕ) × (cell : List ℕ) × Makes self.old self.new h.0 bytes.now id cell) }
+        ensures err { OnErr result (self.new ≡ self.old) }
+        ensures pool { IsPool self.new }
+    {
+        let id = self.zspages.least_absent();
+        self.places.grow((id as usize + 1) * self.per as usize)?;
+        self.zspages.add(self.alloc, id)?;
+        let handle = store(&mut self.zspages, &mut self.places, id, bytes);
+        self.used += 1;
+        Ok(handle)
+    }
+
+    /// Takes an object away. Gives the frames of its zspage where that became empty and was given up, else 0.
+    pub fn free(&mut self, handle: Handle) -> u32
+        requires { IsAtHome self.old handle.0 }
+        ensures object { (bytes : List ℕ) × HasOneMore (objects self.new) (objects self.old) (record { handle = handle.0; bytes = bytes }) }
+        ensures place { (id : ℕ) × (ix : ℕ) × (cells : Cells) × (u : UsedCell) × IsPlace self.old handle.0 id ix cells u × (u.out ≡ false)
+            × Frees self.old self.new id cells ix result }
+        ensures pool { IsPool self.new }
+    {
+        let number = handle.0 as usize;
+        let place = self.places.place(number);
+        let gone = self.zspages.put_cell(place.zspage, place.cell);
+        self.places.clear(number);
+        self.used -= 1;
+        if gone { self.chain } else { 0 }
+    }
+
+    /// Lends the cell of an object, which stays live. The cell holds a header of 8 bytes, but none before a whole page
+    /// of 4096 bytes, and then the object. It takes no memory.
+    pub fn pin(&mut self, handle: Handle) -> Cell
+        requires { IsAtHome self.old handle.0 }
+        ensures lent { IsLent self.new handle.0 result }
+        ensures list { objects self.new ≡ objects self.old }
+        ensures cell { (id : ℕ) × (ix : ℕ) × (cells : Cells) × (u : UsedCell) × IsPlace self.old handle.0 id ix cells u × (u.out ≡ false)
+            × (u.cell ≡ result) × IsStored handle.0 u.bytes result
+            × (self.new ≡ with_cells self.old id (slice_set cells ix (Some (record u { out = true })))) }
+        ensures pool { IsPool self.new }
+    {
+        let place = self.places.place(handle.0 as usize);
+        self.zspages.lend(place.zspage, place.cell)
+    }
+
+    /// Takes the cell of an object back.
+    pub fn unpin(&mut self, handle: Handle, cell: Cell)
+        requires { IsLent self.old handle.0 cell }
+        ensures home { IsAtHome self.new handle.0 }
+        ensures list { objects self.new ≡ objects self.old }
+        ensures cell { (id : ℕ) × (ix : ℕ) × (cells : Cells) × (u : UsedCell) × IsPlace self.old handle.0 id ix cells u × (u.out ≡ true)
+            × (self.new ≡ with_cells self.old id (slice_set cells ix (Some (record u { out = false })))) }
+        ensures pool { IsPool self.new }
+    {
+        let place = self.places.place(handle.0 as usize);
+        self.zspages.back(place.zspage, place.cell, cell);
+    }
+}
+
+/// Puts an object into the lowest free cell of a zspage, under a free handle.
+fn store(zspages: &mut Zspages, places: &mut Places, id: u32, bytes: &[u8]) -> Handle
+    requires room { HasRoom (entry zspages.old.zspages id) }
+    requires fits { Fits (length bytes.now) zspages.old.size }
+    requires index { IsIndex zspages.old.zspages places.old }
+    requires numbers { used_of places.old < length places.old }
+    ensures index { IsIndex zspages.new.zspages places.new }
+    ensures free { entry places.old result.0 ≡ None }
+    ensures within { result.0 < length places.old }
+    ensures after { (ix : ℕ) × (cells : Cells) × (cell : List ℕ) × (entry zspages.old.zspages id ≡ Some cells) × IsLowestFree cells ix
+        × IsStored result.0 bytes.now cell
+        × (zspages.new ≡ record zspages.old {
+          zspages = slice_set zspages.old.zspages id
+              (Some (slice_set cells ix (Some (new_use result.0 bytes.now cell))));
+        })
+        × (places.new ≡ slice_set places.old result.0 (Some (record { zspage = id; cell = ix }))) }
+{
+    let number = places.free();
+    let handle = Handle(number as u64);
+    let cell = zspages.take_cell(id, handle, bytes);
+    places.put(number, Place { zspage: id, cell });
+    handle
+}
+
+#[cfg(test)]
+mod tests {
+    use super::*;
+    use size_class::{ClassTable, size};
+    use std::test::Fail;
+
+    fn full_group(at: usize, count: u32) -> [u32; 11]
+        requires { at < 11 }
+    {
+        let mut groups = [0; 11];
+        groups[at] = count;
+        groups
+    }
+
+    // Class 71 has cells of 1168 bytes in chains of 2 frames with 7 cells each.
+    #[test]
+    fn class_71(rt: HostRuntime) -> Result<(), Fail> {
+        let table = ClassTable::new(4);
+        assert_eq!(rt; table.stands_as(71), 71);
+        let mut pool = ClassPool::new(rt.alloc(), 71, size(71), table.chain(71), table.per(71));
+        assert!(rt; !pool.room());
+        let bytes = [9; 1120];
+        let first = pool.alloc_new(&bytes)?;
+        let stat = pool.stat();
+        assert_eq!(rt; (stat.used, stat.zspages), (1, 1));
+        assert_eq!(rt; stat.groups, full_group(1, 1));
+        assert!(rt; pool.room());
+        let second = pool.alloc(&bytes);
+        assert_eq!(rt; pool.used(), 2);
+        assert_eq!(rt; pool.free(second), 0);
+        assert_eq!(rt; pool.stat().per, 7);
+        let _ = first;
+        Ok(())
+    }
+}

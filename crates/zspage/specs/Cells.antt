@@ -1,0 +1,59 @@
+-- A zspage as contracts see it: cells of one size, each free or used by an object, at home or out.
+use Rattle.std.specs.Prelude.{ℕ, ◌≡◌, ◌≢◌, ◌+◌, ◌<◌, ◌≤◌, ◌==◌, List, [], ◌∷◌, Option, None, Some, Bool, true, false, length, take, drop, if◌then◌else◌, slice_get, slice_index_or}
+use Rattle.std.specs.Int.{w64, to_le_bytes}
+
+-- the bytes of the header before an object of so many bytes: a whole page of 4096 has none
+abbrev pub header_size : ℕ → ℕ
+header_size len = if len == 4096 then 0 else 8
+
+-- the object of so many bytes in a cell: the cell has the object's handle in 8 bytes, the low byte first, and then the
+-- object; a whole page stands alone
+abbrev pub object_in : ℕ → List ℕ → List ℕ
+object_in len cell = take len (drop (header_size len) cell)
+
+-- what is known of a used cell: the object's handle and bytes, the bytes of the cell, and whether the cell is out
+pub record UsedCell : Type 0 where
+  pub handle : ℕ
+  pub bytes : List ℕ
+  pub cell : List ℕ
+  pub out : Bool
+
+-- the cell holds the object
+pub record IsStored (handle : ℕ) (bytes cell : List ℕ) : Type 0 where
+  pub body : object_in (length bytes) cell ≡ bytes
+  pub header : length bytes ≢ 4096 → take 8 cell ≡ to_le_bytes w64 handle
+  pub fits : header_size (length bytes) + length bytes ≤ length cell
+
+-- an object of so many bytes fits a cell
+abbrev pub Fits : ℕ → ℕ → Type 0
+Fits len size = header_size len + len ≤ size
+
+-- a zspage: its id, the bytes of a cell, the frames of its chain, and its cells
+pub record ZspageState : Type 0 where
+  pub id : ℕ
+  pub size : ℕ
+  pub frames : ℕ
+  pub cells : List (Option UsedCell)
+
+-- the entries of a list that are there: of the cells of a zspage, those in use
+abbrev pub used_of : {A : Type 0} → List (Option A) → ℕ
+used_of [] = 0
+used_of (None ∷ entries) = used_of entries
+used_of (Some u ∷ entries) = 1 + used_of entries
+
+-- the entry at a place, None where the list has none there
+abbrev pub entry : {A : Type 0} → List (Option A) → ℕ → Option A
+entry entries place = slice_index_or entries place None
+
+-- the lowest free cell
+pub record IsLowestFree (cells : List (Option UsedCell)) (ix : ℕ) : Type 0 where
+  pub free : slice_get cells ix ≡ Some None
+  pub lowest : (k : ℕ) → k < ix → slice_get cells k ≢ Some None
+
+-- the cell is used, and at home
+abbrev pub IsHome : List (Option UsedCell) → ℕ → Type 0
+IsHome cells ix = (u : UsedCell) × (entry cells ix ≡ Some u) × (u.out ≡ false)
+
+-- the cell is out, and was this when it was lent
+abbrev pub IsOut : List (Option UsedCell) → ℕ → List ℕ → Type 0
+IsOut cells ix cell = (u : UsedCell) × (entry cells ix ≡ Some u) × (u.out ≡ true) × (u.cell ≡ cell)

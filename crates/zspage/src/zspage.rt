@@ -1,0 +1,178 @@
+//! A zspage: a chain's cells, of which the lowest free one is found in a time that grows with the logarithm of their
+//! number.
+
+ghost use Rattle.std.specs.Prelude.{◌≡◌, ◌+◌, ◌*◌, ◌/◌, ◌<◌, ◌≤◌, ◌↔◌, ℕ, List, length, Some, None, IfOk, IsTrue, true, false, replicate, slice_set};
+ghost use Rattle.zspage.specs.Cells.{IsStored, Fits, UsedCell, used_of, entry, IsLowestFree, IsHome, IsOut};
+
+use crate::cell::Cell;
+use crate::spot::Spot;
+use std::alloc::{AllocError, Global};
+use std::marker::Model;
+use tournament::Tournament;
+use zr_base::Handle;
+
+/// The bytes of a frame.
+const FRAME: u32 = 4096;
+
+/// The ranks of a used and of a free cell: the first free cell wins.
+const USED: u32 = 0;
+
+const FREE: u32 = 1;
+
+/// A chain of frames cut into cells of one size.
+#[derive(Drop)]
+pub struct Zspage {
+    id: u32,
+    size: u32,
+    frames: u32,
+    used: u32,
+    spots: Vec<Spot>,
+    free: Tournament,
+}
+
+impl Model for Zspage {
+    ghost use Rattle.zspage.specs.Cells.{ZspageState};
+    ghost use Rattle.zspage.specs.Spots.{uses, IsZspage};
+
+    ghost Value = { ZspageState };
+
+    ghost view = { λ z. record { id = z.id; size = z.size; frames = z.frames; cells = uses z.spots.items } };
+
+    ghost invariant = { λ z. IsZspage z.size z.used z.spots.items z.free };
+}
+
+impl Zspage {
+    /// A zspage of `chain` frames with cells of `size` bytes, all of them free.
+    pub fn new(alloc: Global, id: u32, size: u32, chain: u32) -> Result<Zspage, AllocError>
+        requires small { 32 ≤ size }
+        requires large { size ≤ 4096 }
+        requires some { 1 ≤ chain }
+        requires few { chain ≤ 16 }
+        ensures { IfOk result (λ z. z ≡ record { id = id; size = size; frames = chain; cells = replicate (chain * 4096 / size) None }) }
+    {
+        let per = chain * FRAME / size;
+        let mut spots = Vec::new(alloc);
+        let mut free = Tournament::new(alloc);
+        for _ in 0..per {
+            spots.push(Spot::new(alloc, size)?)?;
+            free.push(FREE)?;
+        }
+        Ok(Zspage {
+            id,
+            size,
+            frames: chain,
+            used: 0,
+            spots,
+            free,
+        })
+    }
+
+    /// The id, which no other zspage of the pool has.
+    pub fn id(&self) -> u32
+        ensures { result ≡ self.now.id }
+    {
+        self.id
+    }
+
+    /// The frames of the chain.
+    pub fn frames(&self) -> u32
+        ensures { result ≡ self.now.frames }
+    {
+        self.frames
+    }
+
+    /// The used cells, those that are lent among them.
+    pub fn used(&self) -> u32
+        ensures used { result ≡ used_of self.now.cells }
+        ensures most { result ≤ length self.now.cells }
+    {
+        self.used
+    }
+
+    /// The cells.
+    pub fn per(&self) -> u32
+        ensures { result ≡ length self.now.cells }
+    {
+        self.spots.len() as u32
+    }
+
+    /// Whether all cells are free.
+    pub fn is_empty(&self) -> bool
+        ensures { IsTrue result ↔ (used_of self.now.cells ≡ 0) }
+    {
+        self.used == 0
+    }
+
+    /// Puts an object into the lowest free cell, and gives the cell's number. It takes no memory.
+    pub fn take_cell(&mut self, handle: Handle, bytes: &[u8]) -> u32
+        requires free { used_of self.old.cells < length self.old.cells }
+        requires fits { Fits (length bytes.now) self.old.size }
+        ensures lowest { IsLowestFree self.old.cells result }
+        ensures used { used_of self.new.cells ≡ used_of self.old.cells + 1 }
+        ensures after { (cell : List ℕ) × IsStored handle.0 bytes.now cell
+            × (self.new ≡ record self.old {
+              cells = slice_set self.old.cells result
+                  (Some (record { handle = handle.0; bytes = bytes.now; cell = cell; out = false }));
+            }) }
+    {
+        let ix = self.free.winner();
+        let spot = &mut self.spots[ix];
+        spot.fill(handle, bytes);
+        self.free.set(ix, USED);
+        self.used += 1;
+        ix as u32
+    }
+
+    /// Takes the object of a used cell away.
+    pub fn put_cell(&mut self, ix: u32)
+        requires { IsHome self.old.cells ix }
+        ensures used { used_of self.new.cells + 1 ≡ used_of self.old.cells }
+        ensures after { self.new ≡ record self.old { cells = slice_set self.old.cells ix None } }
+    {
+        let ix = ix as usize;
+        let spot = &mut self.spots[ix];
+        spot.clear();
+        self.free.set(ix, FREE);
+        self.used -= 1;
+    }
+
+    /// Lends a used cell, which stays used.
+    pub fn lend(&mut self, ix: u32) -> Cell
+        requires { IsHome self.old.cells ix }
+        ensures used { used_of self.new.cells ≡ used_of self.old.cells }
+        ensures after { (u : UsedCell) × (entry self.old.cells ix ≡ Some u) × (u.cell ≡ result) × IsStored u.handle u.bytes result
+            × (self.new ≡ record self.old { cells = slice_set self.old.cells ix (Some (record u { out = true })) }) }
+    {
+        let spot = &mut self.spots[ix as usize];
+        spot.lend()
+    }
+
+    /// Takes the cell that was lent back.
+    pub fn back(&mut self, ix: u32, cell: Cell)
+        requires { IsOut self.old.cells ix cell }
+        ensures used { used_of self.new.cells ≡ used_of self.old.cells }
+        ensures after { (u : UsedCell) × (entry self.old.cells ix ≡ Some u)
+            × (self.new ≡ record self.old { cells = slice_set self.old.cells ix (Some (record u { out = false })) }) }
+    {
+        let spot = &mut self.spots[ix as usize];
+        spot.back(cell);
+    }
+}
+
+#[cfg(test)]
+mod tests {
+    use super::*;
+    use std::test::Fail;
+
+    #[test]
+    fn cells_of_class_71(rt: HostRuntime) -> Result<(), Fail> {
+        let mut zspage = Zspage::new(rt.alloc(), 0, 1168, 2)?;
+        assert_eq!(rt; zspage.per(), 7);
+        assert_eq!(rt; zspage.frames(), 2);
+        assert_eq!(rt; zspage.used(), 0);
+        assert!(rt; zspage.used() < zspage.per());
+        assert_eq!(rt; zspage.take_cell(Handle(5), &[1, 2, 3]), 0);
+        assert_eq!(rt; zspage.used(), 1);
+        Ok(())
+    }
+}
