@@ -1,2 +1,1 @@
 pub mod Winner
-pub mod Tree
