@@ -1,1 +1,2 @@
 pub mod Winner
+pub mod Tree

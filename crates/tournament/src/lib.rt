@@ -1,24 +1,38 @@
-//! Ranks at places 0, 1, 2 and so on, and the place that has the greatest of them.
+//! Ranks at places 0, 1, 2 and so on, and the place that has the greatest of them: a tournament tree (Knuth, "The Art
+//! of Computer Programming", 5.4.1). A change takes a time that grows with the logarithm of the number of places.
 #![tactic(auto)]
 
-ghost use Rattle.std.specs.Prelude.{◌≡◌, ◌<◌, ◌++◌, ◌∷◌, [], List, length, slice_index, slice_set, OnOk, OnErr};
-ghost use Rattle.tournament.specs.Winner.{IsWinner};
+mod tree;
 
+ghost use Rattle.std.specs.Prelude.{◌≡◌, ◌<◌, ◌≤◌, ◌^◌, ◌++◌, ◌∷◌, [], List, length, slice_index, slice_set, IfOk, OnOk, OnErr};
+ghost use Rattle.tournament.specs.Winner.{IsWinner};
+ghost use Rattle.tournament.specs.Tree.{IsTournament};
+
+use crate::tree::{Node, put};
 use std::alloc::{AllocError, Global};
 use std::marker::Model;
+
+/// No list of ranks has more places than this: asking for more is want of memory.
+const MOST: usize = 1 << 40;
 
 /// A list of ranks that knows its greatest, seen as the list.
 #[derive(Drop)]
 pub struct Tournament {
+    alloc: Global,
     ranks: Vec<u32>,
+    room: usize,
+    nodes: Vec<Node>,
 }
 
 impl Model for Tournament {
     ghost use Rattle.std.specs.Prelude.{List, ℕ};
+    ghost use Rattle.tournament.specs.Tree.{IsTournament};
 
     ghost Value = { List ℕ };
 
     ghost view = { λ t. t.ranks.items };
+
+    ghost invariant = { λ t. IsTournament t.room t.ranks.items t.nodes.items };
 }
 
 impl Tournament {
@@ -27,7 +41,10 @@ impl Tournament {
         ensures { result ≡ [] }
     {
         Tournament {
+            alloc,
             ranks: Vec::new(alloc),
+            room: 0,
+            nodes: Vec::new(alloc),
         }
     }
 
@@ -51,7 +68,18 @@ impl Tournament {
         ensures ok { OnOk result (self.new ≡ self.old ++ rank ∷ []) }
         ensures err { OnErr result (self.new ≡ self.old) }
     {
+        let place = self.ranks.len();
+        if place == self.room {
+            if self.room >= MOST {
+                return Err(AllocError);
+            }
+            let room = 2 * self.room + 1;
+            let nodes = nodes_of(self.alloc, &self.ranks, room)?;
+            self.nodes = nodes;
+            self.room = room;
+        }
         self.ranks.push(rank)?;
+        put(&mut self.nodes, self.room, Node { rank, place });
         Ok(())
     }
 
@@ -61,6 +89,7 @@ impl Tournament {
         ensures { self.new ≡ slice_set self.old place rank }
     {
         self.ranks[place] = rank;
+        put(&mut self.nodes, self.room, Node { rank, place });
     }
 
     /// The place of the greatest rank, the first such place on a tie.
@@ -68,14 +97,23 @@ impl Tournament {
         requires { 0 < length self.now }
         ensures { IsWinner self.now result }
     {
-        let mut best = 0;
-        for place in 1..self.ranks.len() {
-            if self.ranks[best] < self.ranks[place] {
-                best = place;
-            }
-        }
-        best
+        self.nodes[1].place
     }
+}
+
+/// The tree of some ranks with room for more.
+fn nodes_of(alloc: Global, ranks: &[u32], room: usize) -> Result<Vec<Node>, AllocError>
+    requires fits { length ranks.now ≤ room }
+    requires small { room < 2 ^ 62 }
+    ensures { IfOk result (λ nodes. IsTournament room ranks.now nodes.items) }
+{
+    let mut nodes = Vec::new(alloc);
+    nodes.resize(2 * room, Node { rank: 0, place: 0 })?;
+    for place in 0..room {
+        let rank = if place < ranks.len() { ranks[place] } else { 0 };
+        put(&mut nodes, room, Node { rank, place });
+    }
+    Ok(nodes)
 }
 
 #[cfg(test)]

@@ -1,9 +1,29 @@
 -- The new zspage stands at its id, which was absent or the next.
-use Rattle.std.proofs.Common.{◌≡◌, ◌<◌, ◌≤◌, ◌+◌, ◌^◌, [], ◌∷◌, ◌++◌, Some, None, length, replicate, map, arith, ap, sym, subst, ◌∙◌}
+use Rattle.std.proofs.Common.{◌≡◌, ◌<◌, ◌≤◌, ◌+◌, ◌^◌, ℕ, List, take, [], ◌∷◌, ◌++◌, Some, None, length, replicate, map, refl, arith, ap, sym, subst, ◌∙◌}
+use Rattle.std.proofs.Math.Seq.{take-append_seam}
 use Rattle.std.proofs.lemmas.List.{length-map, map-append}
 use Rattle.class_pool.specs.Zspages.{cells_of}
-use Rattle.class_pool.proofs.Ranks.{slot_changes, put_at-set, put_at-end, appended, new_fits, zspages_made}
+use Rattle.class_pool.proofs.Ranks.{slot_changes, put_at-set, put_at-end, updated_rank, appended, new_fits, zspages_made}
 use Rattle.class_pool.proofs.zspages.Zspages.add.Goals as goal
+
+pub invariant_of-self : goal.invariant_of-self
+invariant_of-self c =
+    let low : c.args.id < length c.self.inside.items.items = omega arith in
+    rw c.set.ensures
+    (updated_rank _ _ _ _ _ _ _ _ c.self.invariant low
+      (new_fits _ _ _ _ _ _ c.self.invariant.cells refl c.in_ok-zspage.ensures) c.rank-rank.ensures)
+
+-- the last of a list is taken away again
+taken_back : {A : Type 0} (xs all : List A) (z : A) (n : ℕ) → all ≡ xs ++ z ∷ [] → n ≡ length xs → take n all ≡ xs
+taken_back xs all z n is size = ap (take n) is ∙ ap (λ k. take k (xs ++ z ∷ [])) size ∙ take-append_seam xs (z ∷ [])
+
+-- the zspage that found no room among the ranks is taken away again
+pub invariant_of-self-in-Err : goal.invariant_of-self-in-Err
+invariant_of-self-in-Err c =
+    let back : c.pop.new.self.items ≡ c.self.inside.items.items =
+      c.pop.ensures.rest
+      ∙ taken_back c.self.inside.items.items c.push.new.self.items _ _ c.in_ok-push.ensures.items (omega (arith, c.in_ok-push.ensures.len)) in
+    rw (back, c.in-Err.ensures.err) c.self.invariant
 
 pub returns-then-id-len-clause-ok : goal.returns-then-id-len-clause-ok
 returns-then-id-len-clause-ok c =
