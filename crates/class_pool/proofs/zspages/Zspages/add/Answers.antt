@@ -11,7 +11,7 @@ invariant_of-self c =
     let low : c.args.id < length c.self.inside.items.items = omega arith in
     rw c.set.ensures
     (updated_rank _ _ _ _ _ _ _ _ c.self.invariant low
-      (new_fits _ _ _ _ _ _ c.self.invariant.cells refl c.in_ok-zspage.ensures) c.rank-rank.ensures)
+    (new_fits _ _ _ _ _ _ c.self.invariant.cells refl c.in_ok-zspage.ensures) c.rank-rank.ensures)
 
 -- the last of a list is taken away again
 taken_back : {A : Type 0} (xs all : List A) (z : A) (n : ℕ) → all ≡ xs ++ z ∷ [] → n ≡ length xs → take n all ≡ xs
@@ -21,8 +21,8 @@ taken_back xs all z n is size = ap (take n) is ∙ ap (λ k. take k (xs ++ z ∷
 pub invariant_of-self-in-Err : goal.invariant_of-self-in-Err
 invariant_of-self-in-Err c =
     let back : c.pop.new.self.items ≡ c.self.inside.items.items =
-      c.pop.ensures.rest
-      ∙ taken_back c.self.inside.items.items c.push.new.self.items _ _ c.in_ok-push.ensures.items (omega (arith, c.in_ok-push.ensures.len)) in
+    c.pop.ensures.rest
+    ∙ taken_back c.self.inside.items.items c.push.new.self.items _ _ c.in_ok-push.ensures.items (omega (arith, c.in_ok-push.ensures.len)) in
     rw (back, c.in-Err.ensures.err) c.self.invariant
 
 pub returns-then-id-len-clause-ok : goal.returns-then-id-len-clause-ok
