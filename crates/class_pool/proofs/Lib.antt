@@ -5,3 +5,4 @@ pub mod SumLaws
 pub mod IndexLaws
 pub mod PoolLaws
 pub mod StatLaws
+pub mod HomeLaws

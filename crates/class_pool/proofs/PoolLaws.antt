@@ -361,7 +361,7 @@ outcome z z' i j false goes stays =
     let case = stays refl in record { cells = case.0; zspage = case.1; way = inr (case.2, case.3) }
 
 -- the cell of the object in the zspage of the outcome
-cell_of : (z z' : ZspagesState) (p : Place) (u : UsedCell) (o : Outcome z z' p.zspage p.cell) → IsAt z.zspages p u → entry o.cells p.cell ≡ Some u
+pub cell_of : (z z' : ZspagesState) (p : Place) (u : UsedCell) (o : Outcome z z' p.zspage p.cell) → IsAt z.zspages p u → entry o.cells p.cell ≡ Some u
 cell_of z z' p u o at = subst (λ cs. entry cs p.cell ≡ Some u) (same_cells z.zspages p.zspage at.cells o.cells at.zspage o.zspage) at.cell
 
 pub freed_fits : (size chain per used : ℕ) (z z' : ZspagesState) (places : List (Option Place)) (p : Place) (u : UsedCell)

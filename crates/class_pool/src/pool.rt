@@ -1,7 +1,7 @@
 //! A pool of one size class. Its index finds an object by its handle in one step, and the zspage of the next object in
 //! a time that grows with the logarithm of the number of zspages.
 
-ghost use Rattle.std.specs.Prelude.{◌≡◌, ◌-◌, ◌+◌, ◌*◌, ◌<◌, ◌≤◌, ◌^◌, ◌↔◌, ℕ, List, [], length, Some, None, true, false, IfOk, OnErr, IsTrue, slice_set};
+ghost use Rattle.std.specs.Prelude.{◌≡◌, ◌≢◌, ◌-◌, ◌+◌, ◌*◌, ◌<◌, ◌≤◌, ◌^◌, ◌↔◌, ℕ, List, [], length, Some, None, true, false, IfOk, OnErr, IsTrue, slice_set};
 ghost use Rattle.zspage.specs.Cells.{Fits, IsStored, UsedCell, used_of, entry, IsLowestFree};
 ghost use Rattle.class_pool.specs.Zspages.{Cells, HasRoom};
 ghost use Rattle.class_pool.specs.Pool.{objects, used_cells, HasOneMore, PoolHasRoom, IsFresh, IsAtHome, IsLent, IsPlace, Stores, Makes, Frees, IsPool, IsClass, AreGroups, with_cells, new_use};
@@ -114,6 +114,7 @@ impl ClassPool {
         requires fits { Fits (length bytes.now) self.old.size }
         ensures fresh { IsFresh self.old result.0 }
         ensures home { IsAtHome self.new result.0 }
+        ensures others { (h : ℕ) → IsAtHome self.old h → IsAtHome self.new h }
         ensures object { HasOneMore (objects self.old) (objects self.new) (record { handle = result.0; bytes = bytes.now }) }
         ensures place { (id : ℕ) × (ix : ℕ) × (cells : Cells) × (cell : List ℕ) × Stores self.old self.new result.0 bytes.now id ix cells cell }
         ensures pool { IsPool self.new }
@@ -131,6 +132,7 @@ impl ClassPool {
         requires fits { Fits (length bytes.now) self.old.size }
         ensures fresh { IfOk result (λ h. IsFresh self.old h.0) }
         ensures home { IfOk result (λ h. IsAtHome self.new h.0) }
+        ensures others { (h : ℕ) → IsAtHome self.old h → IsAtHome self.new h }
         ensures object { IfOk result (λ h. HasOneMore (objects self.old) (objects self.new) (record { handle = h.0; bytes = bytes.now })) }
         ensures place { IfOk result (λ h. (id : ℕ) × (cell : List ℕ) × Makes self.old self.new h.0 bytes.now id cell) }
         ensures err { OnErr result (self.new ≡ self.old) }
@@ -147,6 +149,7 @@ impl ClassPool {
     /// Takes an object away. Gives the frames of its zspage where that became empty and was given up, else 0.
     pub fn free(&mut self, handle: Handle) -> u32
         requires { IsAtHome self.old handle.0 }
+        ensures others { (h : ℕ) → h ≢ handle.0 → IsAtHome self.old h → IsAtHome self.new h }
         ensures object { (bytes : List ℕ) × HasOneMore (objects self.new) (objects self.old) (record { handle = handle.0; bytes = bytes }) }
         ensures place { (id : ℕ) × (ix : ℕ) × (cells : Cells) × (u : UsedCell) × IsPlace self.old handle.0 id ix cells u × (u.out ≡ false)
             × Frees self.old self.new id cells ix result }

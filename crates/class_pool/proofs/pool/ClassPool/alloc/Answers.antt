@@ -1,8 +1,9 @@
 -- The fullest zspage takes the object.
-use Rattle.std.proofs.Common.{◌+◌, refl, ap, sum_by, ◌∙◌, subst}
+use Rattle.std.proofs.Common.{◌+◌, refl, ap, sum_by, ◌∙◌, sym, subst}
 use Rattle.zspage.specs.Cells.{UsedCell}
-use Rattle.class_pool.specs.Pool.{IsFresh, object_of, new_use, objects}
+use Rattle.class_pool.specs.Pool.{IsFresh, IsAtHome, object_of, new_use, objects}
 use Rattle.class_pool.proofs.PoolLaws.{stored_fits, pool_is, fresh_is, number_free, stored_object, among_after, free_low}
+use Rattle.class_pool.proofs.HomeLaws.{stored_stay}
 use Rattle.class_pool.proofs.pool.ClassPool.alloc.Goals as goal
 
 pub store-handle-requires-clause-numbers : goal.store-handle-requires-clause-numbers
@@ -44,3 +45,10 @@ returns-clause-home c =
       refl,
       refl,
     )
+
+pub returns-clause-others : goal.returns-clause-others
+returns-clause-others c h among =
+    let stored = c.store-handle.ensures.after in
+    stored_stay h c.self.inside.zspages c.store-handle.new.zspages c.fullest-id.result stored.0 stored.1
+    (new_use c.store-handle.result.0 c.args.bytes.now stored.2) stored.3 stored.4.free stored.6
+    (subst (λ p. IsAtHome p h) (sym c.self.view_is) among)

@@ -3,10 +3,11 @@ use Rattle.std.proofs.Common.{◌+◌, ◌<◌, ◌≤◌, ◌^◌, Some, None, 
 use Rattle.std.proofs.Math.ListN.{set}
 use Rattle.zspage.specs.Cells.{UsedCell, entry}
 use Rattle.class_pool.specs.Zspages.{HasRoom, IsLeastAbsent, put_at}
-use Rattle.class_pool.specs.Pool.{IsFresh, used_cells, objects, object_of, new_use}
+use Rattle.class_pool.specs.Pool.{IsFresh, IsAtHome, used_cells, objects, object_of, new_use}
 use Rattle.class_pool.specs.Index.{FieldsFit}
 use Rattle.class_pool.proofs.SumLaws.{least_few}
 use Rattle.class_pool.proofs.PoolLaws.{Grows, grown_fits, added_fits, filled_beside, new_room, made_zspages, made_object, stored_fits, number_free, fresh_is, among_after, free_low, pool_is, pool_made}
+use Rattle.class_pool.proofs.HomeLaws.{stored_stay, made_stay}
 use Rattle.class_pool.proofs.pool.ClassPool.alloc_new.Goals as goal
 
 -- ---- want of memory: some free numbers may have been made
@@ -195,3 +196,11 @@ returns-clause-home c =
       refl,
       refl,
     )
+
+pub returns-clause-others : goal.returns-clause-others
+returns-clause-others c h among =
+    let stored = c.store-handle.ensures.after in
+    stored_stay h c.add.new.self c.store-handle.new.zspages c.least_absent-id.result stored.0 stored.1
+    (new_use c.store-handle.result.0 c.args.bytes.now stored.2) stored.3 stored.4.free stored.6
+    (made_stay h c.self.inside.zspages c.add.new.self c.least_absent-id.result c.least_absent-id.ensures
+    c.in_ok-add.ensures.ok (subst (λ p. IsAtHome p h) (sym c.self.view_is) among))

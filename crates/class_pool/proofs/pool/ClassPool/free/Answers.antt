@@ -1,9 +1,10 @@
 -- The cell at the object's place is free again.
-use Rattle.std.proofs.Common.{◌≡◌, ◌≤◌, ◌+◌, ◌-◌, None, Some, map, sum_by, ap, sym, ◌∙◌, subst, slice_set, inl, inr, Contains}
+use Rattle.std.proofs.Common.{◌≡◌, ◌≢◌, ◌≤◌, ◌+◌, ◌-◌, None, Some, map, sum_by, ap, sym, ◌∙◌, subst, slice_set, inl, inr, Contains}
 use Rattle.zspage.specs.Cells.{used_of, entry}
-use Rattle.class_pool.specs.Pool.{used_cells, objects, object_of, IsPlace}
+use Rattle.class_pool.specs.Pool.{used_cells, objects, object_of, IsPlace, IsAtHome}
 use Rattle.class_pool.specs.Index.{IsPooled}
 use Rattle.class_pool.proofs.PoolLaws.{IsFound, IsAt, Outcome, locate, at_place, outcome, freed_fits, freed_object, same_cells, pool_is, pool_made}
+use Rattle.class_pool.proofs.HomeLaws.{freed_remain}
 use Rattle.class_pool.proofs.pool.ClassPool.free.Goals as goal
 use Rattle.class_pool.proofs.pool.ClassPool.free.Goals.{then-gone, else-gone}
 
@@ -102,3 +103,14 @@ returns-clause-pool c =
     (subst (λ ps. IsPooled c.self.inside.size c.self.inside.chain c.self.inside.per (c.self.inside.used - 1) c.put_cell-gone.new.self ps)
     (ap (λ h. slice_set c.self.inside.places h None) c.requires.2 ∙ sym c.clear.ensures)
     (freed_fits _ _ _ _ _ _ _ _ _ c.self.invariant at way))
+
+pub returns-clause-others : goal.returns-clause-others
+returns-clause-others c h other among =
+    let found : IsFound c.self.inside.zspages.zspages c.self.inside.places c.args.handle.0 c.requires.0 =
+    locate _ _ _ c.requires.0 c.self.invariant.fit.index
+    (subst (λ p. Contains (used_cells p.zspages) c.requires.0) (sym c.self.view_is) c.requires.1) c.requires.2 in
+    let at : IsAt c.self.inside.zspages.zspages c.place-place.result c.requires.0 = at_place _ _ _ _ _ found c.place-place.ensures in
+    let way : Outcome c.self.inside.zspages c.put_cell-gone.new.self c.place-place.result.zspage c.place-place.result.cell =
+    outcome _ _ _ _ c.put_cell-gone.result c.put_cell-gone.ensures.gone c.put_cell-gone.ensures.kept in
+    freed_remain h c.self.inside.zspages c.put_cell-gone.new.self c.place-place.result c.requires.0 at way
+    (subst (λ k. h ≢ k) (sym c.requires.2) other) (subst (λ p. IsAtHome p h) (sym c.self.view_is) among)
