@@ -220,6 +220,7 @@ fn store(zspages: &mut Zspages, places: &mut Places, id: u32, bytes: &[u8]) -> H
 mod tests {
     use super::*;
     use size_class::{ClassTable, size};
+    use std::process::Abort;
     use std::test::Fail;
 
     fn full_group(at: usize, count: u32) -> [u32; 11]
@@ -228,6 +229,24 @@ mod tests {
         let mut groups = [0; 11];
         groups[at] = count;
         groups
+    }
+
+    // Adds so many objects, which fill the zspage, and frees them again from the last. None of them gives frames back.
+    fn fill(rt: &impl Abort, pool: &mut ClassPool, bytes: &[u8], more: u32) -> Result<(), Fail>
+        requires { Fits (length bytes.now) pool.old.size }
+        ensures { (h : ℕ) → IsAtHome pool.old h → IsAtHome pool.new h }
+    {
+        if more == 0 {
+            assert!(rt; !pool.room());
+            assert_eq!(rt; pool.stat().groups, full_group(10, 1));
+            return Ok(());
+        }
+        assert!(rt; pool.room());
+        assert!(rt; pool.used() < 100);
+        let handle = pool.alloc(bytes);
+        fill(rt, pool, bytes, more - 1)?;
+        assert_eq!(rt; pool.free(handle), 0);
+        Ok(())
     }
 
     // Class 71 has cells of 1168 bytes in chains of 2 frames with 7 cells each.
@@ -240,14 +259,12 @@ mod tests {
         let bytes = [9; 1120];
         let first = pool.alloc_new(&bytes)?;
         let stat = pool.stat();
-        assert_eq!(rt; (stat.used, stat.zspages), (1, 1));
+        assert_eq!(rt; (stat.used, stat.zspages, stat.per), (1, 1, 7));
         assert_eq!(rt; stat.groups, full_group(1, 1));
-        assert!(rt; pool.room());
-        let second = pool.alloc(&bytes);
-        assert_eq!(rt; pool.used(), 2);
-        assert_eq!(rt; pool.free(second), 0);
-        assert_eq!(rt; pool.stat().per, 7);
-        let _ = first;
+        fill(&rt, &mut pool, &bytes, 6)?;
+        assert_eq!(rt; pool.used(), 1);
+        assert_eq!(rt; pool.free(first), 2);
+        assert_eq!(rt; (pool.stat().used, pool.stat().zspages), (0, 0));
         Ok(())
     }
 }
