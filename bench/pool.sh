@@ -6,30 +6,14 @@ set -u
 cd "$(dirname "$0")/.." || exit 1
 program=crates/bench_pool/out/bench_pool
 rounds=${1:-1000000}
-if [ ! -x "$program" ]; then
-  echo "skipped: $program is missing; rt run in crates/bench_pool makes it"
-  exit 0
-fi
-
-# Nanoseconds that one run takes.
-run_time() {
-  local start end
-  start=$(date +%s%N)
-  "$program" "$1" "$2" "$3" >/dev/null
-  end=$(date +%s%N)
-  echo $((end - start))
-}
-
-# The least of three runs.
-least_time() {
-  for _ in 1 2 3; do run_time "$1" "$2" "$3"; done | sort -n | head -1
-}
+source bench/timing.sh
+need_program
 
 printf '%8s %8s %16s %20s\n' length live 'ns to fill one' 'ns to add and free'
 for length in 32 400 1120 3256 4096; do
   for live in 1000 30000 262144; do
-    filled=$(least_time "$length" "$live" 0)
-    whole=$(least_time "$length" "$live" "$rounds")
+    filled=$(least_time 3 "$length" "$live" 0)
+    whole=$(least_time 3 "$length" "$live" "$rounds")
     awk -v length_="$length" -v live="$live" -v filled="$filled" -v time=$((whole - filled)) -v rounds="$rounds" \
       'BEGIN { printf "%8d %8d %16.1f %20.1f\n", length_, live, filled / live, time / rounds }'
   done
