@@ -86,6 +86,9 @@ module _ (g : Given) (w : State DiskHeld) (j : Joint g w) (fin : AllFinished w) 
       let v = all_home p (let q = j.told.row in omega arith) in
       by_value p v.0 v.1 (j.told.values.in_row p v.0 v.1)
 
+  pub entry_home : (p : ℕ) → p < g.size → (e : EntryState) × (slice_get w.row p ≡ Some (Some (holds.Slot e)))
+  entry_home p lt = let x = page p lt in (x.entry, x.there)
+
   order_is : (p : ℕ) (x : Page p) → nth_order (orders_of w.row) p ≡ x.entry.order
   order_is p x = nth_is w.row p (Some (holds.Slot x.entry)) x.there
 

@@ -7,7 +7,7 @@ use Rattle.zr_base.specs.declared.op.Op.TheVariants.{Write, Read, Discard}
 use Rattle.zr_base.specs.declared.op.OpEnd.{OpEnd}
 use Rattle.zr_base.specs.declared.op.OpEnd.TheVariants as ends
 use Rattle.zr_base.specs.Plain.{is_beyond}
-use Rattle.plain_disk.specs.Output.{phase_lines}
+use Rattle.plain_disk.specs.Output.{OutLine, phase_lines}
 use Rattle.plain_disk.specs.Phases.{Given, IsPhase}
 use Rattle.call_history.specs.declared.part.PartEnd.{PartEnd}
 use Rattle.call_history.specs.declared.part.PartEnd.TheVariants.{Carried}
@@ -20,11 +20,11 @@ use Rattle.zr_core.specs.declared.place.Place.{Place}
 use Rattle.zr_core.specs.Steps.{DiskHeld}
 use Rattle.zr_core.specs.Joint.{Joint}
 use Rattle.zr_core.specs.Places.{AreRequests}
-use Rattle.zr_core.specs.Machines.{histories, orders_of, sector_in, AllFinished}
+use Rattle.zr_core.specs.Machines.{histories, orders_of, sector_in, printed, Turns, AllFinished, IsStart, PhaseSteps}
 use Rattle.zr_core.specs.Workers.{Keeps, ReplyFits, IsFit}
-use Rattle.zr_core.specs.States.{heres, state, ends_shown, sectors_shown, AreFit, AreKept}
+use Rattle.zr_core.specs.States.{heres, state, ends_shown, sectors_shown, IsAtRest, IsPrepared, AreFit, AreKept}
 use Rattle.zr_core.proofs.Places.{in_bounds, there_is}
-use Rattle.zr_core.proofs.Finished.{finished_prints}
+use Rattle.zr_core.proofs.Finished.{entry_home, finished_prints}
 
 step_is : (end : PartEnd) (n : ℕ) (later : OpEnd) → end_step end n later ≡ later
 step_is Carried n later = refl
@@ -109,15 +109,39 @@ some_from [] r = tt
 some_from (op ∷ ops) r = ((in_bounds op (r 0 op refl)).1, some_from ops (λ k o e. r (suc k) o e))
 
 -- a state in which all actors are finished, as the world and its phase show it
-pub shows_phase : (size : ℕ) (actors : List (List Op)) (cells : List (Option DiskHeld)) (ws : List Worker) (dones : List (List Done)) (g : Given) → g.size ≡ size → g.actors ≡ actors → AreFit size actors ws → AreKept ws dones
-    → Joint g (state size actors cells ws dones) → AllFinished (state size actors cells ws dones) → IsPhase g (phase_lines (ends_shown ws) (sectors_shown ws) (orders_of cells)) (sector_in cells)
-shows_phase size actors cells ws dones g pages named fit kept j fin =
-    let hs = histories (heres size actors ws dones) in
-    subst (λ (x : List (List OpEnd) × List (List (List (List ℕ)))). IsPhase g (phase_lines x.0 x.1 (orders_of cells)) (sector_in cells))
-    (λ i. (((λ k. ends_each (pages k) (named k) hs) ∙ all_ends size actors ws dones fit kept) i, ((λ k. told_each (pages k) (named k) hs) ∙ all_told size actors ws dones fit kept) i))
-    (finished_prints g (state size actors cells ws dones) j fin some) where
-      some : HasSomeEach g.actors
-      some a ops e =
-          let at : slice_get actors a ≡ Some ops = ap (λ (xs : List (List Op)). slice_get xs a) (sym named) ∙ e in
-          let w = there_is ws a (let q = slice_get_within actors a ops at in let n = fit.count in omega arith) in
-          some_from ops (fit.each a ops w.0 at w.1).requests
+module _ (size : ℕ) (actors : List (List Op)) (cells : List (Option DiskHeld)) (ws : List Worker) (dones : List (List Done)) (g : Given) (pages : g.size ≡ size) (named : g.actors ≡ actors) where
+  pub shows_lines : AreFit size actors ws → AreKept ws dones → phase_lines (ends_shown ws) (sectors_shown ws) (orders_of cells) ≡ printed g (state size actors cells ws dones)
+  shows_lines fit kept =
+      let hs = histories (heres size actors ws dones) in
+      sym (λ i. phase_lines (((λ k. ends_each (pages k) (named k) hs) ∙ all_ends size actors ws dones fit kept) i) (((λ k. told_each (pages k) (named k) hs) ∙ all_told size actors ws dones fit kept) i) (orders_of cells))
+
+  pub shows_phase : AreFit size actors ws → AreKept ws dones → Joint g (state size actors cells ws dones) → AllFinished (state size actors cells ws dones)
+      → IsPhase g (phase_lines (ends_shown ws) (sectors_shown ws) (orders_of cells)) (sector_in cells)
+  shows_phase fit kept j fin =
+      subst (λ (ls : List OutLine). IsPhase g ls (sector_in cells)) (sym (shows_lines fit kept))
+      (finished_prints g (state size actors cells ws dones) j fin some) where
+        some : HasSomeEach g.actors
+        some a ops e =
+            let at : slice_get actors a ≡ Some ops = ap (λ (xs : List (List Op)). slice_get xs a) (sym named) ∙ e in
+            let w = there_is ws a (let q = slice_get_within actors a ops at in let n = fit.count in omega arith) in
+            some_from ops (fit.each a ops w.0 at w.1).requests
+
+  pub shows_rest : Joint g (state size actors cells ws dones) → AllFinished (state size actors cells ws dones) → IsAtRest size cells
+  shows_rest j fin = record {
+    size = j.told.row ∙ pages;
+    each = λ p lt. entry_home g (state size actors cells ws dones) j fin p (let q = pages in omega arith);
+  }
+
+  -- a whole phase by its turns
+  pub shows_steps : AreFit size actors ws → AreKept ws dones → (turns : List ℕ) (cells₀ : List (Option DiskHeld)) (ws₀ : List Worker) (p : IsPrepared g cells₀ ws₀)
+      → Turns turns (state size actors cells₀ ws₀ p.dones) (state size actors cells ws dones) → AllFinished (state size actors cells ws dones)
+      → PhaseSteps g turns (phase_lines (ends_shown ws) (sectors_shown ws) (orders_of cells)) cells
+  shows_steps fit kept turns cells₀ ws₀ p run fin = record {
+    start = state size actors cells₀ ws₀ p.dones;
+    last = state size actors cells ws dones;
+    is_start = subst (λ (x : ℕ × List (List Op)). IsStart g (state x.0 x.1 cells₀ ws₀ p.dones)) (λ i. (pages i, named i)) p.start;
+    run = run;
+    finished = fin;
+    prints = shows_lines fit kept;
+    leaves = refl;
+  }

@@ -9,6 +9,17 @@ use Rattle.zr_core.specs.declared.place.Place.{Place}
 abbrev pub AreRequests : List Op → Type 0
 AreRequests ops = (k : ℕ) (op : Op) → slice_get ops k ≡ Some op → IsRequest op
 
+-- how many operations all actors have
+abbrev pub operations : List (List Op) → ℕ
+operations [] = 0
+operations (ops ∷ more) = length ops + operations more
+
+-- What a phase may have to do: at most 64 actors, with at most 1,000,000 requests in all.
+pub record IsWork (actors : List (List Op)) : Type 0 where
+  pub few : length actors ≤ 64
+  pub most : operations actors ≤ 1000000
+  pub requests : (a : ℕ) (ops : List Op) → slice_get actors a ≡ Some ops → AreRequests ops
+
 -- so many pages of the first operation are left, from a page on, and then the later operations
 abbrev pub todo_by : ℕ → ℕ → ℕ → ℕ → List Op → List Part
 todo_by size nr page n [] = []

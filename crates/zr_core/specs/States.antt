@@ -18,6 +18,7 @@ use Rattle.zr_core.specs.declared.worker.Turn.{Turn}
 use Rattle.zr_core.specs.declared.worker.Turn.TheVariants as turn
 use Rattle.zr_core.specs.Steps.{DiskHeld, Here, slot, spot, plan, took, Works}
 use Rattle.zr_core.specs.Joint.{Joint}
+use Rattle.zr_core.specs.Machines.{sector_in, IsStart}
 use Rattle.zr_core.specs.Workers.{here, Keeps, IsFit}
 
 -- the names of a disk's locks: the slots of its pages, in rising order
@@ -50,6 +51,16 @@ pub record AreKept (ws : List Worker) (dones : List (List Done)) : Type 0 where
   pub count : length dones ≡ length ws
   pub each : (a : ℕ) (w : Worker) (done : List Done) → slice_get ws a ≡ Some w → slice_get dones a ≡ Some done → Keeps w done
 
+-- what a phase of these actors begins with on a row
+abbrev pub given_on : ℕ → List (List Op) → List (Option DiskHeld) → Given
+given_on size actors cells = record { size = size; actors = actors; before = sector_in cells }
+
+-- The workers stand before their first turn: the row and they are the phase's start.
+pub record IsPrepared (g : Given) (cells : List (Option DiskHeld)) (ws : List Worker) : Type 0 where
+  pub dones : List (List Done)
+  pub kept : AreKept ws dones
+  pub start : IsStart g (state g.size g.actors cells ws dones)
+
 -- The joint rule holds for some phase's start.
 pub record CanGoOn (size : ℕ) (actors : List (List Op)) (cells : List (Option DiskHeld)) (ws : List Worker) : Type 0 where
   pub given : Given
@@ -77,6 +88,11 @@ TurnsOnce a size actors cells ws cells' ws' t dones = (dones' : List (List Done)
 -- an item of an actor's operation
 abbrev pub of_op : {A : Type 0} → List (List A) → ℕ → ℕ → Option A
 of_op all actor op = option_and_then (λ xs. slice_get xs op) (slice_get all actor)
+
+-- Each page has its entry at home, as between two phases.
+pub record IsAtRest (pages : ℕ) (cells : List (Option DiskHeld)) : Type 0 where
+  pub size : length cells ≡ pages
+  pub each : (p : ℕ) → p < pages → (e : EntryState) × (slice_get cells p ≡ Some (Some (holds.Slot e)))
 
 -- Each page has an entry at home, with nothing kept and no calls.
 pub record IsBlank (pages : ℕ) (cells : List (Option DiskHeld)) : Type 0 where

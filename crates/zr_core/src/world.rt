@@ -1,15 +1,16 @@
 //! The world of a disk: its row of entries, which the actors of a phase work on by turns.
 
-ghost use Rattle.std.specs.Prelude.{◌≡◌, ℕ, ◌<◌, ◌≤◌, [], length, vec_len, replicate, slice_get, Some, IsSome, OnOk, OnErr};
+ghost use Rattle.std.specs.Prelude.{◌≡◌, ℕ, ◌*◌, ◌<◌, ◌≤◌, [], ◌++◌, length, vec_len, replicate, slice_get, Some, IsSome, IfOk, OnOk, OnErr};
 ghost use Rattle.std.specs.Bool.{OnTrue, OnFalse};
-ghost use Rattle.std.specs.List.{range_with_len, flat_map};
+ghost use Rattle.std.specs.List.{range_with_len};
 ghost use Rattle.zr_core.specs.Runs.{turns_of, GoesBy, RunsOut, IsBusy, AllOver, left_of};
 ghost use Rattle.lock_row.specs.declared.names.Held.TheVariants as holds;
 ghost use Rattle.plain_disk.specs.Output.{phase_lines};
 ghost use Rattle.plain_disk.specs.Phases.{IsPhase};
 ghost use Rattle.zr_core.specs.Joint.{Joint};
-ghost use Rattle.zr_core.specs.Machines.{rounds_of, orders_of, sector_in};
-ghost use Rattle.zr_core.specs.States.{slots_of, state, ends_shown, sectors_shown, of_op, IsBlank, AreFit, AreKept, CanGoOn, TurnsOnce};
+ghost use Rattle.zr_core.specs.Machines.{rounds_of, orders_of, sector_in, PhaseSteps};
+ghost use Rattle.zr_core.specs.Places.{IsWork};
+ghost use Rattle.zr_core.specs.States.{slots_of, state, ends_shown, sectors_shown, of_op, given_on, IsAtRest, IsBlank, IsPrepared, AreFit, AreKept, CanGoOn, TurnsOnce};
 
 use crate::worker::{DiskHeld, Turn, Worker};
 use lock_row::{Held, LockNo, SimRow};
@@ -52,14 +53,12 @@ impl Phase {
         &self.workers[actor as usize].replies[op as usize].end
     }
 
-    /// The bytes of the sectors that an operation has read.
-    pub fn sectors(&self, actor: u32, op: u32) -> &[u8]
+    /// The sectors that an operation has read, of 512 bytes each.
+    pub fn sectors(&self, actor: u32, op: u32) -> &[[u8; 512]]
         requires { IsSome (of_op (sectors_shown self.now.workers.items) actor op) }
-        ensures { (sectors : _) → of_op (sectors_shown self.now.workers.items) actor op ≡ Some sectors → result.now ≡ flat_map (λ x. x) sectors }
+        ensures { of_op (sectors_shown self.now.workers.items) actor op ≡ Some result.now }
     {
-        self.workers[actor as usize].replies[op as usize]
-            .sectors
-            .as_flattened()
+        &self.workers[actor as usize].replies[op as usize].sectors
     }
 }
 
@@ -115,6 +114,22 @@ impl World {
             unreachable!()
         };
         entry_in(value)
+    }
+
+    /// Sets a phase up: empties the orders, makes their room for the phase's calls, and takes the
+    /// memory for what its reads will tell. On Err the contents are as before, and the orders are
+    /// unspecified until a call that succeeds.
+    pub fn prepare(&mut self, ops: &[ActorOps]) -> Result<Phase, AllocError>
+        requires rest { IsAtRest self.old.pages self.old.row.cells }
+        requires work { IsWork ops.now }
+        ensures pages { self.new.pages ≡ self.old.pages }
+        ensures fit { IfOk result (λ phase. AreFit self.new.pages ops.now phase.workers.items) }
+        ensures joint { IfOk result (λ phase. CanGoOn self.new.pages ops.now self.new.row.cells phase.workers.items) }
+        ensures start { IfOk result (λ phase. IsPrepared (given_on self.old.pages ops.now self.old.row.cells) self.new.row.cells phase.workers.items) }
+        ensures rest { OnErr result (IsAtRest self.new.pages self.new.row.cells) }
+        ensures contents { OnErr result ((s : ℕ) → s < 8 * self.old.pages → sector_in self.new.row.cells s ≡ sector_in self.old.row.cells s) }
+    {
+        Err(AllocError)
     }
 
     /// One turn of an actor.
@@ -218,6 +233,8 @@ impl World {
         ensures fit { AreFit self.new.pages ops.now phase.new.workers.items }
         ensures joint { CanGoOn self.new.pages ops.now self.new.row.cells phase.new.workers.items }
         ensures runs { (dones : _) → AreKept phase.old.workers.items dones → RunsOut (turns_of schedule.now) self.old.pages ops.now self.old.row.cells phase.old.workers.items self.new.row.cells phase.new.workers.items dones }
+        ensures rest { IsAtRest self.new.pages self.new.row.cells }
+        ensures steps { (g : _) → g.size ≡ self.old.pages → g.actors ≡ ops.now → IsPrepared g self.old.row.cells phase.old.workers.items → (rounds : ℕ) × PhaseSteps g (turns_of schedule.now ++ rounds_of (length ops.now) rounds) (phase_lines (ends_shown phase.new.workers.items) (sectors_shown phase.new.workers.items) (orders_of self.new.row.cells)) self.new.row.cells }
         ensures legal { (g : _) (dones : _) → g.size ≡ self.old.pages → g.actors ≡ ops.now → AreKept phase.old.workers.items dones → Joint g (state self.old.pages ops.now self.old.row.cells phase.old.workers.items dones) → IsPhase g (phase_lines (ends_shown phase.new.workers.items) (sectors_shown phase.new.workers.items) (orders_of self.new.row.cells)) (sector_in self.new.row.cells) }
     {
         self.play(phase, ops, schedule);
