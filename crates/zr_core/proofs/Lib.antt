@@ -12,3 +12,4 @@ pub mod Worlds
 pub mod Runs
 pub mod Shown
 pub mod Blank
+pub mod Preparing
