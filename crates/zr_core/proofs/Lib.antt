@@ -13,3 +13,4 @@ pub mod Runs
 pub mod Shown
 pub mod Blank
 pub mod Preparing
+pub mod Counts

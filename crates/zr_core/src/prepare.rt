@@ -20,7 +20,7 @@ use zr_base::{ActorOps, Op, OpEnd, PageIx};
 fn count_op(size: u32, op: &Op, counts: &mut [u32])
     requires request { IsRequest op.now }
     requires size { length counts.old ≡ size }
-    requires fits { (p : ℕ) → count_at counts.old p + pieces_on p (parts size 0 op.now) < 2 ^ 32 }
+    requires fits { (p : ℕ) → p < size → count_at counts.old p + pieces_on p (parts size 0 op.now) < 2 ^ 32 }
     ensures size { length counts.new ≡ length counts.old }
     ensures counted { (p : ℕ) → p < size → count_at counts.new p ≡ count_at counts.old p + pieces_on p (parts size 0 op.now) }
 {
@@ -37,7 +37,7 @@ fn count_op(size: u32, op: &Op, counts: &mut [u32])
 fn count_actor(size: u32, ops: &[Op], counts: &mut [u32])
     requires requests { AreRequests ops.now }
     requires size { length counts.old ≡ size }
-    requires fits { (p : ℕ) → count_at counts.old p + pieces_on p (program size 0 ops.now) < 2 ^ 32 }
+    requires fits { (p : ℕ) → p < size → count_at counts.old p + pieces_on p (program size 0 ops.now) < 2 ^ 32 }
     ensures size { length counts.new ≡ length counts.old }
     ensures counted { (p : ℕ) → p < size → count_at counts.new p ≡ count_at counts.old p + pieces_on p (program size 0 ops.now) }
 {
