@@ -14,3 +14,5 @@ pub mod Shown
 pub mod Blank
 pub mod Preparing
 pub mod Counts
+pub mod Prepared
+pub mod Beginners

@@ -1,6 +1,6 @@
 -- Setting a phase up.
 use Rattle.std.proofs.Common.{◌≡◌, ◌≢◌, ℕ, zero, suc, ◌+◌, ◌*◌, ◌<◌, ◌≤◌, Bool, true, false, cond, eqb, List, [], ◌∷◌, ◌++◌, length, get_or, Option, Some, None, slice_get, slice_set, refl, sym, ap, ◌∙◌, subst, arith, length-set}
-use Rattle.std.specs.Prelude.{Result, Ok, Err, OnOk}
+use Rattle.std.specs.Prelude.{Result, Ok, Err, OnOk, OnErr}
 use Rattle.lock_row.specs.declared.names.Held.TheVariants as holds
 use Rattle.lock_row.specs.Rows.{Row, IsIn, place_in, cell, with_cell}
 use Rattle.slot_entry.specs.Entries.{EntryState}
@@ -12,6 +12,10 @@ use Rattle.zr_core.proofs.States.{slot_place}
 pub on_ok_both : {A E P Q R : Type 0} (r : Result A E) → (P → Q → R) → OnOk r P → OnOk r Q → OnOk r R
 on_ok_both (Ok x) f p q = f p q
 on_ok_both (Err e) f p q = tt
+
+pub on_err_any : {A E P : Type 0} (r : Result A E) → P → OnErr r P
+on_err_any (Ok x) p = tt
+on_err_any (Err e) p = p
 
 -- ---- one entry
 
