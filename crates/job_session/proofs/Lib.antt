@@ -1,6 +1,3 @@
-pub mod Ended
-pub mod Jobs
 pub mod Lines
-pub mod Orders
+pub mod Shown
 pub mod Telling
-pub mod Zeros
