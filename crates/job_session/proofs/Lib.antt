@@ -1,3 +1,5 @@
+pub mod Jobs
+pub mod Lawful
 pub mod Lines
 pub mod Shown
 pub mod Telling
