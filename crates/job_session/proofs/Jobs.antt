@@ -1,10 +1,10 @@
 -- Jobs item by item, and the plain disk behind each.
-use Rattle.std.proofs.Common.{◌≡◌, ℕ, zero, suc, ◌+◌, ◌-◌, ◌*◌, ◌/◌, ◌%◌, ◌<◌, ◌≤◌, Bool, false, ◌||◌, List, [], ◌∷◌, ◌++◌, take, drop, length, Option, Some, None, slice_get, get_or, replicate, refl, sym, ap, ◌∙◌, subst, append_assoc, arith}
-use Rattle.std.specs.List.{AllByRecursion}
-use Rattle.std.proofs.lemmas.List.{take-replicate, drop-replicate}
+use Rattle.std.proofs.Common.{◌≡◌, ℕ, suc, ◌-◌, ◌*◌, ◌/◌, ◌%◌, ◌<◌, ◌≤◌, Bool, false, ◌||◌, List, [], ◌∷◌, ◌++◌, take, Option, Some, None, replicate, refl, sym, ap, ◌∙◌, subst, append_assoc, arith}
+use Rattle.std.proofs.lemmas.List.{append-nil, take-replicate, drop-replicate}
 use Rattle.std.proofs.lemmas.Option.{get_or_from_slice_get}
 use Rattle.zr_base.specs.declared.op.Op.{Op}
 use Rattle.zr_base.specs.declared.op.Op.TheVariants.{Write, Read, Discard}
+use Rattle.zr_base.specs.declared.op.Turns.{Turns}
 use Rattle.zr_base.specs.Plain.{IsRequest, zero_sector, count_of}
 use Rattle.zr_base.specs.Sectors.{page_sector}
 use Rattle.plain_disk.specs.Output.{OutLine}
@@ -17,12 +17,14 @@ use Rattle.zr_core.specs.Steps.{DiskHeld}
 use Rattle.zr_core.specs.Machines.{PhaseSteps, page_in, sector_in}
 use Rattle.zr_core.specs.Places.{AreRequests, IsWork}
 use Rattle.zr_core.specs.States.{given_on, IsAtRest, IsBlank}
+use Rattle.job_text.specs.declared.job.Attr.{Attr}
 use Rattle.job_text.specs.declared.job.Attr.TheVariants.{DiskPages}
 use Rattle.job_text.specs.declared.job.Item.{Item}
 use Rattle.job_text.specs.declared.job.Item.TheVariants as items
+use Rattle.job_text.specs.declared.job.PhaseText.{PhaseText}
 use Rattle.job_session.specs.Legal.{Legal}
-use Rattle.job_session.specs.Stepped.{Disk, rest_of, Stepped, AreOwn}
-use Rattle.job_session.specs.Runs.{MayRun, ItemsTold}
+use Rattle.job_session.specs.Stepped.{Disk, rest_of, schedule_of, Stepped, AreOwn}
+use Rattle.job_session.specs.Runs.{MayRun, PhaseTold, ItemsTold}
 use Rattle.job_session.proofs.Telling.{LinesTold-none, LinesTold-more}
 
 -- ---- one after the other
@@ -63,6 +65,22 @@ items_append xs ys d m last u v w a b c r s x y = record {
   own = own_append xs ys x.turns y.turns x.own y.own;
   told = LinesTold-more u v w a b c r s x.lines y.lines x.told y.told;
 }
+
+pub attr_told : (d m : Disk) (attr : Attr) (u : Option (List ℕ)) (a : List ℕ) → Stepped d (items.Attr attr ∷ []) [] [] m → ItemsTold d (items.Attr attr ∷ []) m u u a a false
+attr_told d m attr u a s = record { turns = []; lines = []; stepped = s; own = refl; told = LinesTold-none u a }
+
+pub phase_told : (d m : Disk) (phase : PhaseText) (actors : List (List Op)) (schedule : List Turns) (u v : Option (List ℕ)) (a b : List ℕ) (refused : Bool)
+    → actors ≡ phase.actors → schedule ≡ schedule_of phase → m.size ≡ d.size → PhaseTold d actors schedule m u v a b refused → ItemsTold d (items.Phase phase ∷ []) m u v a b refused
+phase_told d m phase actors schedule u v a b refused are is size told =
+    let t : PhaseTold d phase.actors (schedule_of phase) m u v a b refused =
+    subst (λ (x : List (List Op) × List Turns). PhaseTold d x.0 x.1 m u v a b refused) (λ i. (are i, is i)) told in
+    record {
+      turns = t.turns ∷ [];
+      lines = t.lines;
+      stepped = (m, t.turns, [], t.lines, [], size, t.steps, (refl, refl, refl), refl, sym (append-nil t.lines));
+      own = (t.own, refl);
+      told = t.told;
+    }
 
 -- ---- a blank disk
 

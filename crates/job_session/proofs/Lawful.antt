@@ -1,16 +1,16 @@
 -- What a lawful job asks of its items.
-use Rattle.std.proofs.Common.{◌≡◌, ℕ, zero, suc, ◌+◌, ◌<◌, ◌≤◌, Bool, true, false, List, [], ◌∷◌, length, Option, Some, slice_get, unwrap_or, refl, sym, ap, ◌∙◌, subst, arith}
+use Rattle.std.proofs.Common.{◌≡◌, ℕ, zero, suc, ◌+◌, ◌<◌, ◌≤◌, false, List, [], ◌∷◌, length, Some, slice_get, unwrap_or, refl, sym, ◌∙◌, subst, arith}
+use Rattle.std.proofs.lemmas.Bool.{true≢false}
 use Rattle.std.proofs.lemmas.Bool.Decides.{nat_tests}
 use Rattle.std.proofs.lemmas.Option.{slice_get_within}
 use Rattle.zr_base.specs.declared.op.Op.{Op}
-use Rattle.zr_base.specs.declared.op.Turns.{Turns}
 use Rattle.zr_base.specs.Plain.{IsRequest}
-use Rattle.zr_core.specs.Places.{AreRequests, IsWork, operations}
+use Rattle.zr_core.specs.Places.{AreRequests, IsWork}
 use Rattle.job_text.specs.declared.job.Attr.TheVariants.{DiskPages}
 use Rattle.job_text.specs.declared.job.Item.{Item}
 use Rattle.job_text.specs.declared.job.Item.TheVariants as items
 use Rattle.job_text.specs.Jobs.{Used, nothing_used, with_disk, with_phase, with_op, with_ops, with_actors, MayOperate, MayAct, MayFollow}
-use Rattle.job_session.specs.Runs.{MayStand, MayRun, NamesActors}
+use Rattle.job_session.specs.Runs.{MayRun}
 
 no_item : {A : Type 0} (k : ℕ) (x : A) → slice_get [] k ≡ Some x → ⊥
 no_item k x is = let lt : k < 0 = slice_get_within [] k x is in omega arith
@@ -61,7 +61,7 @@ work_by u (ops ∷ more ∷ others) may fits = absurd may
 run_by : (u : Used) (pages : ℕ) (job : List Item) → MayFollow u job → (u.disk ≡ false → pages ≡ 0) → u.operations ≤ 1000000 → MayRun pages job
 run_by u pages [] may bare fits = tt
 run_by u pages (items.Attr (DiskPages n) ∷ more) may bare fits =
-    ((bare may.0, may.1, may.2), run_by (with_disk u) n more may.3 (λ e. elim e [ ]) fits)
+    ((bare may.0, may.1, may.2), run_by (with_disk u) n more may.3 (λ e. absurd (true≢false e)) fits)
 run_by u pages (items.Phase phase ∷ more) may bare fits = (
   (work_by u phase.actors may.1 fits, λ k t is. absurd (no_item k t is)),
   run_by (with_phase (with_actors u phase.actors)) pages more may.2 (λ e. bare (sym (disk_by u phase.actors) ∙ e)) (acted_few u phase.actors may.1 fits),

@@ -9,5 +9,5 @@ invariant-loop-item g l = record {
   told : ItemsTold without_pages (take l.item-index l.job) (disk_of l.world) (g.K.Sink.written l.fn.out) (g.K.Sink.written l.out) l.fn.buffer.items l.buffer.items l.refused;
   may : MayRun l.world.pages (drop l.item-index l.job);
   rest : IsAtRest l.world.pages l.world.row.cells;
-  later : g.K.Sink.fault_count l.fn.out ≤ g.K.Sink.fault_count l.out
+  later : g.K.Sink.fault_count l.fn.out ≤ g.K.Sink.fault_count l.out;
 }

@@ -1,4 +1,4 @@
-use Rattle.std.proofs.Common.{◌≡◌, ◌<◌, ◌∙◌, ℕ, List, Some, slice_get, sym, ap, length, arith}
+use Rattle.std.proofs.Common.{◌∙◌, List, sym, ap, length, arith}
 use Rattle.zr_base.specs.declared.op.Op.{Op}
 use Rattle.zr_core.specs.States.{ends_shown, sectors_shown}
 use Rattle.job_session.proofs.Lines.{next_actor}

@@ -1,7 +1,7 @@
-use Rattle.std.proofs.Common.{◌≡◌, List, ℕ, Bool, Option, Some, Ok, refl, sym, ap, ◌∙◌, subst, unwrap_or}
+use Rattle.std.proofs.Common.{◌≡◌, List, ℕ, Bool, Option, Some, sym, ◌∙◌, subst, unwrap_or}
 use Rattle.zr_base.specs.declared.op.Tag.{Tag}
 use Rattle.zr_base.specs.declared.op.OpEnd.{OpEnd}
-use Rattle.plain_disk.specs.Output.{op_lines, ended, is_refusal, any_refusal}
+use Rattle.plain_disk.specs.Output.{op_lines, ended, is_refusal}
 use Rattle.job_session.specs.Runs.{LinesTold}
 use Rattle.job_session.specs.Told.{Tells}
 use Rattle.job_session.specs.Texts.{text}

@@ -1,4 +1,4 @@
-use Rattle.std.proofs.Common.{◌≡◌, ◌<◌, ◌∙◌, ℕ, Some, ap, sym, arith, ◌++◌, List, ◌+◌, drop}
+use Rattle.std.proofs.Common.{◌∙◌, Some, ap, sym, arith, ◌++◌, List, ◌+◌, drop}
 use Rattle.zr_base.specs.declared.op.Tag.{Tag}
 use Rattle.plain_disk.specs.Output.{order_line, order_lines}
 use Rattle.lock_row.specs.declared.names.Held.TheVariants as holds

@@ -1,4 +1,4 @@
-use Rattle.std.proofs.Common.{◌≡◌, Bool, false, ◌||◌, sym, subst}
+use Rattle.std.proofs.Common.{Bool, false, sym, subst}
 use Rattle.plain_disk.specs.Output.{actors_lines, order_lines, phase_lines}
 use Rattle.zr_core.specs.Machines.{orders_of}
 use Rattle.zr_core.specs.States.{ends_shown, sectors_shown}
