@@ -9,7 +9,7 @@ use zr_core::phases_are_legal;
 
 /// A job prints what the plain disk allows, whatever its turns are.
 pub fn jobs_are_legal()
-    ensures { (d : _) (job : _) (turns : _) (lines : _) (last : _) → MayRun d.size job → Stepped d job turns lines last → Legal (rest_of d) job lines (rest_of last) }
+    ensures legal { (d : _) (job : _) (turns : _) (lines : _) (last : _) → MayRun d.size job → Stepped d job turns lines last → Legal (rest_of d) job lines (rest_of last) }
 {
     phases_are_legal();
 }

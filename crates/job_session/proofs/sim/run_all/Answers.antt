@@ -38,5 +38,5 @@ run_items-requires g c = may_run c.args.job.now c.requires
 
 pub returns-clause-written : goal.returns-clause-written
 returns-clause-written g c =
-    all_written c.jobs_are_legal.ensures c.args.job.now _ _ _ c.new-buffer.result.items c.run_items.new.buffer.items _ c.in_ok-refused.refused
+    all_written c.jobs_are_legal.ensures.legal c.args.job.now _ _ _ c.new-buffer.result.items c.run_items.new.buffer.items _ c.in_ok-refused.refused
     (may_run c.args.job.now c.requires) c.in_ok-refused.ensures.job c.new-buffer.ensures.items c.in_ok-send.ensures.all c.deref.ensures.value
