@@ -24,7 +24,7 @@ use Rattle.job_text.specs.declared.job.Item.TheVariants as items
 use Rattle.job_text.specs.declared.job.PhaseText.{PhaseText}
 use Rattle.job_session.specs.Legal.{Legal}
 use Rattle.job_session.specs.Stepped.{Disk, rest_of, schedule_of, Stepped, AreOwn}
-use Rattle.job_session.specs.Runs.{MayRun, PhaseTold, ItemsTold}
+use Rattle.job_session.specs.Runs.{MayStandAll, PhaseTold, ItemsTold}
 use Rattle.job_session.proofs.Telling.{LinesTold-none, LinesTold-more}
 
 -- ---- one after the other
@@ -115,14 +115,14 @@ has_some_each actors work a ops is = some_each ops (work.requests a ops is)
 
 -- where each phase prints what the plain disk allows, so does the job
 pub legal_by : ((g : Given) (turns : List ℕ) (lines : List OutLine) (row : List (Option DiskHeld)) → HasSomeEach g.actors → PhaseSteps g turns lines row → IsPhase g lines (sector_in row))
-    → (job : List Item) (d : Disk) (turns : List (List ℕ)) (lines : List OutLine) (last : Disk) → MayRun d.size job → Stepped d job turns lines last → Legal (rest_of d) job lines (rest_of last)
+    → (job : List Item) (d : Disk) (turns : List (List ℕ)) (lines : List OutLine) (last : Disk) → MayStandAll d.size job → Stepped d job turns lines last → Legal (rest_of d) job lines (rest_of last)
 legal_by phases [] d turns lines last may s = (s.1, ap rest_of s.2)
 legal_by phases (items.Attr (DiskPages n) ∷ more) d turns lines last may s = (
   rest_of s.0,
   [],
   lines,
   (refl, s.1, blank_holds n s.0.row s.2),
-  legal_by phases more s.0 turns lines last (subst (λ (pages : ℕ). MayRun pages more) (sym s.1) may.1) s.3,
+  legal_by phases more s.0 turns lines last (subst (λ (pages : ℕ). MayStandAll pages more) (sym s.1) may.1) s.3,
   refl,
 )
 legal_by phases (items.Phase phase ∷ more) d turns lines last may s = (
@@ -130,6 +130,6 @@ legal_by phases (items.Phase phase ∷ more) d turns lines last may s = (
   s.3,
   s.4,
   (s.5, phases (given_on d.size phase.actors d.row) s.1 s.3 s.0.row (has_some_each phase.actors may.0.0) s.6),
-  legal_by phases more s.0 s.2 s.4 last (subst (λ (pages : ℕ). MayRun pages more) (sym s.5) may.1) s.7,
+  legal_by phases more s.0 s.2 s.4 last (subst (λ (pages : ℕ). MayStandAll pages more) (sym s.5) may.1) s.7,
   s.9,
 )

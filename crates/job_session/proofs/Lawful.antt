@@ -10,7 +10,7 @@ use Rattle.job_text.specs.declared.job.Attr.TheVariants.{DiskPages}
 use Rattle.job_text.specs.declared.job.Item.{Item}
 use Rattle.job_text.specs.declared.job.Item.TheVariants as items
 use Rattle.job_text.specs.Jobs.{Used, nothing_used, with_disk, with_phase, with_op, with_ops, with_actors, MayOperate, MayAct, MayFollow}
-use Rattle.job_session.specs.Runs.{MayRun}
+use Rattle.job_session.specs.Runs.{MayStandAll}
 
 no_item : {A : Type 0} (k : ℕ) (x : A) → slice_get [] k ≡ Some x → ⊥
 no_item k x is = let lt : k < 0 = slice_get_within [] k x is in omega arith
@@ -58,14 +58,14 @@ work_by u (ops ∷ []) may fits = record {
     each (suc a) mine is = absurd (no_item a mine is)
 work_by u (ops ∷ more ∷ others) may fits = absurd may
 
-run_by : (u : Used) (pages : ℕ) (job : List Item) → MayFollow u job → (u.disk ≡ false → pages ≡ 0) → u.operations ≤ 1000000 → MayRun pages job
-run_by u pages [] may bare fits = tt
-run_by u pages (items.Attr (DiskPages n) ∷ more) may bare fits =
-    ((bare may.0, may.1, may.2), run_by (with_disk u) n more may.3 (λ e. absurd (true≢false e)) fits)
-run_by u pages (items.Phase phase ∷ more) may bare fits = (
+stand_by : (u : Used) (pages : ℕ) (job : List Item) → MayFollow u job → (u.disk ≡ false → pages ≡ 0) → u.operations ≤ 1000000 → MayStandAll pages job
+stand_by u pages [] may bare fits = tt
+stand_by u pages (items.Attr (DiskPages n) ∷ more) may bare fits =
+    ((bare may.0, may.1, may.2), stand_by (with_disk u) n more may.3 (λ e. absurd (true≢false e)) fits)
+stand_by u pages (items.Phase phase ∷ more) may bare fits = (
   (work_by u phase.actors may.1 fits, λ k t is. absurd (no_item k t is)),
-  run_by (with_phase (with_actors u phase.actors)) pages more may.2 (λ e. bare (sym (disk_by u phase.actors) ∙ e)) (acted_few u phase.actors may.1 fits),
+  stand_by (with_phase (with_actors u phase.actors)) pages more may.2 (λ e. bare (sym (disk_by u phase.actors) ∙ e)) (acted_few u phase.actors may.1 fits),
 )
 
-pub may_run : (job : List Item) → MayFollow nothing_used job → MayRun 0 job
-may_run job may = run_by nothing_used 0 job may (λ e. refl) (omega arith)
+pub may_stand : (job : List Item) → MayFollow nothing_used job → MayStandAll 0 job
+may_stand job may = stand_by nothing_used 0 job may (λ e. refl) (omega arith)

@@ -31,9 +31,9 @@ pages_after pages (items.Attr (DiskPages n)) = n
 pages_after pages (items.Phase phase) = pages
 
 -- items that may stand one after the other
-abbrev pub MayRun : ℕ → List Item → Type 0
-MayRun pages [] = ⊤
-MayRun pages (item ∷ more) = MayStand pages item × MayRun (pages_after pages item) more
+abbrev pub MayStandAll : ℕ → List Item → Type 0
+MayStandAll pages [] = ⊤
+MayStandAll pages (item ∷ more) = MayStand pages item × MayStandAll (pages_after pages item) more
 
 -- These lines were told, and some line says that something was refused, or none does.
 pub record LinesTold (written written_after : Option (List ℕ)) (waits waits_after : List ℕ) (refused : Bool) (lines : List OutLine) : Type 0 where

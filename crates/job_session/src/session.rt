@@ -5,7 +5,7 @@ ghost use Rattle.zr_core.specs.States.{IsAtRest, IsBlank};
 ghost use Rattle.job_text.specs.declared.job.Item.TheVariants as items;
 ghost use Rattle.job_session.specs.Causes.{StopCause};
 ghost use Rattle.job_session.specs.Stepped.{disk_of, schedule_of, Stepped};
-ghost use Rattle.job_session.specs.Runs.{MayStand, MayRun, pages_after, ItemsTold, JobTold};
+ghost use Rattle.job_session.specs.Runs.{MayStand, MayStandAll, pages_after, ItemsTold, JobTold};
 
 use crate::run::run_phase;
 use crate::stop::Stop;
@@ -72,7 +72,7 @@ pub(crate) fn run_items<K: Sink>(
     alloc: Global,
     job: &[Item],
 ) -> Result<bool, Stop>
-    requires { MayRun 0 job.now }
+    requires { MayStandAll 0 job.now }
     ensures job { IfOk result (λ refused. JobTold job.now (K.written out.old) (K.written out.new) buffer.old.items buffer.new.items refused) }
     ensures later { K.fault_count out.old ≤ K.fault_count out.new }
     ensures cause { IfErr result (StopCause (K.fault_count out.old) (K.fault_count out.new) (K.has_stopped out.new)) }
