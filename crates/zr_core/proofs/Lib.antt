@@ -12,3 +12,7 @@ pub mod Worlds
 pub mod Runs
 pub mod Shown
 pub mod Blank
+pub mod Preparing
+pub mod Counts
+pub mod Prepared
+pub mod Beginners

@@ -117,7 +117,7 @@ pub record Next (size : ℕ) (ops : List Op) (w : Worker) : Type 0 where
   pub same : p.page ≡ w.place.page
   pub below : w.place.page < size
 
-below_size : (size : ℕ) (op : Op) (page n : ℕ) → IsRequest op → IsOn size op page n → 1 ≤ n → page < size
+pub below_size : (size : ℕ) (op : Op) (page n : ℕ) → IsRequest op → IsOn size op page n → 1 ≤ n → page < size
 below_size size op page n r on some =
     let l = on.last in let inside = ltb-false (8 * size) (start_of op + count_of op) (on.inside some) in
     let m = pages_some op r in let b = (in_bounds op r).1 in omega arith

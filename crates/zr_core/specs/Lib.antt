@@ -6,3 +6,4 @@ pub mod Work
 pub mod Workers
 pub mod States
 pub mod Runs
+pub mod Preparing

@@ -3,6 +3,7 @@
 
 mod laws;
 mod place;
+mod prepare;
 mod work;
 mod worker;
 mod world;

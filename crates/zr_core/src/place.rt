@@ -16,8 +16,8 @@ pub struct Place {
     pub left: u32,
 }
 
-// The first sector of a request and how many it has.
-fn bounds(op: &Op) -> (u64, u32)
+/// The first sector of a request and how many it has.
+pub(crate) fn bounds(op: &Op) -> (u64, u32)
     ensures start { result.0 ≡ start_of op.now }
     ensures count { result.1 ≡ count_of op.now }
 {
@@ -28,8 +28,8 @@ fn bounds(op: &Op) -> (u64, u32)
     }
 }
 
-// Whether the operation's piece on a page has events.
-fn has_work(op: &Op, page: u32) -> bool
+/// Whether the operation's piece on a page has events.
+pub(crate) fn has_work(op: &Op, page: u32) -> bool
     requires { IsRequest op.now }
     ensures { result ≡ has_event op.now page }
 {
@@ -42,8 +42,8 @@ fn has_work(op: &Op, page: u32) -> bool
     }
 }
 
-// The pages on which an operation has pieces.
-fn pages_to_do(size: u32, op: &Op) -> u32
+/// The pages on which an operation has pieces.
+pub(crate) fn pages_to_do(size: u32, op: &Op) -> u32
     requires { IsRequest op.now }
     ensures { result ≡ (if is_beyond size op.now then 0 else pages_of op.now) }
 {

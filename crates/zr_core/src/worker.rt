@@ -83,8 +83,8 @@ fn work(replies: &mut Vec<Reply>, nr: usize, op: &Op, page: u32, entry: &mut Ent
     carry_out(op, page, entry, &mut reply.sectors);
 }
 
-// The entry that a slot's lock guards.
-fn entry_of(value: DiskHeld) -> Entry
+/// The entry that a slot's lock guards.
+pub(crate) fn entry_of(value: DiskHeld) -> Entry
     ensures { value ≡ holds.Slot result }
 {
     match value {

@@ -12,6 +12,7 @@ ghost use Rattle.zr_core.specs.Machines.{rounds_of, orders_of, sector_in, PhaseS
 ghost use Rattle.zr_core.specs.Places.{IsWork};
 ghost use Rattle.zr_core.specs.States.{slots_of, state, ends_shown, sectors_shown, of_op, given_on, IsAtRest, IsBlank, IsPrepared, AreFit, AreKept, CanGoOn, TurnsOnce};
 
+use crate::prepare::{count_pieces, new_workers, reserve_all};
 use crate::worker::{DiskHeld, Turn, Worker};
 use lock_row::{Held, LockNo, SimRow};
 use slot_entry::Entry;
@@ -129,7 +130,10 @@ impl World {
         ensures rest { OnErr result (IsAtRest self.new.pages self.new.row.cells) }
         ensures contents { OnErr result ((s : ℕ) → s < 8 * self.old.pages → sector_in self.new.row.cells s ≡ sector_in self.old.row.cells s) }
     {
-        Err(AllocError)
+        let counts = count_pieces(self.alloc, self.pages, ops)?;
+        let workers = new_workers(self.alloc, self.pages, ops)?;
+        reserve_all(&mut self.row, self.pages, &counts)?;
+        Ok(Phase { workers })
     }
 
     /// One turn of an actor.
