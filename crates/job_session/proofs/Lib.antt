@@ -1,6 +1,5 @@
-pub mod Ended
 pub mod Jobs
+pub mod Lawful
 pub mod Lines
-pub mod Orders
+pub mod Shown
 pub mod Telling
-pub mod Zeros

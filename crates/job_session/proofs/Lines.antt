@@ -1,26 +1,21 @@
--- The lines of one actor's operations, one after the other.
-use Rattle.std.proofs.Common.{◌≡◌, ℕ, zero, suc, ◌+◌, ◌*◌, ◌/◌, ◌<◌, ◌≤◌, Bool, true, false, ◌||◌, cond, List, [], ◌∷◌, ◌++◌, length, map, take, drop, get_or, Some, refl, sym, ap, ◌∙◌, subst, arith, length-take-le}
-use Rattle.std.specs.List.{range_with_len, AllByRecursion}
-use Rattle.std.proofs.lemmas.List.{append-nil, drop_more, take_more, take-append-drop}
-use Rattle.std.proofs.lemmas.Option.{slice_get-get_or}
+-- Lines one after the other, and the lines of operations, actors and pages from a place on.
+use Rattle.std.proofs.Common.{◌≡◌, ℕ, zero, suc, ◌+◌, ◌<◌, Bool, true, false, ◌||◌, List, [], ◌∷◌, ◌++◌, length, map, drop, get_or, Option, Some, slice_get, refl, ap, ◌∙◌}
+use Rattle.std.proofs.lemmas.List.{drop_more}
 use Rattle.std.proofs.lemmas.List.Concat.{flat_map-append}
-use Rattle.std.proofs.lemmas.Bool.Decides.{nat_tests}
-use Rattle.std.proofs.lemmas.List.FromFn.{get_or-map-range_with_len}
+use Rattle.std.proofs.lemmas.Option.{get_or_from_slice_get, slice_get_within}
 use Rattle.zr_base.specs.declared.op.Tag.{Tag}
-use Rattle.zr_base.specs.declared.op.Op.{Op}
-use Rattle.zr_base.specs.declared.op.Op.TheVariants.{Write, Read, Discard}
 use Rattle.zr_base.specs.declared.op.OpEnd.{OpEnd}
-use Rattle.zr_base.specs.declared.op.OpEnd.TheVariants as ends
-use Rattle.zr_base.specs.Plain.{content, order_before, is_beyond, IsRequest, count_of, stands_on}
-use Rattle.plain_disk.specs.Ends.{read_by}
-use Rattle.plain_disk.specs.Output.{OutLine, ended, sector, op_lines, order_lines, is_refusal, any_refusal}
-use Rattle.plain_disk.specs.Phases.{held_after, sector_read}
-use Rattle.job_session.specs.Steps.{end_on, sector_ended, tag_where, tags_on, orders_of, alone, lines_from}
-use Rattle.job_session.specs.Slots.{Shown, sector_at, order_at}
+use Rattle.plain_disk.specs.Output.{OutLine, ended, sector, op_lines, actor_lines, actors_lines, order_line, order_lines, is_refusal, any_refusal}
+use Rattle.zr_core.specs.Steps.{DiskHeld}
+use Rattle.zr_core.specs.Machines.{orders_of, order_in}
+use Rattle.zr_core.specs.States.{of_op}
 use Rattle.job_session.specs.Texts.{text, line_text}
-use Rattle.job_session.proofs.Orders.{before_is, covers-stands, content-more, tags_on-append}
 
 -- ---- refusals
+
+pub or_false : (b : Bool) → (b || false) ≡ b
+or_false true = refl
+or_false false = refl
 
 pub any_refusal-append : (xs ys : List OutLine) → any_refusal (xs ++ ys) ≡ (any_refusal xs || any_refusal ys)
 any_refusal-append [] ys = refl
@@ -30,7 +25,7 @@ any_refusal-append (x ∷ xs) ys = by (is_refusal x) (any_refusal-append xs ys)
     by true e = refl
     by false e = e
 
-pub any_refusal-sectors : (xs : List (List ℕ)) → any_refusal (map sector xs) ≡ false
+any_refusal-sectors : (xs : List (List ℕ)) → any_refusal (map sector xs) ≡ false
 any_refusal-sectors [] = refl
 any_refusal-sectors (x ∷ xs) = any_refusal-sectors xs
 
@@ -39,140 +34,37 @@ any_refusal-orders p [] = refl
 any_refusal-orders p ([] ∷ orders) = any_refusal-orders (p + 1) orders
 any_refusal-orders p ((tag ∷ tags) ∷ orders) = any_refusal-orders (p + 1) orders
 
--- ---- what a read has to tell
+-- an operation's lines say a refusal where its end does
+pub any_refusal-op : (tag : Tag) (end : OpEnd) (got : List (List ℕ)) → any_refusal (op_lines tag end got) ≡ is_refusal (ended tag end)
+any_refusal-op tag end got = ap (λ (b : Bool). is_refusal (ended tag end) || b) (any_refusal-sectors got) ∙ or_false (is_refusal (ended tag end))
 
--- functions that agree on a range
-same_map : (f g : ℕ → List ℕ) (start count : ℕ) → ((s : ℕ) → start ≤ s → s < start + count → f s ≡ g s)
-    → map f (range_with_len start count) ≡ map g (range_with_len start count)
-same_map f g start zero same = refl
-same_map f g start (suc count) same =
-    ap (λ (x : List ℕ). x ∷ map f (range_with_len (start + 1) count)) (same start (omega arith) (omega arith))
-    ∙ ap (λ (xs : List (List ℕ)). g start ∷ xs) (same_map f g (start + 1) count (λ s from to. same s (omega arith) (omega arith)))
+-- ---- what an actor's operations have
 
-module _ (n : ℕ) (before : ℕ → List ℕ) (front back : List Op) (k : ℕ) (place : length front ≡ k) where
-  -- a sector that the k-th operation reads holds what the operations before it left
-  read_is : (op : Op) (s : ℕ) → s < 8 * n → stands_on op (end_on n op) (s / 8) ≡ true
-      → sector_read (alone n before (front ++ op ∷ back)) (orders_of n (front ++ op ∷ back)) 0 k s
-      ≡ content ((front ++ op ∷ back) ∷ []) s (before s) (tags_on n (s / 8) 0 front)
-  read_is op s inside on =
-      ap (λ (o : List Tag). held_after (alone n before (front ++ op ∷ back)) (order_before (record { actor = 0; op = k }) o) s)
-      (get_or-map-range_with_len {X = List Tag} (λ p. tags_on n p 0 (front ++ op ∷ back)) 0 n (s / 8) (s / 8) [] (omega arith) (omega arith))
-      ∙ ap (λ (o : List Tag). held_after (alone n before (front ++ op ∷ back)) o s) (before_is n (s / 8) 0 k front back op (omega arith) on)
+module _ {A : Type 0} where
+  pub of_op_is : (all : List (List A)) (actor op : ℕ) → of_op all actor op ≡ slice_get (get_or all actor []) op
+  of_op_is [] actor op = refl
+  of_op_is (xs ∷ all) zero op = refl
+  of_op_is (xs ∷ all) (suc actor) op = of_op_is all actor op
 
-  pub reads_are : (op : Op) (now : ℕ → List ℕ)
-      → ((s : ℕ) → s < 8 * n → now s ≡ content ((front ++ op ∷ back) ∷ []) s (before s) (tags_on n (s / 8) 0 front))
-      → read_by op (end_on n op) (sector_read (alone n before (front ++ op ∷ back)) (orders_of n (front ++ op ∷ back)) 0 k) ≡ read_by op (end_on n op) now
-  reads_are (Write start count stuff) now holds = refl
-  reads_are (Discard start count) now holds = refl
-  reads_are (Read start count) now holds = by (is_beyond n (Read start count)) refl
-    where
-      by : (b : Bool) → is_beyond n (Read start count) ≡ b
-          → read_by (Read start count) (cond b ends.Range ends.Ok) (sector_read (alone n before (front ++ Read start count ∷ back)) (orders_of n (front ++ Read start count ∷ back)) 0 k)
-          ≡ read_by (Read start count) (cond b ends.Range ends.Ok) now
-      by true beyond = refl
-      by false lies =
-          let fits : start + count ≤ 8 * n = grind (arith, nat_tests) in
-          same_map _ now start count (λ s from to.
-          read_is (Read start count) s (omega arith) (ap (λ (b : Bool). stands_on (Read start count) (cond b ends.Range ends.Ok) (s / 8)) lies ∙ covers-stands start count s from to)
-          ∙ sym (holds s (omega arith)))
+  drop_at : (xs : List A) (i : ℕ) (x : A) → slice_get xs i ≡ Some x → drop i xs ≡ x ∷ drop (i + 1) xs
+  drop_at xs i x is = drop_more xs i x (slice_get_within xs i x is) ∙ ap (λ (y : A). y ∷ drop (i + 1) xs) (get_or_from_slice_get xs i x x is)
 
--- ---- one operation more
+-- ---- lines from a place on
 
-pub refused_op : (tag : Tag) (end end_is : OpEnd) (got : List (List ℕ)) → end ≡ end_is → is_refusal (ended tag end) ≡ any_refusal (op_lines tag end_is got)
-refused_op tag end end_is got e =
-    ap (λ (x : OpEnd). is_refusal (ended tag x)) e ∙ sym (ap (λ (b : Bool). is_refusal (ended tag end_is) || b) (any_refusal-sectors got) ∙ or_false (is_refusal (ended tag end_is)))
-  where
-    or_false : (b : Bool) → (b || false) ≡ b
-    or_false true = refl
-    or_false false = refl
+-- those of an actor's operations
+pub next_op : (actor op : ℕ) (es : List OpEnd) (gots : List (List (List ℕ))) (end : OpEnd) (got : List (List ℕ)) → slice_get es op ≡ Some end → slice_get gots op ≡ Some got
+    → actor_lines actor op (drop op es) (drop op gots) ≡ op_lines (record { actor = actor; op = op }) end got ++ actor_lines actor (op + 1) (drop (op + 1) es) (drop (op + 1) gots)
+next_op actor op es gots end got e g = λ i. actor_lines actor op (drop_at es op end e i) (drop_at gots op got g i)
 
--- where the sectors hold what the first k of all these operations leave, the k-th reads them
-abbrev ReadsAs : ℕ → (ℕ → List ℕ) → (ℕ → List ℕ) → List Op → ℕ → Op → List Op → Type 0
-ReadsAs n before now ops k op all =
-    ((s : ℕ) → s < 8 * n → now s ≡ content (all ∷ []) s (before s) (tags_on n (s / 8) 0 (take k ops)))
-    → read_by op (end_on n op) (sector_read (alone n before all) (orders_of n all) 0 k) ≡ read_by op (end_on n op) now
+-- those of the actors
+pub next_actor : (actor : ℕ) (es : List (List OpEnd)) (gots : List (List (List (List ℕ)))) → actor < length es → actor < length gots
+    → actors_lines actor (drop actor es) (drop actor gots)
+    ≡ actor_lines actor 0 (get_or es actor []) (get_or gots actor []) ++ actors_lines (actor + 1) (drop (actor + 1) es) (drop (actor + 1) gots)
+next_actor actor es gots e g = λ i. actors_lines actor (drop_more es actor [] e i) (drop_more gots actor [] g i)
 
--- the lines from an operation on are its own, and then those of the rest
-pub lines_more : (n : ℕ) (before now : ℕ → List ℕ) (ops : List Op) (k : ℕ) (op : Op) → k < length ops → op ≡ get_or ops k op
-    → ((s : ℕ) → s < 8 * n → now s ≡ content (ops ∷ []) s (before s) (tags_on n (s / 8) 0 (take k ops)))
-    → lines_from n before ops k (drop k ops)
-    ≡ op_lines (record { actor = 0; op = k }) (end_on n op) (read_by op (end_on n op) now) ++ lines_from n before ops (k + 1) (drop (k + 1) ops)
-lines_more n before now ops k op below is holds =
-    ap (lines_from n before ops k) here
-    ∙ ap (λ (got : List (List ℕ)). op_lines (record { actor = 0; op = k }) (end_on n op) got ++ lines_from n before ops (k + 1) (drop (k + 1) ops))
-    (subst (ReadsAs n before now ops k op) (sym whole) (reads_are n before (take k ops) (drop (k + 1) ops) k (length-take-le k ops (omega arith)) op now) holds)
-  where
-    here : drop k ops ≡ op ∷ drop (k + 1) ops
-    here = drop_more ops k op below ∙ ap (λ (x : Op). x ∷ drop (k + 1) ops) (sym is)
-
-    whole : ops ≡ take k ops ++ op ∷ drop (k + 1) ops
-    whole = sym (take-append-drop k ops) ∙ ap (λ (xs : List Op). take k ops ++ xs) here
-
--- ---- how far an actor has come
-
--- before its k-th operation
-pub record Progress (n : ℕ) (before : ℕ → List ℕ) (ops : List Op) (k : ℕ) (refused : Bool) (slots : List Shown) : Type 0 where
-  pub refusals : (refused || any_refusal (lines_from n before ops k (drop k ops))) ≡ any_refusal (lines_from n before ops 0 ops)
-  pub sectors : (s : ℕ) → s < 8 * n → sector_at slots s ≡ content (ops ∷ []) s (before s) (tags_on n (s / 8) 0 (take k ops))
-  pub orders : (p : ℕ) → p < n → order_at slots p ≡ tags_on n p 0 (take k ops)
-
-pub progress_start : (n : ℕ) (ops : List Op) (slots : List Shown) → ((p : ℕ) → p < n → order_at slots p ≡ []) → Progress n (sector_at slots) ops 0 false slots
-progress_start n ops slots empty = record { refusals = refl; sectors = λ s inside. refl; orders = empty }
-
--- what the k-th operation does to slots of which there are m
-pub record Does (m k : ℕ) (op : Op) (slots after : List Shown) : Type 0 where
-  pub sectors : (s : ℕ) → s < 8 * m → sector_at after s ≡ sector_ended op (end_on m op) s (sector_at slots s)
-  pub orders : (p : ℕ) → p < m → order_at after p ≡ order_at slots p ++ tag_where op (end_on m op) p (record { actor = 0; op = k })
-
-or_assoc : (a b c : Bool) → ((a || b) || c) ≡ (a || (b || c))
-or_assoc true b c = refl
-or_assoc false b c = refl
-
-module _ (n : ℕ) (before : ℕ → List ℕ) (ops : List Op) (k : ℕ) (op : Op) (below : k < length ops) (is : op ≡ get_or ops k op) (slots : List Shown) (refused : Bool) (at : Progress n before ops k refused slots) where
-  abbrev lines_here : List OutLine
-  lines_here = op_lines (record { actor = 0; op = k }) (end_on n op) (read_by op (end_on n op) (sector_at slots))
-
-  pub next_lines : lines_from n before ops k (drop k ops) ≡ lines_here ++ lines_from n before ops (k + 1) (drop (k + 1) ops)
-  next_lines = lines_more n before (sector_at slots) ops k op below is at.sectors
-
-  pub next_text : text (lines_from n before ops k (drop k ops)) ≡ text lines_here ++ text (lines_from n before ops (k + 1) (drop (k + 1) ops))
-  next_text = ap text next_lines ∙ flat_map-append line_text lines_here (lines_from n before ops (k + 1) (drop (k + 1) ops))
-
-  size : length (take k ops) ≡ k
-  size = length-take-le k ops (omega arith)
-
-  one_more : take (k + 1) ops ≡ take k ops ++ op ∷ []
-  one_more = take_more ops k op below ∙ ap (λ (x : Op). take k ops ++ x ∷ []) (sym is)
-
-  pub progress_more : (this_one : Bool) (after : List Shown) → 1 ≤ count_of op → this_one ≡ any_refusal lines_here → Does n k op slots after
-      → Progress n before ops (k + 1) (refused || this_one) after
-  progress_more this_one after some this_is does = record {
-    refusals =
-        or_assoc refused this_one (any_refusal (lines_from n before ops (k + 1) (drop (k + 1) ops)))
-        ∙ ap (λ (b : Bool). refused || (b || any_refusal (lines_from n before ops (k + 1) (drop (k + 1) ops)))) this_is
-        ∙ ap (λ (b : Bool). refused || b) (sym (ap any_refusal next_lines ∙ any_refusal-append lines_here (lines_from n before ops (k + 1) (drop (k + 1) ops))))
-        ∙ at.refusals;
-    sectors = λ s inside.
-        does.sectors s inside
-        ∙ ap (sector_ended op (end_on n op) s) (at.sectors s inside)
-        ∙ sym (ap (λ (xs : List Op). content (ops ∷ []) s (before s) (tags_on n (s / 8) 0 xs)) one_more
-        ∙ content-more n k s ops (take k ops) op (before s) some (slice_get-get_or ops k op below ∙ ap Some (sym is)) size);
-    orders = λ p inside.
-        does.orders p inside
-        ∙ ap (λ (ts : List Tag). ts ++ tag_where op (end_on n op) p (record { actor = 0; op = k })) (at.orders p inside)
-        ∙ sym (ap (tags_on n p 0) one_more
-        ∙ tags_on-append n p 0 (take k ops) (op ∷ [])
-        ∙ ap (λ (ts : List Tag). tags_on n p 0 (take k ops) ++ ts) (append-nil (tag_where op (end_on n op) p (record { actor = 0; op = 0 + length (take k ops) }))
-        ∙ ap (λ (j : ℕ). tag_where op (end_on n op) p (record { actor = 0; op = j })) (let e : 0 + length (take k ops) ≡ k = omega (arith, size) in e)));
-  }
-
--- every one of a list
-pub request_at : (ops : List Op) (k : ℕ) (op : Op) → AllByRecursion IsRequest ops → k < length ops → op ≡ get_or ops k op → IsRequest op
-request_at [] k op all below is = absurd (omega arith)
-request_at (o ∷ ops) zero op all below is = subst IsRequest (sym is) all.0
-request_at (o ∷ ops) (suc k) op all below is = request_at ops k op all.1 (omega arith) is
-
-pub some_sector : (op : Op) → IsRequest op → 1 ≤ count_of op
-some_sector (Write start count stuff) is = is.0.1
-some_sector (Read start count) is = is.1
-some_sector (Discard start count) is = is.1
+-- those of the pages
+pub next_page : (page : ℕ) (cells : List (Option DiskHeld)) (cell : Option DiskHeld) → slice_get cells page ≡ Some cell
+    → text (order_lines page (orders_of (drop page cells))) ≡ text (order_line page (order_in cell)) ++ text (order_lines (page + 1) (orders_of (drop (page + 1) cells)))
+next_page page cells cell is =
+    ap (λ (cs : List (Option DiskHeld)). text (order_lines page (orders_of cs))) (drop_at cells page cell is)
+    ∙ flat_map-append line_text (order_line page (order_in cell)) (order_lines (page + 1) (orders_of (drop (page + 1) cells)))

@@ -1,7 +1,6 @@
 pub mod Causes
 pub mod Legal
+pub mod Stepped
 pub mod Runs
-pub mod Slots
-pub mod Steps
 pub mod Told
 pub mod Texts

@@ -1,67 +1,78 @@
 -- What a run over a source and a sink has done.
-use Rattle.std.specs.Prelude.{◌≡◌, ◌≤◌, ℕ, Bool, List, [], ◌∷◌, length, Option, ⊤}
+use Rattle.std.specs.Prelude.{◌≡◌, ◌≤◌, ◌<◌, ℕ, Bool, List, [], ◌∷◌, length, Option, Some, slice_get, ⊤}
 use Rattle.std.specs.Io.KnownBytes.{Appends, Consumes, IsAtEnd}
-use Rattle.plain_disk.specs.Output.{OutLine, any_refusal}
-use Rattle.job_text.specs.declared.job.Item.{Item}
-use Rattle.job_text.specs.Jobs.{IsJob}
-use Rattle.std.specs.List.{AllByRecursion}
 use Rattle.zr_base.specs.declared.op.Op.{Op}
-use Rattle.zr_base.specs.Plain.{IsRequest}
-use Rattle.plain_disk.specs.Phases.{IsPhase}
-use Rattle.job_session.specs.Told.{Tells}
+use Rattle.zr_base.specs.declared.op.Turns.{Turns}
+use Rattle.plain_disk.specs.Output.{OutLine, any_refusal}
+use Rattle.zr_core.specs.Machines.{PhaseSteps}
+use Rattle.zr_core.specs.Places.{IsWork}
+use Rattle.zr_core.specs.States.{given_on}
 use Rattle.job_text.specs.declared.job.Attr.TheVariants.{DiskPages}
+use Rattle.job_text.specs.declared.job.Item.{Item}
 use Rattle.job_text.specs.declared.job.Item.TheVariants as items
-use Rattle.job_session.specs.Legal.{Rest, Legal, ItemIsLegal}
+use Rattle.job_text.specs.Jobs.{IsJob}
+use Rattle.job_session.specs.Legal.{Rest, Legal}
+use Rattle.job_session.specs.Stepped.{Disk, without_pages, schedule_of, Stepped, IsBySchedule, AreOwn}
 use Rattle.job_session.specs.Texts.{text}
+use Rattle.job_session.specs.Told.{Tells}
 
--- at most one actor, with requests in their bounds
-abbrev pub MayActAlone : List (List Op) → Type 0
-MayActAlone [] = ⊤
-MayActAlone (ops ∷ []) = AllByRecursion IsRequest ops × (length ops ≤ 1000000)
-MayActAlone (ops ∷ more ∷ others) = ⊥
+-- the turns of a schedule are those of actors that there are
+abbrev pub NamesActors : List (List Op) → List Turns → Type 0
+NamesActors actors schedule = (k : ℕ) (t : Turns) → slice_get schedule k ≡ Some t → t.actor < length actors
 
--- A phase of these actors was run on a disk whose sectors held these bytes before and hold those now: lines that it may
--- print were told, and whether one of them says that something was refused.
-pub record PhaseTold (size : ℕ) (actors : List (List Op)) (before after : ℕ → List ℕ) (written written_after : Option (List ℕ)) (waits waits_after : List ℕ) (refused : Bool) : Type 0 where
-  pub lines : List OutLine
-  pub phase : IsPhase (record { size = size; actors = actors; before = before }) lines after
+-- an item that may stand where the disk has so many pages: its size is given once, and a phase is within its limits
+abbrev pub MayStand : ℕ → Item → Type 0
+MayStand pages (items.Attr (DiskPages n)) = (pages ≡ 0) × (1 ≤ n) × (n ≤ 262144)
+MayStand pages (items.Phase phase) = IsWork phase.actors × NamesActors phase.actors (schedule_of phase)
+
+-- the disk's pages behind an item
+abbrev pub pages_after : ℕ → Item → ℕ
+pages_after pages (items.Attr (DiskPages n)) = n
+pages_after pages (items.Phase phase) = pages
+
+-- items that may stand one after the other
+abbrev pub MayStandAll : ℕ → List Item → Type 0
+MayStandAll pages [] = ⊤
+MayStandAll pages (item ∷ more) = MayStand pages item × MayStandAll (pages_after pages item) more
+
+-- These lines were told, and some line says that something was refused, or none does.
+pub record LinesTold (written written_after : Option (List ℕ)) (waits waits_after : List ℕ) (refused : Bool) (lines : List OutLine) : Type 0 where
   pub told : Tells written written_after waits waits_after (text lines)
   pub refused_is : refused ≡ any_refusal lines
 
--- an item that may stand in a job
-abbrev pub MayStand : Item → Type 0
-MayStand (items.Attr (DiskPages n)) = n ≤ 262144
-MayStand (items.Phase phase) = MayActAlone phase.actors
-
--- An item was run from the state r to the state m: lines that it may print were told, and whether one says that something was refused.
-pub record ItemTold (r : Rest) (item : Item) (m : Rest) (written written_after : Option (List ℕ)) (waits waits_after : List ℕ) (refused : Bool) : Type 0 where
+-- A phase of these actors was run by its schedule and then by rounds, and its lines were told.
+pub record PhaseTold (d : Disk) (actors : List (List Op)) (schedule : List Turns) (m : Disk) (written written_after : Option (List ℕ)) (waits waits_after : List ℕ) (refused : Bool) : Type 0 where
+  pub turns : List ℕ
   pub lines : List OutLine
-  pub legal : ItemIsLegal r item lines m
-  pub told : Tells written written_after waits waits_after (text lines)
-  pub refused_is : refused ≡ any_refusal lines
+  pub own : IsBySchedule actors schedule turns
+  pub steps : PhaseSteps (given_on d.size actors d.row) turns lines m.row
+  pub told : LinesTold written written_after waits waits_after refused lines
 
--- items were run one after the other, from the state r to the state m
-pub record ItemsTold (r : Rest) (job : List Item) (m : Rest) (written written_after : Option (List ℕ)) (waits waits_after : List ℕ) (refused : Bool) : Type 0 where
+-- Items were run one after the other by their own turns, from the disk d to the disk m, and their lines were told.
+pub record ItemsTold (d : Disk) (job : List Item) (m : Disk) (written written_after : Option (List ℕ)) (waits waits_after : List ℕ) (refused : Bool) : Type 0 where
+  pub turns : List (List ℕ)
   pub lines : List OutLine
-  pub legal : Legal r job lines m
-  pub told : Tells written written_after waits waits_after (text lines)
-  pub refused_is : refused ≡ any_refusal lines
+  pub stepped : Stepped d job turns lines m
+  pub own : AreOwn job turns
+  pub told : LinesTold written written_after waits waits_after refused lines
 
--- a job was run from a state without a disk
+-- a job was run from the disk without pages
 pub record JobTold (job : List Item) (written written_after : Option (List ℕ)) (waits waits_after : List ℕ) (refused : Bool) : Type 0 where
-  pub first : Rest
-  pub last : Rest
-  pub no_disk : first.size ≡ 0
-  pub told : ItemsTold first job last written written_after waits waits_after refused
+  pub last : Disk
+  pub told : ItemsTold without_pages job last written written_after waits waits_after refused
 
--- The text was written of lines that the job may print, from a state without a disk; some line says that something
--- was refused, or none does.
+-- The text was written of lines that the job may print, from a state without a disk, and that its phases print by its
+-- own turns; some line says that something was refused, or none does.
 pub record IsWritten (job : List Item) (written written_after : Option (List ℕ)) (refused : Bool) : Type 0 where
   pub lines : List OutLine
   pub first : Rest
   pub last : Rest
   pub no_disk : first.size ≡ 0
   pub legal : Legal first job lines last
+  pub turns : List (List ℕ)
+  pub disk : Disk
+  pub stepped : Stepped without_pages job turns lines disk
+  pub own : AreOwn job turns
   pub refused_is : refused ≡ any_refusal lines
   pub output : Appends written written_after (text lines)
 

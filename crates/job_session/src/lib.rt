@@ -1,15 +1,16 @@
 //! Whole jobs: their items one after the other, and the top call.
 #![tactic(auto)]
 
-mod disk;
 mod io;
+mod laws;
 mod print;
 mod run;
 mod session;
 mod sim;
-mod slot;
 mod stop;
+mod tell;
 
+pub use laws::jobs_are_legal;
 pub use sim::{Status, sim_main};
 
 #[cfg(test)]

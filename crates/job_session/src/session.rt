@@ -1,32 +1,35 @@
 //! The items of a job, one after the other.
 
-ghost use Rattle.std.specs.Prelude.{◌≡◌, ℕ, ◌≤◌, List, [], length, OnOk, IfOk, IfErr};
-ghost use Rattle.std.specs.List.{AllByRecursion};
+ghost use Rattle.std.specs.Prelude.{◌≡◌, ◌≤◌, ℕ, List, [], ◌∷◌, OnOk, IfOk, IfErr};
+ghost use Rattle.zr_core.specs.States.{IsAtRest, IsBlank};
 ghost use Rattle.job_text.specs.declared.job.Item.TheVariants as items;
 ghost use Rattle.job_session.specs.Causes.{StopCause};
-ghost use Rattle.job_session.specs.Legal.{ItemIsLegal};
-ghost use Rattle.job_session.specs.Runs.{MayStand, ItemTold, JobTold};
-ghost use Rattle.job_session.specs.Slots.{rest_of};
+ghost use Rattle.job_session.specs.Stepped.{disk_of, schedule_of, Stepped};
+ghost use Rattle.job_session.specs.Runs.{MayStand, MayStandAll, pages_after, ItemsTold, JobTold};
 
-use crate::disk::blank_disk;
 use crate::run::run_phase;
-use crate::slot::Slot;
 use crate::stop::Stop;
-use job_text::{Attr, Item};
+use job_text::{Attr, Item, PhaseText};
 use std::alloc::{AllocError, Global};
-use zr_base::Sink;
+use zr_base::{Sink, Turns};
+use zr_core::World;
+
+// The schedule of a phase.
+fn schedule_of(_phase: &PhaseText) -> &[Turns]
+    ensures { result.now ≡ schedule_of _phase.now }
+{
+    &[]
+}
 
 // Sets an attribute.
-fn set_attr(alloc: Global, slots: &mut Vec<Slot>, attr: Attr) -> Result<(), AllocError>
-    requires { MayStand (items.Attr attr) }
-    ensures legal { OnOk result (ItemIsLegal (rest_of slots.old.items) (items.Attr attr) [] (rest_of slots.new.items)) }
-    ensures size { length slots.old.items ≤ 262144 → length slots.new.items ≤ 262144 }
+fn set_attr(world: &mut World, attr: Attr) -> Result<(), AllocError>
+    requires { MayStand world.old.pages (items.Attr attr) }
+    ensures stepped { OnOk result (Stepped (disk_of world.old) (items.Attr attr ∷ []) [] [] (disk_of world.new)) }
+    ensures pages { OnOk result (world.new.pages ≡ pages_after world.old.pages (items.Attr attr)) }
+    ensures rest { OnOk result (IsAtRest world.new.pages world.new.row.cells) }
 {
     match attr {
-        Attr::DiskPages(pages) => {
-            *slots = blank_disk(alloc, pages)?;
-            Ok(())
-        }
+        Attr::DiskPages(pages) => world.set_disk(pages),
     }
 }
 
@@ -35,22 +38,30 @@ fn run_item<K: Sink>(
     out: &mut K,
     buffer: &mut Vec<u8>,
     alloc: Global,
-    slots: &mut Vec<Slot>,
+    world: &mut World,
     item: &Item,
 ) -> Result<bool, Stop>
-    requires item { MayStand item.now }
-    requires size { length slots.old.items ≤ 262144 }
-    ensures item { IfOk result (λ refused. ItemTold (rest_of slots.old.items) item.now (rest_of slots.new.items) (K.written out.old) (K.written out.new) buffer.old.items buffer.new.items refused) }
-    ensures size { length slots.new.items ≤ 262144 }
+    requires item { MayStand world.old.pages item.now }
+    requires rest { IsAtRest world.old.pages world.old.row.cells }
+    ensures item { IfOk result (λ refused. ItemsTold (disk_of world.old) (item.now ∷ []) (disk_of world.new) (K.written out.old) (K.written out.new) buffer.old.items buffer.new.items refused) }
+    ensures pages { OnOk result (world.new.pages ≡ pages_after world.old.pages item.now) }
+    ensures rest { OnOk result (IsAtRest world.new.pages world.new.row.cells) }
     ensures later { K.fault_count out.old ≤ K.fault_count out.new }
     ensures cause { IfErr result (StopCause (K.fault_count out.old) (K.fault_count out.new) (K.has_stopped out.new)) }
 {
     match item {
         Item::Attr(attr) => {
-            set_attr(alloc, slots, *attr)?;
+            set_attr(world, *attr)?;
             Ok(false)
         }
-        Item::Phase(phase) => run_phase(out, buffer, alloc, slots, phase.actors.as_slice()),
+        Item::Phase(phase) => run_phase(
+            out,
+            buffer,
+            alloc,
+            world,
+            phase.actors.as_slice(),
+            schedule_of(phase),
+        ),
     }
 }
 
@@ -61,15 +72,15 @@ pub(crate) fn run_items<K: Sink>(
     alloc: Global,
     job: &[Item],
 ) -> Result<bool, Stop>
-    requires { AllByRecursion MayStand job.now }
+    requires { MayStandAll 0 job.now }
     ensures job { IfOk result (λ refused. JobTold job.now (K.written out.old) (K.written out.new) buffer.old.items buffer.new.items refused) }
     ensures later { K.fault_count out.old ≤ K.fault_count out.new }
     ensures cause { IfErr result (StopCause (K.fault_count out.old) (K.fault_count out.new) (K.has_stopped out.new)) }
 {
-    let mut slots = Vec::new(alloc);
+    let mut world = World::new(alloc);
     let mut refused = false;
     for item in job {
-        let this_one = run_item(out, buffer, alloc, &mut slots, item)?;
+        let this_one = run_item(out, buffer, alloc, &mut world, item)?;
         refused = refused | this_one;
     }
     Ok(refused)

@@ -9,6 +9,7 @@ ghost use Rattle.job_session.specs.Runs.{IsRun, IsWritten, IsTextRun};
 ghost use Rattle.job_session.specs.Texts.{usage_text, refusal_text};
 
 use crate::io::{read_all, send};
+use crate::laws::jobs_are_legal;
 use crate::session::run_items;
 use crate::stop::{NoText, Stop};
 use job_text::{Item, ReadFault, read_job};
@@ -54,6 +55,7 @@ fn run_all<K: Sink>(alloc: Global, out: &mut K, job: &[Item]) -> Result<bool, St
     ensures written { IfOk result (λ refused. IsWritten job.now (K.written out.old) (K.written out.new) refused) }
     ensures cause { IfErr result (StopCause (K.fault_count out.old) (K.fault_count out.new) (K.has_stopped out.new)) }
 {
+    jobs_are_legal();
     let mut buffer = Vec::new(alloc);
     let refused = run_items(out, &mut buffer, alloc, job)?;
     send(out, &buffer)?;
