@@ -1,52 +1,89 @@
 -- The number that digits stand for, digit by digit.
-use Rattle.std.proofs.Common.{◌≡◌, ℕ, ◌+◌, ◌*◌, ◌<◌, ◌≤◌, ◌^◌, List, [], ◌∷◌, length, drop, get_or, Option, Some, None, option_and_then, refl, ap, ◌∙◌, arith, mul-le-mul_left}
-use Rattle.std.proofs.lemmas.List.{drop_more, drop_all}
-use Rattle.std.proofs.lemmas.Bool.Decides.{nat_tests}
-use Rattle.job_text.specs.Numbers.{digit_of, digits_from, word_sized, number_in}
+use Rattle.std.proofs.Common.{◌≡◌, ℕ, suc, ◌+◌, ◌-◌, ◌*◌, ◌<◌, ◌≤◌, ◌^◌, ◌⊎◌, inl, inr, Bool, true, false, not, ◌&&◌, ◌==◌, cond, List, [], ◌∷◌, length, drop, get_or, nat_lt, nat_le, Result, Ok, Err, refl, ap, sym, ◌∙◌, arith, mul-le-mul_left}
+use Rattle.std.proofs.Math.Nat.{mul-one, mul-le-mul_right, mul_assoc, pow-zero, pow-succ', pow-le-pow_right}
+use Rattle.std.proofs.lemmas.Bool.{cases_lt, lt-ltb, le-ltb, le-leb, ne_eqb, ltb-true, and_parts, and_right}
+use Rattle.std.proofs.lemmas.List.{drop_more}
+use Rattle.job_text.specs.declared.fault.Cause.{Cause}
+use Rattle.job_text.specs.declared.fault.Cause.TheVariants as causes
+use Rattle.job_text.specs.Numbers.{digit_value, are_digits, value_from, is_word, word_of}
+use Rattle.job_text.specs.Answers.{saturated}
+
+-- a number that is too great stays so
+grown : (base value : ℕ) (cs : List ℕ) → 1 ≤ base → 2 ^ 64 - 1 ≤ value → 2 ^ 64 - 1 ≤ value_from base value cs
+grown base value [] some large = large
+grown base value (c ∷ cs) some large = grown base (value * base + digit_value c) cs some more
+  where
+    more : 2 ^ 64 - 1 ≤ value * base + digit_value c
+    more = let n : value * 1 ≤ value * base = mul-le-mul_left value some in omega arith
+
+pub saturated_first : (base value : ℕ) (cs : List ℕ) → 1 ≤ base → saturated (value_from base (saturated value) cs) ≡ saturated (value_from base value cs)
+saturated_first base value cs some = by (cases_lt value (2 ^ 64 - 1))
+  where
+    by : (value < 2 ^ 64 - 1) ⊎ (2 ^ 64 - 1 ≤ value) → saturated (value_from base (saturated value) cs) ≡ saturated (value_from base value cs)
+    by (inl small) = let same : saturated value ≡ value = omega arith in ap (λ v. saturated (value_from base v cs)) same
+    by (inr large) =
+        let a : 2 ^ 64 - 1 ≤ value_from base value cs = grown base value cs some large in
+        let b : 2 ^ 64 - 1 ≤ value_from base (saturated value) cs = grown base (saturated value) cs some (omega arith) in
+        omega arith
 
 module _ (base value i : ℕ) (word : List ℕ) (below : i < length word) where
-  pub digits-more : (d : ℕ) → digit_of base (get_or word i 0) ≡ Some d
-      → digits_from base value (drop i word) ≡ digits_from base (value * base + d) (drop (i + 1) word)
-  digits-more d is =
-      ap (digits_from base value) (drop_more word i 0 below)
-      ∙ ap (option_and_then (λ x. digits_from base (value * base + x) (drop (i + 1) word))) is
+  pub digits_more : value_from base value (drop i word) ≡ value_from base (value * base + digit_value (get_or word i 0)) (drop (i + 1) word)
+  digits_more = ap (value_from base value) (drop_more word i 0 below)
 
-  pub digits-stop : digit_of base (get_or word i 0) ≡ None → digits_from base value (drop i word) ≡ None
-  digits-stop is =
-      ap (digits_from base value) (drop_more word i 0 below)
-      ∙ ap (option_and_then (λ x. digits_from base (value * base + x) (drop (i + 1) word))) is
+  pub saturated_more : (next : ℕ) → 1 ≤ base → next ≡ saturated (value * base + digit_value (get_or word i 0))
+      → saturated (value_from base value (drop i word)) ≡ saturated (value_from base next (drop (i + 1) word))
+  saturated_more next some is =
+      ap saturated digits_more
+      ∙ sym (saturated_first base (value * base + digit_value (get_or word i 0)) (drop (i + 1) word) some)
+      ∙ ap (λ v. saturated (value_from base v (drop (i + 1) word))) (sym is)
 
--- a number that is too large stays so
-pub too_large : (base value : ℕ) (cs : List ℕ) → 1 ≤ base → 2 ^ 64 ≤ value → option_and_then word_sized (digits_from base value cs) ≡ None
-too_large base value [] some large = grind (arith, nat_tests)
-too_large base value (c ∷ cs) some large = behind (λ d. too_large base (value * base + d) cs some (grown d)) (digit_of base c)
+  pub are_more : digit_value (get_or word i 0) < base → are_digits base (drop i word) ≡ are_digits base (drop (i + 1) word)
+  are_more small =
+      ap (are_digits base) (drop_more word i 0 below)
+      ∙ ap (λ b. b && are_digits base (drop (i + 1) word)) (lt-ltb _ _ small)
+
+  pub none_more : base ≤ digit_value (get_or word i 0) → are_digits base (drop i word) ≡ false
+  none_more large =
+      ap (are_digits base) (drop_more word i 0 below)
+      ∙ ap (λ b. b && are_digits base (drop (i + 1) word)) (le-ltb _ _ large)
+
+-- ---- words of 8 bytes
+
+-- so many digits of a base stand for less than its power
+bounded : (base value : ℕ) (cs : List ℕ) → are_digits base cs ≡ true → value_from base value cs + 1 ≤ (value + 1) * base ^ length cs
+bounded base value [] are =
+    let one : (value + 1) * base ^ 0 ≡ value + 1 = ap (λ p. (value + 1) * p) (pow-zero base) ∙ mul-one (value + 1) in
+    omega arith
+bounded base value (c ∷ cs) are =
+    let parts = and_parts (nat_lt (digit_value c) base) (are_digits base cs) are in
+    let small : digit_value c < base = ltb-true _ _ parts.0 in
+    let rest : value_from base (value * base + digit_value c) cs + 1 ≤ (value * base + digit_value c + 1) * base ^ length cs =
+    bounded base (value * base + digit_value c) cs parts.1 in
+    let first : value * base + digit_value c + 1 ≤ (value + 1) * base = omega arith in
+    let grown : (value * base + digit_value c + 1) * base ^ length cs ≤ (value + 1) * base * base ^ length cs = mul-le-mul_right (base ^ length cs) first in
+    let joined : (value + 1) * base * base ^ length cs ≡ (value + 1) * base ^ suc (length cs) =
+    mul_assoc (value + 1) base (base ^ length cs) ∙ ap (λ p. (value + 1) * p) (sym (pow-succ' base (length cs))) in
+    let last : value_from base (value * base + digit_value c) cs + 1 ≤ (value + 1) * base ^ suc (length cs) = omega arith in
+    last
+
+pub word_fits : (word : List ℕ) → length word ≤ 16 → are_digits 16 word ≡ true → value_from 16 0 word < 2 ^ 64
+word_fits word short are =
+    let one : value_from 16 0 word + 1 ≤ 1 * 16 ^ length word = bounded 16 0 word are in
+    let some : 0 < 16 = omega arith in
+    let all : 16 ^ length word ≤ 16 ^ 16 = pow-le-pow_right some short in
+    omega arith
+
+pub word_is : (word : List ℕ) (read : Result ℕ Cause) → (length word ≡ 0 → ⊥) → length word ≤ 16
+    → read ≡ cond (are_digits 16 word) (Ok (saturated (value_from 16 0 word))) (Err causes.Number)
+    → read ≡ cond (is_word word) (Ok (word_of word)) (Err causes.Number)
+word_is word read some short is = is ∙ by (are_digits 16 word) refl
   where
-    grown : (d : ℕ) → 2 ^ 64 ≤ value * base + d
-    grown d = let more : value * 1 ≤ value * base = mul-le-mul_left value some in omega arith
-
-    behind : ((d : ℕ) → option_and_then word_sized (digits_from base (value * base + d) cs) ≡ None) → (digit : Option ℕ)
-        → option_and_then word_sized (option_and_then (λ d. digits_from base (value * base + d) cs) digit) ≡ None
-    behind large None = refl
-    behind large (Some d) = large d
-
--- ---- the word's number, where so much of it was read
-
-module _ (base value i : ℕ) (word : List ℕ) (so_far : digits_from base 0 word ≡ digits_from base value (drop i word)) where
-  pub number-stop : i < length word → digit_of base (get_or word i 0) ≡ None → number_in base word ≡ None
-  unfolding number_in
-  number-stop below is = ap (option_and_then word_sized) (so_far ∙ digits-stop base value i word below is)
-
-  pub number-large : (d : ℕ) → i < length word → digit_of base (get_or word i 0) ≡ Some d → 1 ≤ base → 2 ^ 64 ≤ value * base + d
-      → number_in base word ≡ None
-  unfolding number_in
-  number-large d below is some large =
-      ap (option_and_then word_sized) (so_far ∙ digits-more base value i word below d is)
-      ∙ too_large base (value * base + d) (drop (i + 1) word) some large
-
-  pub number-all : length word ≤ i → value < 2 ^ 64 → number_in base word ≡ Some value
-  unfolding number_in
-  number-all all fits =
-      ap (option_and_then word_sized) (so_far ∙ ap (digits_from base value) (drop_all i word all)) ∙ in_word fits
-    where
-      in_word : value < 2 ^ 64 → word_sized value ≡ Some value
-      in_word fits = grind (arith, nat_tests)
+    by : (b : Bool) → are_digits 16 word ≡ b
+        → cond b (Ok (saturated (value_from 16 0 word))) (Err causes.Number) ≡ cond (not (length word == 0) && nat_le (length word) 16 && b) (Ok (word_of word)) (Err causes.Number)
+    by true are =
+        let fits : value_from 16 0 word < 2 ^ 64 = word_fits word short are in
+        let same : saturated (value_from 16 0 word) ≡ value_from 16 0 word = omega arith in
+        let a : (length word == 0) ≡ false = ne_eqb _ _ some in
+        let b : nat_le (length word) 16 ≡ true = le-leb _ _ short in
+        rw (a, b, same) refl
+    by false are = sym (ap (λ b. cond b (Ok (word_of word)) (Err causes.Number)) (and_right (not (length word == 0) && nat_le (length word) 16) false refl))

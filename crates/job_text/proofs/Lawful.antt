@@ -1,90 +1,169 @@
 -- What a line says is in its range.
-use Rattle.std.proofs.Common.{◌≡◌, ℕ, ◌^◌, Bool, true, false, ◌&&◌, nat_lt, nat_le, cond, List, [], ◌∷◌, Option, Some, None, option_and_then, refl, arith, codes}
+use Rattle.std.proofs.Common.{◌≡◌, ℕ, suc, ◌+◌, ◌*◌, ◌/◌, ◌≤◌, Bool, true, false, not, ◌&&◌, ◌||◌, ◌==◌, nat_le, cond, List, [], ◌∷◌, length, map, get_or, IfOk, Option, Some, None, Result, Ok, Err, refl, sym, ap, ◌∙◌, subst, arith, codes}
+use Rattle.std.specs.List.{list_all, concat}
 use Rattle.std.specs.Str.{bytes_eq}
+use Rattle.std.proofs.lemmas.Bool.{and_parts, not-false, eqb-true, le-leb}
 use Rattle.std.proofs.lemmas.Bool.Decides.{nat_tests}
+use Rattle.std.proofs.lemmas.List.{length-map}
+use Rattle.std.proofs.lemmas.List.FromFn.{length-map-range_with_len}
 use Rattle.zr_base.specs.Plain.{InBounds}
+use Rattle.zr_base.specs.declared.op.Turns.{Turns}
+use Rattle.job_text.specs.declared.fault.Cause.{Cause}
+use Rattle.job_text.specs.declared.fault.Cause.TheVariants as causes
+use Rattle.job_text.specs.declared.fault.Stop.{Stop}
 use Rattle.job_text.specs.declared.line.Line.{Line}
-use Rattle.job_text.specs.declared.line.Line.TheVariants.{Disk, Actor, Operation, Run}
-use Rattle.zr_base.specs.declared.op.Op.TheVariants.{Read, Write}
-use Rattle.zr_base.specs.declared.op.Stuff.TheVariants.{Fill}
-use Rattle.job_text.specs.Numbers.{number_of, word_of, pages_of}
-use Rattle.job_text.specs.Jobs.{IsLine}
-use Rattle.job_text.specs.Lines.{request_of, disk_line, read_line, write_line, bare_line, line_of}
+use Rattle.job_text.specs.Numbers.{digit_value, is_number, pages_of, number_of, are_digits, bytes_by, turn_of}
+use Rattle.job_text.specs.Lines.{Form, blank_form, size_form, actor_form, fill_form, seq_form, hex_form, read_form, discard_form, schedule_form, run_form, alone, size_in, read_in, discard_in, fill_in, seq_in, hex_in, stuff_in, write_in, schedule_in, named_in, form_of, fill_sectors, is_malformed, meaning, are_bounds, may_give, has_bad_value, line_with, line_of}
+use Rattle.job_text.specs.Jobs.{MayTurn}
+use Rattle.job_text.specs.Answers.{Answers, IsLine}
 
 -- a fact of what there is, if anything
-abbrev pub Holds : {A : Type 0} → (A → Type 0) → Option A → Type 0
-Holds P None = Unit {0}
-Holds P (Some x) = P x
+abbrev pub IfRead : {A : Type 0} → (A → Type 0) → Result A Cause → Type 0
+IfRead P (Err cause) = Unit {0}
+IfRead P (Ok x) = P x
 
-abbrev IsPair : ℕ × ℕ → Type 0
-IsPair r = InBounds r.0 r.1
+-- a `schedule` has some words behind it
+abbrev HasWords : Form → Type 0
+HasWords blank_form = Unit {0}
+HasWords (size_form size) = Unit {0}
+HasWords actor_form = Unit {0}
+HasWords (fill_form start count word) = Unit {0}
+HasWords (seq_form start count base step) = Unit {0}
+HasWords (hex_form start count digits) = Unit {0}
+HasWords (read_form start count) = Unit {0}
+HasWords (discard_form start count) = Unit {0}
+HasWords (schedule_form turns) = 1 ≤ length turns
+HasWords run_form = Unit {0}
 
-request-lawful : (start count : List ℕ) → Holds IsPair (request_of start count)
-unfolding request_of
-request-lawful start count = by (number_of start) (number_of count)
+bounds : (start count : ℕ) → not (are_bounds start count) ≡ false → InBounds start count
+bounds start count good = grind (arith, nat_tests, not-false (are_bounds start count) good)
+
+may_turn : (turns : List Turns) → list_all may_give turns ≡ true → MayTurn 64 turns
+may_turn [] all = tt
+may_turn (t ∷ ts) all =
+    let parts = and_parts (may_give t) (list_all may_give ts) all in
+    (grind (arith, nat_tests, parts.0), grind (arith, nat_tests, parts.0), grind (arith, nat_tests, parts.0), may_turn ts parts.1)
+
+-- the bytes of a request, where its digits are as many as they must be
+filled : (digits : List ℕ) (count : ℕ) → fill_sectors (length digits) count ≡ true → 1 ≤ count → count ≤ 2048 → 512 * count ≤ length (bytes_by digits)
+filled digits count fill some most =
+    let n : length digits ≡ 1024 * count = exact (length digits) count fill some most in
+    let l : length (bytes_by digits) ≡ length digits / 2 = length-map-range_with_len (λ k. 16 * digit_value (get_or digits (2 * k) 0) + digit_value (get_or digits (2 * k + 1) 0)) 0 (length digits / 2) in
+    omega arith
   where
-    by : (s n : Option ℕ) → Holds IsPair (option_and_then (λ s. option_and_then (λ n. cond (nat_lt s (2 ^ 32) && nat_le 1 n && nat_le n 2048) (Some (s, n)) None) n) s)
-    by None n = tt
-    by (Some s) None = tt
-    by (Some s) (Some n) = test (nat_lt s (2 ^ 32) && nat_le 1 n && nat_le n 2048) refl
-      where
-        test : (b : Bool) → (nat_lt s (2 ^ 32) && nat_le 1 n && nat_le n 2048) ≡ b → Holds IsPair (cond b (Some (s, n)) None)
-        test true e = (grind (arith, nat_tests), grind (arith, nat_tests), grind (arith, nat_tests))
-        test false e = tt
+    exact : (digits count : ℕ) → fill_sectors digits count ≡ true → 1 ≤ count → count ≤ 2048 → digits ≡ 1024 * count
+    exact digits count fill some most =
+        let a : nat_le 1 count ≡ true = le-leb 1 count some in
+        let b : nat_le count 2048 ≡ true = le-leb count 2048 most in
+        let c : not (nat_le 1 count && nat_le count 2048) ≡ false = rw (a, b) refl in
+        eqb-true digits (1024 * count) (let d = ap (λ x. x || digits == 1024 * count) c in sym d ∙ fill)
 
-disk-lawful : (size : List ℕ) → Holds IsLine (disk_line size)
-unfolding disk_line
-disk-lawful size = by (pages_of size)
+form-lawful : (form : Form) → HasWords form → is_malformed form ≡ false → has_bad_value (meaning form) ≡ false → IsLine (meaning form)
+unfolding is_malformed meaning
+form-lawful blank_form has well good = tt
+form-lawful (size_form size) has well good = sized (pages_of size) good
   where
-    by : (n : Option ℕ) → Holds IsLine (option_and_then (λ pages. cond (nat_le 1 pages && nat_le pages 262144) (Some (Disk pages)) None) n)
-    by None = tt
-    by (Some n) = test (nat_le 1 n && nat_le n 262144) refl
-      where
-        test : (b : Bool) → (nat_le 1 n && nat_le n 262144) ≡ b → Holds IsLine (cond b (Some (Disk n)) None)
-        test true e = (grind (arith, nat_tests), grind (arith, nat_tests))
-        test false e = tt
+    sized : (pages : ℕ) → not (nat_le 1 pages && nat_le pages 262144) ≡ false → (1 ≤ pages) × (pages ≤ 262144)
+    sized pages good = grind (arith, nat_tests, not-false (nat_le 1 pages && nat_le pages 262144) good)
+form-lawful actor_form has well good = tt
+form-lawful (fill_form start count word) has well good = (bounds (number_of start) (number_of count) good, tt)
+form-lawful (seq_form start count base step) has well good = (bounds (number_of start) (number_of count) good, tt)
+form-lawful (hex_form start count digits) has well good =
+    let in_bounds = bounds (number_of start) (number_of count) good in
+    let fill = and_parts (is_number start && is_number count && are_digits 16 (concat digits)) (fill_sectors (length (concat digits)) (number_of count)) (not-false _ well) in
+    (in_bounds, filled (concat digits) (number_of count) fill.1 in_bounds.1 in_bounds.2)
+form-lawful (read_form start count) has well good = bounds (number_of start) (number_of count) good
+form-lawful (discard_form start count) has well good = bounds (number_of start) (number_of count) good
+form-lawful (schedule_form turns) has well good =
+    (omega (arith, length-map turns turn_of), may_turn (map turn_of turns) (not-false (list_all may_give (map turn_of turns)) good))
+form-lawful run_form has well good = tt
 
-read-lawful : (start count : List ℕ) → Holds IsLine (read_line start count)
-unfolding read_line
-read-lawful start count = by (request_of start count) (request-lawful start count)
+-- ---- the words of a `schedule`
+
+abbrev IfForm : Option Form → Type 0
+IfForm None = Unit {0}
+IfForm (Some form) = HasWords form
+
+when : (b : Bool) (x y : Option Form) → IfForm x → IfForm y → IfForm (cond b x y)
+when true x y p q = p
+when false x y p q = q
+
+size-words : (words : List (List ℕ)) → IfForm (size_in words)
+size-words [] = tt
+size-words (a ∷ []) = tt
+size-words (a ∷ b ∷ more) = tt
+
+alone-words : (form : Form) (words : List (List ℕ)) → HasWords form → IfForm (alone form words)
+alone-words form [] has = has
+alone-words form (a ∷ more) has = tt
+
+read-words : (words : List (List ℕ)) → IfForm (read_in words)
+read-words [] = tt
+read-words (a ∷ []) = tt
+read-words (a ∷ b ∷ []) = tt
+read-words (a ∷ b ∷ c ∷ more) = tt
+
+discard-words : (words : List (List ℕ)) → IfForm (discard_in words)
+discard-words [] = tt
+discard-words (a ∷ []) = tt
+discard-words (a ∷ b ∷ []) = tt
+discard-words (a ∷ b ∷ c ∷ more) = tt
+
+fill-words : (start count : List ℕ) (words : List (List ℕ)) → IfForm (fill_in start count words)
+fill-words start count [] = tt
+fill-words start count (a ∷ []) = tt
+fill-words start count (a ∷ b ∷ more) = tt
+
+seq-words : (start count : List ℕ) (words : List (List ℕ)) → IfForm (seq_in start count words)
+seq-words start count [] = tt
+seq-words start count (a ∷ []) = tt
+seq-words start count (a ∷ b ∷ []) = tt
+seq-words start count (a ∷ b ∷ c ∷ more) = tt
+
+hex-words : (start count : List ℕ) (words : List (List ℕ)) → IfForm (hex_in start count words)
+hex-words start count [] = tt
+hex-words start count (a ∷ more) = tt
+
+schedule-words : (words : List (List ℕ)) → IfForm (schedule_in words)
+schedule-words [] = tt
+schedule-words (a ∷ more) = let some : 1 ≤ suc (length more) = omega arith in some
+
+write-words : (words : List (List ℕ)) → IfForm (write_in words)
+unfolding stuff_in
+write-words [] = tt
+write-words (a ∷ []) = tt
+write-words (a ∷ b ∷ []) = tt
+write-words (a ∷ b ∷ kind ∷ words) =
+    when (bytes_eq kind (codes "fill")) _ _ (fill-words a b words)
+    (when (bytes_eq kind (codes "seq")) _ _ (seq-words a b words)
+    (when (bytes_eq kind (codes "hex")) _ _ (hex-words a b words) tt))
+
+form-words : (words : List (List ℕ)) → IfForm (form_of words)
+unfolding named_in
+form-words [] = tt
+form-words (name ∷ words) =
+    when (bytes_eq name (codes "disksize")) _ _ (size-words words)
+    (when (bytes_eq name (codes "actor")) _ _ (alone-words actor_form words tt)
+    (when (bytes_eq name (codes "write")) _ _ (write-words words)
+    (when (bytes_eq name (codes "read")) _ _ (read-words words)
+    (when (bytes_eq name (codes "discard")) _ _ (discard-words words)
+    (when (bytes_eq name (codes "schedule")) _ _ (schedule-words words)
+    (when (bytes_eq name (codes "run")) _ _ (alone-words run_form words tt) tt))))))
+
+line-lawful-by : (form : Form) → HasWords form → (m b : Bool) → is_malformed form ≡ m → has_bad_value (meaning form) ≡ b
+    → IfRead IsLine (cond m (Err causes.Number) (cond b (Err causes.Range) (Ok (meaning form))))
+line-lawful-by form has true b well good = tt
+line-lawful-by form has false true well good = tt
+line-lawful-by form has false false well good = form-lawful form has well good
+
+pub line-lawful : (words : List (List ℕ)) → IfRead IsLine (line_of words)
+line-lawful words = by (form_of words) (form-words words)
   where
-    by : (r : Option (ℕ × ℕ)) → Holds IsPair r → Holds IsLine (option_and_then (λ request. Some (Operation (Read request.0 request.1))) r)
-    by None h = tt
-    by (Some r) h = h
+    by : (form : Option Form) → IfForm form → IfRead IsLine (line_with form)
+    by None has = tt
+    by (Some form) has = line-lawful-by form has (is_malformed form) (has_bad_value (meaning form)) refl refl
 
-write-lawful : (start count kind word : List ℕ) → Holds IsLine (write_line start count kind word)
-unfolding write_line
-write-lawful start count kind word = by (bytes_eq kind (codes "fill"))
-  where
-    filled : (r : Option (ℕ × ℕ)) → Holds IsPair r → (w : Option ℕ)
-        → Holds IsLine (option_and_then (λ request. option_and_then (λ w. Some (Operation (Write request.0 request.1 (Fill w)))) w) r)
-    filled None h w = tt
-    filled (Some r) h None = tt
-    filled (Some r) h (Some w) = (h, tt)
-
-    by : (b : Bool) → Holds IsLine (cond b (option_and_then (λ request. option_and_then (λ w. Some (Operation (Write request.0 request.1 (Fill w)))) (word_of word)) (request_of start count)) None)
-    by true = filled (request_of start count) (request-lawful start count) (word_of word)
-    by false = tt
-
-bare-lawful : (name : List ℕ) → Holds IsLine (bare_line name)
-unfolding bare_line
-bare-lawful name = by (bytes_eq name (codes "actor")) (bytes_eq name (codes "run"))
-  where
-    by : (a r : Bool) → Holds IsLine (cond a (Some Actor) (cond r (Some Run) None))
-    by true r = tt
-    by false true = tt
-    by false false = tt
-
-when : (b : Bool) (line : Option Line) → Holds IsLine line → Holds IsLine (cond b line None)
-when true line h = h
-when false line h = tt
-
-pub line-lawful : (words : List (List ℕ)) → Holds IsLine (line_of words)
-unfolding line_of
-line-lawful [] = tt
-line-lawful (name ∷ []) = bare-lawful name
-line-lawful (name ∷ a ∷ []) = when (bytes_eq name (codes "disksize")) _ (disk-lawful a)
-line-lawful (name ∷ a ∷ b ∷ []) = when (bytes_eq name (codes "read")) _ (read-lawful a b)
-line-lawful (name ∷ a ∷ b ∷ kind ∷ []) = tt
-line-lawful (name ∷ a ∷ b ∷ kind ∷ c ∷ []) = when (bytes_eq name (codes "write")) _ (write-lawful a b kind c)
-line-lawful (name ∷ a ∷ b ∷ kind ∷ c ∷ d ∷ more) = tt
+-- what a call that answers for words gives
+pub answered-lawful : (words : List (List ℕ)) (result : Result Line Stop) → Answers (line_of words) result → IfOk result IsLine
+answered-lawful words (Ok line) is = let P : Result Line Cause → Type 0 = IfRead IsLine in subst P is (line-lawful words)
+answered-lawful words (Err stop) is = tt

@@ -1,198 +1,125 @@
 -- The spelling of a job is read as that job, and what is read as a job is its spelling.
-use Rattle.std.proofs.Common.{◌≡◌, ℕ, ◌≤◌, Bool, true, false, not, ◌||◌, nat_lt, cond, List, [], ◌∷◌, ◌++◌, length, map, Option, Some, None, option_and_then, option_map, refl, sym, ap, ◌∙◌, subst, append_assoc, arith}
-use Rattle.std.specs.List.{flat_map, AllByRecursion}
-use Rattle.std.proofs.lemmas.List.{append-nil}
-use Rattle.std.proofs.lemmas.Bool.Decides.{nat_tests}
-use Rattle.zr_base.specs.Plain.{IsRequest}
+use Rattle.std.proofs.Common.{◌≡◌, ℕ, suc, ◌+◌, ◌<◌, ◌≤◌, true, false, not, ◌&&◌, nat_lt, nat_le, cond, List, [], ◌∷◌, ◌++◌, length, map, Some, None, option_map, refl, sym, ap, ◌∙◌, subst, append_assoc, arith}
+use Rattle.std.specs.List.{flat_map, list_all}
+use Rattle.std.proofs.lemmas.List.{append-nil, length_push}
+use Rattle.std.proofs.lemmas.Bool.{leb-true, le-leb, lt-ltb}
 use Rattle.zr_base.specs.declared.op.Op.{Op}
+use Rattle.zr_base.specs.declared.op.Turns.{Turns}
 use Rattle.job_text.specs.declared.job.Attr.TheVariants.{DiskPages}
 use Rattle.job_text.specs.declared.job.Item.{Item}
 use Rattle.job_text.specs.declared.job.Item.TheVariants as items
-use Rattle.job_text.specs.declared.job.PhaseText.{PhaseText}
-use Rattle.job_text.specs.declared.line.Line.{Line}
-use Rattle.job_text.specs.declared.line.Line.TheVariants.{Blank, Disk, Actor, Operation, Run}
-use Rattle.job_text.specs.Jobs.{Used, nothing_used, with_disk, with_phase, with_op, with_ops, with_actors, is_within, item_lines, actor_lines, MayOperate, MayAct, MayFollow, IsJob, IsLine, said_by, sayings, text_lines}
-use Rattle.job_text.specs.Lines.{line_of, words_of}
-use Rattle.job_text.specs.Reading.{items_from, job_of}
-use Rattle.job_text.proofs.Lawful.{Holds, line-lawful}
+use Rattle.job_text.specs.declared.begun.Begun.{Begun}
+use Rattle.job_text.specs.Jobs.{Saying, says_actor, says_operation, says_turns, says_run, actor_sayings, item_sayings, Used, with_disk, with_phase, with_op, with_ops, with_actors, with_turns, with_text, has_phase_left, has_left_for, has_turns_left, MayOperate, MayAct, MayTurn, MayRun, MayFollow}
+use Rattle.job_text.specs.Reading.{is_scheduled, all_actors, items_from}
+use Rattle.job_text.proofs.Steps.{with_schedule, turns_step}
+
+-- ---- what operations leave as it was
+
+ops_keep : (u : Used) (ops : List Op) → ((with_ops u ops).disk ≡ u.disk) × ((with_ops u ops).turns ≡ u.turns)
+ops_keep u [] = (refl, refl)
+ops_keep u (op ∷ ops) = ops_keep (with_op u op) ops
+
+actors_keep : (u : Used) (actors : List (List Op)) → (with_actors u actors).turns ≡ u.turns
+actors_keep u [] = refl
+actors_keep u (ops ∷ more) = actors_keep (with_ops u ops) more ∙ (ops_keep u ops).1
 
 -- ---- from a job to its spelling
 
-spelled_ops : (u : Used) (before ops : List Op) (lines : List Line) → MayOperate u ops
-    → items_from u (Some before) (map Operation ops ++ lines) ≡ items_from (with_ops u ops) (Some (before ++ ops)) lines
-spelled_ops u before [] lines may = ap (λ ops. items_from u (Some ops) lines) (sym (append-nil before))
-spelled_ops u before (op ∷ ops) lines may =
-    ap (λ b. cond b (items_from (with_op u op) (Some (before ++ op ∷ [])) (map Operation ops ++ lines)) None) may.1
-    ∙ spelled_ops (with_op u op) (before ++ op ∷ []) ops lines may.2
-    ∙ ap (λ all. items_from (with_ops (with_op u op) ops) (Some all) lines) (append_assoc before (op ∷ []) ops)
+spelled_ops : (u : Used) (begun : Begun) (ops : List Op) (rest : List Saying) → is_scheduled begun ≡ false → MayOperate u ops
+    → items_from u (Some begun) (map says_operation ops ++ rest) ≡ items_from (with_ops u ops) (Some (record begun { last = begun.last ++ ops })) rest
+spelled_ops u begun [] rest none may = ap (λ ops. items_from u (Some (record begun { last = ops })) rest) (sym (append-nil begun.last))
+spelled_ops u begun (op ∷ ops) rest none may =
+    ap (λ b. cond (not b && has_left_for u op) (items_from (with_op u op) (Some (record begun { last = begun.last ++ op ∷ [] })) (map says_operation ops ++ rest)) None) none
+    ∙ ap (λ b. cond b (items_from (with_op u op) (Some (record begun { last = begun.last ++ op ∷ [] })) (map says_operation ops ++ rest)) None) may.1
+    ∙ spelled_ops (with_op u op) (record begun { last = begun.last ++ op ∷ [] }) ops rest none may.2
+    ∙ ap (λ all. items_from (with_ops (with_op u op) ops) (Some (record begun { last = all })) rest) (append_assoc begun.last (op ∷ []) ops)
 
-phase_stays : (u : Used) (ops : List Op) → (with_ops u ops).phase ≡ u.phase
-phase_stays u [] = refl
-phase_stays u (op ∷ ops) = phase_stays (with_op u op) ops
+-- a phase with more actors
+abbrev with_more : Begun → List (List Op) → Begun
+with_more begun [] = begun
+with_more begun (ops ∷ more) = with_more (record begun { actors = begun.actors ++ begun.last ∷ []; last = ops }) more
 
--- a phase's actors and its `run`, and the items behind
-spelled_phase : (u : Used) (text : PhaseText) (lines : List Line) → MayAct u text.actors → u.phase ≡ false
-    → items_from u None (item_lines (items.Phase text) ++ lines)
-    ≡ option_map (λ more. items.Phase text ∷ more) (items_from (with_phase (with_actors u text.actors)) None lines)
-spelled_phase u text lines may free = by text.actors may
-  where
-    by : (actors : List (List Op)) → MayAct u actors
-        → items_from u None (item_lines (items.Phase (record { actors = actors })) ++ lines)
-        ≡ option_map (λ more. items.Phase (record { actors = actors }) ∷ more) (items_from (with_phase (with_actors u actors)) None lines)
-    by [] may = ap (λ b. cond b None (option_map (λ more. items.Phase (record { actors = [] }) ∷ more) (items_from (with_phase u) None lines))) free
-    by (ops ∷ []) may =
-        ap (λ b. cond b None (items_from u (Some []) (((map Operation ops ++ []) ++ Run ∷ []) ++ lines)))
-        (let begins : (not u.disk || u.phase) ≡ false = rw (may.0, free) refl in begins)
-        ∙ ap (items_from u (Some [])) (ap (λ (xs : List Line). (xs ++ Run ∷ []) ++ lines) (append-nil (map Operation ops)) ∙ append_assoc (map Operation ops) (Run ∷ []) lines)
-        ∙ spelled_ops u [] ops (Run ∷ lines) may.1
-        ∙ ap (λ b. cond b None (option_map (λ more. items.Phase (record { actors = ops ∷ [] }) ∷ more) (items_from (with_phase (with_ops u ops)) None lines)))
-        (phase_stays u ops ∙ free)
-    by (ops ∷ more ∷ others) may = absurd may
+more_actors : (begun : Begun) (more : List (List Op)) → all_actors (with_more begun more) ≡ all_actors begun ++ more
+more_actors begun [] = sym (append-nil (all_actors begun))
+more_actors begun (ops ∷ more) =
+    more_actors (record begun { actors = begun.actors ++ begun.last ∷ []; last = ops }) more
+    ∙ append_assoc (begun.actors ++ begun.last ∷ []) (ops ∷ []) more
 
-pub spelled_read : (u : Used) (job : List Item) → MayFollow u job → items_from u None (flat_map item_lines job) ≡ Some job
-spelled_read u [] may = refl
-spelled_read u (items.Attr (DiskPages n) ∷ more) may =
-    ap (λ b. cond b None (option_map (λ xs. items.Attr (DiskPages n) ∷ xs) (items_from (with_disk u) None (flat_map item_lines more)))) may.0
-    ∙ ap (option_map (λ xs. items.Attr (DiskPages n) ∷ xs)) (spelled_read (with_disk u) more may.3)
-spelled_read u (items.Phase text ∷ more) may =
-    spelled_phase u text (flat_map item_lines more) may.1 may.0
-    ∙ ap (option_map (λ xs. items.Phase text ∷ xs)) (spelled_read (with_phase (with_actors u text.actors)) more may.2)
+more_schedule : (begun : Begun) (more : List (List Op)) → (with_more begun more).schedule ≡ begun.schedule
+more_schedule begun [] = refl
+more_schedule begun (ops ∷ more) = more_schedule (record begun { actors = begun.actors ++ begun.last ∷ []; last = ops }) more
 
--- ---- from lines to the job that they spell
+spelled_actors : (u : Used) (begun : Begun) (actors : List (List Op)) (rest : List Saying) → is_scheduled begun ≡ false → u.disk ≡ true
+    → length begun.actors + 1 + length actors ≤ 64 → MayAct u actors
+    → items_from u (Some begun) (flat_map actor_sayings actors ++ rest) ≡ items_from (with_actors u actors) (Some (with_more begun actors)) rest
+spelled_actors u begun [] rest none disk few may = refl
+spelled_actors u begun (ops ∷ more) rest none disk few may =
+    let next = record begun { actors = begun.actors ++ begun.last ∷ []; last = [] } in
+    let left : nat_le (length begun.actors + 1 + 1) 64 ≡ true = le-leb (length begun.actors + 1 + 1) 64 (omega arith) in
+    let fewer : length (begun.actors ++ begun.last ∷ []) + 1 + length more ≤ 64 = omega (arith, length_push begun.actors begun.last) in
+    ap (λ (xs : List Saying). items_from u (Some begun) (says_actor ∷ xs)) (append_assoc (map says_operation ops) (flat_map actor_sayings more) rest)
+    ∙ ap (λ b. cond (not b && u.disk && nat_le (length begun.actors + 1 + 1) 64) (items_from u (Some next) (map says_operation ops ++ (flat_map actor_sayings more ++ rest))) None) none
+    ∙ ap (λ b. cond (b && nat_le (length begun.actors + 1 + 1) 64) (items_from u (Some next) (map says_operation ops ++ (flat_map actor_sayings more ++ rest))) None) disk
+    ∙ ap (λ b. cond b (items_from u (Some next) (map says_operation ops ++ (flat_map actor_sayings more ++ rest))) None) left
+    ∙ spelled_ops u next ops (flat_map actor_sayings more ++ rest) none may.0
+    ∙ spelled_actors (with_ops u ops) (record next { last = ops }) more rest none ((ops_keep u ops).0 ∙ disk) fewer may.1
 
-abbrev pub IsSpoken : Line → Type 0
-IsSpoken Blank = ⊥
-IsSpoken (Disk n) = (1 ≤ n) × (n ≤ 262144)
-IsSpoken Actor = Unit {0}
-IsSpoken (Operation op) = IsRequest op
-IsSpoken Run = Unit {0}
+named_all : (actors : ℕ) (turns : List Turns) → MayTurn actors turns → list_all (λ t. nat_lt t.actor actors) turns ≡ true
+named_all actors [] may = refl
+named_all actors (t ∷ ts) may =
+    ap (λ b. b && list_all (λ t. nat_lt t.actor actors) ts) (lt-ltb _ _ may.0) ∙ named_all actors ts may.3
 
-abbrev begun_lines : Option (List Op) → List Line
-begun_lines None = []
-begun_lines (Some ops) = actor_lines ops
+-- a schedule and its `run`, behind a phase's actors
+spelled_end : (u : Used) (begun : Begun) (schedule : List Turns) (rest : List Saying) → MayTurn (length begun.actors + 1) schedule → u.turns ≤ 16777216
+    → has_turns_left u schedule ≡ true
+    → items_from u (Some begun) (map says_turns schedule ++ says_run ∷ rest)
+    ≡ option_map (λ later. items.Phase (record { actors = all_actors begun; schedule = begun.schedule ++ schedule }) ∷ later) (items_from (with_turns u schedule) None rest)
+spelled_end u begun schedule rest may fits left =
+    turns_step u begun schedule (says_run ∷ rest) fits
+    ∙ ap (λ b. cond (b && has_turns_left u schedule) (items_from (with_turns u schedule) (Some (with_schedule begun schedule)) (says_run ∷ rest)) None)
+    (named_all (length begun.actors + 1) schedule may)
+    ∙ ap (λ b. cond b (items_from (with_turns u schedule) (Some (with_schedule begun schedule)) (says_run ∷ rest)) None) left
 
--- so much was used before the actor that has begun, and so much with its operations
-abbrev IsBegun : Used → Used → Option (List Op) → Type 0
-IsBegun before u None = u ≡ before
-IsBegun before u (Some ops) = (u ≡ with_ops before ops) × (before.disk ≡ true) × MayOperate before ops
+regroup : (a b rest : List Saying) → ((a ++ b) ++ says_run ∷ []) ++ rest ≡ a ++ (b ++ says_run ∷ rest)
+regroup a b rest = append_assoc (a ++ b) (says_run ∷ []) rest ∙ append_assoc a b (says_run ∷ rest)
 
-module _ {A : Type 0} where
-  free_of : (b : Bool) (x : Option A) (y : A) → cond b None x ≡ Some y → (b ≡ false) × (x ≡ Some y)
-  free_of true x y e = cc
-  free_of false x y e = (refl, e)
+spelled_phase : (u : Used) (actors : List (List Op)) (schedule : List Turns) (rest : List Saying) → u.turns ≤ 16777216 → MayRun u actors schedule
+    → items_from u None (flat_map actor_sayings actors ++ (map says_turns schedule ++ says_run ∷ rest))
+    ≡ option_map (λ later. items.Phase (record { actors = actors; schedule = schedule }) ∷ later) (items_from (with_text u actors schedule) None rest)
+spelled_phase u [] [] rest fits may =
+    let none : u.turns ≡ u.turns + 0 = omega arith in
+    ap (λ b. cond b (option_map (λ later. items.Phase (record { actors = []; schedule = [] }) ∷ later) (items_from (with_phase u) None rest)) None) may.phase_left
+    ∙ ap (λ n. option_map (λ later. items.Phase (record { actors = []; schedule = [] }) ∷ later) (items_from (record (with_phase u) { turns = n }) None rest)) none
+spelled_phase u [] (t ∷ ts) rest fits may = let n : t.actor < 0 = may.may_turn.0 in absurd (omega arith)
+spelled_phase u (ops ∷ more) schedule rest fits may =
+    let fresh : Begun = record { actors = []; last = []; schedule = [] } in
+    let first : Begun = record { actors = []; last = ops; schedule = [] } in
+    let last = map says_turns schedule ++ says_run ∷ rest in
+    let v = with_actors (with_phase u) (ops ∷ more) in
+    let few : 0 + 1 + length more ≤ 64 = let n : suc (length more) ≤ 64 = may.few_actors in omega arith in
+    let disk : (with_ops (with_phase u) ops).disk ≡ true = (ops_keep (with_phase u) ops).0 ∙ may.has_disk in
+    let end = with_more first more in
+    let all : all_actors end ≡ ops ∷ more = more_actors first more in
+    let number : length end.actors + 1 ≡ length (ops ∷ more) = sym (length_push end.actors end.last) ∙ ap length all in
+    let P : ℕ → Type 0 = λ n. MayTurn n schedule in
+    let keep : v.turns ≡ u.turns = actors_keep (with_phase u) (ops ∷ more) in
+    let vfits : v.turns ≤ 16777216 = omega arith in
+    ap (λ (xs : List Saying). items_from u None (says_actor ∷ xs)) (append_assoc (map says_operation ops) (flat_map actor_sayings more) last)
+    ∙ ap (λ b. cond (b && has_phase_left u) (items_from (with_phase u) (Some fresh) (map says_operation ops ++ (flat_map actor_sayings more ++ last))) None) may.has_disk
+    ∙ ap (λ b. cond b (items_from (with_phase u) (Some fresh) (map says_operation ops ++ (flat_map actor_sayings more ++ last))) None) may.phase_left
+    ∙ spelled_ops (with_phase u) fresh ops (flat_map actor_sayings more ++ last) refl may.may_act.0
+    ∙ spelled_actors (with_ops (with_phase u) ops) first more last refl disk few may.may_act.1
+    ∙ spelled_end v end schedule rest (subst P (sym number) may.may_turn) vfits may.turns_left
+    ∙ ap (λ actors. option_map (λ later. items.Phase (record { actors = actors; schedule = end.schedule ++ schedule }) ∷ later) (items_from (with_turns v schedule) None rest)) all
+    ∙ ap (λ turns. option_map (λ later. items.Phase (record { actors = ops ∷ more; schedule = turns ++ schedule }) ∷ later) (items_from (with_turns v schedule) None rest)) (more_schedule first more)
 
-  kept_by : (b : Bool) (x : Option A) (y : A) → cond b x None ≡ Some y → (b ≡ true) × (x ≡ Some y)
-  kept_by true x y e = (refl, e)
-  kept_by false x y e = cc
-
-  mapped : (f : A → A) (x : Option A) (y : A) → option_map f x ≡ Some y → (z : A) × (x ≡ Some z) × (f z ≡ y)
-  mapped f None y e = cc
-  mapped f (Some z) y e = (z, refl, cc)
-
-with_ops-push : (u : Used) (ops : List Op) (op : Op) → with_ops u (ops ++ op ∷ []) ≡ with_op (with_ops u ops) op
-with_ops-push u [] op = refl
-with_ops-push u (o ∷ ops) op = with_ops-push (with_op u o) ops op
-
-may_push : (u : Used) (ops : List Op) (op : Op) → MayOperate u ops → IsRequest op → is_within (with_op (with_ops u ops) op) ≡ true → MayOperate u (ops ++ op ∷ [])
-may_push u [] op may request within = (request, within, tt)
-may_push u (o ∷ ops) op may request within = (may.0, may.1, may_push (with_op u o) ops op may.2 request within)
-
-lines_push : (ops : List Op) (op : Op) (lines : List Line) → map Operation (ops ++ op ∷ []) ++ lines ≡ map Operation ops ++ Operation op ∷ lines
-lines_push [] op lines = refl
-lines_push (o ∷ ops) op lines = ap (λ (xs : List Line). Operation o ∷ xs) (lines_push ops op lines)
-
-abbrev Spelled : Used → Option (List Op) → List Line → List Item → Type 0
-Spelled before begun lines job = (flat_map item_lines job ≡ begun_lines begun ++ lines) × MayFollow before job
-
-pub read_spelled : (before u : Used) (begun : Option (List Op)) (lines : List Line) (job : List Item) → IsBegun before u begun
-    → AllByRecursion IsSpoken lines → items_from u begun lines ≡ Some job → Spelled before begun lines job
-read_spelled before u None [] job at spoken e =
-    let P : List Item → Type 0 = λ j. Spelled before None [] j in
-    let none : [] ≡ job = cc in subst P none (refl, tt)
-read_spelled before u (Some ops) [] job at spoken e = cc
-read_spelled before u begun (Blank ∷ lines) job at spoken e = absurd spoken.0
-read_spelled before u None (Disk n ∷ lines) job at spoken e =
-    let free = free_of u.disk _ job e in
-    let more = mapped (λ xs. items.Attr (DiskPages n) ∷ xs) (items_from (with_disk u) None lines) job free.1 in
-    let rest = read_spelled (with_disk u) (with_disk u) None lines more.0 refl spoken.1 more.1 in
-    let P : List Item → Type 0 = λ j. Spelled u None (Disk n ∷ lines) j in
-    let Q : Used → Type 0 = λ b. Spelled b None (Disk n ∷ lines) job in
-    subst Q at (subst P more.2 (ap (λ (xs : List Line). Disk n ∷ xs) rest.0, (free.0, spoken.0.0, spoken.0.1, rest.1)))
-read_spelled before u (Some ops) (Disk n ∷ lines) job at spoken e = cc
-read_spelled before u None (Actor ∷ lines) job at spoken e =
-    let free = free_of (not u.disk || u.phase) _ job e in
-    let has : u.disk ≡ true = begins u.disk u.phase free.0 in
-    let rest = read_spelled u u (Some []) lines job (refl, has, tt) spoken.1 free.1 in
-    let Q : Used → Type 0 = λ b. Spelled b None (Actor ∷ lines) job in
-    subst Q at rest
-  where
-    begins : (d p : Bool) → (not d || p) ≡ false → d ≡ true
-    begins true p e = refl
-    begins false p e = cc
-read_spelled before u (Some ops) (Actor ∷ lines) job at spoken e = cc
-read_spelled before u None (Operation op ∷ lines) job at spoken e = cc
-read_spelled before u (Some ops) (Operation op ∷ lines) job at spoken e =
-    let kept = kept_by (is_within (with_op u op)) _ job e in
-    let within : is_within (with_op (with_ops before ops) op) ≡ true = ap (λ x. is_within (with_op x op)) (sym at.0) ∙ kept.0 in
-    let next : with_op u op ≡ with_ops before (ops ++ op ∷ []) = ap (λ x. with_op x op) at.0 ∙ sym (with_ops-push before ops op) in
-    let rest = read_spelled before (with_op u op) (Some (ops ++ op ∷ [])) lines job
-    (next, at.1, may_push before ops op at.2 spoken.0 within) spoken.1 kept.1 in
-    (rest.0 ∙ ap (λ (xs : List Line). Actor ∷ xs) (lines_push ops op lines), rest.1)
-read_spelled before u None (Run ∷ lines) job at spoken e =
-    let free = free_of u.phase _ job e in
-    let more = mapped (λ xs. items.Phase (record { actors = [] }) ∷ xs) (items_from (with_phase u) None lines) job free.1 in
-    let rest = read_spelled (with_phase u) (with_phase u) None lines more.0 refl spoken.1 more.1 in
-    let P : List Item → Type 0 = λ j. Spelled u None (Run ∷ lines) j in
-    let Q : Used → Type 0 = λ b. Spelled b None (Run ∷ lines) job in
-    subst Q at (subst P more.2 (ap (λ (xs : List Line). Run ∷ xs) rest.0, (free.0, tt, rest.1)))
-read_spelled before u (Some ops) (Run ∷ lines) job at spoken e =
-    let free = free_of u.phase _ job e in
-    let more = mapped (λ xs. items.Phase (record { actors = ops ∷ [] }) ∷ xs) (items_from (with_phase u) None lines) job free.1 in
-    let rest = read_spelled (with_phase u) (with_phase u) None lines more.0 refl spoken.1 more.1 in
-    let P : List Item → Type 0 = λ j. Spelled before (Some ops) (Run ∷ lines) j in
-    let F : Used → Type 0 = λ b. MayFollow (with_phase b) more.0 in
-    let regroup : ((actor_lines ops ++ []) ++ Run ∷ []) ++ flat_map item_lines more.0 ≡ actor_lines ops ++ Run ∷ lines =
-    ap (λ (xs : List Line). (xs ++ Run ∷ []) ++ flat_map item_lines more.0) (append-nil (actor_lines ops))
-    ∙ append_assoc (actor_lines ops) (Run ∷ []) (flat_map item_lines more.0)
-    ∙ ap (λ (xs : List Line). actor_lines ops ++ Run ∷ xs) rest.0 in
-    let first : before.phase ≡ false = sym (phase_stays before ops) ∙ ap (λ (x : Used). x.phase) (sym at.0) ∙ free.0 in
-    subst P more.2 (regroup, (first, (at.1, at.2), subst F at.0 rest.1))
-
--- ---- the texts
-
--- what lines say is in its range, and something
-said_spoken : (said : Line) (more : List Line) → IsLine said → AllByRecursion IsSpoken more → AllByRecursion IsSpoken (said_by said ++ more)
-said_spoken Blank more is rest = rest
-said_spoken (Disk n) more is rest = (is, rest)
-said_spoken Actor more is rest = (tt, rest)
-said_spoken (Operation op) more is rest = (is, rest)
-said_spoken Run more is rest = (tt, rest)
-
-pub sayings-spoken : (texts : List (List ℕ)) → Holds (AllByRecursion IsSpoken) (sayings texts)
-sayings-spoken [] = tt
-sayings-spoken (text ∷ texts) = by (line_of (words_of text)) (line-lawful (words_of text)) (sayings texts) (sayings-spoken texts)
-  where
-    by : (said : Option Line) → Holds IsLine said → (more : Option (List Line)) → Holds (AllByRecursion IsSpoken) more
-        → Holds (AllByRecursion IsSpoken) (option_and_then (λ s. option_and_then (λ ls. Some (said_by s ++ ls)) more) said)
-    by None is more rest = tt
-    by (Some s) is None rest = tt
-    by (Some s) is (Some ls) rest = said_spoken s ls is rest
-
-pub is_job : (bytes : List ℕ) (job : List Item) → job_of bytes ≡ Some job → IsJob bytes job
-is_job bytes job e =
-    let small = free_of (nat_lt 16777216 (length bytes)) _ job e in
-    by (sayings (text_lines bytes)) refl (sayings-spoken (text_lines bytes)) small.1 (grind (arith, nat_tests, small.0))
-  where
-    by : (lines : Option (List Line)) → sayings (text_lines bytes) ≡ lines → Holds (AllByRecursion IsSpoken) lines
-        → option_and_then (items_from nothing_used None) lines ≡ Some job → length bytes ≤ 16777216 → IsJob bytes job
-    by None is spoken read small = cc
-    by (Some lines) is spoken read small =
-        let spelled = read_spelled nothing_used nothing_used None lines job refl spoken read in
-        record { size = small; lines = is ∙ ap Some (sym spelled.0); lawful = spelled.1 }
-
-pub job_is : (bytes : List ℕ) (job : List Item) → IsJob bytes job → job_of bytes ≡ Some job
-job_is bytes job is =
-    let small : nat_lt 16777216 (length bytes) ≡ false = grind (arith, nat_tests, is.size) in
-    ap (λ b. cond b None (option_and_then (items_from nothing_used None) (sayings (text_lines bytes)))) small
-    ∙ ap (option_and_then (items_from nothing_used None)) is.lines
-    ∙ spelled_read nothing_used job is.lawful
+pub spelled_read : (u : Used) (job : List Item) → u.turns ≤ 16777216 → MayFollow u job → items_from u None (flat_map item_sayings job) ≡ Some job
+spelled_read u [] fits may = refl
+spelled_read u (items.Attr (DiskPages pages) ∷ more) fits may =
+    ap (λ b. cond b None (option_map (λ later. items.Attr (DiskPages pages) ∷ later) (items_from (with_disk u) None (flat_map item_sayings more)))) may.0
+    ∙ ap (option_map (λ later. items.Attr (DiskPages pages) ∷ later)) (spelled_read (with_disk u) more fits may.3)
+spelled_read u (items.Phase text ∷ more) fits may =
+    let left : (with_text u text.actors text.schedule).turns ≤ 16777216 = leb-true _ _ may.0.turns_left in
+    ap (items_from u None) (regroup (flat_map actor_sayings text.actors) (map says_turns text.schedule) (flat_map item_sayings more))
+    ∙ spelled_phase u text.actors text.schedule (flat_map item_sayings more) fits may.0
+    ∙ ap (option_map (λ later. items.Phase text ∷ later)) (spelled_read (with_text u text.actors text.schedule) more left may.1)

@@ -1,66 +1,81 @@
 -- The job that a text is.
-use Rattle.std.specs.Prelude.{◌≡◌, ℕ, ◌+◌, ◌≤◌, Bool, true, false, ◌==◌, ◌&&◌, nat_le, List, [], ◌∷◌, ◌++◌, length, map, Option, Some, option_and_then, ⊤}
+use Rattle.std.specs.Prelude.{◌≡◌, ℕ, ◌+◌, ◌<◌, ◌≤◌, Bool, true, false, ◌==◌, ◌&&◌, nat_le, List, [], ◌∷◌, ◌++◌, length, map, Option, Some, None, Result, Ok, Err, ⊤}
 use Rattle.std.specs.List.{slice_split, flat_map}
 use Rattle.zr_base.specs.Plain.{IsRequest, start_of, count_of}
 use Rattle.zr_base.specs.Pieces.{pages_touched}
 use Rattle.zr_base.specs.declared.op.Op.{Op}
 use Rattle.zr_base.specs.declared.op.Op.TheVariants.{Write, Read, Discard}
+use Rattle.zr_base.specs.declared.op.Turns.{Turns}
+use Rattle.job_text.specs.declared.fault.Cause.{Cause}
 use Rattle.job_text.specs.declared.job.Attr.TheVariants.{DiskPages}
 use Rattle.job_text.specs.declared.job.Item.{Item}
 use Rattle.job_text.specs.declared.job.Item.TheVariants as items
 use Rattle.job_text.specs.declared.line.Line.{Line}
-use Rattle.job_text.specs.declared.line.Line.TheVariants.{Blank, Disk, Actor, Operation, Run}
+use Rattle.job_text.specs.declared.line.Line.TheVariants.{Blank, Disk, Actor, Operation, Schedule, Run}
 use Rattle.job_text.specs.Lines.{words_of, line_of}
 
--- ---- the text
+-- ---- what a text says
 
 -- the lines of a text
 abbrev pub text_lines : List ℕ → List (List ℕ)
 text_lines bytes = slice_split (λ b. b == 10) bytes
 
--- a line's size is one of a disk, and its operation a request
-abbrev pub IsLine : Line → Type 0
-IsLine Blank = ⊤
-IsLine (Disk n) = (1 ≤ n) × (n ≤ 262144)
-IsLine Actor = ⊤
-IsLine (Operation op) = IsRequest op
-IsLine Run = ⊤
+-- What lines say, piece by piece: the turns of several `schedule` lines are one row.
+pub data Saying : Type 0 where
+  says_disk : (pages : ℕ) → Saying
+  says_actor : Saying
+  says_operation : Op → Saying
+  says_turns : Turns → Saying
+  says_run : Saying
 
--- a line that says something
-abbrev pub said_by : Line → List Line
+-- what a line says
+abbrev pub said_by : Line → List Saying
 said_by Blank = []
-said_by (Disk n) = Disk n ∷ []
-said_by Actor = Actor ∷ []
-said_by (Operation op) = Operation op ∷ []
-said_by Run = Run ∷ []
+said_by (Disk pages) = says_disk pages ∷ []
+said_by Actor = says_actor ∷ []
+said_by (Operation op) = says_operation op ∷ []
+said_by (Schedule turns) = map says_turns turns
+said_by Run = says_run ∷ []
 
--- what lines say one after the other, where none is faulty
-abbrev pub sayings : List (List ℕ) → Option (List Line)
+-- what a line says, and then others; nothing where one of them is faulty by its words
+abbrev pub said_before : Result Line Cause → Option (List Saying) → Option (List Saying)
+said_before (Ok line) (Some more) = Some (said_by line ++ more)
+said_before (Ok line) None = None
+said_before (Err cause) more = None
+
+-- what lines say one after the other, where none is faulty by its words
+abbrev pub sayings : List (List ℕ) → Option (List Saying)
 sayings [] = Some []
-sayings (line ∷ lines) = option_and_then (λ said. option_and_then (λ more. Some (said_by said ++ more)) (sayings lines)) (line_of (words_of line))
+sayings (line ∷ lines) = said_before (line_of (words_of line)) (sayings lines)
 
--- the lines of an actor
-abbrev pub actor_lines : List Op → List Line
-actor_lines ops = Actor ∷ map Operation ops
+-- what the lines of an actor say
+abbrev pub actor_sayings : List Op → List Saying
+actor_sayings ops = says_actor ∷ map says_operation ops
 
--- the lines that stand for an item
-abbrev pub item_lines : Item → List Line
-item_lines (items.Attr (DiskPages n)) = Disk n ∷ []
-item_lines (items.Phase text) = flat_map actor_lines text.actors ++ Run ∷ []
+-- what the lines say that stand for an item
+abbrev pub item_sayings : Item → List Saying
+item_sayings (items.Attr (DiskPages pages)) = says_disk pages ∷ []
+item_sayings (items.Phase text) = flat_map actor_sayings text.actors ++ map says_turns text.schedule ++ says_run ∷ []
 
 -- ---- the limits
 
--- What of a job's limits is used: whether the disk's size was given and a phase was ended, and how many operations,
--- pieces of requests and sectors to read there were.
+-- What of a job's limits is used: whether the disk's size was given, how many phases have begun, and how many operations,
+-- pieces of requests, sectors to read and turns there were.
 pub record Used : Type 0 where
   pub disk : Bool
-  pub phase : Bool
+  pub phases : ℕ
   pub operations : ℕ
   pub pieces : ℕ
   pub sectors : ℕ
+  pub turns : ℕ
 
+-- the start of a job
 abbrev pub nothing_used : Used
-nothing_used = record { disk = false; phase = false; operations = 0; pieces = 0; sectors = 0 }
+nothing_used = record { disk = false; phases = 0; operations = 0; pieces = 0; sectors = 0; turns = 0 }
+
+-- the pieces of an operation
+abbrev pub pieces_in : Op → ℕ
+pieces_in op = pages_touched (start_of op) (count_of op)
 
 -- the sectors that an operation reads
 abbrev pub sectors_to_read : Op → ℕ
@@ -68,50 +83,96 @@ sectors_to_read (Write start count stuff) = 0
 sectors_to_read (Read start count) = count
 sectors_to_read (Discard start count) = 0
 
+-- the sum of the turns that a schedule gives
+abbrev pub turns_in : List Turns → ℕ
+turns_in [] = 0
+turns_in (turns ∷ more) = turns.times + turns_in more
+
+-- behind the disk's size
 abbrev pub with_disk : Used → Used
 with_disk u = record u { disk = true }
 
+-- with one phase more
 abbrev pub with_phase : Used → Used
-with_phase u = record u { phase = true }
+with_phase u = record u { phases = u.phases + 1 }
 
+-- with an operation more
 abbrev pub with_op : Used → Op → Used
 with_op u op = record u {
   operations = u.operations + 1;
-  pieces = u.pieces + pages_touched (start_of op) (count_of op);
+  pieces = u.pieces + pieces_in op;
   sectors = u.sectors + sectors_to_read op;
 }
 
+-- with the operations of an actor
 abbrev pub with_ops : Used → List Op → Used
 with_ops u [] = u
 with_ops u (op ∷ ops) = with_ops (with_op u op) ops
 
--- at most 1,000,000 operations, 1,048,576 pieces of requests and 262,144 sectors to read
-abbrev pub is_within : Used → Bool
-is_within u = nat_le u.operations 1000000 && nat_le u.pieces 1048576 && nat_le u.sectors 262144
-
--- operations behind those that were counted
-abbrev pub MayOperate : Used → List Op → Type 0
-MayOperate u [] = ⊤
-MayOperate u (op ∷ ops) = IsRequest op × (is_within (with_op u op) ≡ true) × MayOperate (with_op u op) ops
-
--- the actors of a phase: at most one, behind a disk's size
-abbrev pub MayAct : Used → List (List Op) → Type 0
-MayAct u [] = ⊤
-MayAct u (ops ∷ []) = (u.disk ≡ true) × MayOperate u ops
-MayAct u (ops ∷ more ∷ others) = ⊥
-
+-- with the operations of all actors
 abbrev pub with_actors : Used → List (List Op) → Used
 with_actors u [] = u
 with_actors u (ops ∷ more) = with_actors (with_ops u ops) more
 
--- the items of a job behind others: at most one disk's size, and one phase
+-- with the turns of a schedule
+abbrev pub with_turns : Used → List Turns → Used
+with_turns u turns = record u { turns = u.turns + turns_in turns }
+
+-- a job has at most 1,000 phases
+abbrev pub has_phase_left : Used → Bool
+has_phase_left u = nat_le (u.phases + 1) 1000
+
+-- at most 1,000,000 operations, 1,048,576 pieces of requests and 262,144 sectors to read
+abbrev pub has_left_for : Used → Op → Bool
+has_left_for u op = nat_le (u.operations + 1) 1000000 && nat_le (u.pieces + pieces_in op) 1048576 && nat_le (u.sectors + sectors_to_read op) 262144
+
+-- at most 16,777,216 turns in all schedules
+abbrev pub has_turns_left : Used → List Turns → Bool
+has_turns_left u turns = nat_le (u.turns + turns_in turns) 16777216
+
+-- ---- the order of items
+
+-- operations behind those that were counted
+abbrev pub MayOperate : Used → List Op → Type 0
+MayOperate u [] = ⊤
+MayOperate u (op ∷ ops) = IsRequest op × (has_left_for u op ≡ true) × MayOperate (with_op u op) ops
+
+-- the operations of all actors of a phase
+abbrev pub MayAct : Used → List (List Op) → Type 0
+MayAct u [] = ⊤
+MayAct u (ops ∷ more) = MayOperate u ops × MayAct (with_ops u ops) more
+
+-- each turn of a schedule is one of so many actors, and is given 1 to 16,777,216 times
+abbrev pub MayTurn : ℕ → List Turns → Type 0
+MayTurn actors [] = ⊤
+MayTurn actors (turns ∷ more) = (turns.actor < actors) × (1 ≤ turns.times) × (turns.times ≤ 16777216) × MayTurn actors more
+
+-- a phase's actors stand behind a disk's size
+abbrev pub HasDisk : Used → List (List Op) → Type 0
+HasDisk u [] = ⊤
+HasDisk u (ops ∷ more) = u.disk ≡ true
+
+-- with a whole phase
+abbrev pub with_text : Used → List (List Op) → List Turns → Used
+with_text u actors schedule = with_turns (with_actors (with_phase u) actors) schedule
+
+-- A phase that may stand behind what was counted, with at most 64 actors.
+pub record MayRun (u : Used) (actors : List (List Op)) (schedule : List Turns) : Type 0 where
+  pub phase_left : has_phase_left u ≡ true
+  pub few_actors : length actors ≤ 64
+  pub has_disk : HasDisk u actors
+  pub may_act : MayAct (with_phase u) actors
+  pub may_turn : MayTurn (length actors) schedule
+  pub turns_left : has_turns_left (with_actors (with_phase u) actors) schedule ≡ true
+
+-- the items of a job behind others: at most one disk's size, of 1 to 262,144 pages, and phases within the limits
 abbrev pub MayFollow : Used → List Item → Type 0
 MayFollow u [] = ⊤
-MayFollow u (items.Attr (DiskPages n) ∷ more) = (u.disk ≡ false) × (1 ≤ n) × (n ≤ 262144) × MayFollow (with_disk u) more
-MayFollow u (items.Phase text ∷ more) = (u.phase ≡ false) × MayAct u text.actors × MayFollow (with_phase (with_actors u text.actors)) more
+MayFollow u (items.Attr (DiskPages pages) ∷ more) = (u.disk ≡ false) × (1 ≤ pages) × (pages ≤ 262144) × MayFollow (with_disk u) more
+MayFollow u (items.Phase text ∷ more) = MayRun u text.actors text.schedule × MayFollow (with_text u text.actors text.schedule) more
 
 -- the bytes are the text of the job
 pub record IsJob (bytes : List ℕ) (job : List Item) : Type 0 where
   pub size : length bytes ≤ 16777216
-  pub lines : sayings (text_lines bytes) ≡ Some (flat_map item_lines job)
+  pub lines : sayings (text_lines bytes) ≡ Some (flat_map item_sayings job)
   pub lawful : MayFollow nothing_used job

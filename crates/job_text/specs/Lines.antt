@@ -1,45 +1,184 @@
 -- What one line of a job says.
-use Rattle.std.specs.Prelude.{ℕ, ◌^◌, Bool, not, ◌&&◌, ◌||◌, ◌==◌, nat_lt, nat_le, List, [], ◌∷◌, length, filter, Option, Some, None, option_and_then, if◌then◌else◌, codes}
-use Rattle.std.specs.List.{slice_split}
+use Rattle.std.specs.Prelude.{ℕ, ◌-◌, ◌*◌, ◌^◌, Bool, false, not, ◌&&◌, ◌||◌, ◌==◌, nat_lt, nat_le, List, [], ◌∷◌, length, filter, map, take, get_or, Option, Some, None, Result, Ok, Err, if◌then◌else◌, codes}
+use Rattle.std.specs.List.{slice_split, position_or_len, list_all, concat}
 use Rattle.std.specs.Str.{bytes_eq}
-use Rattle.zr_base.specs.declared.op.Op.TheVariants.{Write, Read}
-use Rattle.zr_base.specs.declared.op.Stuff.TheVariants.{Fill}
+use Rattle.zr_base.specs.declared.op.Op.TheVariants.{Write, Read, Discard}
+use Rattle.zr_base.specs.declared.op.Stuff.TheVariants.{Fill, Seq, Hex}
+use Rattle.zr_base.specs.declared.op.Turns.{Turns}
+use Rattle.zr_base.specs.Plain.{start_of, count_of}
 use Rattle.job_text.specs.declared.line.Line.{Line}
-use Rattle.job_text.specs.declared.line.Line.TheVariants.{Blank, Disk, Actor, Operation, Run}
-use Rattle.job_text.specs.Numbers.{number_of, word_of, pages_of}
+use Rattle.job_text.specs.declared.line.Line.TheVariants.{Blank, Disk, Actor, Operation, Schedule, Run}
+use Rattle.job_text.specs.declared.fault.Cause.{Cause}
+use Rattle.job_text.specs.declared.fault.Cause.TheVariants as causes
+use Rattle.job_text.specs.Numbers.{are_digits, is_number, number_of, is_word, word_of, bytes_by, is_size, pages_of, is_turn, turn_of}
 
+-- ---- the words
+
+-- a line without the byte 0d at its end, if there is one
+abbrev pub without_return : List ℕ → List ℕ
+without_return line = if get_or line (length line - 1) 0 == 13 then take (length line - 1) line else line
+
+-- the part of a line before its first `#`
+abbrev pub before_comment : List ℕ → List ℕ
+before_comment line = take (position_or_len (λ c. c == 35) line) line
+
+-- the bytes between words: space and tab
 abbrev pub is_blank : ℕ → Bool
 is_blank c = c == 32 || c == 9
 
--- the parts of a line between blanks
+-- the parts of a line between blanks, its comment left out
 abbrev pub words_of : List ℕ → List (List ℕ)
-words_of line = filter (λ word. not (length word == 0)) (slice_split is_blank line)
+words_of line = filter (λ word. not (length word == 0)) (slice_split is_blank (before_comment (without_return line)))
 
--- the start and the count of a request's sectors
-unfoldable pub request_of : List ℕ → List ℕ → Option (ℕ × ℕ)
-request_of start count =
-    option_and_then (λ s. option_and_then (λ n. if nat_lt s (2 ^ 32) && nat_le 1 n && nat_le n 2048 then Some (s, n) else None) (number_of count)) (number_of start)
+-- ---- the forms of lines
 
-unfoldable pub disk_line : List ℕ → Option Line
-disk_line size = option_and_then (λ pages. if nat_le 1 pages && nat_le pages 262144 then Some (Disk pages) else None) (pages_of size)
+-- A form of a line, with the words that stand for its values.
+pub data Form : Type 0 where
+  blank_form : Form
+  size_form : (size : List ℕ) → Form
+  actor_form : Form
+  fill_form : (start count word : List ℕ) → Form
+  seq_form : (start count base step : List ℕ) → Form
+  hex_form : (start count : List ℕ) (digits : List (List ℕ)) → Form
+  read_form : (start count : List ℕ) → Form
+  discard_form : (start count : List ℕ) → Form
+  schedule_form : (turns : List (List ℕ)) → Form
+  run_form : Form
 
-unfoldable pub read_line : List ℕ → List ℕ → Option Line
-read_line start count = option_and_then (λ request. Some (Operation (Read request.0 request.1))) (request_of start count)
+-- a form with no word behind the first
+abbrev pub alone : Form → List (List ℕ) → Option Form
+alone form [] = Some form
+alone form (word ∷ words) = None
 
-unfoldable pub write_line : List ℕ → List ℕ → List ℕ → List ℕ → Option Line
-write_line start count kind word =
-    if bytes_eq kind (codes "fill")
-    then option_and_then (λ request. option_and_then (λ w. Some (Operation (Write request.0 request.1 (Fill w)))) (word_of word)) (request_of start count)
+-- what stands behind `disksize`
+abbrev pub size_in : List (List ℕ) → Option Form
+size_in (size ∷ []) = Some (size_form size)
+size_in words = None
+
+-- what stands behind `read`
+abbrev pub read_in : List (List ℕ) → Option Form
+read_in (start ∷ count ∷ []) = Some (read_form start count)
+read_in words = None
+
+-- what stands behind `discard`
+abbrev pub discard_in : List (List ℕ) → Option Form
+discard_in (start ∷ count ∷ []) = Some (discard_form start count)
+discard_in words = None
+
+-- what stands behind `write START COUNT fill`
+abbrev pub fill_in : List ℕ → List ℕ → List (List ℕ) → Option Form
+fill_in start count (word ∷ []) = Some (fill_form start count word)
+fill_in start count words = None
+
+-- what stands behind `write START COUNT seq`
+abbrev pub seq_in : List ℕ → List ℕ → List (List ℕ) → Option Form
+seq_in start count (base ∷ step ∷ []) = Some (seq_form start count base step)
+seq_in start count words = None
+
+-- what stands behind `write START COUNT hex`, at least one word
+abbrev pub hex_in : List ℕ → List ℕ → List (List ℕ) → Option Form
+hex_in start count [] = None
+hex_in start count (digits ∷ more) = Some (hex_form start count (digits ∷ more))
+
+-- what stands behind `write START COUNT`
+unfoldable pub stuff_in : List ℕ → List ℕ → List ℕ → List (List ℕ) → Option Form
+stuff_in start count kind words =
+    if bytes_eq kind (codes "fill") then fill_in start count words
+    else if bytes_eq kind (codes "seq") then seq_in start count words
+    else if bytes_eq kind (codes "hex") then hex_in start count words
     else None
 
-unfoldable pub bare_line : List ℕ → Option Line
-bare_line name = if bytes_eq name (codes "actor") then Some Actor else if bytes_eq name (codes "run") then Some Run else None
+-- what stands behind `write`
+abbrev pub write_in : List (List ℕ) → Option Form
+write_in (start ∷ count ∷ kind ∷ words) = stuff_in start count kind words
+write_in words = None
 
--- what a line of these words says; none where it is faulty
-unfoldable pub line_of : List (List ℕ) → Option Line
-line_of [] = Some Blank
-line_of (name ∷ []) = bare_line name
-line_of (name ∷ a ∷ []) = if bytes_eq name (codes "disksize") then disk_line a else None
-line_of (name ∷ a ∷ b ∷ []) = if bytes_eq name (codes "read") then read_line a b else None
-line_of (name ∷ a ∷ b ∷ kind ∷ c ∷ []) = if bytes_eq name (codes "write") then write_line a b kind c else None
-line_of more = None
+-- what stands behind `schedule`, at least one word
+abbrev pub schedule_in : List (List ℕ) → Option Form
+schedule_in [] = None
+schedule_in (turn ∷ more) = Some (schedule_form (turn ∷ more))
+
+-- what stands behind a line's first word
+unfoldable pub named_in : List ℕ → List (List ℕ) → Option Form
+named_in name words =
+    if bytes_eq name (codes "disksize") then size_in words
+    else if bytes_eq name (codes "actor") then alone actor_form words
+    else if bytes_eq name (codes "write") then write_in words
+    else if bytes_eq name (codes "read") then read_in words
+    else if bytes_eq name (codes "discard") then discard_in words
+    else if bytes_eq name (codes "schedule") then schedule_in words
+    else if bytes_eq name (codes "run") then alone run_form words
+    else None
+
+-- the form of a line of these words, if it has one: else a word isn't known, or there are too few or too many
+abbrev pub form_of : List (List ℕ) → Option Form
+form_of [] = Some blank_form
+form_of (name ∷ words) = named_in name words
+
+-- ---- the values
+
+-- whether so many digits are those of so many sectors, where the sectors are a request's
+abbrev pub fill_sectors : ℕ → ℕ → Bool
+fill_sectors digits count = not (nat_le 1 count && nat_le count 2048) || digits == 1024 * count
+
+-- a word isn't of its form, or there are too few or too many digits
+unfoldable pub is_malformed : Form → Bool
+is_malformed blank_form = false
+is_malformed (size_form size) = not (is_size size)
+is_malformed actor_form = false
+is_malformed (fill_form start count word) = not (is_number start && is_number count && is_word word)
+is_malformed (seq_form start count base step) = not (is_number start && is_number count && is_word base && is_word step)
+is_malformed (hex_form start count digits) =
+    not (is_number start && is_number count && are_digits 16 (concat digits) && fill_sectors (length (concat digits)) (number_of count))
+is_malformed (read_form start count) = not (is_number start && is_number count)
+is_malformed (discard_form start count) = not (is_number start && is_number count)
+is_malformed (schedule_form turns) = not (list_all is_turn turns)
+is_malformed run_form = false
+
+-- what a line says whose words are of their forms
+unfoldable pub meaning : Form → Line
+meaning blank_form = Blank
+meaning (size_form size) = Disk (pages_of size)
+meaning actor_form = Actor
+meaning (fill_form start count word) = Operation (Write (number_of start) (number_of count) (Fill (word_of word)))
+meaning (seq_form start count base step) = Operation (Write (number_of start) (number_of count) (Seq (word_of base) (word_of step)))
+meaning (hex_form start count digits) = Operation (Write (number_of start) (number_of count) (Hex (bytes_by (concat digits))))
+meaning (read_form start count) = Operation (Read (number_of start) (number_of count))
+meaning (discard_form start count) = Operation (Discard (number_of start) (number_of count))
+meaning (schedule_form turns) = Schedule (map turn_of turns)
+meaning run_form = Run
+
+-- a request's sectors begin below 2 ^ 32, and are 1 to 2048
+abbrev pub are_bounds : ℕ → ℕ → Bool
+are_bounds start count = nat_lt start (2 ^ 32) && nat_le 1 count && nat_le count 2048
+
+-- a phase has at most 64 actors, and a turn is given 1 to 16777216 times
+abbrev pub may_give : Turns → Bool
+may_give turns = nat_lt turns.actor 64 && nat_le 1 turns.times && nat_le turns.times 16777216
+
+-- a value that is never allowed
+abbrev pub has_bad_value : Line → Bool
+has_bad_value Blank = false
+has_bad_value (Disk pages) = not (nat_le 1 pages && nat_le pages 262144)
+has_bad_value Actor = false
+has_bad_value (Operation op) = not (are_bounds (start_of op) (count_of op))
+has_bad_value (Schedule turns) = not (list_all may_give turns)
+has_bad_value Run = false
+
+-- ---- the line
+
+-- a malformed word is told before a value that is never allowed
+abbrev pub line_by : Form → Result Line Cause
+line_by form =
+    if is_malformed form then Err causes.Number
+    else if has_bad_value (meaning form) then Err causes.Range
+    else Ok (meaning form)
+
+-- a line without a form has the cause Word
+abbrev pub line_with : Option Form → Result Line Cause
+line_with None = Err causes.Word
+line_with (Some form) = line_by form
+
+-- what a line of these words says; else the first of the causes that it has by its words alone
+abbrev pub line_of : List (List ℕ) → Result Line Cause
+line_of words = line_with (form_of words)

@@ -1,39 +1,136 @@
 -- How far the reading of a job has come.
-use Rattle.std.specs.Prelude.{ℕ, not, ◌+◌, ◌||◌, nat_lt, if◌then◌else◌, option_map, option_and_then, option_to_list, List, [], ◌∷◌, ◌++◌, length, Option, Some, None}
+use Rattle.std.specs.Prelude.{◌≡◌, ℕ, ◌+◌, ◌==◌, Bool, false, not, ◌&&◌, nat_lt, nat_le, List, [], ◌∷◌, ◌++◌, length, Option, Some, None, if◌then◌else◌, option_map, option_and_then}
 use Rattle.std.specs.Borrow.{Bor}
 use Rattle.zr_base.specs.declared.op.Op.{Op}
+use Rattle.job_text.specs.declared.fault.Cause.{Cause}
+use Rattle.job_text.specs.declared.fault.Cause.TheVariants as causes
+use Rattle.job_text.specs.declared.fault.JobFault.{JobFault}
+use Rattle.job_text.specs.declared.fault.Stop.{Stop}
+use Rattle.job_text.specs.declared.fault.Stop.TheVariants as stops
+use Rattle.job_text.specs.declared.job.Attr.TheVariants.{DiskPages}
 use Rattle.job_text.specs.declared.job.Item.{Item}
 use Rattle.job_text.specs.declared.job.Item.TheVariants as items
-use Rattle.job_text.specs.declared.job.Attr.TheVariants.{DiskPages}
+use Rattle.job_text.specs.declared.job.PhaseText.{PhaseText}
 use Rattle.job_text.specs.declared.line.Line.{Line}
-use Rattle.job_text.specs.declared.line.Line.TheVariants.{Blank, Disk, Actor, Operation, Run}
+use Rattle.job_text.specs.declared.line.Line.TheVariants.{Blank, Disk, Actor, Operation, Schedule, Run}
+use Rattle.job_text.specs.declared.begun.Begun.{Begun}
 use Rattle.job_text.specs.declared.reading.Reading.{Reading}
-use Rattle.job_text.specs.Jobs.{text_lines, sayings, Used, nothing_used, with_disk, with_phase, with_op, is_within}
+use Rattle.job_text.specs.Jobs.{Saying, says_disk, says_actor, says_operation, says_turns, says_run, text_lines, sayings, Used, nothing_used, with_disk, with_phase, with_op, with_turns, has_phase_left, has_left_for, has_turns_left}
+use Rattle.job_text.specs.Faults.{Phase, names_no_actor, is_misplaced, lacks_disk, passes_limit, used_with, phase_with, first_fault_from}
+
+-- ---- a reader's state
 
 -- what of the limits was used so far
 abbrev pub used_by : Reading → Used
-used_by r = record { disk = r.has_disk; phase = r.has_phase; operations = r.operations; pieces = r.pieces; sectors = r.sectors }
+used_by r = record { disk = r.has_disk; phases = r.phases; operations = r.operations; pieces = r.pieces; sectors = r.sectors; turns = r.turns }
 
--- The items that lines give, where so much was used before them: in an actor with these operations, or in none.
-abbrev pub items_from : Used → Option (List Op) → List Line → Option (List Item)
+-- a phase has a `schedule` already
+abbrev pub is_scheduled : Begun → Bool
+is_scheduled begun = not (length begun.schedule == 0)
+
+abbrev pub is_scheduled_in : Option Begun → Bool
+is_scheduled_in None = false
+is_scheduled_in (Some begun) = is_scheduled begun
+
+-- the phase that began at a line, as its actors and turns so far show it
+abbrev pub phase_at : ℕ → Option Begun → Option Phase
+phase_at first None = None
+phase_at first (Some begun) = Some (record { first = first; actors = length begun.actors + 1; scheduled = is_scheduled begun })
+
+-- the phase that has begun
+abbrev pub phase_of : Reading → Option Phase
+phase_of r = phase_at r.first r.begun
+
+-- the phase's actors, its last one too
+abbrev pub all_actors : Begun → List (List Op)
+all_actors begun = begun.actors ++ begun.last ∷ []
+
+-- the text of the phase that ends; an empty one where none has begun
+abbrev pub text_of : Option Begun → PhaseText
+text_of None = record { actors = []; schedule = [] }
+text_of (Some begun) = record { actors = all_actors begun; schedule = begun.schedule }
+
+-- the first of the causes that a line has by its place
+abbrev pub place_cause : Used → Option Phase → Line → Option Cause
+place_cause u phase line =
+    if names_no_actor phase line then Some causes.Range
+    else if is_misplaced u phase line then Some causes.Order
+    else if lacks_disk u line then Some causes.NoDisk
+    else if passes_limit u phase line then Some causes.TooMany
+    else None
+
+-- a line was refused for this cause, or memory was wanting
+abbrev pub IsStop : Option Cause → Stop → Type 0
+IsStop cause (stops.Told told) = cause ≡ Some told
+IsStop cause (stops.Memory e) = Unit {0}
+
+-- the phase that has begun, with one more line
+abbrev pub begun_with : Option Begun → Line → Option Begun
+begun_with begun Blank = begun
+begun_with begun (Disk pages) = begun
+begun_with None Actor = Some (record { actors = []; last = []; schedule = [] })
+begun_with (Some begun) Actor = Some (record begun { actors = all_actors begun; last = [] })
+begun_with None (Operation op) = None
+begun_with (Some begun) (Operation op) = Some (record begun { last = begun.last ++ op ∷ [] })
+begun_with None (Schedule turns) = None
+begun_with (Some begun) (Schedule turns) = Some (record begun { schedule = begun.schedule ++ turns })
+begun_with begun Run = None
+
+-- the items that end with a line
+abbrev pub items_by : Option Begun → Line → List Item
+items_by begun Blank = []
+items_by begun (Disk pages) = items.Attr (DiskPages pages) ∷ []
+items_by begun Actor = []
+items_by begun (Operation op) = []
+items_by begun (Schedule turns) = []
+items_by begun Run = items.Phase (text_of begun) ∷ []
+
+-- A line that has no cause was taken: what is used, the phase and the items are those behind the line of this number.
+abbrev pub IsNext : Reading → ℕ → Line → Reading → Type 0
+IsNext r number line next =
+    (place_cause (used_by r) (phase_of r) line ≡ None)
+    × (used_by next ≡ used_with (used_by r) (phase_of r) line)
+    × (phase_of next ≡ phase_with number (phase_of r) line)
+    × (next.begun ≡ begun_with r.begun line)
+    × (next.items ≡ r.items ++ items_by r.begun line)
+
+-- ---- the items that sayings give
+
+-- The items that sayings give, where so much was used before them: in a phase that has begun, or in none.
+abbrev pub items_from : Used → Option Begun → List Saying → Option (List Item)
 items_from u None [] = Some []
-items_from u (Some ops) [] = None
-items_from u begun (Blank ∷ lines) = items_from u begun lines
-items_from u None (Disk n ∷ lines) = if u.disk then None else option_map (λ more. items.Attr (DiskPages n) ∷ more) (items_from (with_disk u) None lines)
-items_from u (Some ops) (Disk n ∷ lines) = None
-items_from u None (Actor ∷ lines) = if not u.disk || u.phase then None else items_from u (Some []) lines
-items_from u (Some ops) (Actor ∷ lines) = None
-items_from u None (Operation op ∷ lines) = None
-items_from u (Some ops) (Operation op ∷ lines) = if is_within (with_op u op) then items_from (with_op u op) (Some (ops ++ op ∷ [])) lines else None
-items_from u begun (Run ∷ lines) = if u.phase then None else option_map (λ more. items.Phase (record { actors = option_to_list begun }) ∷ more) (items_from (with_phase u) None lines)
+items_from u (Some begun) [] = None
+items_from u None (says_disk pages ∷ more) =
+    if u.disk then None else option_map (λ later. items.Attr (DiskPages pages) ∷ later) (items_from (with_disk u) None more)
+items_from u (Some begun) (says_disk pages ∷ more) = None
+items_from u None (says_actor ∷ more) =
+    if u.disk && has_phase_left u then items_from (with_phase u) (Some (record { actors = []; last = []; schedule = [] })) more else None
+items_from u (Some begun) (says_actor ∷ more) =
+    if not (is_scheduled begun) && u.disk && nat_le (length begun.actors + 1 + 1) 64
+    then items_from u (Some (record begun { actors = begun.actors ++ begun.last ∷ []; last = [] })) more
+    else None
+items_from u None (says_operation op ∷ more) = None
+items_from u (Some begun) (says_operation op ∷ more) =
+    if not (is_scheduled begun) && has_left_for u op then items_from (with_op u op) (Some (record begun { last = begun.last ++ op ∷ [] })) more else None
+items_from u None (says_turns turns ∷ more) = None
+items_from u (Some begun) (says_turns turns ∷ more) =
+    if nat_lt turns.actor (length begun.actors + 1) && has_turns_left u (turns ∷ [])
+    then items_from (with_turns u (turns ∷ [])) (Some (record begun { schedule = begun.schedule ++ turns ∷ [] })) more
+    else None
+items_from u None (says_run ∷ more) =
+    if has_phase_left u then option_map (λ later. items.Phase (record { actors = []; schedule = [] }) ∷ later) (items_from (with_phase u) None more) else None
+items_from u (Some begun) (says_run ∷ more) =
+    option_map (λ later. items.Phase (record { actors = begun.actors ++ begun.last ∷ []; schedule = begun.schedule }) ∷ later) (items_from u None more)
 
--- the items so far, and those that more lines give
-abbrev pub items_with : Reading → List Line → Option (List Item)
-items_with r lines = option_map (λ more. r.items ++ more) (items_from (used_by r) r.begun lines)
+-- the items so far, and those that more sayings give
+abbrev pub items_with : Reading → List Saying → Option (List Item)
+items_with r more = option_map (λ later. r.items ++ later) (items_from (used_by r) r.begun more)
 
 -- the job that a text is
 abbrev pub job_of : List ℕ → Option (List Item)
 job_of bytes = if nat_lt 16777216 (length bytes) then None else option_and_then (items_from nothing_used None) (sayings (text_lines bytes))
+
+-- ---- what is left of a text
 
 -- the lines of the text that is left, if any
 abbrev pub lines_behind : Option (Bor (List ℕ)) → List (List ℕ)
@@ -48,3 +145,7 @@ bytes_behind (Some text) = length text.now + 1
 -- the items that more text gives
 abbrev pub items_behind : Reading → List (List ℕ) → Option (List Item)
 items_behind r lines = option_and_then (items_with r) (sayings lines)
+
+-- the first fault in more text, counted from a number on
+abbrev pub fault_behind : Reading → ℕ → List (List ℕ) → Option JobFault
+fault_behind r number lines = first_fault_from (used_by r) (phase_of r) number lines

@@ -4,7 +4,7 @@ ghost use Rattle.std.specs.Prelude.{◌≡◌, List, [], ◌∷◌, ◌++◌, On
 
 use std::alloc::Global;
 use std::marker::Model;
-use zr_base::ActorOps;
+use zr_base::{ActorOps, Turns};
 
 /// An attribute of the disk.
 #[derive(Clone, Copy, PartialEq, Eq, Debug)]
@@ -13,10 +13,11 @@ pub enum Attr {
     DiskPages(u32),
 }
 
-/// The operations of a phase.
+/// The operations of a phase, and the turns that its schedule gives, those of all its `schedule` lines joined.
 #[derive(Drop)]
 pub struct PhaseText {
     pub actors: ActorList,
+    pub schedule: TurnList,
 }
 
 /// An item of a job.
@@ -65,6 +66,51 @@ impl ActorList {
 
     /// The actors in order.
     pub fn as_slice(&self) -> &[ActorOps]
+        ensures { result.now ≡ self.now }
+    {
+        &self.items
+    }
+}
+
+/// The turns that a schedule gives, one after the other.
+#[derive(Drop)]
+pub struct TurnList {
+    items: Vec<Turns>,
+}
+
+impl Model for TurnList {
+    ghost use Rattle.std.specs.Prelude.{List};
+    ghost use Rattle.zr_base.specs.declared.op.Turns.{Turns};
+
+    ghost Value = { List Turns };
+
+    ghost view = { λ t. t.items.items };
+}
+
+impl TurnList {
+    /// The empty list; it takes no memory.
+    pub fn new(alloc: Global) -> Self
+        ensures { result ≡ [] }
+    {
+        TurnList {
+            items: Vec::new(alloc),
+        }
+    }
+
+    /// Puts turns last. Err is want of memory, and hands the turns back.
+    pub fn push(&mut self, item: Turns) -> Result<(), Turns>
+        ensures ok { OnOk result (self.new ≡ self.old ++ item ∷ []) }
+        ensures err { OnErr result (self.new ≡ self.old) }
+        ensures back { IfErr result (λ turns. turns ≡ item) }
+    {
+        match self.items.push(item) {
+            Ok(()) => Ok(()),
+            Err(failed) => Err(failed.value),
+        }
+    }
+
+    /// The turns in order.
+    pub fn as_slice(&self) -> &[Turns]
         ensures { result.now ≡ self.now }
     {
         &self.items

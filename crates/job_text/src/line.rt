@@ -1,11 +1,16 @@
 //! One line of a job.
 
-ghost use Rattle.std.specs.Prelude.{◌≡◌, ℕ, List, map, IfOk, IfSome};
-ghost use Rattle.zr_base.specs.Plain.{InBounds};
-ghost use Rattle.job_text.specs.Jobs.{IsLine};
-ghost use Rattle.job_text.specs.Lines.{words_of, request_of, disk_line, read_line, write_line, bare_line, line_of};
+ghost use Rattle.std.specs.Prelude.{◌≡◌, ℕ, List, map, IfOk, if◌then◌else◌};
+ghost use Rattle.job_text.specs.Lines.{without_return, before_comment, words_of, line_by, line_with, line_of, are_bounds, fill_sectors};
+ghost use Rattle.job_text.specs.Lines.{Form, size_form, actor_form, fill_form, seq_form, hex_form, read_form, discard_form, schedule_form, run_form};
+ghost use Rattle.job_text.specs.Lines.{alone, size_in, read_in, discard_in, fill_in, seq_in, hex_in, stuff_in, write_in, schedule_in, named_in};
+ghost use Rattle.job_text.specs.Answers.{Answers, IsLine, hash_in};
 
+use crate::fault::{Cause, Stop};
+use crate::job::TurnList;
+use crate::joined::{are_hex, bytes, joined};
 use crate::number::{number, pages, word64};
+use crate::turns::{are_turns, turns};
 use std::alloc::{AllocError, Global};
 use zr_base::{Op, Stuff};
 
@@ -20,116 +25,299 @@ pub enum Line {
     Actor,
     /// An operation of the last actor.
     Operation(Op),
+    /// Turns that are given after those before.
+    Schedule(TurnList),
     /// The phase ends.
     Run,
+}
+
+fn line_before_return(line: &[u8]) -> &[u8]
+    ensures { result.now ≡ without_return line.now }
+{
+    match line {
+        [front @ .., b'\r'] => front,
+        _ => line,
+    }
+}
+
+fn hash(line: &[u8]) -> Option<usize>
+    ensures { result ≡ hash_in line.now }
+{
+    line.iter().position(|c| *c == b'#')
+}
+
+fn line_before_comment(line: &[u8]) -> &[u8]
+    ensures { result.now ≡ before_comment line.now }
+{
+    match hash(line) {
+        Some(at) => &line[..at],
+        None => line,
+    }
 }
 
 /// The words of a line, between blanks.
 pub(crate) fn words(alloc: Global, line: &[u8]) -> Result<Vec<&[u8]>, AllocError>
     ensures { IfOk result (λ v. map (λ word. word.now) v.items ≡ words_of line.now) }
 {
-    line.split(|c| *c == b' ' || *c == b'\t')
+    line_before_comment(line_before_return(line))
+        .split(|c| *c == b' ' || *c == b'\t')
         .filter(|word| !word.is_empty())
         .collect(alloc)
 }
 
-#[tactic(auto, unfolding(crate::specs::Lines::request_of))]
-fn request_at(start: &[u8], count: &[u8]) -> Option<(u64, u32)>
-    ensures said { result ≡ request_of start.now count.now }
-    ensures lawful { IfSome result (λ request. InBounds request.0 request.1) }
+fn in_bounds(start: u64, count: u64) -> Result<u32, Cause>
+    ensures { result ≡ (if are_bounds start count then Ok count else Err Cause.Range) }
+{
+    if start < 1 << 32 && 1 <= count && count <= 2048 {
+        Ok(count as u32)
+    } else {
+        Err(Cause::Range)
+    }
+}
+
+fn fills(digits: usize, count: u64) -> bool
+    ensures { result ≡ fill_sectors digits count }
+{
+    !(1 <= count && count <= 2048) || digits as u64 == 1024 * count
+}
+
+#[tactic(auto, unfolding(crate::specs::Lines::is_malformed, crate::specs::Lines::meaning))]
+fn disk_size(size: &[u8]) -> Result<Line, Cause>
+    ensures { result ≡ line_by (size_form size.now) }
+{
+    let pages = pages(size)?;
+    if 1 <= pages && pages <= 262_144 {
+        Ok(Line::Disk(pages as u32))
+    } else {
+        Err(Cause::Range)
+    }
+}
+
+#[tactic(auto, unfolding(crate::specs::Lines::is_malformed, crate::specs::Lines::meaning))]
+fn read(start: &[u8], count: &[u8]) -> Result<Line, Cause>
+    ensures { result ≡ line_by (read_form start.now count.now) }
 {
     let start = number(start)?;
     let count = number(count)?;
-    if start < 1 << 32 && 1 <= count && count <= 2048 {
-        Some((start, count as u32))
-    } else {
-        None
-    }
+    let count = in_bounds(start, count)?;
+    Ok(Line::Operation(Op::Read { start, count }))
 }
 
-#[tactic(auto, unfolding(crate::specs::Lines::disk_line))]
-fn disk_size(size: &[u8]) -> Option<Line>
-    ensures said { result ≡ disk_line size.now }
-    ensures lawful { IfSome result IsLine }
+#[tactic(auto, unfolding(crate::specs::Lines::is_malformed, crate::specs::Lines::meaning))]
+fn discard(start: &[u8], count: &[u8]) -> Result<Line, Cause>
+    ensures { result ≡ line_by (discard_form start.now count.now) }
 {
-    let pages = pages(size)?;
-    if 1 <= pages && pages <= 262144 {
-        Some(Line::Disk(pages as u32))
-    } else {
-        None
-    }
+    let start = number(start)?;
+    let count = number(count)?;
+    let count = in_bounds(start, count)?;
+    Ok(Line::Operation(Op::Discard { start, count }))
 }
 
-#[tactic(auto, unfolding(crate::specs::Lines::read_line))]
-fn read_request(start: &[u8], count: &[u8]) -> Option<Line>
-    ensures said { result ≡ read_line start.now count.now }
-    ensures lawful { IfSome result IsLine }
+#[tactic(auto, unfolding(crate::specs::Lines::is_malformed, crate::specs::Lines::meaning))]
+fn fill(start: &[u8], count: &[u8], word: &[u8]) -> Result<Line, Cause>
+    ensures { result ≡ line_by (fill_form start.now count.now word.now) }
 {
-    let (start, count) = request_at(start, count)?;
-    Some(Line::Operation(Op::Read { start, count }))
-}
-
-#[tactic(auto, unfolding(crate::specs::Lines::write_line))]
-fn write_request(start: &[u8], count: &[u8], kind: &[u8], word: &[u8]) -> Option<Line>
-    ensures said { result ≡ write_line start.now count.now kind.now word.now }
-    ensures lawful { IfSome result IsLine }
-{
-    if kind != b"fill".as_slice() {
-        return None;
-    }
-    let (start, count) = request_at(start, count)?;
+    let start = number(start)?;
+    let count = number(count)?;
     let stuff = Stuff::Fill(word64(word)?);
-    Some(Line::Operation(Op::Write {
+    let count = in_bounds(start, count)?;
+    Ok(Line::Operation(Op::Write {
         start,
         count,
         stuff,
     }))
 }
 
-#[tactic(auto, unfolding(crate::specs::Lines::bare_line))]
-fn bare(name: &[u8]) -> Option<Line>
-    ensures said { result ≡ bare_line name.now }
-    ensures lawful { IfSome result IsLine }
+#[tactic(auto, unfolding(crate::specs::Lines::is_malformed, crate::specs::Lines::meaning))]
+fn seq(start: &[u8], count: &[u8], base: &[u8], step: &[u8]) -> Result<Line, Cause>
+    ensures { result ≡ line_by (seq_form start.now count.now base.now step.now) }
 {
-    if name == b"actor".as_slice() {
-        Some(Line::Actor)
-    } else if name == b"run".as_slice() {
-        Some(Line::Run)
-    } else {
-        None
+    let start = number(start)?;
+    let count = number(count)?;
+    let base = word64(base)?;
+    let step = word64(step)?;
+    let count = in_bounds(start, count)?;
+    let stuff = Stuff::Seq { base, step };
+    Ok(Line::Operation(Op::Write {
+        start,
+        count,
+        stuff,
+    }))
+}
+
+#[tactic(auto, unfolding(crate::specs::Lines::is_malformed, crate::specs::Lines::meaning))]
+fn hex(alloc: Global, start: &[u8], count: &[u8], words: &[&[u8]]) -> Result<Line, Stop>
+    ensures { Answers (line_by (hex_form start.now count.now (map (λ word. word.now) words.now))) result }
+{
+    let start = number(start)?;
+    let count = number(count)?;
+    let digits = joined(alloc, words)?;
+    if !are_hex(&digits) || !fills(digits.len(), count) {
+        return Err(Stop::Told(Cause::Number));
+    }
+    let count = in_bounds(start, count)?;
+    let stuff = Stuff::Hex(bytes(alloc, &digits)?);
+    Ok(Line::Operation(Op::Write {
+        start,
+        count,
+        stuff,
+    }))
+}
+
+#[tactic(auto, unfolding(crate::specs::Lines::is_malformed, crate::specs::Lines::meaning))]
+fn schedule(alloc: Global, words: &[&[u8]]) -> Result<Line, Stop>
+    ensures { Answers (line_by (schedule_form (map (λ word. word.now) words.now))) result }
+{
+    if !are_turns(words) {
+        return Err(Stop::Told(Cause::Number));
+    }
+    Ok(Line::Schedule(turns(alloc, words)?))
+}
+
+#[tactic(auto, unfolding(crate::specs::Lines::is_malformed, crate::specs::Lines::meaning))]
+fn actor_line(words: &[&[u8]]) -> Result<Line, Stop>
+    ensures { Answers (line_with (alone actor_form (map (λ word. word.now) words.now))) result }
+{
+    match words {
+        [] => Ok(Line::Actor),
+        _ => Err(Stop::Told(Cause::Word)),
     }
 }
 
-/// What a line of these words says; None where it is faulty.
-#[tactic(auto, unfolding(crate::specs::Lines::line_of))]
-pub(crate) fn read_line(words: &[&[u8]]) -> Option<Line>
-    ensures said { result ≡ line_of (map (λ word. word.now) words.now) }
-    ensures lawful { IfSome result IsLine }
+#[tactic(auto, unfolding(crate::specs::Lines::is_malformed, crate::specs::Lines::meaning))]
+fn run_line(words: &[&[u8]]) -> Result<Line, Stop>
+    ensures { Answers (line_with (alone run_form (map (λ word. word.now) words.now))) result }
 {
     match words {
-        [] => Some(Line::Blank),
-        [name] => bare(name),
-        [name, size] => {
-            if *name == b"disksize".as_slice() {
-                disk_size(size)
-            } else {
-                None
-            }
-        }
-        [name, start, count] => {
-            if *name == b"read".as_slice() {
-                read_request(start, count)
-            } else {
-                None
-            }
-        }
-        [name, start, count, kind, word] => {
-            if *name == b"write".as_slice() {
-                write_request(start, count, kind, word)
-            } else {
-                None
-            }
-        }
-        _ => None,
+        [] => Ok(Line::Run),
+        _ => Err(Stop::Told(Cause::Word)),
+    }
+}
+
+fn size_line(words: &[&[u8]]) -> Result<Line, Stop>
+    ensures { Answers (line_with (size_in (map (λ word. word.now) words.now))) result }
+{
+    match words {
+        [size] => Ok(disk_size(size)?),
+        _ => Err(Stop::Told(Cause::Word)),
+    }
+}
+
+fn read_line(words: &[&[u8]]) -> Result<Line, Stop>
+    ensures { Answers (line_with (read_in (map (λ word. word.now) words.now))) result }
+{
+    match words {
+        [start, count] => Ok(read(start, count)?),
+        _ => Err(Stop::Told(Cause::Word)),
+    }
+}
+
+fn discard_line(words: &[&[u8]]) -> Result<Line, Stop>
+    ensures { Answers (line_with (discard_in (map (λ word. word.now) words.now))) result }
+{
+    match words {
+        [start, count] => Ok(discard(start, count)?),
+        _ => Err(Stop::Told(Cause::Word)),
+    }
+}
+
+fn fill_line(start: &[u8], count: &[u8], words: &[&[u8]]) -> Result<Line, Stop>
+    ensures { Answers (line_with (fill_in start.now count.now (map (λ word. word.now) words.now))) result }
+{
+    match words {
+        [word] => Ok(fill(start, count, word)?),
+        _ => Err(Stop::Told(Cause::Word)),
+    }
+}
+
+fn seq_line(start: &[u8], count: &[u8], words: &[&[u8]]) -> Result<Line, Stop>
+    ensures { Answers (line_with (seq_in start.now count.now (map (λ word. word.now) words.now))) result }
+{
+    match words {
+        [base, step] => Ok(seq(start, count, base, step)?),
+        _ => Err(Stop::Told(Cause::Word)),
+    }
+}
+
+fn hex_line(alloc: Global, start: &[u8], count: &[u8], words: &[&[u8]]) -> Result<Line, Stop>
+    ensures { Answers (line_with (hex_in start.now count.now (map (λ word. word.now) words.now))) result }
+{
+    match words {
+        [] => Err(Stop::Told(Cause::Word)),
+        _ => hex(alloc, start, count, words),
+    }
+}
+
+#[tactic(auto, unfolding(crate::specs::Lines::stuff_in))]
+fn stuff_line(
+    alloc: Global,
+    start: &[u8],
+    count: &[u8],
+    kind: &[u8],
+    words: &[&[u8]],
+) -> Result<Line, Stop>
+    ensures { Answers (line_with (stuff_in start.now count.now kind.now (map (λ word. word.now) words.now))) result }
+{
+    if kind == b"fill".as_slice() {
+        fill_line(start, count, words)
+    } else if kind == b"seq".as_slice() {
+        seq_line(start, count, words)
+    } else if kind == b"hex".as_slice() {
+        hex_line(alloc, start, count, words)
+    } else {
+        Err(Stop::Told(Cause::Word))
+    }
+}
+
+fn write_line(alloc: Global, words: &[&[u8]]) -> Result<Line, Stop>
+    ensures { Answers (line_with (write_in (map (λ word. word.now) words.now))) result }
+{
+    match words {
+        [start, count, kind, rest @ ..] => stuff_line(alloc, start, count, kind, rest),
+        _ => Err(Stop::Told(Cause::Word)),
+    }
+}
+
+fn schedule_line(alloc: Global, words: &[&[u8]]) -> Result<Line, Stop>
+    ensures { Answers (line_with (schedule_in (map (λ word. word.now) words.now))) result }
+{
+    match words {
+        [] => Err(Stop::Told(Cause::Word)),
+        _ => schedule(alloc, words),
+    }
+}
+
+#[tactic(auto, unfolding(crate::specs::Lines::named_in))]
+fn named_line(alloc: Global, name: &[u8], words: &[&[u8]]) -> Result<Line, Stop>
+    ensures { Answers (line_with (named_in name.now (map (λ word. word.now) words.now))) result }
+{
+    if name == b"disksize".as_slice() {
+        size_line(words)
+    } else if name == b"actor".as_slice() {
+        actor_line(words)
+    } else if name == b"write".as_slice() {
+        write_line(alloc, words)
+    } else if name == b"read".as_slice() {
+        read_line(words)
+    } else if name == b"discard".as_slice() {
+        discard_line(words)
+    } else if name == b"schedule".as_slice() {
+        schedule_line(alloc, words)
+    } else if name == b"run".as_slice() {
+        run_line(words)
+    } else {
+        Err(Stop::Told(Cause::Word))
+    }
+}
+
+/// What a line of these words says.
+#[tactic(auto, unfolding(crate::specs::Lines::is_malformed, crate::specs::Lines::meaning))]
+pub(crate) fn line_by_words(alloc: Global, words: &[&[u8]]) -> Result<Line, Stop>
+    ensures lawful { IfOk result IsLine }
+    ensures said { Answers (line_of (map (λ word. word.now) words.now)) result }
+{
+    match words {
+        [] => Ok(Line::Blank),
+        [name, rest @ ..] => named_line(alloc, name, rest),
     }
 }

@@ -1,11 +1,15 @@
-//! The words of numbers: decimal, hexadecimal, and sizes with a suffix.
+//! The words of numbers: decimal, hexadecimal, sizes with a suffix, and turns.
+//! A number of `2^64` or more is read as `2^64 - 1`, which no line allows.
 
-ghost use Rattle.std.specs.Prelude.{◌≡◌, ℕ, ◌≤◌, ◌<◌, ◌^◌};
-ghost use Rattle.job_text.specs.Numbers.{digit_of, number_in, number_of, word_of, factor_of, pages_of};
+ghost use Rattle.std.specs.Prelude.{◌≡◌, ℕ, ◌≤◌, ◌==◌, if◌then◌else◌, position};
+ghost use Rattle.job_text.specs.Numbers.{digit_value, are_digits, value_from, is_number, number_of, is_word, word_of, is_size, bytes_of, star_in, is_turn, turn_of};
+ghost use Rattle.job_text.specs.Answers.{saturated, saturated_pages, saturated_turn};
 
-fn digit(base: u64, c: u8) -> Option<u64>
-    requires { base ≤ 16 }
-    ensures { result ≡ digit_of base c }
+use crate::fault::Cause;
+
+/// What a digit stands for, 0 to 15; 16 where it is none.
+pub(crate) fn digit(c: u8) -> u64
+    ensures { result ≡ digit_value c }
 {
     let value = match c {
         b'0'..=b'9' => c - b'0',
@@ -13,58 +17,70 @@ fn digit(base: u64, c: u8) -> Option<u64>
         b'A'..=b'F' => c - b'A' + 10,
         _ => 16,
     };
-    if (value as u64) < base {
-        Some(value as u64)
-    } else {
-        None
-    }
+    value as u64
 }
 
-fn digits(base: u64, word: &[u8]) -> Option<u64>
+fn digits(base: u64, word: &[u8]) -> Result<u64, Cause>
     requires low { 1 ≤ base }
     requires high { base ≤ 16 }
-    ensures { result ≡ number_in base word.now }
+    ensures { result ≡ (if are_digits base word.now then Ok (saturated (value_from base 0 word.now)) else Err Cause.Number) }
 {
     let mut value: u64 = 0;
     for c in word {
-        let digit = digit(base, *c)?;
-        value = value.checked_mul(base)?.checked_add(digit)?;
+        let digit = digit(*c);
+        if digit >= base {
+            return Err(Cause::Number);
+        }
+        value = value.saturating_mul(base).saturating_add(digit);
     }
-    Some(value)
+    Ok(value)
 }
 
-/// A number of one or more decimal digits, below `2^64`.
-#[tactic(auto, unfolding(crate::specs::Numbers::number_of))]
-pub(crate) fn number(word: &[u8]) -> Option<u64>
-    ensures { result ≡ number_of word.now }
+/// A number of one or more decimal digits.
+pub(crate) fn number(word: &[u8]) -> Result<u64, Cause>
+    ensures { result ≡ (if is_number word.now then Ok (saturated (number_of word.now)) else Err Cause.Number) }
 {
     if word.is_empty() {
-        return None;
+        return Err(Cause::Number);
     }
     digits(10, word)
 }
 
 /// A word of 8 bytes, by one to sixteen hexadecimal digits.
-#[tactic(auto, unfolding(crate::specs::Numbers::word_of))]
-pub(crate) fn word64(word: &[u8]) -> Option<u64>
-    ensures { result ≡ word_of word.now }
+pub(crate) fn word64(word: &[u8]) -> Result<u64, Cause>
+    ensures { result ≡ (if is_word word.now then Ok (word_of word.now) else Err Cause.Number) }
 {
     if word.is_empty() || word.len() > 16 {
-        return None;
+        return Err(Cause::Number);
     }
     digits(16, word)
 }
 
 /// A size in pages of 4096 bytes, rounded up.
-#[tactic(auto, unfolding(crate::specs::Numbers::pages_of))]
-pub(crate) fn pages(word: &[u8]) -> Option<u64>
-    ensures { result ≡ pages_of word.now }
+pub(crate) fn pages(word: &[u8]) -> Result<u64, Cause>
+    ensures { result ≡ (if is_size word.now then Ok (saturated_pages (bytes_of word.now)) else Err Cause.Number) }
 {
     let bytes = match word {
-        [front @ .., b'K' | b'k'] => number(front)?.checked_mul(1 << 10)?,
-        [front @ .., b'M' | b'm'] => number(front)?.checked_mul(1 << 20)?,
-        [front @ .., b'G' | b'g'] => number(front)?.checked_mul(1 << 30)?,
+        [front @ .., b'K' | b'k'] => number(front)?.saturating_mul(1 << 10),
+        [front @ .., b'M' | b'm'] => number(front)?.saturating_mul(1 << 20),
+        [front @ .., b'G' | b'g'] => number(front)?.saturating_mul(1 << 30),
         _ => number(word)?,
     };
-    Some(bytes.div_ceil(4096))
+    Ok(bytes.div_ceil(4096))
+}
+
+fn star(word: &[u8]) -> Option<usize>
+    ensures { result ≡ star_in word.now }
+{
+    word.iter().position(|c| *c == b'*')
+}
+
+/// The number of an actor, and how many turns it gets.
+pub(crate) fn turn(word: &[u8]) -> Result<(u64, u64), Cause>
+    ensures { result ≡ (if is_turn word.now then Ok (saturated_turn (turn_of word.now)) else Err Cause.Number) }
+{
+    match star(word) {
+        None => Ok((number(word)?, 1)),
+        Some(at) => Ok((number(&word[..at])?, number(&word[at + 1..])?)),
+    }
 }

@@ -1,37 +1,20 @@
 //! The reader of a job's text.
 
-ghost use Rattle.std.specs.Prelude.{◌≡◌, ℕ, ◌+◌, ◌<◌, ◌≤◌, List, ◌∷◌, None, Some, Err, IfOk, OnOk, length, ◌==◌, position};
+ghost use Rattle.std.specs.Prelude.{◌≡◌, ℕ, ◌+◌, ◌<◌, ◌≤◌, List, ◌∷◌, Some, Err, IfOk, IfErr, OnOk, length, ◌==◌, position};
 ghost use Rattle.job_text.specs.declared.job.Item.{Item as JobItem};
+ghost use Rattle.job_text.specs.Lines.{words_of};
 ghost use Rattle.job_text.specs.Jobs.{IsJob, text_lines};
-ghost use Rattle.job_text.specs.Reading.{job_of, lines_behind, bytes_behind, items_behind};
+ghost use Rattle.job_text.specs.Faults.{cause_of, first_fault};
+ghost use Rattle.job_text.specs.Reading.{IsStop, used_by, phase_of, job_of, lines_behind, bytes_behind, items_behind, fault_behind};
 
+use crate::fault::{Cause, JobFault, ReadFault, Stop};
 use crate::job::Job;
-use crate::line::{read_line, words};
+use crate::line::{line_by_words, words};
 use crate::reading::Reading;
-use std::alloc::{AllocError, Global};
+use std::alloc::Global;
 
 /// The greatest text of a job, in bytes.
 pub const MOST_BYTES: usize = 16_777_216;
-
-/// Why no job was read.
-#[derive(Clone, Copy, PartialEq, Eq, Debug)]
-pub enum ReadFault {
-    /// The bytes are no job.
-    Bad,
-    /// Memory was wanting.
-    Memory(AllocError),
-}
-
-impl From<AllocError> for ReadFault {
-    ghost use Rattle.std.specs.Prelude.{◌≡◌};
-    ghost use Rattle.job_text.specs.declared.reader.ReadFault.TheVariants.{Memory};
-
-    ghost from_gives = { λ e fault. fault ≡ Memory e };
-
-    fn from(e: AllocError) -> ReadFault {
-        ReadFault::Memory(e)
-    }
-}
 
 // Where the first line of a text ends, if another follows.
 fn line_end(text: &[u8]) -> Option<usize>
@@ -51,44 +34,65 @@ fn first_line(text: &[u8]) -> (&[u8], Option<&[u8]>)
     }
 }
 
-// One more line of a text.
-fn take_line(reading: &mut Reading, alloc: Global, line: &[u8]) -> Result<(), ReadFault>
+// The line of this number is taken.
+fn take_line(reading: &mut Reading, alloc: Global, number: u32, line: &[u8]) -> Result<(), Stop>
+    ensures fault { IfErr result (IsStop (cause_of (used_by reading.old) (phase_of reading.old) (words_of line.now))) }
+    ensures faultless { OnOk result ((rest : List (List ℕ)) → fault_behind reading.old number (line.now ∷ rest) ≡ fault_behind reading.new (number + 1) rest) }
     ensures goes_on { OnOk result ((rest : List (List ℕ)) → items_behind reading.old (line.now ∷ rest) ≡ items_behind reading.new rest) }
-    ensures bad { result ≡ Err ReadFault.Bad → (rest : List (List ℕ)) → items_behind reading.old (line.now ∷ rest) ≡ None }
 {
     let words = words(alloc, line)?;
-    match read_line(&words) {
-        Some(line) => reading.take(alloc, line),
-        None => Err(ReadFault::Bad),
+    let line = line_by_words(alloc, &words)?;
+    reading.take(alloc, number, line)
+}
+
+// The same, with the line told where it is faulty.
+fn numbered(reading: &mut Reading, alloc: Global, number: u32, line: &[u8]) -> Result<(), ReadFault>
+    ensures bad { (fault : JobFault) → result ≡ Err (ReadFault.Bad fault) → (rest : List (List ℕ)) → fault_behind reading.old number (line.now ∷ rest) ≡ Some fault }
+    ensures faultless { OnOk result ((rest : List (List ℕ)) → fault_behind reading.old number (line.now ∷ rest) ≡ fault_behind reading.new (number + 1) rest) }
+    ensures goes_on { OnOk result ((rest : List (List ℕ)) → items_behind reading.old (line.now ∷ rest) ≡ items_behind reading.new rest) }
+{
+    match take_line(reading, alloc, number, line) {
+        Ok(()) => Ok(()),
+        Err(Stop::Told(cause)) => Err(ReadFault::Bad(JobFault {
+            line: number,
+            cause,
+        })),
+        Err(Stop::Memory(e)) => Err(ReadFault::Memory(e)),
     }
 }
 
 // The same as `read_job`, by the function that the reader is.
 fn read_exact(alloc: Global, bytes: &[u8]) -> Result<Job, ReadFault>
     ensures found { IfOk result (λ job. job_of bytes.now ≡ Some job) }
-    ensures bad { result ≡ Err ReadFault.Bad → job_of bytes.now ≡ None }
+    ensures bad { (fault : JobFault) → result ≡ Err (ReadFault.Bad fault) → first_fault bytes.now ≡ Some fault }
 {
     if bytes.len() > MOST_BYTES {
-        return Err(ReadFault::Bad);
+        return Err(ReadFault::Bad(JobFault {
+            line: 0,
+            cause: Cause::TooMany,
+        }));
     }
     let mut reading = Reading::new(alloc);
     let mut rest = Some(bytes);
+    let mut number: u32 = 1;
     while let Some(text) = rest {
         let (line, more) = first_line(text);
-        take_line(&mut reading, alloc, line)?;
+        numbered(&mut reading, alloc, number, line)?;
+        number += 1;
         rest = more;
     }
     match reading.finish() {
-        Some(job) => Ok(job),
-        None => Err(ReadFault::Bad),
+        Ok(job) => Ok(job),
+        Err(fault) => Err(ReadFault::Bad(fault)),
     }
 }
 
-/// The job that a text of at most 16,777,216 bytes is. `Bad` comes exactly where the bytes are no job.
+/// The job that a text is, or its first faulty line with the first of the causes that this line has.
 pub fn read_job(alloc: Global, bytes: &[u8]) -> Result<Job, ReadFault>
     ensures found { IfOk result (λ job. IsJob bytes.now job) }
     ensures only { IfOk result (λ job. (other : List JobItem) → IsJob bytes.now other → other ≡ job) }
-    ensures bad { result ≡ Err ReadFault.Bad → (job : List JobItem) → IsJob bytes.now job → ⊥ }
+    ensures bad { (fault : JobFault) → result ≡ Err (ReadFault.Bad fault) → first_fault bytes.now ≡ Some fault }
+    ensures no_job { (fault : JobFault) → result ≡ Err (ReadFault.Bad fault) → (job : List JobItem) → IsJob bytes.now job → ⊥ }
 {
     read_exact(alloc, bytes)
 }

@@ -1,13 +1,15 @@
-//! Texts that are jobs, and texts that are none.
+//! Texts with their first fault, the values of jobs as they arrive, and texts at a limit.
 
-use crate::{ReadFault, read_job};
+use crate::{Attr, Cause, Item, Job, JobFault, MOST_BYTES, PhaseText, ReadFault, read_job};
 use std::alloc::{AllocError, Global};
 use std::test::Fail;
+use zr_base::{ActorOps, Op, Stuff};
 
-fn is_job(alloc: Global, text: &str) -> Result<bool, AllocError> {
+// The first fault of a text; None where it is a job.
+fn fault_in(alloc: Global, text: &str) -> Result<Option<JobFault>, AllocError> {
     match read_job(alloc, text.as_bytes()) {
-        Ok(_) => Ok(true),
-        Err(ReadFault::Bad) => Ok(false),
+        Ok(_) => Ok(None),
+        Err(ReadFault::Bad(fault)) => Ok(Some(fault)),
         Err(ReadFault::Memory(e)) => Err(e),
     }
 }
@@ -15,37 +17,256 @@ fn is_job(alloc: Global, text: &str) -> Result<bool, AllocError> {
 #[test]
 fn tells_jobs(rt: HostRuntime) -> Result<(), Fail> {
     let table = [
-        ("", true),
-        ("run", true),
-        ("\n \t\nrun\n", true),
-        ("disksize 1G\nactor\nread 0 2048\nrun\n", true),
+        "",
+        "run",
+        "\n \t\nrun\n",
+        "run\nrun\n",
+        "disksize 1G\nactor\nread 0 2048\nrun\n",
+        "disksize 1g\nactor\nwrite 4294967295 1 fill ABCDEFabcdef0123\nrun\n",
+        "disksize 4096 # one page\r\n# none\r\nactor#0\r\nrun\r",
+        "disksize 1\nactor\nactor\ndiscard 00 01\nschedule 1 0*2\nschedule 1*16777212\nschedule\t0\nrun",
+    ];
+    for text in table {
+        assert_eq!(rt; fault_in(rt.alloc(), text)?, None, "at {text}");
+    }
+    Ok(())
+}
+
+#[test]
+fn tells_faulty_words(rt: HostRuntime) -> Result<(), Fail> {
+    let table = [
+        ("stop", 1, Cause::Word),
+        ("RUN", 1, Cause::Word),
+        ("run now", 1, Cause::Word),
+        ("disksize 4K\nmem_limit 4K", 2, Cause::Word),
+        ("write x 1 fil 0", 1, Cause::Word),
+        ("write 0 1 hex", 1, Cause::Word),
+        ("schedule", 1, Cause::Word),
+        ("run\r\r\n", 1, Cause::Word),
+        ("run\r#x", 1, Cause::Word),
+        ("disksize 1T", 1, Cause::Number),
+        ("disksize K", 1, Cause::Number),
+        ("write 99999999999999999999 1 fill g", 1, Cause::Number),
+        ("write 0 0 fill 00000000000000001", 1, Cause::Number),
+        ("write 0 1 hex 0g", 1, Cause::Number),
+        ("write 4294967296 1 hex 00", 1, Cause::Number),
+        ("disksize 4K\nactor\nwrite 0 1 hex 00", 3, Cause::Number),
+        ("schedule 0* 1", 1, Cause::Number),
+        ("schedule 0 1*2*3", 1, Cause::Number),
+        ("disksize 0", 1, Cause::Range),
+        ("disksize 1048577K", 1, Cause::Range),
+        ("disksize 18446744073709551616", 1, Cause::Range),
+        ("disksize 18446744073709551615G", 1, Cause::Range),
+        ("read 4294967296 1", 1, Cause::Range),
+        ("discard 0 0", 1, Cause::Range),
+        ("write 0 2049 hex 00", 1, Cause::Range),
+        ("disksize 4K\nactor\nschedule 0*0", 3, Cause::Range),
+        ("disksize 4K\nactor\nschedule 0 1", 3, Cause::Range),
+        ("disksize 4K\nactor\nschedule 0*16777217", 3, Cause::Range),
+    ];
+    for (text, line, cause) in table {
+        let wanted = Some(JobFault { line, cause });
+        assert_eq!(rt; fault_in(rt.alloc(), text)?, wanted, "at {text}");
+    }
+    Ok(())
+}
+
+#[test]
+fn tells_faulty_places(rt: HostRuntime) -> Result<(), Fail> {
+    let table = [
+        ("schedule 0", 1, Cause::Range),
+        ("read 0 1", 1, Cause::Order),
+        ("disksize 4K\nrun\n\ndisksize 4K", 4, Cause::Order),
+        ("disksize 4K\nactor\ndisksize 4K", 3, Cause::Order),
+        ("disksize 4K\nactor\nschedule 0\nread 0 1", 4, Cause::Order),
+        ("disksize 4K\nactor\nschedule 0\nactor", 4, Cause::Order),
+        ("disksize 4K\nactor\nread 0 1", 2, Cause::Order),
+        ("disksize 4K\nactor\nactor\n\n", 2, Cause::Order),
+        ("actor", 1, Cause::NoDisk),
+        ("run\nactor\nstop", 2, Cause::NoDisk),
         (
-            "disksize 1g\nactor\nwrite 4294967295 1 fill ABCDEFabcdef0123\nrun\n",
-            true,
+            "disksize 4K\nactor\nschedule 0*16777216\nschedule 0",
+            4,
+            Cause::TooMany,
         ),
-        ("disksize 0\n", false),
-        ("disksize 1048577K\n", false),
-        ("disksize 4K\ndisksize 4K\n", false),
-        ("disksize 123456789012345678901234567890\n", false),
-        ("disksize 18446744073709551615G\n", false),
-        ("disksize K\n", false),
-        ("actor\nrun\n", false),
-        ("disksize 4K\nactor\nread 0 2049\nrun\n", false),
-        ("disksize 4K\nactor\nread 0 0\nrun\n", false),
-        ("disksize 4K\nactor\nread 4294967296 1\nrun\n", false),
+    ];
+    for (text, line, cause) in table {
+        let wanted = Some(JobFault { line, cause });
+        assert_eq!(rt; fault_in(rt.alloc(), text)?, wanted, "at {text}");
+    }
+    Ok(())
+}
+
+// 64 bytes that say nothing.
+const COMMENT: &str = "###############################################################\n";
+
+fn push_repeated(text: &mut String, line: &str, times: u32) -> Result<(), AllocError> {
+    for _ in 0..times {
+        text.push_str(line)?;
+    }
+    Ok(())
+}
+
+#[test]
+fn tells_limits(rt: HostRuntime) -> Result<(), Fail> {
+    // before, a line so many times, behind it; and the line at which a limit is passed
+    let table = [
+        ("", "run\n", 1000, "", None),
+        ("", "run\n", 1000, "run\n", Some(1001)),
+        ("disksize 4K\n", "run\n", 1000, "actor\n", Some(1002)),
+        ("disksize 4K\n", "actor\n", 64, "run\n", None),
+        ("disksize 4K\n", "actor\n", 65, "run\n", Some(66)),
         (
-            "disksize 4K\nactor\nwrite 0 1 fill 00000000000000001\nrun\n",
-            false,
+            "disksize 4K\nactor\n",
+            "read 0 2048\n",
+            129,
+            "run\n",
+            Some(131),
         ),
-        ("disksize 4K\nactor\nwrite 0 1 seq 1 1\nrun\n", false),
-        ("disksize 4K\nactor\nread 0 1\n", false),
-        ("disksize 4K\nactor\nactor\nrun\n", false),
-        ("run\nrun\n", false),
-        ("run # ends\n", false),
-        ("run\r\n", false),
+        (
+            "disksize 4K\nactor\n",
+            "discard 0 2048\n",
+            4097,
+            "run\n",
+            Some(4099),
+        ),
+        ("", COMMENT, 262_144, "", None),
+        ("stop\n", COMMENT, 262_144, "", Some(0)),
+    ];
+    for (before, line, times, behind, wanted) in table {
+        let mut text = String::new(rt.alloc());
+        text.push_str(before)?;
+        push_repeated(&mut text, line, times)?;
+        text.push_str(behind)?;
+        let wanted = wanted.map(|line| JobFault {
+            line,
+            cause: Cause::TooMany,
+        });
+        assert_eq!(rt; fault_in(rt.alloc(), &text)?, wanted, "at {line}");
+    }
+    assert_eq!(rt; MOST_BYTES, 16_777_216);
+    Ok(())
+}
+
+fn op_shown(alloc: Global, op: &Op) -> Result<String, AllocError> {
+    match op {
+        Op::Write {
+            start,
+            count,
+            stuff,
+        } => {
+            let stuff = stuff_shown(alloc, stuff)?;
+            format!(in alloc; "write {start} {count} {stuff}; ")
+        }
+        Op::Read { start, count } => format!(in alloc; "read {start} {count}; "),
+        Op::Discard { start, count } => format!(in alloc; "discard {start} {count}; "),
+    }
+}
+
+// The first two bytes and the last one stand for all.
+fn stuff_shown(alloc: Global, stuff: &Stuff) -> Result<String, AllocError> {
+    match stuff {
+        Stuff::Fill(word) => format!(in alloc; "fill {word:x}"),
+        Stuff::Seq { base, step } => format!(in alloc; "seq {base:x} {step:x}"),
+        Stuff::Hex(bytes) => match bytes.as_slice() {
+            [a, b, middle @ .., last] => {
+                let more = middle.len();
+                format!(in alloc; "hex {a:02x} {b:02x} and {more} to {last:02x}")
+            }
+            _ => format!(in alloc; "hex of few bytes"),
+        },
+    }
+}
+
+fn ops_shown(alloc: Global, ops: &ActorOps) -> Result<String, AllocError> {
+    let mut shown = String::new(alloc);
+    shown.push_str("actor; ")?;
+    for op in ops.as_slice() {
+        let op = op_shown(alloc, op)?;
+        shown.push_str(&op)?;
+    }
+    Ok(shown)
+}
+
+fn actors_shown(alloc: Global, text: &PhaseText) -> Result<String, AllocError> {
+    let mut shown = String::new(alloc);
+    for ops in text.actors.as_slice() {
+        let ops = ops_shown(alloc, ops)?;
+        shown.push_str(&ops)?;
+    }
+    Ok(shown)
+}
+
+fn phase_shown(alloc: Global, text: &PhaseText) -> Result<String, AllocError> {
+    let mut shown = actors_shown(alloc, text)?;
+    for turns in text.schedule.as_slice() {
+        let (actor, times) = (turns.actor, turns.times);
+        let turns = format!(in alloc; "{actor}*{times}; ")?;
+        shown.push_str(&turns)?;
+    }
+    shown.push_str("run; ")?;
+    Ok(shown)
+}
+
+fn attr_shown(alloc: Global, attr: Attr) -> Result<String, AllocError> {
+    match attr {
+        Attr::DiskPages(pages) => format!(in alloc; "pages {pages}; "),
+    }
+}
+
+fn item_shown(alloc: Global, item: &Item) -> Result<String, AllocError> {
+    match item {
+        Item::Attr(attr) => attr_shown(alloc, *attr),
+        Item::Phase(text) => phase_shown(alloc, text),
+    }
+}
+
+fn job_shown(alloc: Global, job: &Job) -> Result<String, AllocError> {
+    let mut shown = String::new(alloc);
+    for item in job.as_slice() {
+        let item = item_shown(alloc, item)?;
+        shown.push_str(&item)?;
+    }
+    Ok(shown)
+}
+
+// What a job says, in one form; the word `fault` where the text is none.
+fn text_shown(alloc: Global, text: &str) -> Result<String, AllocError> {
+    match read_job(alloc, text.as_bytes()) {
+        Ok(job) => job_shown(alloc, &job),
+        Err(ReadFault::Bad(_)) => format!(in alloc; "fault"),
+        Err(ReadFault::Memory(e)) => Err(e),
+    }
+}
+
+#[test]
+fn reads_values(rt: HostRuntime) -> Result<(), Fail> {
+    let mut hex = String::new(rt.alloc());
+    hex.push_str("disksize 4K\nactor\nwrite 1 1 hex 0 1fF\tab")?;
+    push_repeated(&mut hex, "Ab", 508)?;
+    hex.push_str(" 7f # the last\nrun\n")?;
+    let table = [
+        ("disksize 5K\nrun\n", "pages 2; run; "),
+        (
+            "disksize 1M\nactor\nwrite 4294967295 2048 fill Ff\nread 007 1\nrun\nactor\nrun",
+            "pages 256; actor; write 4294967295 2048 fill ff; read 7 1; run; actor; run; ",
+        ),
+        (
+            "disksize 4095\nactor\nactor\nwrite 0 2 seq 10 ffffffffffffffff\ndiscard 8 9\nrun",
+            "pages 1; actor; actor; write 0 2 seq 10 ffffffffffffffff; discard 8 9; run; ",
+        ),
+        (
+            "disksize 4K\nactor\nactor\nschedule 0*2 1*16777213\nschedule 0 # last\nrun\nrun",
+            "pages 1; actor; actor; 0*2; 1*16777213; 0*1; run; run; ",
+        ),
+        (
+            hex.as_str(),
+            "pages 1; actor; write 1 1 hex 01 ff and 509 to 7f; run; ",
+        ),
     ];
     for (text, wanted) in table {
-        assert_eq!(rt; is_job(rt.alloc(), text)?, wanted, "at {text}");
+        let shown = text_shown(rt.alloc(), text)?;
+        assert_eq!(rt; shown.as_str(), wanted, "at {text}");
     }
     Ok(())
 }

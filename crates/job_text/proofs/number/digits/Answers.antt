@@ -1,24 +1,23 @@
-use Rattle.std.proofs.Common.{sym, ◌∙◌, arith}
-use Rattle.job_text.proofs.Digits.{number-stop, number-large, number-all}
+use Rattle.std.proofs.Common.{◌≡◌, true, refl, ap, ◌∙◌, arith}
+use Rattle.std.proofs.lemmas.List.{drop_all}
+use Rattle.job_text.specs.Numbers.{are_digits, value_from}
+use Rattle.job_text.specs.Answers.{saturated}
+use Rattle.job_text.proofs.Digits.{saturated_more, are_more}
 use Rattle.job_text.proofs.number.digits.Goals as goal
 
-pub returns-in_err-digit : goal.returns-in_err-digit
-returns-in_err-digit c =
-    c.from_residual.ensures
-    ∙ sym (number-stop c.args.base c.loop-c.value c.loop-c.c-index c.args.word.now c.loop-c.invariant.1 c.loop-c-test.true
-    (sym c.digit.ensures ∙ c.in_err-digit.was))
-
-pub returns-in_err-checked_mul : goal.returns-in_err-checked_mul
-returns-in_err-checked_mul c =
-    c.from_residual-in_err-checked_mul.ensures
-    ∙ sym (number-large c.args.base c.loop-c.value c.loop-c.c-index c.args.word.now c.loop-c.invariant.1 c.in_ok-digit.digit
-    c.loop-c-test.true (sym c.digit.ensures ∙ c.in_ok-digit.was) c.requires.low (omega (arith, c.in_err-checked_mul.ensures)))
-
-pub returns-in_err-value : goal.returns-in_err-value
-returns-in_err-value c =
-    c.from_residual-in_err-value.ensures
-    ∙ sym (number-large c.args.base c.loop-c.value c.loop-c.c-index c.args.word.now c.loop-c.invariant.1 c.in_ok-digit.digit
-    c.loop-c-test.true (sym c.digit.ensures ∙ c.in_ok-digit.was) c.requires.low (omega (arith, c.in_err-value.ensures)))
+pub loop-c-preserved : goal.loop-c-preserved
+loop-c-preserved c = (
+  omega arith,
+  c.loop-c.invariant.1 ∙ are_more c.args.base c.loop-c.value c.loop-c.c-index c.args.word.now c.loop-c-test.true (omega arith),
+  c.loop-c.invariant.2
+      ∙ saturated_more c.args.base c.loop-c.value c.loop-c.c-index c.args.word.now c.loop-c-test.true c.saturating_add-value.result c.requires.low (omega arith),
+)
 
 pub returns : goal.returns
-returns c = sym (number-all c.args.base c.loop-c.value c.loop-c.c-index c.args.word.now c.loop-c.invariant.1 c.loop-c-test.false c.loop-c.invariant.0)
+returns c =
+    let all : are_digits c.args.base c.args.word.now ≡ true =
+    c.loop-c.invariant.1 ∙ ap (are_digits c.args.base) (drop_all c.loop-c.c-index c.args.word.now c.loop-c-test.false) in
+    let value : saturated (value_from c.args.base 0 c.args.word.now) ≡ saturated c.loop-c.value =
+    c.loop-c.invariant.2 ∙ ap (λ cs. saturated (value_from c.args.base c.loop-c.value cs)) (drop_all c.loop-c.c-index c.args.word.now c.loop-c-test.false) in
+    let same : saturated c.loop-c.value ≡ c.loop-c.value = omega (arith, c.loop-c.invariant.0) in
+    rw (all, value, same) refl

@@ -1,9 +1,9 @@
 use Rattle.std.proofs.Common.{◌≡◌, List, Some, Ok, Err, Result, IfOk, sym, ◌∙◌}
+use Rattle.job_text.specs.declared.fault.ReadFault.{ReadFault}
 use Rattle.job_text.specs.declared.job.Item.{Item}
-use Rattle.job_text.specs.declared.reader.ReadFault.{ReadFault}
 use Rattle.job_text.specs.Jobs.{IsJob}
 use Rattle.job_text.specs.Reading.{job_of}
-use Rattle.job_text.proofs.Spelling.{is_job, job_is}
+use Rattle.job_text.proofs.Texts.{is_job, job_is, no_job}
 use Rattle.job_text.proofs.reader.read_job.Goals as goal
 
 pub returns-clause-found : goal.returns-clause-found
@@ -21,8 +21,5 @@ returns-clause-only c = by c.read_exact.result c.read_exact.ensures.found
     by (Ok job) e = λ other is. let same = sym (job_is c.args.bytes.now other is) ∙ e in cc
     by (Err fault) e = tt
 
-pub returns-clause-bad : goal.returns-clause-bad
-returns-clause-bad c is job at =
-    let none = c.read_exact.ensures.bad is in
-    let some = job_is c.args.bytes.now job at in
-    cc
+pub returns-clause-no_job : goal.returns-clause-no_job
+returns-clause-no_job c fault is job at = no_job c.args.bytes.now fault job (c.read_exact.ensures.bad fault is) at

@@ -1,0 +1,67 @@
+//! Why a text is no job.
+
+use std::alloc::AllocError;
+
+/// What is wrong with a line.
+#[derive(Clone, Copy, PartialEq, Eq, Debug)]
+pub enum Cause {
+    /// Its first word names no line, it has too few or too many words, or a fixed word isn't there.
+    Word,
+    /// A word isn't of its form, or there are too few or too many digits behind `hex`.
+    Number,
+    /// A value isn't allowed.
+    Range,
+    /// An actor begins before the disk has a size.
+    NoDisk,
+    /// A limit of a job is passed.
+    TooMany,
+    /// It stands where it may not.
+    Order,
+}
+
+/// The first faulty line, counted from 1, and its cause. A text that is too long is `TooMany` at line 0.
+#[derive(Clone, Copy, PartialEq, Eq, Debug)]
+pub struct JobFault {
+    pub line: u32,
+    pub cause: Cause,
+}
+
+/// Why no job was read.
+#[derive(Clone, Copy, PartialEq, Eq, Debug)]
+pub enum ReadFault {
+    /// The bytes are no job.
+    Bad(JobFault),
+    /// Memory was wanting.
+    Memory(AllocError),
+}
+
+/// Why a line wasn't taken.
+#[derive(Clone, Copy, PartialEq, Eq, Debug)]
+pub(crate) enum Stop {
+    /// It is faulty.
+    Told(Cause),
+    /// Memory was wanting.
+    Memory(AllocError),
+}
+
+impl From<AllocError> for Stop {
+    ghost use Rattle.std.specs.Prelude.{◌≡◌};
+    ghost use Rattle.job_text.specs.declared.fault.Stop.TheVariants.{Memory};
+
+    ghost from_gives = { λ e stop. stop ≡ Memory e };
+
+    fn from(e: AllocError) -> Stop {
+        Stop::Memory(e)
+    }
+}
+
+impl From<Cause> for Stop {
+    ghost use Rattle.std.specs.Prelude.{◌≡◌};
+    ghost use Rattle.job_text.specs.declared.fault.Stop.TheVariants.{Told};
+
+    ghost from_gives = { λ cause stop. stop ≡ Told cause };
+
+    fn from(cause: Cause) -> Stop {
+        Stop::Told(cause)
+    }
+}
