@@ -23,7 +23,7 @@ use Rattle.job_text.specs.declared.job.Item.{Item}
 use Rattle.job_text.specs.declared.job.Item.TheVariants as items
 use Rattle.job_text.specs.declared.job.PhaseText.{PhaseText}
 use Rattle.job_session.specs.Legal.{Legal}
-use Rattle.job_session.specs.Stepped.{Disk, rest_of, schedule_of, Stepped, AreOwn}
+use Rattle.job_session.specs.Stepped.{Disk, rest_of, Stepped, AreOwn}
 use Rattle.job_session.specs.Runs.{MayStandAll, PhaseTold, ItemsTold}
 use Rattle.job_session.proofs.Telling.{LinesTold-none, LinesTold-more}
 
@@ -70,9 +70,9 @@ pub attr_told : (d m : Disk) (attr : Attr) (u : Option (List ℕ)) (a : List ℕ
 attr_told d m attr u a s = record { turns = []; lines = []; stepped = s; own = refl; told = LinesTold-none u a }
 
 pub phase_told : (d m : Disk) (phase : PhaseText) (actors : List (List Op)) (schedule : List Turns) (u v : Option (List ℕ)) (a b : List ℕ) (refused : Bool)
-    → actors ≡ phase.actors → schedule ≡ schedule_of phase → m.size ≡ d.size → PhaseTold d actors schedule m u v a b refused → ItemsTold d (items.Phase phase ∷ []) m u v a b refused
+    → actors ≡ phase.actors → schedule ≡ phase.schedule → m.size ≡ d.size → PhaseTold d actors schedule m u v a b refused → ItemsTold d (items.Phase phase ∷ []) m u v a b refused
 phase_told d m phase actors schedule u v a b refused are is size told =
-    let t : PhaseTold d phase.actors (schedule_of phase) m u v a b refused =
+    let t : PhaseTold d phase.actors phase.schedule m u v a b refused =
     subst (λ (x : List (List Op) × List Turns). PhaseTold d x.0 x.1 m u v a b refused) (λ i. (are i, is i)) told in
     record {
       turns = t.turns ∷ [];

@@ -1,10 +1,13 @@
 -- Why a run was given up.
-use Rattle.std.specs.Prelude.{◌≡◌, ◌⊎◌, ℕ, ◌<◌, Bool, true, false, IsTrue, List, [], ◌∷◌, ◌++◌, map, Option, length, codes, ⊤}
+use Rattle.std.specs.Prelude.{◌≡◌, ◌⊎◌, ℕ, ◌<◌, Bool, true, false, IsTrue, List, [], ◌∷◌, ◌++◌, map, Option, Some, length, codes, ⊤}
 use Rattle.std.specs.Borrow.{Bor}
 use Rattle.std.specs.Io.KnownBytes.{Appends, Consumes, IsAtEnd}
 use Rattle.std.specs.Str.{bytes_eq}
 use Rattle.job_text.specs.declared.job.Item.{Item}
+use Rattle.job_text.specs.declared.fault.JobFault.{JobFault}
 use Rattle.job_text.specs.Jobs.{IsJob}
+use Rattle.job_text.specs.Faults.{first_fault}
+use Rattle.job_session.specs.Texts.{fault_text}
 use Rattle.job_session.specs.declared.stop.Stop.{Stop}
 use Rattle.job_session.specs.declared.stop.Stop.TheVariants as stops
 use Rattle.job_session.specs.declared.stop.NoText.{NoText}
@@ -45,6 +48,16 @@ is_run_word (word ∷ other ∷ more) = false
 abbrev pub IsRunWord : List (Bor (List ℕ)) → Type 0
 IsRunWord words = IsTrue (is_run_word (map (λ word. word.now) words))
 
--- the source was read to its end, and what it had is no job
-abbrev pub HasNoJob : Option (List ℕ) → Option (List ℕ) → Type 0
-HasNoJob before after = (bytes : List ℕ) × Consumes before after bytes × IsAtEnd after × ((job : List Item) → IsJob bytes job → ⊥)
+-- The bytes are no job, and the line of their first fault was written.
+pub record IsRefusal (bytes : List ℕ) (written written_after : Option (List ℕ)) : Type 0 where
+  pub fault : JobFault
+  pub told : first_fault bytes ≡ Some fault
+  pub no_job : (job : List Item) → IsJob bytes job → ⊥
+  pub output : Appends written written_after (fault_text fault)
+
+-- The source was read to its end, or more bytes were read than a job has at most, and they were refused.
+pub record IsRefused (left left_after written written_after : Option (List ℕ)) : Type 0 where
+  pub bytes : List ℕ
+  pub taken : Consumes left left_after bytes
+  pub whole : (16777216 < length bytes) ⊎ IsAtEnd left_after
+  pub refusal : IsRefusal bytes written written_after

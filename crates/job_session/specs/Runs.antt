@@ -12,7 +12,7 @@ use Rattle.job_text.specs.declared.job.Item.{Item}
 use Rattle.job_text.specs.declared.job.Item.TheVariants as items
 use Rattle.job_text.specs.Jobs.{IsJob}
 use Rattle.job_session.specs.Legal.{Rest, Legal}
-use Rattle.job_session.specs.Stepped.{Disk, without_pages, schedule_of, Stepped, IsBySchedule, AreOwn}
+use Rattle.job_session.specs.Stepped.{Disk, without_pages, Stepped, IsBySchedule, AreOwn}
 use Rattle.job_session.specs.Texts.{text}
 use Rattle.job_session.specs.Told.{Tells}
 
@@ -23,7 +23,7 @@ NamesActors actors schedule = (k : ℕ) (t : Turns) → slice_get schedule k ≡
 -- an item that may stand where the disk has so many pages: its size is given once, and a phase is within its limits
 abbrev pub MayStand : ℕ → Item → Type 0
 MayStand pages (items.Attr (DiskPages n)) = (pages ≡ 0) × (1 ≤ n) × (n ≤ 262144)
-MayStand pages (items.Phase phase) = IsWork phase.actors × NamesActors phase.actors (schedule_of phase)
+MayStand pages (items.Phase phase) = IsWork phase.actors × NamesActors phase.actors phase.schedule
 
 -- the disk's pages behind an item
 abbrev pub pages_after : ℕ → Item → ℕ

@@ -11,7 +11,6 @@ use Rattle.zr_core.specs.States.{given_on, IsBlank}
 use Rattle.job_text.specs.declared.job.Attr.TheVariants.{DiskPages}
 use Rattle.job_text.specs.declared.job.Item.{Item}
 use Rattle.job_text.specs.declared.job.Item.TheVariants as items
-use Rattle.job_text.specs.declared.job.PhaseText.{PhaseText}
 use Rattle.job_session.specs.Legal.{Rest}
 
 -- the disk between two items: its pages, none before its size is given, and the row of their slots
@@ -30,10 +29,6 @@ disk_of world = record { size = world.pages; row = world.row.cells }
 abbrev pub rest_of : Disk → Rest
 rest_of d = record { size = d.size; holds = sector_in d.row }
 
--- the schedule of a phase
-abbrev pub schedule_of : PhaseText → List Turns
-schedule_of text = []
-
 -- A job's lines by one list of turns for each phase. A disk's size gives pages of zeros and prints nothing; a phase begins on the disk that the items before it left.
 abbrev pub Stepped : Disk → List Item → List (List ℕ) → List OutLine → Disk → Type 0
 Stepped d [] turns lines last = (turns ≡ []) × (lines ≡ []) × (last ≡ d)
@@ -51,4 +46,4 @@ abbrev pub AreOwn : List Item → List (List ℕ) → Type 0
 AreOwn [] turns = turns ≡ []
 AreOwn (items.Attr attr ∷ more) turns = AreOwn more turns
 AreOwn (items.Phase text ∷ more) [] = ⊥
-AreOwn (items.Phase text ∷ more) (mine ∷ others) = IsBySchedule text.actors (schedule_of text) mine × AreOwn more others
+AreOwn (items.Phase text ∷ more) (mine ∷ others) = IsBySchedule text.actors text.schedule mine × AreOwn more others

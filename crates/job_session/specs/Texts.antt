@@ -7,6 +7,9 @@ use Rattle.zr_base.specs.declared.op.Tag.{Tag}
 use Rattle.zr_base.specs.declared.op.OpEnd.{OpEnd}
 use Rattle.zr_base.specs.declared.op.OpEnd.TheVariants as ends
 use Rattle.plain_disk.specs.Output.{OutLine, ended, sector, ordered}
+use Rattle.job_text.specs.declared.fault.Cause.{Cause}
+use Rattle.job_text.specs.declared.fault.Cause.TheVariants as causes
+use Rattle.job_text.specs.declared.fault.JobFault.{JobFault}
 
 abbrev pub end_text : OpEnd → List ℕ
 end_text ends.Ok = codes "ok"
@@ -46,6 +49,14 @@ text lines = flat_map line_text lines
 abbrev pub usage_text : List ℕ
 usage_text = codes "usage: zramsim run" ++ 10 ∷ []
 
--- the one line of a text that is no job
-abbrev pub refusal_text : List ℕ
-refusal_text = codes "job 0 word" ++ 10 ∷ []
+abbrev pub cause_text : Cause → List ℕ
+cause_text causes.Word = codes "word"
+cause_text causes.Number = codes "number"
+cause_text causes.Range = codes "range"
+cause_text causes.NoDisk = codes "nodisk"
+cause_text causes.TooMany = codes "toomany"
+cause_text causes.Order = codes "order"
+
+-- the one line of a text that is no job: its first faulty line, and the first of the causes that it has
+unfoldable pub fault_text : JobFault → List ℕ
+fault_text fault = codes "job " ++ decimal fault.line ++ 32 ∷ cause_text fault.cause ++ 10 ∷ []

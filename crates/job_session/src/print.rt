@@ -2,8 +2,9 @@
 
 ghost use Rattle.std.specs.Prelude.{◌≡◌, ℕ, ◌+◌, ◌≤◌, List, ◌∷◌, ◌++◌, take, drop, length, reverse, OnOk, IfOk, codes, []};
 ghost use Rattle.std.specs.List.{flat_map};
-ghost use Rattle.job_session.specs.Texts.{end_text, hex_digit, hex_byte, sector_text, ended_text, ordered_text, tag_text};
+ghost use Rattle.job_session.specs.Texts.{cause_text, fault_text, end_text, hex_digit, hex_byte, sector_text, ended_text, ordered_text, tag_text};
 
+use job_text::{Cause, JobFault};
 use std::alloc::{AllocError, Global};
 use zr_base::{OpEnd, Tag};
 
@@ -123,5 +124,34 @@ pub(crate) fn put_order(
     out.extend_from_slice(text.as_bytes())?;
     put_tags(out, alloc, tags)?;
     out.push(b'\n')?;
+    Ok(())
+}
+
+fn cause_word(cause: Cause) -> &'static str
+    ensures { result.now ≡ cause_text cause }
+{
+    match cause {
+        Cause::Word => "word",
+        Cause::Number => "number",
+        Cause::Range => "range",
+        Cause::NoDisk => "nodisk",
+        Cause::TooMany => "toomany",
+        Cause::Order => "order",
+    }
+}
+
+/// The line of a text that is no job.
+#[tactic(auto, unfolding(crate::specs::Texts::fault_text))]
+pub(crate) fn put_fault(
+    out: &mut Vec<u8>,
+    alloc: Global,
+    fault: JobFault,
+) -> Result<(), AllocError>
+    ensures { OnOk result (out.new.items ≡ out.old.items ++ fault_text fault) }
+{
+    let JobFault { line, cause } = fault;
+    let word = cause_word(cause);
+    let text = format!(in alloc; "job {line} {word}\n")?;
+    out.extend_from_slice(text.as_bytes())?;
     Ok(())
 }

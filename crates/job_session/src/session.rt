@@ -4,22 +4,15 @@ ghost use Rattle.std.specs.Prelude.{◌≡◌, ◌≤◌, ℕ, List, [], ◌∷�
 ghost use Rattle.zr_core.specs.States.{IsAtRest, IsBlank};
 ghost use Rattle.job_text.specs.declared.job.Item.TheVariants as items;
 ghost use Rattle.job_session.specs.Causes.{StopCause};
-ghost use Rattle.job_session.specs.Stepped.{disk_of, schedule_of, Stepped};
+ghost use Rattle.job_session.specs.Stepped.{disk_of, Stepped};
 ghost use Rattle.job_session.specs.Runs.{MayStand, MayStandAll, pages_after, ItemsTold, JobTold};
 
 use crate::run::run_phase;
 use crate::stop::Stop;
-use job_text::{Attr, Item, PhaseText};
+use job_text::{Attr, Item};
 use std::alloc::{AllocError, Global};
-use zr_base::{Sink, Turns};
+use zr_base::Sink;
 use zr_core::World;
-
-// The schedule of a phase.
-fn schedule_of(_phase: &PhaseText) -> &[Turns]
-    ensures { result.now ≡ schedule_of _phase.now }
-{
-    &[]
-}
 
 // Sets an attribute.
 fn set_attr(world: &mut World, attr: Attr) -> Result<(), AllocError>
@@ -54,14 +47,11 @@ fn run_item<K: Sink>(
             set_attr(world, *attr)?;
             Ok(false)
         }
-        Item::Phase(phase) => run_phase(
-            out,
-            buffer,
-            alloc,
-            world,
-            phase.actors.as_slice(),
-            schedule_of(phase),
-        ),
+        Item::Phase(phase) => {
+            let actors = phase.actors.as_slice();
+            let schedule = phase.schedule.as_slice();
+            run_phase(out, buffer, alloc, world, actors, schedule)
+        }
     }
 }
 

@@ -4,22 +4,26 @@ ghost use Rattle.std.specs.Prelude.{◌≡◌, ◌⊎◌, ℕ, ◌≤◌, ◌<�
 ghost use Rattle.std.specs.Io.KnownBytes.{Appends};
 ghost use Rattle.job_text.specs.declared.job.Item.{Item as JobItem};
 ghost use Rattle.job_text.specs.Jobs.{IsJob, MayFollow, nothing_used};
-ghost use Rattle.job_session.specs.Causes.{WriteCause, StopCause, IsRunWord, IsLong, HasNoJob};
+ghost use Rattle.job_session.specs.Causes.{WriteCause, StopCause, IsRunWord, IsRefusal, IsRefused};
 ghost use Rattle.job_session.specs.Runs.{IsRun, IsWritten, IsTextRun};
-ghost use Rattle.job_session.specs.Texts.{usage_text, refusal_text};
+ghost use Rattle.job_session.specs.Texts.{usage_text, fault_text};
 
 use crate::io::{read_all, send};
 use crate::laws::jobs_are_legal;
+use crate::print::put_fault;
 use crate::session::run_items;
 use crate::stop::{NoText, Stop};
-use job_text::{Item, ReadFault, read_job};
+use job_text::{Cause, Item, JobFault, ReadFault, read_job};
 use std::alloc::Global;
 use zr_base::{Failed, Sink, Source};
 
 const USAGE: &[u8] = b"usage: zramsim run\n";
 
-// What is printed of a text that is no job.
-const REFUSAL: &[u8] = b"job 0 word\n";
+// The fault of a text that is too long.
+const TOO_LONG: JobFault = JobFault {
+    line: 0,
+    cause: Cause::TooMany,
+};
 
 /// How a run ended: the exit status of the program.
 #[derive(Clone, Copy, PartialEq, Eq, Debug)]
@@ -62,23 +66,34 @@ fn run_all<K: Sink>(alloc: Global, out: &mut K, job: &[Item]) -> Result<bool, St
     Ok(refused)
 }
 
+// Writes the line of a text that is no job.
+fn refuse<K: Sink>(alloc: Global, fault: JobFault, out: &mut K) -> Status
+    ensures job { result ≡ Status.Job → Appends (K.written out.old) (K.written out.new) (fault_text fault) }
+    ensures write { result ≡ Status.WriteFault → WriteCause (K.fault_count out.old) (K.fault_count out.new) (K.has_stopped out.new) }
+    ensures only { (result ≡ Status.Job) ⊎ (result ≡ Status.WriteFault) ⊎ (result ≡ Status.NoMemory) }
+{
+    let mut line = Vec::new(alloc);
+    if put_fault(&mut line, alloc, fault).is_err() {
+        return Status::NoMemory;
+    }
+    match send(out, &line) {
+        Ok(()) => Status::Job,
+        Err(Failed) => Status::WriteFault,
+    }
+}
+
 // Runs the job that a text is.
 fn run_text<K: Sink>(alloc: Global, text: &[u8], out: &mut K) -> Status
     ensures done { result ≡ Status.Done → IsTextRun text.now (K.written out.old) (K.written out.new) false }
     ensures refused { result ≡ Status.Refused → IsTextRun text.now (K.written out.old) (K.written out.new) true }
-    ensures job { result ≡ Status.Job → ((job : List JobItem) → IsJob text.now job → ⊥) × Appends (K.written out.old) (K.written out.new) refusal_text }
+    ensures job { result ≡ Status.Job → IsRefusal text.now (K.written out.old) (K.written out.new) }
     ensures write { result ≡ Status.WriteFault → WriteCause (K.fault_count out.old) (K.fault_count out.new) (K.has_stopped out.new) }
     ensures words { result ≡ Status.Words → ⊥ }
     ensures read { result ≡ Status.ReadFault → ⊥ }
 {
     let job = match read_job(alloc, text) {
         Ok(job) => job,
-        Err(ReadFault::Bad) => {
-            return match send(out, REFUSAL) {
-                Ok(()) => Status::Job,
-                Err(Failed) => Status::WriteFault,
-            };
-        }
+        Err(ReadFault::Bad(fault)) => return refuse(alloc, fault, out),
         Err(ReadFault::Memory(_)) => return Status::NoMemory,
     };
     match run_all(alloc, out, job.as_slice()) {
@@ -109,8 +124,8 @@ pub fn sim_main<S: Source, K: Sink>(
     ensures words { result ≡ Status.Words → ¬ IsRunWord words.now × Appends (K.written out.old) (K.written out.new) usage_text }
     ensures other_words { ¬ IsRunWord words.now → (job.new ≡ job.old) × (result ≡ Status.Words ⊎ result ≡ Status.WriteFault) }
 
-    // A text that is no job, or too long for one, is answered by one line.
-    ensures job { result ≡ Status.Job → IsRunWord words.now × (IsLong (S.left job.old) (S.left job.new) ⊎ HasNoJob (S.left job.old) (S.left job.new)) × Appends (K.written out.old) (K.written out.new) refusal_text }
+    // A text that is no job, or too long for one, is answered by the one line of its first fault.
+    ensures job { result ≡ Status.Job → IsRunWord words.now × IsRefused (S.left job.old) (S.left job.new) (K.written out.old) (K.written out.new) }
 
     // A fault is told only where the source failed, or the sink failed or stopped.
     ensures read { result ≡ Status.ReadFault → IsRunWord words.now × (S.fault_count job.old < S.fault_count job.new) × Appends (K.written out.old) (K.written out.new) [] }
@@ -124,10 +139,7 @@ pub fn sim_main<S: Source, K: Sink>(
     }
     match read_all(alloc, job) {
         Ok(text) => run_text(alloc, &text, out),
-        Err(NoText::Long) => match send(out, REFUSAL) {
-            Ok(()) => Status::Job,
-            Err(Failed) => Status::WriteFault,
-        },
+        Err(NoText::Long) => refuse(alloc, TOO_LONG, out),
         Err(NoText::Failed) => Status::ReadFault,
         Err(NoText::Memory) => Status::NoMemory,
     }

@@ -16,7 +16,7 @@ pub returns-in-Phase-clause-item : goal.returns-in-Phase-clause-item
 returns-in-Phase-clause-item g c = by c.run_phase.result c.run_phase.ensures.phase
   where
     by : (r : Result Bool Stop)
-        → IfOk r (λ refused. PhaseTold (disk_of c.args.world.now) c.as_slice.result.now c.schedule_of.result.now (disk_of c.run_phase.new.world)
+        → IfOk r (λ refused. PhaseTold (disk_of c.args.world.now) c.as_slice-actors.result.now c.as_slice-schedule.result.now (disk_of c.run_phase.new.world)
         (g.K.Sink.written c.args.out.now) (g.K.Sink.written c.run_phase.new.out) c.args.buffer.now.items c.run_phase.new.buffer.items refused)
         → IfOk r (λ refused. ItemsTold (disk_of c.args.world.now) (c.args.item.now ∷ []) (disk_of c.run_phase.new.world)
         (g.K.Sink.written c.args.out.now) (g.K.Sink.written c.run_phase.new.out) c.args.buffer.now.items c.run_phase.new.buffer.items refused)
@@ -24,5 +24,5 @@ returns-in-Phase-clause-item g c = by c.run_phase.result c.run_phase.ensures.pha
     by (Ok refused) told =
         subst (λ (item : Item). ItemsTold (disk_of c.args.world.now) (item ∷ []) (disk_of c.run_phase.new.world) (g.K.Sink.written c.args.out.now) (g.K.Sink.written c.run_phase.new.out)
         c.args.buffer.now.items c.run_phase.new.buffer.items refused) (sym c.in-Phase.is)
-        (phase_told (disk_of c.args.world.now) (disk_of c.run_phase.new.world) c.in-Phase.phase c.as_slice.result.now c.schedule_of.result.now _ _ _ _ refused
-        c.as_slice.ensures c.schedule_of.ensures c.run_phase.ensures.pages told)
+        (phase_told (disk_of c.args.world.now) (disk_of c.run_phase.new.world) c.in-Phase.phase c.as_slice-actors.result.now c.as_slice-schedule.result.now _ _ _ _ refused
+        c.as_slice-actors.ensures c.as_slice-schedule.ensures c.run_phase.ensures.pages told)
