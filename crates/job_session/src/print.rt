@@ -142,11 +142,7 @@ fn cause_word(cause: Cause) -> &'static str
 
 /// The line of a text that is no job.
 #[tactic(auto, unfolding(crate::specs::Texts::fault_text))]
-pub(crate) fn put_fault(
-    out: &mut Vec<u8>,
-    alloc: Global,
-    fault: JobFault,
-) -> Result<(), AllocError>
+pub(crate) fn put_fault(out: &mut Vec<u8>, alloc: Global, fault: JobFault) -> Result<(), AllocError>
     ensures { OnOk result (out.new.items ≡ out.old.items ++ fault_text fault) }
 {
     let JobFault { line, cause } = fault;

@@ -33,7 +33,7 @@ fn runs_jobs(rt: HostRuntime) -> Result<(), Fail> {
     let table: [(&[&str], &str, &[u64], usize, Status, &str); 8] = [
         (run, JOB, &[], 1000, Status::Refused, OUTPUT),
         (run, "run\n", &[], 1000, Status::Done, ""),
-        (run, "stop\n", &[], 1000, Status::Job, "job 0 word\n"),
+        (run, "\nstop\n", &[], 1000, Status::Job, "job 2 word\n"),
         (&[], JOB, &[], 1000, Status::Words, usage),
         (&["run", "now"], JOB, &[], 1000, Status::Words, usage),
         (&["gen", "0", "0"], JOB, &[], 1000, Status::Words, usage),
@@ -44,5 +44,45 @@ fn runs_jobs(rt: HostRuntime) -> Result<(), Fail> {
         let end = ends(rt.alloc(), words, text, failing, room, wanted)?;
         assert_eq!(rt; end, (status, true), "at {text}");
     }
+    Ok(())
+}
+
+// One page, written by one actor and read by another, with these lines between their operations and the `run`.
+const WRITTEN: &str = "op 0 0 ok\nop 1 0 ok\nfill 0000000000000001\norder 0 0:0 1:0\n";
+
+const ZEROS: &str = "op 0 0 ok\nop 1 0 ok\nfill 0000000000000000\norder 0 1:0 0:0\n";
+
+#[test]
+fn follows_schedules(rt: HostRuntime) -> Result<(), Fail> {
+    let two = "disksize 4K\nactor\nwrite 0 8 fill 1\nactor\nread 0 1\n";
+    let table = [
+        ("run\n", WRITTEN),
+        ("schedule 1*2\nrun\n", ZEROS),
+        ("schedule 0 1*9 0 1\nrun\n", WRITTEN),
+        ("schedule 1\nschedule 0*9\nrun\n", ZEROS),
+    ];
+    for (end, wanted) in table {
+        let job = format!(in rt.alloc(); "{two}{end}")?;
+        let ended = ends(rt.alloc(), &["run"], &job, &[], 1000, wanted)?;
+        assert_eq!(rt; ended, (Status::Done, true), "at {end}");
+    }
+    Ok(())
+}
+
+#[test]
+fn keeps_the_disk_between_phases(rt: HostRuntime) -> Result<(), Fail> {
+    let job =
+        "run\ndisksize 8K\nactor\nwrite 8 8 seq 1 1\nrun\nrun\nactor\ndiscard 8 4\nread 7 2\nrun\n";
+    let mut out = MemSink::new(rt.alloc(), 10_000, &[])?;
+    let mut source = MemSource::new(rt.alloc(), job.as_bytes(), &[])?;
+    assert_eq!(rt;
+        sim_main(rt.alloc(), &["run"], &mut source, &mut out),
+        Status::Done
+    );
+    let first =
+        "op 0 0 ok\norder 1 0:0\nop 0 0 ok\nop 0 1 ok\nfill 0000000000000000\nhex 0100000000000000";
+    let last = "order 0 0:1\norder 1 0:1\n";
+    assert!(rt; out.bytes().starts_with(first.as_bytes()));
+    assert!(rt; out.bytes().ends_with(last.as_bytes()));
     Ok(())
 }
