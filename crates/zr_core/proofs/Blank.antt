@@ -7,7 +7,7 @@ use Rattle.lock_row.specs.Rows.{Row, place_in, cell, at_home, names_of, cells_of
 use Rattle.slot_entry.specs.declared.entry.Kept.TheVariants.{Empty}
 use Rattle.slot_entry.specs.Entries.{EntryState}
 use Rattle.zr_core.specs.Steps.{DiskHeld, slot}
-use Rattle.zr_core.specs.States.{slots_of, IsBlank}
+use Rattle.zr_core.specs.States.{slots_of, IsBlank, IsAtRest}
 use Rattle.zr_core.proofs.Sectors.{map_range_push}
 use Rattle.zr_core.proofs.States.{slot_place}
 
@@ -51,3 +51,6 @@ more_blank xs n k e kept order b = subst (IsBlank (n + 1)) (sym (cells_push xs k
 -- the value of a page's slot
 pub value_at : (r : Row DiskHeld) (size page : ℕ) → r.names ≡ slots_of size → page < size → (c : Option DiskHeld) → slice_get r.cells page ≡ Some c → at_home (cell r (slot page)) ≡ c
 value_at r size page names lt c e = ap at_home (ap (slice_get r.cells) (ap (λ ks. place_in ks (slot page)) names ∙ slot_place size page lt) ∙ e)
+
+pub blank_rest : (n : ℕ) (cells : List (Option DiskHeld)) → IsBlank n cells → IsAtRest n cells
+blank_rest n cells b = record { size = b.size; each = λ p lt. let x = b.each p lt in (x.0, x.1) }

@@ -87,7 +87,7 @@ few_from nr p op page zero = omega arith
 few_from nr p op page (suc n) = let q = pieces_next nr p op page n in let r = few_from nr p op (page + 1) n in let s = few_one op page p in omega arith where
   few_one : (op : Op) (page p : ℕ) → one op page p ≤ 1
   few_one op page p = elim (cases_Bool (has_event op page)) [
-    | inl on ↦ rw on (elim (cases_Bool (eqb page p)) [ | inl same ↦ rw same (omega arith) | inr other ↦ rw other (omega arith) ])
+    | inl on ↦ rw on (elim (cases_Bool (eqb page p)) [ inl same ↦ rw same (omega arith) | inr other ↦ rw other (omega arith) ])
     | inr off ↦ rw off (omega arith)
   ]
 

@@ -157,9 +157,9 @@ module _ (size : ℕ) (actors : List (List Op)) (cells cells' : List (Option Dis
       subst (IsFresh (given_on size actors cells) locals p) is (
         k.order lt,
         (λ j small.
-        ap (λ (kept : Kept). page_sector (page_of kept) j) k.kept
-        ∙ sym (ap (λ (x : ℕ × ℕ). page_sector (page_in (get_or cells x.0 None)) x.1) (λ i. ((let q : (8 * p + j) / 8 ≡ p = omega arith in q) i, (let q : (8 * p + j) % 8 ≡ j = omega arith in q) i))
-        ∙ ap (λ (page : List ℕ). page_sector page j) (page_at cells p k.was k.before))),
+            ap (λ (kept : Kept). page_sector (page_of kept) j) k.kept
+            ∙ sym (ap (λ (x : ℕ × ℕ). page_sector (page_in (get_or cells x.0 None)) x.1) (λ i. ((let q : (8 * p + j) / 8 ≡ p = omega arith in q) i, (let q : (8 * p + j) % 8 ≡ j = omega arith in q) i))
+            ∙ ap (λ (page : List ℕ). page_sector page j) (page_at cells p k.was k.before))),
         (let o = owed_is size p actors ws new.count (λ a ops w named there. (new.each a ops w named there).todo) in let m = counted p lt in let room = k.room lt in omega arith),
       )
 

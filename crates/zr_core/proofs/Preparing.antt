@@ -2,7 +2,7 @@
 use Rattle.std.proofs.Common.{◌≡◌, ◌≢◌, ℕ, zero, suc, ◌+◌, ◌*◌, ◌<◌, ◌≤◌, Bool, true, false, cond, eqb, List, [], ◌∷◌, ◌++◌, length, get_or, Option, Some, None, slice_get, slice_set, refl, sym, ap, ◌∙◌, subst, arith, length-set}
 use Rattle.std.specs.Prelude.{Result, Ok, Err, OnOk, OnErr}
 use Rattle.lock_row.specs.declared.names.Held.TheVariants as holds
-use Rattle.lock_row.specs.Rows.{Row, IsIn, place_in, cell, with_cell}
+use Rattle.lock_row.specs.Rows.{Row, IsIn, place_in, cell, with_cell, at_home}
 use Rattle.slot_entry.specs.Entries.{EntryState}
 use Rattle.zr_core.specs.Steps.{DiskHeld, slot}
 use Rattle.zr_core.specs.States.{slots_of, IsAtRest}
@@ -84,3 +84,11 @@ module _ (size page : ℕ) (lt : page < size) where
           order = order;
           room = room;
         }
+
+-- a value that is seen at home is there
+home_at : (o : Option (Option DiskHeld)) (v : DiskHeld) → at_home o ≡ Some v → o ≡ Some (Some v)
+home_at None v e = absurd (cc)
+home_at (Some x) v e = ap (λ (y : Option DiskHeld). Some y) e
+
+pub seen_at_home : (size page : ℕ) → page < size → (r : Row DiskHeld) → r.names ≡ slots_of size → (v : DiskHeld) → at_home (cell r (slot page)) ≡ Some v → slice_get r.cells page ≡ Some (Some v)
+seen_at_home size page lt r names v e = home_at (slice_get r.cells page) v (ap at_home (sym (cell_at size page lt r names)) ∙ e)

@@ -11,3 +11,6 @@ mod world;
 pub use laws::{phases_are_legal, turns_keep};
 pub use worker::{DiskHeld, Turn};
 pub use world::{Phase, World};
+
+#[cfg(test)]
+mod tests;

@@ -1,17 +1,19 @@
 //! How a phase is set up: its pieces are counted for each page, the entries' orders are emptied and
 //! get room for them, and each actor gets a worker with room for what its reads will tell.
 
-ghost use Rattle.std.specs.Prelude.{◌≡◌, ℕ, ◌+◌, ◌<◌, ◌≤◌, ◌^◌, length, slice_get, Some, IfOk, OnOk, OnErr};
+ghost use Rattle.std.specs.Prelude.{◌≡◌, ℕ, ◌+◌, ◌<◌, ◌≤◌, ◌^◌, [], length, slice_get, Some, IfOk, OnOk, OnErr};
+ghost use Rattle.std.specs.Bool.{OnTrue};
 ghost use Rattle.zr_base.specs.Plain.{IsRequest};
+ghost use Rattle.lock_row.specs.declared.names.Held.TheVariants as holds;
+ghost use Rattle.slot_entry.specs.Entries.{EntryState};
 ghost use Rattle.call_history.specs.Parts.{parts, program};
 ghost use Rattle.zr_core.specs.Joint.{pieces_on};
-ghost use Rattle.zr_core.specs.Machines.{sector_in};
 ghost use Rattle.zr_core.specs.Places.{AreRequests, IsWork};
 ghost use Rattle.zr_core.specs.States.{slots_of, IsAtRest};
 ghost use Rattle.zr_core.specs.Preparing.{count_at, pieces_each, IsReserved, AreReserved, IsNewReply, AreNewReplies, IsNewWorker, AreNewWorkers};
 
 use crate::place::{bounds, first_piece, has_work, pages_to_do, settled};
-use crate::worker::{DiskHeld, Reply, Worker, entry_of};
+use crate::worker::{DiskHeld, Reply, Worker, entry_in, entry_of};
 use lock_row::{Hand, Held, LockNo, SimRow, Still};
 use std::alloc::{AllocError, Global};
 use zr_base::{ActorOps, Op, OpEnd, PageIx};
@@ -63,6 +65,18 @@ pub(crate) fn count_pieces(
     Ok(counts)
 }
 
+// Whether a page's entry has no calls.
+fn is_unused(row: &SimRow<DiskHeld>, size: u32, page: u32) -> bool
+    requires names { row.now.names ≡ slots_of size }
+    requires page { page < size }
+    ensures { OnTrue result ((e : EntryState) × (slice_get row.now.cells page ≡ Some (Some (holds.Slot e))) × (e.order ≡ [])) }
+{
+    match row.value(LockNo::Slot(PageIx(page))) {
+        None => false,
+        Some(value) => entry_in(value).order().is_empty(),
+    }
+}
+
 // Empties the order of a page's entry, and makes its room. On Err nothing changed.
 fn reserve(row: &mut SimRow<DiskHeld>, size: u32, page: u32, count: u32) -> Result<(), AllocError>
     requires names { row.old.names ≡ slots_of size }
@@ -72,6 +86,9 @@ fn reserve(row: &mut SimRow<DiskHeld>, size: u32, page: u32, count: u32) -> Resu
     ensures reserved { OnOk result (IsReserved page count row.old.cells row.new.cells) }
     ensures err { OnErr result (row.new.cells ≡ row.old.cells) }
 {
+    if count == 0 && is_unused(row, size, page) {
+        return Ok(());
+    }
     let slot = LockNo::Slot(PageIx(page));
     let mut hand = row.hand(0);
     let Some(value) = hand.try_take::<Still>(slot) else {

@@ -92,6 +92,17 @@ pub(crate) fn entry_of(value: DiskHeld) -> Entry
     }
 }
 
+/// The same, where it stays.
+pub(crate) fn entry_in(value: &DiskHeld) -> &Entry
+    ensures { value.now ≡ holds.Slot result.now }
+{
+    match value {
+        Held::Slot(entry) => entry,
+        Held::Class(never) | Held::Account(never) | Held::Blocks(never) | Held::Device(never) =>
+            match *never {},
+    }
+}
+
 impl Worker {
     /// Whether the actor has no piece left.
     pub fn is_done(&self, ops: &[Op]) -> bool

@@ -13,7 +13,7 @@ ghost use Rattle.zr_core.specs.Places.{IsWork};
 ghost use Rattle.zr_core.specs.States.{slots_of, state, ends_shown, sectors_shown, of_op, given_on, IsAtRest, IsBlank, IsPrepared, AreFit, AreKept, CanGoOn, TurnsOnce};
 
 use crate::prepare::{count_pieces, new_workers, reserve_all};
-use crate::worker::{DiskHeld, Turn, Worker};
+use crate::worker::{DiskHeld, Turn, Worker, entry_in};
 use lock_row::{Held, LockNo, SimRow};
 use slot_entry::Entry;
 use std::alloc::{AllocError, Global};
@@ -32,17 +32,6 @@ pub struct World {
     pages: u32,
     row: SimRow<DiskHeld>,
     ghost slots: { row.names ≡ slots_of pages },
-}
-
-// The entry that a slot's lock guards.
-fn entry_in(value: &DiskHeld) -> &Entry
-    ensures { value.now ≡ holds.Slot result.now }
-{
-    match value {
-        Held::Slot(entry) => entry,
-        Held::Class(never) | Held::Account(never) | Held::Blocks(never) | Held::Device(never) =>
-            match *never {},
-    }
 }
 
 impl Phase {
@@ -68,6 +57,7 @@ impl World {
     pub fn new(alloc: Global) -> World
         ensures pages { result.pages ≡ 0 }
         ensures cells { result.row.cells ≡ [] }
+        ensures rest { IsAtRest result.pages result.row.cells }
     {
         World {
             alloc,
@@ -83,6 +73,7 @@ impl World {
         requires most { pages ≤ 262144 }
         ensures pages { OnOk result (self.new.pages ≡ pages) }
         ensures blank { OnOk result (IsBlank pages self.new.row.cells) }
+        ensures rest { OnOk result (IsAtRest self.new.pages self.new.row.cells) }
         ensures err { OnErr result ((self.new.pages ≡ 0) × (self.new.row ≡ self.old.row)) }
     {
         let mut values = Vec::with_capacity(self.alloc, pages as usize)?;

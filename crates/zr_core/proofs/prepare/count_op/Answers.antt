@@ -30,7 +30,7 @@ loop-page-preserved c =
     let a = (goal.at.loop-page-preserved c).After-has_work in
     let i = c.loop-page.invariant in
     elim c.if-has_work.branch [
-    | then-has_work w ↦ record {
+      | then-has_work w ↦ record {
         from = (let f = i.from in omega arith);
         size = ap length w.counts-is ∙ length-set c.loop-page.counts c.loop-page.page _ ∙ i.size;
         counted = λ p lt.
@@ -38,7 +38,7 @@ loop-page-preserved c =
             let n = next a p true w.if-has_work.true in
             let m = ap (λ (cs : List ℕ). count_at cs p) w.counts-is ∙ count_more c.loop-page.counts c.loop-page.page p (let s = i.size in let b = below a in omega arith) in omega arith;
       }
-    | else-has_work w ↦ record {
+      | else-has_work w ↦ record {
         from = (let f = i.from in omega arith);
         size = ap length w.counts-is ∙ i.size;
         counted = λ p lt.

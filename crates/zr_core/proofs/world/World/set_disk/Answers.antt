@@ -1,10 +1,10 @@
-use Rattle.std.proofs.Common.{◌+◌, List, sym, ap, ◌∙◌, subst, arith}
+use Rattle.std.proofs.Common.{◌≡◌, ℕ, ◌+◌, List, Option, sym, ap, ◌∙◌, subst, arith}
 use Rattle.lock_row.specs.declared.names.LockNo.{LockNo}
 use Rattle.lock_row.specs.Rows.{IsDistinct, names_of, cells_of}
 use Rattle.zr_core.specs.Steps.{DiskHeld, slot}
 use Rattle.zr_core.specs.States.{IsBlank}
 use Rattle.zr_core.proofs.States.{slots_distinct}
-use Rattle.zr_core.proofs.Blank.{more_names, more_blank}
+use Rattle.zr_core.proofs.Blank.{more_names, more_blank, blank_rest}
 use Rattle.zr_core.proofs.world.World.set_disk.Goals as goal
 
 pub loop-page-preserved : goal.loop-page-preserved
@@ -20,3 +20,8 @@ loop-page-preserved c =
 
 pub new-requires-2 : goal.new-requires-2
 new-requires-2 c = subst IsDistinct (sym c.loop-page.invariant.names) (slots_distinct c.loop-page.page)
+
+pub returns-clause-rest : goal.returns-clause-rest
+returns-clause-rest c =
+    let all : c.loop-page.page ≡ c.args.pages = (let t = c.loop-page-test.false in omega arith) in
+    blank_rest c.args.pages c.in-Ok.row.cells (subst (λ (x : ℕ × List (Option DiskHeld)). IsBlank x.0 x.1) (λ i. (all i, sym c.in-Ok.ensures.cells i)) c.loop-page.invariant.blank)

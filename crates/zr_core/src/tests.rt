@@ -1,0 +1,57 @@
+//! A phase of two actors, turn by turn.
+
+ghost use Rattle.std.specs.Prelude.{◌≡◌, [], ◌∷◌, IfOk};
+
+use crate::{Turn, World};
+use lock_row::LockNo;
+use std::alloc::{AllocError, Global};
+use std::test::Fail;
+use zr_base::{ActorOps, Op, PageIx, Stuff, Turns};
+
+#[test]
+fn makes_a_disk(rt: HostRuntime) -> Result<(), Fail> {
+    let mut world = World::new(rt.alloc());
+    assert_eq!(rt; world.pages(), 0);
+    world.set_disk(2)?;
+    assert_eq!(rt; world.pages(), 2);
+    assert!(rt; world.entry(PageIx(1)).order().is_empty());
+    Ok(())
+}
+
+fn operations(alloc: Global, op: Op) -> Result<ActorOps, AllocError>
+    ensures { IfOk result (λ ops. ops ≡ op ∷ []) }
+{
+    let mut ops = ActorOps::new(alloc);
+    match ops.push(op) {
+        Ok(()) => Ok(ops),
+        Err(_) => Err(AllocError),
+    }
+}
+
+#[test]
+fn runs_two_actors(rt: HostRuntime) -> Result<(), Fail> {
+    let mut world = World::new(rt.alloc());
+    world.set_disk(2)?;
+    let write = Op::Write {
+        start: 0,
+        count: 16,
+        stuff: Stuff::Fill(1),
+    };
+    let read = Op::Read {
+        start: 0,
+        count: 16,
+    };
+    let mut ops = Vec::new(rt.alloc());
+    ops.push(operations(rt.alloc(), write)?)?;
+    ops.push(operations(rt.alloc(), read)?)?;
+    let mut phase = world.prepare(&ops)?;
+    assert_eq!(rt; world.step(&mut phase, &ops, 0), Turn::Went);
+    assert_eq!(rt;
+        world.step(&mut phase, &ops, 1),
+        Turn::Waited(LockNo::Slot(PageIx(0)))
+    );
+    let turns = Turns { actor: 0, times: 1 };
+    world.run(&mut phase, &ops, &[turns]);
+    assert_eq!(rt; world.step(&mut phase, &ops, 1), Turn::Finished);
+    Ok(())
+}
