@@ -16,7 +16,7 @@ use Rattle.slot_entry.specs.Entries.{page_of}
 use Rattle.zr_core.specs.Steps.{DiskHeld}
 use Rattle.zr_core.specs.Machines.{PhaseSteps, page_in, sector_in}
 use Rattle.zr_core.specs.Places.{AreRequests, IsWork}
-use Rattle.zr_core.specs.States.{given_on, IsAtRest, IsBlank}
+use Rattle.zr_core.specs.States.{given_on, IsBlank}
 use Rattle.job_text.specs.declared.job.Attr.{Attr}
 use Rattle.job_text.specs.declared.job.Attr.TheVariants.{DiskPages}
 use Rattle.job_text.specs.declared.job.Item.{Item}
@@ -83,9 +83,6 @@ phase_told d m phase actors schedule u v a b refused are is size told =
     }
 
 -- ---- a blank disk
-
-pub blank_rests : (n : ℕ) (row : List (Option DiskHeld)) → IsBlank n row → IsAtRest n row
-blank_rests n row blank = record { size = blank.size; each = λ p lt. let e = blank.each p lt in (e.0, e.1) }
 
 zeros_there : (at : ℕ) → at < 8 → page_sector (replicate 4096 0) at ≡ zero_sector
 unfolding zero_sector
