@@ -138,6 +138,10 @@ impl<V: Drop> SimRow<V> {
         let Some(at) = place(&self.names, lock) else {
             unreachable!()
         };
+        // A miss moves nothing, however great a value is.
+        if self.cells[at].is_none() {
+            return None;
+        }
         self.cells[at].take()
     }
 
