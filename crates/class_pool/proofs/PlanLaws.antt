@@ -1,13 +1,12 @@
 -- The rows of a pool's zspages, and the best of them by the winners of the ranks.
-use Rattle.std.proofs.Common.{◌≡◌, ◌≢◌, ℕ, zero, suc, ◌+◌, ◌-◌, ◌<◌, ◌≤◌, ◌⊎◌, List, [], ◌∷◌, Option, None, Some, Bool, true, false, cond, not, length, map, slice_index, slice_index_or, refl, sym, ◌∙◌, ap, subst, inl, inr, arith, Contains, All, AllPairs, IsTrue}
-use Rattle.std.proofs.lemmas.Bool.{cases_lt, cases_eq, lt-ltb, ltb-true}
+use Rattle.std.proofs.Common.{◌≡◌, ◌≢◌, ℕ, zero, suc, ◌+◌, ◌-◌, ◌<◌, ◌≤◌, List, [], ◌∷◌, Option, None, Some, Bool, true, false, cond, not, length, map, slice_index, slice_index_or, refl, sym, ◌∙◌, ap, subst, inl, inr, arith, Contains}
+use Rattle.std.proofs.lemmas.Bool.{cases_lt, lt-ltb, ltb-true}
 use Rattle.std.proofs.lemmas.Bool.Decides.{nat_tests}
-use Rattle.std.proofs.lemmas.List.{length-map, get_or_default}
+use Rattle.std.proofs.lemmas.List.{get_or_default}
 use Rattle.std.proofs.lemmas.List.Kept.{AllPairs-cons}
 use Rattle.std.proofs.lemmas.List.Sums.{sum_by-cons}
-use Rattle.std.proofs.lemmas.List.Folds.{sum_by-replicate}
 use Rattle.tournament.specs.Winner.{IsWinner, IsLastWinner}
-use Rattle.zspage.specs.Cells.{UsedCell, ZspageState, used_of, is_home, home_of, entry}
+use Rattle.zspage.specs.Cells.{ZspageState, used_of, is_home, home_of, entry}
 use Rattle.zs_plan.specs.declared.Row.{Row}
 use Rattle.zs_plan.specs.Plan.{IsPartial, IsFuller, IsEmptier, HasMovable, IsFirst, IsBest, HaveOwnIds}
 use Rattle.class_pool.specs.Zspages.{Cells, cells_of, rank_of, source_rank, AreZspages}

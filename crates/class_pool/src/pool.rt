@@ -313,8 +313,9 @@ mod tests {
         let third = add(&rt, &mut pool, &bytes)?;
         let fourth = add(&rt, &mut pool, &bytes)?;
         let fifth = add(&rt, &mut pool, &bytes)?;
-        assert!(rt; second != third && second != fourth && second != fifth);
-        assert!(rt; fourth != third && fourth != fifth);
+        assert!(rt; fourth.0 != second.0);
+        assert!(rt; fifth.0 != second.0);
+        assert!(rt; fifth.0 != fourth.0);
         assert_eq!(rt; pool.next_move(), None);
         pool.free(second);
         assert_eq!(rt; pool.next_move(), Some((2, 0)));

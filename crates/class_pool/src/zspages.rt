@@ -161,11 +161,11 @@ impl Zspages {
         if self.items.is_empty() {
             return None;
         }
-        let winner = self.sources.last_winner();
-        if self.sources.rank(winner) == STAYS {
+        let last = self.sources.last_winner();
+        if self.sources.rank(last) == STAYS {
             return None;
         }
-        self.row(winner)
+        self.row(last)
     }
 
     /// Makes a zspage under an id that none has.

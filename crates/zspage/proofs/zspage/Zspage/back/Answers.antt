@@ -19,7 +19,7 @@ returns-clause-used c =
       arith,
       ap (λ z. used_of z.cells) c.self.view_is,
       (lend_leaves _ _ _ _ _ _ _ _ _ _ _ c.self.invariant (large_low _ _ _ large) c.index_mut-spot.ensures.value c.back.ensures.1 c.back.ensures.2
-    (back_count c.self.inside.home c.self.inside.spots.items c.args.ix _ _ _ c.index_mut-spot.ensures.value large c.back.ensures.1)).count,
+          (back_count c.self.inside.home c.self.inside.spots.items c.args.ix _ _ _ c.index_mut-spot.ensures.value large c.back.ensures.1)).count,
     )
 
 pub returns-clause-after : goal.returns-clause-after
@@ -32,7 +32,7 @@ returns-clause-after c =
       rw (← c.self.view_is)
           (ap (λ cells. made c.self.inside.id c.self.inside.size c.self.inside.frames cells)
           (lend_leaves _ _ _ _ _ _ _ _ _ _ _ c.self.invariant low c.index_mut-spot.ensures.value c.back.ensures.1 c.back.ensures.2
-    (back_count c.self.inside.home c.self.inside.spots.items c.args.ix _ _ _ c.index_mut-spot.ensures.value large c.back.ensures.1)).cells),
+          (back_count c.self.inside.home c.self.inside.spots.items c.args.ix _ _ _ c.index_mut-spot.ensures.value large c.back.ensures.1)).cells),
     )
 
 pub overflow_add-self : goal.overflow_add-self

@@ -19,7 +19,7 @@ returns-clause-used c =
       arith,
       ap (λ z. used_of z.cells) c.self.view_is,
       (lend_leaves _ _ _ _ _ _ _ _ _ _ _ c.self.invariant (home_low _ _ home) c.index_mut-spot.ensures.value c.lend-cell.ensures.1 c.lend-cell.ensures.4
-    (lend_count _ _ _ _ _ _ _ _ c.self.invariant c.index_mut-spot.ensures.value home c.lend-cell.ensures.1)).count,
+          (lend_count _ _ _ _ _ _ _ _ c.self.invariant c.index_mut-spot.ensures.value home c.lend-cell.ensures.1)).count,
     )
 
 pub returns-clause-after : goal.returns-clause-after
@@ -34,5 +34,5 @@ returns-clause-after c =
       rw (← c.self.view_is)
           (ap (λ cells. made c.self.inside.id c.self.inside.size c.self.inside.frames cells)
           (lend_leaves _ _ _ _ _ _ _ _ _ _ _ c.self.invariant low c.index_mut-spot.ensures.value c.lend-cell.ensures.1 c.lend-cell.ensures.4
-    (lend_count _ _ _ _ _ _ _ _ c.self.invariant c.index_mut-spot.ensures.value home c.lend-cell.ensures.1)).cells),
+          (lend_count _ _ _ _ _ _ _ _ c.self.invariant c.index_mut-spot.ensures.value home c.lend-cell.ensures.1)).cells),
     )
