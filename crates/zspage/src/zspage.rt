@@ -187,10 +187,6 @@ mod tests {
         assert!(rt; zspage.used() < zspage.per());
         assert_eq!(rt; zspage.take_cell(Handle(5), &[1, 2, 3]), 0);
         assert_eq!(rt; (zspage.used(), zspage.at_home()), (1, 1));
-        let cell = zspage.lend(0);
-        assert_eq!(rt; (zspage.used(), zspage.at_home()), (1, 0));
-        zspage.back(0, cell);
-        assert_eq!(rt; (zspage.used(), zspage.at_home()), (1, 1));
         Ok(())
     }
 }
