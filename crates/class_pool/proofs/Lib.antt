@@ -6,3 +6,4 @@ pub mod IndexLaws
 pub mod PoolLaws
 pub mod StatLaws
 pub mod HomeLaws
+pub mod PlanLaws

@@ -130,7 +130,7 @@ use_at-put zs i n k l least =
 
 -- ---- a used cell has a place
 
-contains_cons : {A : Type 0} (x : A) (xs : List A) (y : A) → Contains (x ∷ xs) y → (x ≡ y) ⊎ Contains xs y
+pub contains_cons : {A : Type 0} (x : A) (xs : List A) (y : A) → Contains (x ∷ xs) y → (x ≡ y) ⊎ Contains xs y
 contains_cons x xs y (zero, low, at) = inl at
 contains_cons x xs y (suc k, low, at) = inr (k, omega arith, at)
 

@@ -1,4 +1,5 @@
 pub mod Zspages
+pub mod Rows
 pub mod Places
 pub mod Pool
 pub mod Index

@@ -1,6 +1,6 @@
 -- The zspages of one class by their ids, and which of them takes the next object.
-use Rattle.std.specs.Prelude.{ℕ, zero, suc, ◌≡◌, ◌+◌, ◌*◌, ◌/◌, ◌<◌, ◌≤◌, ◌⊎◌, ◌==◌, ◌^◌, List, [], ◌∷◌, Option, None, Some, length, slice_index, if◌then◌else◌}
-use Rattle.zspage.specs.Cells.{UsedCell, ZspageState, used_of, entry}
+use Rattle.std.specs.Prelude.{ℕ, zero, suc, ◌≡◌, ◌+◌, ◌-◌, ◌*◌, ◌/◌, ◌<◌, ◌≤◌, ◌⊎◌, ◌==◌, ◌^◌, List, [], ◌∷◌, Option, None, Some, length, slice_index, if◌then◌else◌}
+use Rattle.zspage.specs.Cells.{UsedCell, ZspageState, used_of, home_of, entry}
 
 -- the cells of a zspage
 abbrev pub Cells : Type 0
@@ -62,12 +62,22 @@ abbrev pub rank_of : Option Cells → ℕ
 rank_of None = 1
 rank_of (Some cells) = if used_of cells == length cells then 0 else used_of cells + 2
 
+-- of the zspages that can give an object the least used has the greatest rank, and the others have rank 0
+abbrev pub source_rank : Option Cells → ℕ
+source_rank None = 0
+source_rank (Some cells) = if home_of cells == 0 then 0 else length cells - used_of cells
+
+-- each zspage has its rank
+pub record AreRanked (rank : Option Cells → ℕ) (items : List (Option ZspageState)) (ranks : List ℕ) : Type 0 where
+  pub long : length ranks ≡ length items
+  pub each : (k : ℕ) → k < length items → slice_index ranks k ≡ rank (cells_of (entry items k))
+
 -- a zspage fits its class and its id
 abbrev pub IsOf : ℕ → ℕ → ℕ → ℕ → Option ZspageState → Type 0
 IsOf size chain per id None = Unit {0}
 IsOf size chain per id (Some z) = (z.size ≡ size) × (z.frames ≡ chain) × (length z.cells ≡ per) × (z.id ≡ id)
 
-pub record AreZspages (size chain per : ℕ) (items : List (Option ZspageState)) (ranks : List ℕ) : Type 0 where
+pub record AreZspages (size chain per : ℕ) (items : List (Option ZspageState)) (ranks sources : List ℕ) : Type 0 where
   pub small : 32 ≤ size
   pub large : size ≤ 4096
   pub some : 1 ≤ chain
@@ -75,5 +85,5 @@ pub record AreZspages (size chain per : ℕ) (items : List (Option ZspageState))
   pub cells : per ≡ chain * 4096 / size
   pub short : length items < 2 ^ 32
   pub each : (k : ℕ) → k < length items → IsOf size chain per k (entry items k)
-  pub ranked : length ranks ≡ length items
-  pub ranks_are : (k : ℕ) → k < length items → slice_index ranks k ≡ rank_of (cells_of (entry items k))
+  pub by_room : AreRanked rank_of items ranks
+  pub by_source : AreRanked source_rank items sources

@@ -1,9 +1,11 @@
 //! A pool of one size class. Its index finds an object by its handle in one step, and the zspage of the next object in
 //! a time that grows with the logarithm of the number of zspages.
 
-ghost use Rattle.std.specs.Prelude.{◌≡◌, ◌≢◌, ◌-◌, ◌+◌, ◌*◌, ◌<◌, ◌≤◌, ◌^◌, ◌↔◌, ℕ, List, [], length, Some, None, true, false, IfOk, OnErr, IsTrue, slice_set};
+ghost use Rattle.std.specs.Prelude.{◌≡◌, ◌≢◌, ◌-◌, ◌+◌, ◌*◌, ◌<◌, ◌≤◌, ◌^◌, ◌↔◌, ℕ, List, [], length, Some, None, true, false, IfOk, IfSome, MatchOption, OnErr, IsTrue, slice_set};
 ghost use Rattle.zspage.specs.Cells.{Fits, IsStored, UsedCell, used_of, entry, IsLowestFree};
+ghost use Rattle.zs_plan.specs.Plan.{IsPlan, HasNoPlan, GoesOn};
 ghost use Rattle.class_pool.specs.Zspages.{Cells, HasRoom};
+ghost use Rattle.class_pool.specs.Rows.{rows};
 ghost use Rattle.class_pool.specs.Pool.{objects, used_cells, HasOneMore, PoolHasRoom, IsFresh, IsAtHome, IsLent, IsPlace, Stores, Makes, Frees, IsPool, IsClass, AreGroups, with_cells, new_use};
 ghost use Rattle.class_pool.specs.Index.{IsIndex};
 ghost use Rattle.class_pool.specs.declared.places.Place.{Place};
@@ -14,6 +16,7 @@ use size_class::{ClassStat, group};
 use std::alloc::{AllocError, Global};
 use std::marker::Model;
 use zr_base::Handle;
+use zs_plan::plan_of;
 use zspage::Cell;
 
 /// The objects of one size class.
@@ -105,6 +108,18 @@ impl ClassPool {
             zspages,
             groups,
         }
+    }
+
+    /// The ids of the zspage that the next object moves from and of the one that it moves to. None where no zspage is
+    /// partial, or none beside the destination can give an object. It takes no memory.
+    pub fn next_move(&self) -> Option<(u32, u32)>
+        ensures plan { IfSome result (λ p. IsPlan self.now.per (rows self.now.zspages) p.0 p.1) }
+        ensures none { MatchOption result (HasNoPlan self.now.per (rows self.now.zspages)) (λ p. p.0 ≢ p.1) }
+
+        // After the move the destination is full, or it is the destination of the next one.
+        ensures goes_on { IfSome result (λ p. GoesOn self.now.per (rows self.now.zspages) p.0 p.1) }
+    {
+        plan_of(self.zspages.source(), self.zspages.destination())
     }
 
     /// Adds an object under a handle that no live object has. It takes no memory.
@@ -265,6 +280,50 @@ mod tests {
         assert_eq!(rt; pool.used(), 1);
         assert_eq!(rt; pool.free(first), 2);
         assert_eq!(rt; (pool.stat().used, pool.stat().zspages), (0, 0));
+        Ok(())
+    }
+
+    // Adds an object, in a new zspage where no cell is free.
+    fn add(rt: &impl Abort, pool: &mut ClassPool, bytes: &[u8]) -> Result<Handle, Fail>
+        requires { Fits (length bytes.now) pool.old.size }
+        ensures size { pool.new.size ≡ pool.old.size }
+        ensures home { IfOk result (λ h. IsAtHome pool.new h.0) }
+        ensures others { (h : ℕ) → IsAtHome pool.old h → IsAtHome pool.new h }
+    {
+        assert!(rt; pool.used() < 100);
+        if pool.room() {
+            Ok(pool.alloc(bytes))
+        } else {
+            Ok(pool.alloc_new(bytes)?)
+        }
+    }
+
+    // Class 126 has two cells of 2048 bytes in a frame. With one object in each of three zspages the first is the
+    // destination, and the last with its object at home the source.
+    #[test]
+    fn moves(rt: HostRuntime) -> Result<(), Fail> {
+        let table = ClassTable::new(4);
+        assert_eq!(rt; table.stands_as(126), 126);
+        let mut pool = ClassPool::new(rt.alloc(), 126, size(126), table.chain(126), table.per(126));
+        let bytes = [9; 2000];
+        assert_eq!(rt; pool.next_move(), None);
+        add(&rt, &mut pool, &bytes)?;
+        assert_eq!(rt; pool.next_move(), None);
+        let second = add(&rt, &mut pool, &bytes)?;
+        let third = add(&rt, &mut pool, &bytes)?;
+        let fourth = add(&rt, &mut pool, &bytes)?;
+        let fifth = add(&rt, &mut pool, &bytes)?;
+        assert!(rt; fourth.0 != second.0);
+        assert!(rt; fifth.0 != second.0);
+        assert!(rt; fifth.0 != fourth.0);
+        assert_eq!(rt; pool.next_move(), None);
+        pool.free(second);
+        assert_eq!(rt; pool.next_move(), Some((2, 0)));
+        pool.free(fourth);
+        let last = pool.pin(fifth);
+        assert_eq!(rt; pool.next_move(), Some((1, 0)));
+        pool.unpin(fifth, last);
+        assert_eq!(rt; pool.next_move(), Some((2, 0)));
         Ok(())
     }
 }

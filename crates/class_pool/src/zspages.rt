@@ -1,14 +1,18 @@
 //! The zspages of one class by their ids. A tournament of ranks finds the one that takes the next object, and the least
-//! free id, in a time that grows with the logarithm of their number.
+//! free id, in a time that grows with the logarithm of their number; a second one finds the zspage that gives an object
+//! up when objects are moved together.
 
-ghost use Rattle.std.specs.Prelude.{◌≡◌, ◌+◌, ◌-◌, ◌*◌, ◌/◌, ◌<◌, ◌≤◌, ◌↔◌, ◌^◌, ℕ, List, [], length, Some, None, IfOk, OnOk, OnErr, IsTrue, true, false, replicate, slice_set};
+ghost use Rattle.std.specs.Prelude.{◌≡◌, ◌+◌, ◌-◌, ◌*◌, ◌/◌, ◌<◌, ◌≤◌, ◌^◌, ◌++◌, ◌∷◌, ℕ, List, [], length, Some, None, IfOk, OnOk, OnErr, IsTrue, true, false, replicate, slice_set};
 ghost use Rattle.zspage.specs.Cells.{IsStored, Fits, UsedCell, used_of, entry, IsLowestFree, IsHome, IsOut};
-ghost use Rattle.class_pool.specs.Zspages.{Cells, used_in, HasRoom, IsFullest, IsLeastAbsent, put_at, rank_of};
+ghost use Rattle.class_pool.specs.Zspages.{Cells, used_in, HasRoom, IsFullest, IsLeastAbsent, put_at, rank_of, source_rank};
+ghost use Rattle.class_pool.specs.Rows.{row_at, rows};
+ghost use Rattle.zs_plan.specs.Plan.{IsFuller, IsEmptier, IsPartial, HasMovable, IsBest};
 
 use std::alloc::{AllocError, Global};
 use std::marker::Model;
 use tournament::Tournament;
 use zr_base::Handle;
+use zs_plan::Row;
 use zspage::{Cell, Zspage};
 
 /// The rank of a zspage without room.
@@ -20,6 +24,9 @@ const ABSENT: u32 = 1;
 /// The rank of a zspage with room, with this added to its used cells.
 const ROOM: u32 = 2;
 
+/// The rank as a source of a zspage that can give no object, and of an id that no zspage has.
+const STAYS: u32 = 0;
+
 /// The zspages of one class.
 #[derive(Drop)]
 pub struct Zspages {
@@ -28,6 +35,7 @@ pub struct Zspages {
     per: u32,
     items: Vec<Option<Zspage>>,
     ranks: Tournament,
+    sources: Tournament,
 }
 
 impl Model for Zspages {
@@ -38,7 +46,7 @@ impl Model for Zspages {
 
     ghost view = { λ z. record { size = z.size; chain = z.chain; per = z.per; zspages = map cells_of z.items.items } };
 
-    ghost invariant = { λ z. AreZspages z.size z.chain z.per z.items.items z.ranks };
+    ghost invariant = { λ z. AreZspages z.size z.chain z.per z.items.items z.ranks z.sources };
 }
 
 impl Zspages {
@@ -57,6 +65,7 @@ impl Zspages {
             per,
             items: Vec::new(alloc),
             ranks: Tournament::new(alloc),
+            sources: Tournament::new(alloc),
         }
     }
 
@@ -116,6 +125,49 @@ impl Zspages {
         }
     }
 
+    /// What a plan reads of the zspage with an id, where there is one.
+    fn row(&self, id: usize) -> Option<Row>
+        requires { id < length self.now.zspages }
+        ensures { result ≡ row_at id (entry self.now.zspages id) }
+    {
+        match &self.items[id] {
+            Some(zspage) => Some(Row {
+                id: id as u32,
+                used: zspage.used(),
+                movable: zspage.at_home() > 0,
+            }),
+            None => None,
+        }
+    }
+
+    /// The fullest zspage that is neither empty nor full.
+    pub fn destination(&self) -> Option<Row>
+        ensures { IsBest IsFuller (IsPartial self.now.per) (rows self.now.zspages) result }
+    {
+        if self.items.is_empty() {
+            return None;
+        }
+        let winner = self.ranks.winner();
+        if self.ranks.rank(winner) <= ROOM {
+            return None;
+        }
+        self.row(winner)
+    }
+
+    /// The emptiest zspage that is not full and has a used cell at home.
+    pub fn source(&self) -> Option<Row>
+        ensures { IsBest IsEmptier (HasMovable self.now.per) (rows self.now.zspages) result }
+    {
+        if self.items.is_empty() {
+            return None;
+        }
+        let last = self.sources.last_winner();
+        if self.sources.rank(last) == STAYS {
+            return None;
+        }
+        self.row(last)
+    }
+
     /// Makes a zspage under an id that none has.
     pub fn add(&mut self, alloc: Global, id: u32) -> Result<(), AllocError>
         requires absent { IsLeastAbsent self.old.zspages id }
@@ -129,10 +181,11 @@ impl Zspages {
         if id < self.items.len() {
             self.items[id] = Some(zspage);
             self.ranks.set(id, rank);
+            self.sources.set(id, STAYS);
             return Ok(());
         }
         self.items.push(Some(zspage))?;
-        if let Err(full) = self.ranks.push(rank) {
+        if let Err(full) = push_both(&mut self.ranks, rank, &mut self.sources, STAYS) {
             self.items.pop();
             return Err(full);
         }
@@ -156,7 +209,9 @@ impl Zspages {
             Some(zspage) => {
                 let cell = zspage.take_cell(handle, bytes);
                 let rank = rank(zspage);
+                let source = source(zspage);
                 self.ranks.set(id, rank);
+                self.sources.set(id, source);
                 cell
             }
             None => unreachable!(),
@@ -179,10 +234,13 @@ impl Zspages {
                 if zspage.is_empty() {
                     self.items[id] = None;
                     self.ranks.set(id, ABSENT);
+                    self.sources.set(id, STAYS);
                     return true;
                 }
                 let rank = rank(zspage);
+                let source = source(zspage);
                 self.ranks.set(id, rank);
+                self.sources.set(id, source);
                 false
             }
             None => unreachable!(),
@@ -196,9 +254,15 @@ impl Zspages {
             × (u.cell ≡ result) × IsStored u.handle u.bytes result
             × (self.new ≡ record self.old { zspages = slice_set self.old.zspages id (Some (slice_set cells ix (Some (record u { out = true })))) }) }
     {
-        let slot = &mut self.items[id as usize];
+        let id = id as usize;
+        let slot = &mut self.items[id];
         match slot {
-            Some(zspage) => zspage.lend(ix),
+            Some(zspage) => {
+                let cell = zspage.lend(ix);
+                let source = source(zspage);
+                self.sources.set(id, source);
+                cell
+            }
             None => unreachable!(),
         }
     }
@@ -209,9 +273,14 @@ impl Zspages {
         ensures { (cells : Cells) × (u : UsedCell) × (entry self.old.zspages id ≡ Some cells) × (entry cells ix ≡ Some u)
             × (self.new ≡ record self.old { zspages = slice_set self.old.zspages id (Some (slice_set cells ix (Some (record u { out = false })))) }) }
     {
-        let slot = &mut self.items[id as usize];
+        let id = id as usize;
+        let slot = &mut self.items[id];
         match slot {
-            Some(zspage) => zspage.back(ix, cell),
+            Some(zspage) => {
+                zspage.back(ix, cell);
+                let source = source(zspage);
+                self.sources.set(id, source);
+            }
             None => unreachable!(),
         }
     }
@@ -227,4 +296,35 @@ fn rank(zspage: &Zspage) -> u32
     } else {
         zspage.used() + ROOM
     }
+}
+
+/// The rank of a zspage as a source: its free cells, where a used one is at home.
+fn source(zspage: &Zspage) -> u32
+    ensures { result ≡ source_rank (Some zspage.now.cells) }
+{
+    if zspage.at_home() == 0 {
+        STAYS
+    } else {
+        zspage.per() - zspage.used()
+    }
+}
+
+/// One more place in two lists of ranks, or in none.
+fn push_both(
+    ranks: &mut Tournament,
+    rank: u32,
+    sources: &mut Tournament,
+    source: u32,
+) -> Result<(), AllocError>
+    ensures ranks { OnOk result (ranks.new ≡ ranks.old ++ rank ∷ []) }
+    ensures sources { OnOk result (sources.new ≡ sources.old ++ source ∷ []) }
+    ensures ranks_err { OnErr result (ranks.new ≡ ranks.old) }
+    ensures sources_err { OnErr result (sources.new ≡ sources.old) }
+{
+    ranks.push(rank)?;
+    if let Err(full) = sources.push(source) {
+        ranks.pop();
+        return Err(full);
+    }
+    Ok(())
 }

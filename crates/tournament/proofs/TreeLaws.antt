@@ -1,10 +1,12 @@
 -- A tree stays one as a leaf's path is renewed, and its root is the winner.
-use Rattle.std.proofs.Common.{◌≡◌, ◌≢◌, ℕ, zero, suc, ◌+◌, ◌-◌, ◌*◌, ◌/◌, ◌<◌, ◌≤◌, ◌⊎◌, List, length, slice_index, refl, sym, ◌∙◌, ap, subst, inl, inr, arith, get_or-set_same, get_or-set_other}
-use Rattle.std.proofs.Math.ListN.{set, get_or-eq_default}
+use Rattle.std.proofs.Common.{◌≡◌, ◌≢◌, ℕ, zero, suc, ◌+◌, ◌-◌, ◌*◌, ◌/◌, ◌<◌, ◌≤◌, ◌⊎◌, List, ◌++◌, length, take, drop, slice_index, refl, sym, ◌∙◌, ap, subst, inl, inr, arith, get_or-set_same, get_or-set_other}
+use Rattle.std.proofs.Math.ListN.{set, length-set}
+use Rattle.std.proofs.Math.Seq.{take-append_seam}
+use Rattle.std.proofs.lemmas.List.{length-take-le, get_or-take}
 use Rattle.std.proofs.lemmas.Bool.{cases_eq, cases_lt}
 use Rattle.tournament.specs.declared.tree.Node.{Node}
-use Rattle.tournament.specs.Tree.{Beats, IsBetter, IsTree, IsTreeBut, node, IsTournament}
-use Rattle.tournament.specs.Winner.{IsWinner}
+use Rattle.tournament.specs.Tree.{Beats, HasSameFirst, HasSameLast, IsBetter, IsTree, IsTreeBut, node, leaf, spare, IsTournament}
+use Rattle.tournament.specs.Winner.{IsWinner, IsLastWinner}
 
 node-set_same : (nodes : List Node) (p : ℕ) (n : Node) → p < length nodes → node (set nodes p n) p ≡ n
 node-set_same nodes p n low = rw get_or-set_same refl
@@ -36,10 +38,68 @@ climb room at up nodes n tree long some low is better p some_p low_p left right 
           (λ e. elim is [ inl f ↦ omega arith | inr f ↦ other (omega arith) ]))
     ]
 
+-- ---- one place changes
+
+-- a list that was written as a whole is what was written
+pub written : (n : ℕ) (new old : List Node) → n ≡ length new → take n (new ++ drop (length new) old) ≡ new
+written n new old is = ap (λ k. take k (new ++ drop (length new) old)) is ∙ take-append_seam new (drop (length new) old)
+
+-- the leaves are right where the one of a place is, and the others have stayed
+pub placed : (room place : ℕ) (ranks ranks' : List ℕ) (nodes new : List Node) → IsTournament room ranks nodes
+    → length ranks' ≤ room → length new ≡ 2 * room → IsTree room new
+    → ((k : ℕ) → room ≤ k → k < 2 * room → (k ≡ room + place → ⊥) → node new k ≡ node nodes k)
+    → (place < length ranks' → node new (room + place) ≡ leaf (slice_index ranks' place) place)
+    → (length ranks' ≤ place → node new (room + place) ≡ spare place)
+    → ((k : ℕ) → k ≢ place → k < length ranks' → (k < length ranks) × (slice_index ranks' k ≡ slice_index ranks k))
+    → ((k : ℕ) → k ≢ place → length ranks' ≤ k → length ranks ≤ k)
+    → IsTournament room ranks' new
+placed room place ranks ranks' nodes new t fits long tree others here gone stay past = record {
+  long = long;
+  fits = fits;
+  small = t.small;
+  tree = tree;
+  leaves = λ i low.
+      elim (cases_eq i place) [
+        | inl e ↦ let within : place < length ranks' = omega arith in rw e (here within)
+        | inr other ↦
+            let was = stay i other low in
+            others (room + i) (omega arith) (omega arith) (λ e. other (omega arith)) ∙ t.leaves i was.0 ∙ ap (λ r. leaf r i) (sym was.1)
+      ];
+  spares = λ i high low.
+      elim (cases_eq i place) [
+        | inl e ↦ let behind : length ranks' ≤ place = omega arith in rw e (gone behind)
+        | inr other ↦
+            others (room + i) (omega arith) (omega arith) (λ e. other (omega arith)) ∙ t.spares i (past i other high) low
+      ];
+}
+
+pub set_placed : (room place rank : ℕ) (ranks : List ℕ) (nodes new : List Node) → IsTournament room ranks nodes
+    → place < length ranks → length new ≡ 2 * room → IsTree room new → node new (room + place) ≡ leaf rank place
+    → ((k : ℕ) → room ≤ k → k < 2 * room → (k ≡ room + place → ⊥) → node new k ≡ node nodes k)
+    → IsTournament room (set ranks place rank) new
+set_placed room place rank ranks nodes new t low long tree here others =
+    placed room place ranks (set ranks place rank) nodes new t (rw length-set t.fits) long tree others
+    (λ within. rw get_or-set_same here)
+    (λ behind. absurd (omega (arith, length-set ranks place rank)))
+    (λ k other within. (omega (arith, length-set ranks place rank), rw get_or-set_other refl))
+    (λ k other behind. omega (arith, length-set ranks place rank))
+
+pub pop_placed : (room place : ℕ) (ranks : List ℕ) (nodes new : List Node) → IsTournament room ranks nodes
+    → place + 1 ≡ length ranks → length new ≡ 2 * room → IsTree room new → node new (room + place) ≡ spare place
+    → ((k : ℕ) → room ≤ k → k < 2 * room → (k ≡ room + place → ⊥) → node new k ≡ node nodes k)
+    → IsTournament room (take place ranks) new
+pop_placed room place ranks nodes new t last long tree here others =
+    let short : length (take place ranks) ≡ place = length-take-le place ranks (omega arith) in
+    placed room place ranks (take place ranks) nodes new t (omega (arith, t.fits)) long tree others
+    (λ within. absurd (omega arith))
+    (λ behind. here)
+    (λ k other within. (omega arith, get_or-take place ranks k 0 (omega arith)))
+    (λ k other behind. omega arith)
+
 -- ---- the root
 
 beats_itself : (a : Node) → Beats a a
-beats_itself a = inr (refl, omega arith)
+beats_itself a = inr (refl, omega arith, omega arith)
 
 beats_along : (a b c : Node) → Beats a b → Beats b c → Beats a c
 beats_along a b c ab bc = grind arith
@@ -63,54 +123,99 @@ root_beats_below (suc n) room nodes tree q small some low =
           ])
     ]
 
--- each node is some leaf
-leaf_below : (n room : ℕ) (nodes : List Node) → IsTree room nodes → (q : ℕ) → 2 * room ≤ q + n → 1 ≤ q → q < 2 * room
-    → (i : ℕ) × (i < room) × (node nodes q ≡ node nodes (room + i))
-leaf_below zero room nodes tree q near some low = absurd (omega arith)
-leaf_below (suc n) room nodes tree q near some low =
+-- what a node has from one of the two below it, it has from some leaf
+leaf_below : (Same : Node → Node → Type 0) (n room : ℕ) (nodes : List Node)
+    → ((a : Node) → Same a a) → ((a b c : Node) → Same a b → Same b c → Same a c)
+    → ((p : ℕ) → 1 ≤ p → p < room → Same (node nodes p) (node nodes (2 * p)) ⊎ Same (node nodes p) (node nodes (2 * p + 1)))
+    → (q : ℕ) → 2 * room ≤ q + n → 1 ≤ q → q < 2 * room → (i : ℕ) × (i < room) × Same (node nodes q) (node nodes (room + i))
+leaf_below Same zero room nodes itself along step q near some low = absurd (omega arith)
+leaf_below Same (suc n) room nodes itself along step q near some low =
     elim (cases_lt q room) [
       | inl inner ↦
-          let step : IsBetter (node nodes q) (node nodes (2 * q)) (node nodes (2 * q + 1)) = tree q some inner in
-          elim step.one [
+          elim (step q some inner) [
             | inl e ↦
-                let rest : (i : ℕ) × (i < room) × (node nodes (2 * q) ≡ node nodes (room + i)) =
-                leaf_below n room nodes tree (2 * q) (omega arith) (omega arith) (omega arith) in
-                (rest.0, rest.1, e ∙ rest.2)
+                let rest : (i : ℕ) × (i < room) × Same (node nodes (2 * q)) (node nodes (room + i)) =
+                leaf_below Same n room nodes itself along step (2 * q) (omega arith) (omega arith) (omega arith) in
+                (rest.0, rest.1, along (node nodes q) (node nodes (2 * q)) (node nodes (room + rest.0)) e rest.2)
             | inr e ↦
-                let rest : (i : ℕ) × (i < room) × (node nodes (2 * q + 1) ≡ node nodes (room + i)) =
-                leaf_below n room nodes tree (2 * q + 1) (omega arith) (omega arith) (omega arith) in
-                (rest.0, rest.1, e ∙ rest.2)
+                let rest : (i : ℕ) × (i < room) × Same (node nodes (2 * q + 1)) (node nodes (room + i)) =
+                leaf_below Same n room nodes itself along step (2 * q + 1) (omega arith) (omega arith) (omega arith) in
+                (rest.0, rest.1, along (node nodes q) (node nodes (2 * q + 1)) (node nodes (room + rest.0)) e rest.2)
           ]
-      | inr leaf ↦
+      | inr leaf_here ↦
           let e : q ≡ room + (q - room) = omega arith in
-          (q - room, omega arith, ap (λ k. node nodes k) e)
+          (q - room, omega arith, subst (λ k. Same (node nodes q) (node nodes k)) e (itself (node nodes q)))
     ]
 
--- the root's place is the winner of the ranks
+-- the root has its first place from a leaf
+root_first : (room : ℕ) (ranks : List ℕ) (nodes : List Node) → IsTournament room ranks nodes → 0 < length ranks
+    → (i : ℕ) × (i < room) × HasSameFirst (node nodes 1) (node nodes (room + i))
+root_first room ranks nodes t some =
+    leaf_below HasSameFirst (2 * room) room nodes (λ a. (refl, refl)) (λ a b c ab bc. (ab.0 ∙ bc.0, ab.1 ∙ bc.1))
+    (λ p one low. (t.tree p one low).first_is) 1 (omega arith) (omega arith) (omega (arith, t.fits))
+
+-- and its last place
+root_last : (room : ℕ) (ranks : List ℕ) (nodes : List Node) → IsTournament room ranks nodes → 0 < length ranks
+    → (i : ℕ) × (i < room) × HasSameLast (node nodes 1) (node nodes (room + i))
+root_last room ranks nodes t some =
+    leaf_below HasSameLast (2 * room) room nodes (λ a. (refl, refl)) (λ a b c ab bc. (ab.0 ∙ bc.0, ab.1 ∙ bc.1))
+    (λ p one low. (t.tree p one low).last_is) 1 (omega arith) (omega arith) (omega (arith, t.fits))
+
+-- the root beats the leaf of each rank
+root_over : (room : ℕ) (ranks : List ℕ) (nodes : List Node) → IsTournament room ranks nodes
+    → (k : ℕ) → k < length ranks → Beats (node nodes 1) (leaf (slice_index ranks k) k)
+root_over room ranks nodes t k low =
+    subst (λ b. Beats (node nodes 1) b) (t.leaves k low)
+    (root_beats_below (2 * room) room nodes t.tree (room + k) (omega (arith, t.fits)) (omega (arith, t.fits)) (omega (arith, t.fits)))
+
+-- the root's first place is the winner of the ranks
 pub root_wins : (room : ℕ) (ranks : List ℕ) (nodes : List Node) → IsTournament room ranks nodes → 0 < length ranks
-    → IsWinner ranks (node nodes 1).place
+    → IsWinner ranks (node nodes 1).first
 root_wins room ranks nodes t some =
-    let leaf : (i : ℕ) × (i < room) × (node nodes 1 ≡ node nodes (room + i)) =
-    leaf_below (2 * room) room nodes t.tree 1 (omega arith) (omega arith) (omega (arith, t.fits)) in
-    let root : node nodes 1 ≡ record { rank = slice_index ranks leaf.0; place = leaf.0 } = leaf.2 ∙ t.leaves leaf.0 leaf.1 in
-    let place : (node nodes 1).place ≡ leaf.0 = ap (λ n. n.place) root in
-    let rank : (node nodes 1).rank ≡ slice_index ranks leaf.0 = ap (λ n. n.rank) root in
-    let beats : (k : ℕ) → k < room → (slice_index ranks k < slice_index ranks leaf.0) ⊎ ((slice_index ranks k ≡ slice_index ranks leaf.0) × (leaf.0 ≤ k)) =
-    λ k low.
-    let over : Beats (node nodes 1) (node nodes (room + k)) =
-    root_beats_below (2 * room) room nodes t.tree (room + k) (omega arith) (omega arith) (omega arith) in
-    let at : node nodes (room + k) ≡ record { rank = slice_index ranks k; place = k } = t.leaves k low in
-    subst (λ a. Beats a (record { rank = slice_index ranks k; place = k })) root
-    (subst (λ b. Beats (node nodes 1) b) at over) in
-    let within : leaf.0 < length ranks =
-    elim (cases_lt leaf.0 (length ranks)) [
-      | inl low ↦ low
+    let at : (i : ℕ) × (i < room) × HasSameFirst (node nodes 1) (node nodes (room + i)) = root_first room ranks nodes t some in
+    let over : (k : ℕ) → k < length ranks → Beats (node nodes 1) (leaf (slice_index ranks k) k) = root_over room ranks nodes t in
+    elim (cases_lt at.0 (length ranks)) [
+      | inl low ↦
+          let here : node nodes (room + at.0) ≡ leaf (slice_index ranks at.0) at.0 = t.leaves at.0 low in
+          let rank : (node nodes 1).rank ≡ slice_index ranks at.0 = at.2.0 ∙ ap (λ n. n.rank) here in
+          let first : (node nodes 1).first ≡ at.0 = at.2.1 ∙ ap (λ n. n.first) here in
+          rw first (record {
+            within = low;
+            highest = λ k within. elim (over k within) [ inl less ↦ omega arith | inr same ↦ omega arith ];
+            first = λ k before. elim (over k (omega arith)) [ inl less ↦ omega arith | inr same ↦ absurd (omega arith) ];
+          })
       | inr past ↦
-          let none : slice_index ranks leaf.0 ≡ 0 = get_or-eq_default ranks 0 past in
-          elim (beats 0 (omega (arith, t.fits))) [ inl less ↦ absurd (omega arith) | inr same ↦ absurd (omega arith) ]
-    ] in
-    rw place (record {
-      within = within;
-      highest = λ k low. elim (beats k (omega (arith, t.fits))) [ inl less ↦ omega arith | inr same ↦ omega arith ];
-      first = λ k before. elim (beats k (omega (arith, leaf.1))) [ inl less ↦ less | inr same ↦ absurd (omega arith) ];
-    })
+          let here : node nodes (room + at.0) ≡ spare at.0 = t.spares at.0 past at.1 in
+          let rank : (node nodes 1).rank ≡ 0 = at.2.0 ∙ ap (λ n. n.rank) here in
+          let first : (node nodes 1).first ≡ at.0 = at.2.1 ∙ ap (λ n. n.first) here in
+          absurd (elim (over 0 some) [ inl less ↦ omega arith | inr same ↦ omega arith ])
+    ]
+
+-- the root's last place is the last winner
+pub root_wins_last : (room : ℕ) (ranks : List ℕ) (nodes : List Node) → IsTournament room ranks nodes → 0 < length ranks
+    → IsLastWinner ranks (node nodes 1).last
+root_wins_last room ranks nodes t some =
+    let at : (i : ℕ) × (i < room) × HasSameLast (node nodes 1) (node nodes (room + i)) = root_last room ranks nodes t some in
+    let over : (k : ℕ) → k < length ranks → Beats (node nodes 1) (leaf (slice_index ranks k) k) = root_over room ranks nodes t in
+    elim (cases_lt at.0 (length ranks)) [
+      | inl low ↦
+          let here : node nodes (room + at.0) ≡ leaf (slice_index ranks at.0) at.0 = t.leaves at.0 low in
+          let rank : (node nodes 1).rank ≡ slice_index ranks at.0 = at.2.0 ∙ ap (λ n. n.rank) here in
+          let last : (node nodes 1).last ≡ at.0 = at.2.1 ∙ ap (λ n. n.last) here in
+          rw last (record {
+            within = low;
+            highest = λ k within. elim (over k within) [ inl less ↦ omega arith | inr same ↦ omega arith ];
+            last = λ k after within. elim (over k within) [ inl less ↦ omega arith | inr same ↦ absurd (omega arith) ];
+          })
+      | inr past ↦
+          let here : node nodes (room + at.0) ≡ spare at.0 = t.spares at.0 past at.1 in
+          let rank : (node nodes 1).rank ≡ 0 = at.2.0 ∙ ap (λ n. n.rank) here in
+          let last : (node nodes 1).last ≡ 0 = at.2.1 ∙ ap (λ n. n.last) here in
+          let none : (k : ℕ) → k < length ranks → (slice_index ranks k ≡ 0) × (k ≡ 0) =
+          λ k within. elim (over k within) [ inl less ↦ absurd (omega arith) | inr same ↦ (omega arith, omega arith) ] in
+          rw last (record {
+            within = some;
+            highest = λ k within. omega (arith, (none k within).0);
+            last = λ k after within. absurd (omega (arith, (none k within).1));
+          })
+    ]

@@ -1,11 +1,11 @@
-//! Ranks at places 0, 1, 2 and so on, and the place that has the greatest of them: a tournament tree (Knuth, "The Art
+//! Ranks at places 0, 1, 2 and so on, and the places that have the greatest of them: a tournament tree (Knuth, "The Art
 //! of Computer Programming", 5.4.1). A change takes a time that grows with the logarithm of the number of places.
 #![tactic(auto)]
 
 mod tree;
 
-ghost use Rattle.std.specs.Prelude.{◌≡◌, ◌<◌, ◌≤◌, ◌^◌, ◌++◌, ◌∷◌, [], List, length, slice_index, slice_set, IfOk, OnOk, OnErr};
-ghost use Rattle.tournament.specs.Winner.{IsWinner};
+ghost use Rattle.std.specs.Prelude.{◌≡◌, ◌-◌, ◌<◌, ◌≤◌, ◌^◌, ◌++◌, ◌∷◌, [], List, length, take, slice_index, slice_set, IfOk, OnOk, OnErr};
+ghost use Rattle.tournament.specs.Winner.{IsWinner, IsLastWinner};
 ghost use Rattle.tournament.specs.Tree.{IsTournament};
 
 use crate::tree::{Node, put};
@@ -79,8 +79,18 @@ impl Tournament {
             self.room = room;
         }
         self.ranks.push(rank)?;
-        put(&mut self.nodes, self.room, Node { rank, place });
+        put(&mut self.nodes, self.room, place, Node::leaf(rank, place));
         Ok(())
+    }
+
+    /// Takes the last place away. It takes no memory.
+    pub fn pop(&mut self)
+        requires { 0 < length self.old }
+        ensures { self.new ≡ take (length self.old - 1) self.old }
+    {
+        let place = self.ranks.len() - 1;
+        self.ranks.pop();
+        put(&mut self.nodes, self.room, place, Node::spare(place));
     }
 
     /// Gives a place this rank. It takes no memory.
@@ -89,7 +99,7 @@ impl Tournament {
         ensures { self.new ≡ slice_set self.old place rank }
     {
         self.ranks[place] = rank;
-        put(&mut self.nodes, self.room, Node { rank, place });
+        put(&mut self.nodes, self.room, place, Node::leaf(rank, place));
     }
 
     /// The place of the greatest rank, the first such place on a tie.
@@ -97,7 +107,15 @@ impl Tournament {
         requires { 0 < length self.now }
         ensures { IsWinner self.now result }
     {
-        self.nodes[1].place
+        self.nodes[1].first
+    }
+
+    /// The place of the greatest rank, the last such place on a tie.
+    pub fn last_winner(&self) -> usize
+        requires { 0 < length self.now }
+        ensures { IsLastWinner self.now result }
+    {
+        self.nodes[1].last
     }
 }
 
@@ -108,10 +126,14 @@ fn nodes_of(alloc: Global, ranks: &[u32], room: usize) -> Result<Vec<Node>, Allo
     ensures { IfOk result (λ nodes. IsTournament room ranks.now nodes.items) }
 {
     let mut nodes = Vec::new(alloc);
-    nodes.resize(2 * room, Node { rank: 0, place: 0 })?;
+    nodes.resize(2 * room, Node::spare(0))?;
     for place in 0..room {
-        let rank = if place < ranks.len() { ranks[place] } else { 0 };
-        put(&mut nodes, room, Node { rank, place });
+        let leaf = if place < ranks.len() {
+            Node::leaf(ranks[place], place)
+        } else {
+            Node::spare(place)
+        };
+        put(&mut nodes, room, place, leaf);
     }
     Ok(nodes)
 }
@@ -129,8 +151,11 @@ mod tests {
         }
         assert_eq!(rt; ranks.len(), 5);
         assert_eq!(rt; ranks.winner(), 1);
+        assert_eq!(rt; ranks.last_winner(), 4);
         ranks.set(1, 0);
         assert_eq!(rt; ranks.winner(), 2);
+        ranks.pop();
+        assert_eq!(rt; (ranks.len(), ranks.last_winner()), (4, 2));
         Ok(())
     }
 }

@@ -1,5 +1,5 @@
 -- The plan of compaction: which zspage an object moves from, and which it moves to.
-use Rattle.std.specs.Prelude.{ℕ, ◌≡◌, ◌≢◌, ◌+◌, ◌<◌, ◌≤◌, ◌⊎◌, List, Option, IsTrue, Contains, MatchOption}
+use Rattle.std.specs.Prelude.{ℕ, ◌≡◌, ◌≢◌, ◌+◌, ◌<◌, ◌≤◌, ◌⊎◌, List, Option, IsTrue, Contains, AllPairs, MatchOption}
 use Rattle.zs_plan.specs.declared.Row.{Row}
 
 -- some of the zspage's cells are used, and some are not
@@ -49,6 +49,15 @@ pub record IsMove (before after : List Row) (from to : ℕ) : Type 0 where
   pub lost : (e : Row) → Contains after e → e.id ≡ from → (s : Row) × Contains before s × (s.id ≡ from) × (e.used + 1 ≡ s.used)
   pub others : (e : Row) → Contains after e → e.id ≢ to → e.id ≢ from → (r : Row) × Contains before r × (r.id ≡ e.id) × (r.used ≡ e.used)
 
+-- after a move between two zspages, the one that gained the object is full, or it is the destination of the next move
+abbrev pub GoesOn : ℕ → List Row → ℕ → ℕ → Type 0
+GoesOn per rows from to =
+    (after : List Row) (e : Row) → IsMove rows after from to → Contains after e → e.id ≡ to → (e.used ≡ per) ⊎ IsDestination per after e
+
+-- no two rows have one id
+abbrev pub HaveOwnIds : List Row → Type 0
+HaveOwnIds rows = AllPairs (λ a b. a.id ≢ b.id) rows
+
 -- a partial zspage some of whose objects can be moved
 abbrev pub HasMovable : ℕ → Row → Type 0
 HasMovable per r = IsPartial per r × IsTrue r.movable
@@ -56,3 +65,9 @@ HasMovable per r = IsPartial per r × IsTrue r.movable
 -- the first row of a list that a condition holds of, or None where it holds of none
 abbrev pub IsBest : (Row → Row → Type 0) → (Row → Type 0) → List Row → Option Row → Type 0
 IsBest Before Fits rows best = MatchOption best ((r : Row) → Contains rows r → Fits r → ⊥) (λ r. IsFirst Before Fits rows r)
+
+-- the best source of some rows, not minding the destination, and the best destination, each where there is one
+pub record AreBest (per : ℕ) (rows : List Row) (source destination : Option Row) : Type 0 where
+  pub own : HaveOwnIds rows
+  pub emptiest : IsBest IsEmptier (HasMovable per) rows source
+  pub fullest : IsBest IsFuller (IsPartial per) rows destination

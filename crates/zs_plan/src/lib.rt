@@ -2,8 +2,8 @@
 //! zspages become empty and can be given up. A zspage that became a destination stays one until it is full.
 #![tactic(auto)]
 
-ghost use Rattle.std.specs.Prelude.{◌≡◌, ◌≢◌, ◌<◌, ◌≤◌, ◌++◌, ◌∷◌, [], ◌⊎◌, List, Contains, AllPairs, MatchOption, IfSome, IsTrue, ◌↔◌};
-ghost use Rattle.zs_plan.specs.Plan.{IsFuller, IsEmptier, IsPlan, HasNoPlan, IsMove, IsDestination, IsPartial, HasMovable, IsBest};
+ghost use Rattle.std.specs.Prelude.{ℕ, ◌≡◌, ◌≢◌, ◌++◌, ◌∷◌, [], ◌⊎◌, List, MatchOption, IfSome};
+ghost use Rattle.zs_plan.specs.Plan.{IsFuller, IsEmptier, IsPlan, HasNoPlan, GoesOn, IsPartial, HasMovable, IsBest, AreBest, HaveOwnIds};
 ghost use Rattle.zs_plan.specs.declared.Row.{Row};
 
 /// What a plan reads of a zspage.
@@ -20,13 +20,12 @@ pub struct Row {
 /// The ids of the zspage that an object moves from and of the one that it moves to, for zspages of `per` cells each.
 /// None where there is no destination or no source.
 pub fn choose(rows: &[Row], per: u32) -> Option<(u32, u32)>
-    requires { AllPairs (λ a b. a.id ≢ b.id) rows.now }
+    requires { HaveOwnIds rows.now }
     ensures plan { IfSome result (λ p. IsPlan per rows.now p.0 p.1) }
     ensures none { MatchOption result (HasNoPlan per rows.now) (λ p. p.0 ≢ p.1) }
 
     // After the move the destination is full, or it is the destination of the next one.
-    ensures goes_on { IfSome result (λ p. (after : List Row) (e : Row) → IsMove rows.now after p.0 p.1 → Contains after e → e.id ≡ p.1
-        → (e.used ≡ per) ⊎ IsDestination per after e) }
+    ensures goes_on { IfSome result (λ p. GoesOn per rows.now p.0 p.1) }
 {
     let mut destination = None;
     let mut source = None;
@@ -34,12 +33,21 @@ pub fn choose(rows: &[Row], per: u32) -> Option<(u32, u32)>
         destination = next_destination(destination, *row, per);
         source = next_source(source, *row, per);
     }
-    let Some(to) = destination else {
-        return None;
-    };
-    let Some(from) = source else {
-        return None;
-    };
+    plan_of(source, destination)
+}
+
+/// The plan, from the best source and the best destination of some rows. They are one zspage only where no other can
+/// give an object: one that could would be as full, and would come before the destination as a source.
+pub fn plan_of(source: Option<Row>, destination: Option<Row>) -> Option<(u32, u32)>
+    ensures plan { (per : ℕ) (rows : List Row) → AreBest per rows source destination → IfSome result (λ p. IsPlan per rows p.0 p.1) }
+    ensures none { (per : ℕ) (rows : List Row) → AreBest per rows source destination
+        → MatchOption result (HasNoPlan per rows) (λ p. p.0 ≢ p.1) }
+
+    // After the move the destination is full, or it is the destination of the next one.
+    ensures goes_on { (per : ℕ) (rows : List Row) → AreBest per rows source destination → IfSome result (λ p. GoesOn per rows p.0 p.1) }
+{
+    let to = destination?;
+    let from = source?;
     if from.id == to.id {
         return None;
     }

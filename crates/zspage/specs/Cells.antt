@@ -1,5 +1,5 @@
 -- A zspage as contracts see it: cells of one size, each free or used by an object, at home or out.
-use Rattle.std.specs.Prelude.{ℕ, ◌≡◌, ◌≢◌, ◌+◌, ◌<◌, ◌≤◌, ◌==◌, List, [], ◌∷◌, Option, None, Some, Bool, true, false, length, take, drop, if◌then◌else◌, slice_get, slice_index_or}
+use Rattle.std.specs.Prelude.{ℕ, ◌≡◌, ◌≢◌, ◌+◌, ◌<◌, ◌≤◌, ◌==◌, List, [], ◌∷◌, Option, None, Some, Bool, true, false, not, count_by, length, take, drop, if◌then◌else◌, slice_get, slice_index_or}
 use Rattle.std.specs.Int.{w64, to_le_bytes}
 
 -- the bytes of the header before an object of so many bytes: a whole page of 4096 has none
@@ -40,6 +40,15 @@ abbrev pub used_of : {A : Type 0} → List (Option A) → ℕ
 used_of [] = 0
 used_of (None ∷ entries) = used_of entries
 used_of (Some u ∷ entries) = 1 + used_of entries
+
+-- whether a cell is used and at home
+abbrev pub is_home : Option UsedCell → Bool
+is_home None = false
+is_home (Some u) = not u.out
+
+-- the used cells at home
+abbrev pub home_of : List (Option UsedCell) → ℕ
+home_of cells = count_by is_home cells
 
 -- the entry at a place, None where the list has none there
 abbrev pub entry : {A : Type 0} → List (Option A) → ℕ → Option A

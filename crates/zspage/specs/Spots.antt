@@ -1,6 +1,6 @@
 -- A cell with what is known of its object, as the code keeps it.
 use Rattle.std.specs.Prelude.{ℕ, ◌≡◌, ◌<◌, ◌^◌, map, slice_index, slice_index_or, List, Option, None, Some, Bool, true, false, length}
-use Rattle.zspage.specs.Cells.{UsedCell, object_in, IsStored, used_of}
+use Rattle.zspage.specs.Cells.{UsedCell, object_in, IsStored, used_of, home_of}
 use Rattle.zspage.specs.declared.spot.Stored.{Stored}
 
 -- a cell's size, and its object where it has one
@@ -39,10 +39,11 @@ abbrev pub rank_of : Option UsedCell → ℕ
 rank_of None = 1
 rank_of (Some u) = 0
 
--- the cells have one size, the count of used cells is right, and each cell has its rank
-pub record IsZspage (size used : ℕ) (spots : List SpotState) (free : List ℕ) : Type 0 where
+-- the cells have one size, the counts of used cells and of those at home are right, and each cell has its rank
+pub record IsZspage (size used home : ℕ) (spots : List SpotState) (free : List ℕ) : Type 0 where
   pub sizes : (k : ℕ) (d : SpotState) → k < length spots → (slice_index_or spots k d).size ≡ size
   pub count : used ≡ used_of (uses spots)
+  pub home_is : home ≡ home_of (uses spots)
   pub few : length spots < 2 ^ 32
   pub ranked : length free ≡ length spots
   pub ranks : (k : ℕ) (d : SpotState) → k < length spots → slice_index free k ≡ rank_of (slice_index_or spots k d).use_of

@@ -2,7 +2,7 @@
 //! number.
 
 ghost use Rattle.std.specs.Prelude.{◌≡◌, ◌+◌, ◌*◌, ◌/◌, ◌<◌, ◌≤◌, ◌↔◌, ℕ, List, length, Some, None, IfOk, IsTrue, true, false, replicate, slice_set};
-ghost use Rattle.zspage.specs.Cells.{IsStored, Fits, UsedCell, used_of, entry, IsLowestFree, IsHome, IsOut};
+ghost use Rattle.zspage.specs.Cells.{IsStored, Fits, UsedCell, used_of, home_of, entry, IsLowestFree, IsHome, IsOut};
 
 use crate::cell::Cell;
 use crate::spot::Spot;
@@ -26,6 +26,7 @@ pub struct Zspage {
     size: u32,
     frames: u32,
     used: u32,
+    home: u32,
     spots: Vec<Spot>,
     free: Tournament,
 }
@@ -38,7 +39,7 @@ impl Model for Zspage {
 
     ghost view = { λ z. record { id = z.id; size = z.size; frames = z.frames; cells = uses z.spots.items } };
 
-    ghost invariant = { λ z. IsZspage z.size z.used z.spots.items z.free };
+    ghost invariant = { λ z. IsZspage z.size z.used z.home z.spots.items z.free };
 }
 
 impl Zspage {
@@ -62,6 +63,7 @@ impl Zspage {
             size,
             frames: chain,
             used: 0,
+            home: 0,
             spots,
             free,
         })
@@ -87,6 +89,13 @@ impl Zspage {
         ensures most { result ≤ length self.now.cells }
     {
         self.used
+    }
+
+    /// The used cells at home.
+    pub fn at_home(&self) -> u32
+        ensures { result ≡ home_of self.now.cells }
+    {
+        self.home
     }
 
     /// The cells.
@@ -120,6 +129,7 @@ impl Zspage {
         spot.fill(handle, bytes);
         self.free.set(ix, USED);
         self.used += 1;
+        self.home += 1;
         ix as u32
     }
 
@@ -134,6 +144,7 @@ impl Zspage {
         spot.clear();
         self.free.set(ix, FREE);
         self.used -= 1;
+        self.home -= 1;
     }
 
     /// Lends a used cell, which stays used.
@@ -144,7 +155,9 @@ impl Zspage {
             × (self.new ≡ record self.old { cells = slice_set self.old.cells ix (Some (record u { out = true })) }) }
     {
         let spot = &mut self.spots[ix as usize];
-        spot.lend()
+        let cell = spot.lend();
+        self.home -= 1;
+        cell
     }
 
     /// Takes the cell that was lent back.
@@ -156,6 +169,7 @@ impl Zspage {
     {
         let spot = &mut self.spots[ix as usize];
         spot.back(cell);
+        self.home += 1;
     }
 }
 
@@ -172,7 +186,7 @@ mod tests {
         assert_eq!(rt; zspage.used(), 0);
         assert!(rt; zspage.used() < zspage.per());
         assert_eq!(rt; zspage.take_cell(Handle(5), &[1, 2, 3]), 0);
-        assert_eq!(rt; zspage.used(), 1);
+        assert_eq!(rt; (zspage.used(), zspage.at_home()), (1, 1));
         Ok(())
     }
 }

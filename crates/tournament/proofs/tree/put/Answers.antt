@@ -15,10 +15,10 @@ loop-at-preserved c =
     record {
       tree = climb c.args.room c.loop-at.at (c.loop-at.at / 2) c.loop-at.nodes c.better.result c.loop-at.invariant.tree
           c.loop-at.invariant.long some low half
-          (record { one = c.better.ensures.one; over_left = c.better.ensures.left; over_right = c.better.ensures.right });
+          c.better.ensures;
       some = some;
       within = omega (arith, low);
-      here = node-set_other c.loop-at.nodes (c.loop-at.at / 2) (c.args.room + c.args.leaf.place) c.better.result (omega (arith, low))
+      here = node-set_other c.loop-at.nodes (c.loop-at.at / 2) (c.args.room + c.args.place) c.better.result (omega (arith, low))
           ∙ c.loop-at.invariant.here;
       others = λ k leaf high other.
           node-set_other c.loop-at.nodes (c.loop-at.at / 2) k c.better.result (omega (arith, low))

@@ -3,15 +3,16 @@ use Rattle.std.proofs.Common.{◌≡◌, ◌<◌, ◌≤◌, ◌+◌, ◌^◌, �
 use Rattle.std.proofs.Math.Seq.{take-append_seam}
 use Rattle.std.proofs.lemmas.List.{length-map, map-append}
 use Rattle.class_pool.specs.Zspages.{cells_of}
-use Rattle.class_pool.proofs.Ranks.{slot_changes, put_at-set, put_at-end, updated_rank, appended, new_fits, zspages_made}
+use Rattle.class_pool.proofs.Ranks.{slot_changes, put_at-set, put_at-end, updated_ranks, new_stays, appended, new_fits, zspages_made}
 use Rattle.class_pool.proofs.zspages.Zspages.add.Goals as goal
 
 pub invariant_of-self : goal.invariant_of-self
 invariant_of-self c =
     let low : c.args.id < length c.self.inside.items.items = omega arith in
-    rw c.set.ensures
-    (updated_rank _ _ _ _ _ _ _ _ c.self.invariant low
-    (new_fits _ _ _ _ _ _ c.self.invariant.cells refl c.in_ok-zspage.ensures) c.rank-rank.ensures)
+    rw (c.set.ensures, c.set-then-id-len.ensures)
+    (updated_ranks _ _ _ _ _ _ _ _ _ _ c.self.invariant low
+    (new_fits _ _ _ _ _ _ c.self.invariant.cells refl c.in_ok-zspage.ensures) c.rank-rank.ensures
+    (new_stays c.in_ok-zspage.zspage _ (ap (λ z. z.cells) c.in_ok-zspage.ensures)))
 
 -- the last of a list is taken away again
 taken_back : {A : Type 0} (xs all : List A) (z : A) (n : ℕ) → all ≡ xs ++ z ∷ [] → n ≡ length xs → take n all ≡ xs
@@ -23,7 +24,7 @@ invariant_of-self-in-Err c =
     let back : c.pop.new.self.items ≡ c.self.inside.items.items =
     c.pop.ensures.rest
     ∙ taken_back c.self.inside.items.items c.push.new.self.items _ _ c.in_ok-push.ensures.items (omega (arith, c.in_ok-push.ensures.len)) in
-    rw (back, c.in-Err.ensures.err) c.self.invariant
+    rw (back, c.in-Err.ensures.ranks_err, c.in-Err.ensures.sources_err) c.self.invariant
 
 pub returns-then-id-len-clause-ok : goal.returns-then-id-len-clause-ok
 returns-then-id-len-clause-ok c =
@@ -40,8 +41,9 @@ invariant_of-self-in_default c =
     rw length-map at (subst (λ z. c.args.id ≤ length z.zspages) (sym c.self.view_is) c.requires.absent.within) in
     let last : c.args.id ≡ length c.self.inside.items.items = omega arith in
     let short : length c.self.inside.items.items + 1 < 2 ^ 32 = omega (arith, last, c.requires.short) in
-    rw (c.in_ok-push.ensures.items, c.in_default.ensures.ok)
-    (appended _ _ _ _ _ _ _ c.self.invariant (new_fits _ _ _ _ _ _ c.self.invariant.cells last c.in_ok-zspage.ensures) c.rank-rank.ensures short)
+    rw (c.in_ok-push.ensures.items, c.in_default.ensures.ranks, c.in_default.ensures.sources)
+    (appended _ _ _ _ _ _ _ _ _ c.self.invariant (new_fits _ _ _ _ _ _ c.self.invariant.cells last c.in_ok-zspage.ensures) c.rank-rank.ensures
+    (new_stays c.in_ok-zspage.zspage _ (ap (λ z. z.cells) c.in_ok-zspage.ensures)) short)
 
 pub returns-clause-ok : goal.returns-clause-ok
 returns-clause-ok c =

@@ -9,7 +9,7 @@ returns c =
     let low : c.args.id < length c.self.inside.items.items =
     id_within _ _ c.requires.0 (subst (λ z. entry z.zspages c.args.id ≡ Some c.requires.0) (sym c.self.view_is) c.requires.1) in
     let slot : IsSlot c.self.inside.size c.self.inside.chain c.self.inside.per c.self.inside.items.items c.args.id c.in-Some.zspage =
-    slot_is _ _ _ _ _ _ _ _ c.self.invariant low c.index_mut-slot.ensures.value c.in-Some.is in (
+    slot_is _ _ _ _ _ _ _ _ _ c.self.invariant low c.index_mut-slot.ensures.value c.in-Some.is in (
       c.in-Some.zspage.cells,
       c.back.ensures.after.0,
       (subst (λ z. entry z.zspages c.args.id ≡ Some c.in-Some.zspage.cells) c.self.view_is slot.seen),

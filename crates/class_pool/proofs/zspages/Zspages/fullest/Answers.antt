@@ -8,5 +8,5 @@ use Rattle.class_pool.proofs.zspages.Zspages.fullest.Goals as goal
 pub returns : goal.returns
 returns c =
     subst (λ z. IsFullest z.zspages c.winner.result) c.self.view_is
-    (fullest_is _ _ _ _ _ _ c.requires.0 c.self.invariant c.winner.ensures
+    (fullest_is _ _ _ _ _ _ _ c.requires.0 c.self.invariant c.winner.ensures
     (subst (λ z. HasRoom (entry z.zspages c.requires.0)) (sym c.self.view_is) c.requires.1))

@@ -3,7 +3,7 @@ use Rattle.std.proofs.Common.{◌≡◌, ◌<◌, ◌≤◌, ◌≢◌, Some, le
 use Rattle.std.proofs.Math.ListN.{length-set}
 use Rattle.zspage.specs.Cells.{entry, used_of}
 use Rattle.std.proofs.lemmas.Bool.{both_ways}
-use Rattle.class_pool.proofs.Ranks.{IsSlot, slot_is, slot_changes, slot_goes, id_within, per_bound, zspages_made}
+use Rattle.class_pool.proofs.Ranks.{IsSlot, slot_is, slot_changes, slot_goes, still_fits, updated_ranks, id_within, per_bound, zspages_made}
 use Rattle.class_pool.proofs.zspages.Zspages.put_cell.Goals as goal
 
 pub returns-then-is_empty-clause-gone : goal.returns-then-is_empty-clause-gone
@@ -11,7 +11,7 @@ returns-then-is_empty-clause-gone c was_last =
     let low : c.args.id < length c.self.inside.items.items =
     id_within _ _ c.requires.0 (subst (λ z. entry z.zspages c.args.id ≡ Some c.requires.0) (sym c.self.view_is) c.requires.1) in
     let slot : IsSlot c.self.inside.size c.self.inside.chain c.self.inside.per c.self.inside.items.items c.args.id c.in-Some.zspage =
-    slot_is _ _ _ _ _ _ _ _ c.self.invariant low c.index_mut-slot.ensures.value c.in-Some.is in (
+    slot_is _ _ _ _ _ _ _ _ _ c.self.invariant low c.index_mut-slot.ensures.value c.in-Some.is in (
       c.in-Some.zspage.cells,
       subst (λ z. entry z.zspages c.args.id ≡ Some c.in-Some.zspage.cells) c.self.view_is slot.seen,
       omega (arith, c.put_cell.ensures.used, c.is_empty.ensures.0 c.if-is_empty.true),
@@ -24,7 +24,7 @@ rank-rank-requires c =
     let low : c.args.id < length c.self.inside.items.items =
     id_within _ _ c.requires.0 (subst (λ z. entry z.zspages c.args.id ≡ Some c.requires.0) (sym c.self.view_is) c.requires.1) in
     let slot : IsSlot c.self.inside.size c.self.inside.chain c.self.inside.per c.self.inside.items.items c.args.id c.in-Some.zspage =
-    slot_is _ _ _ _ _ _ _ _ c.self.invariant low c.index_mut-slot.ensures.value c.in-Some.is in
+    slot_is _ _ _ _ _ _ _ _ _ c.self.invariant low c.index_mut-slot.ensures.value c.in-Some.is in
     let few : c.self.inside.per ≤ 2048 = per_bound _ _ _ c.self.invariant.small c.self.invariant.few c.self.invariant.cells in
     let long : length c.put_cell.new.self.cells ≡ length c.in-Some.zspage.cells =
     ap (λ z. length z.cells) c.put_cell.ensures.after ∙ length-set _ _ _ in
@@ -35,7 +35,7 @@ returns-clause-kept c stays =
     let low : c.args.id < length c.self.inside.items.items =
     id_within _ _ c.requires.0 (subst (λ z. entry z.zspages c.args.id ≡ Some c.requires.0) (sym c.self.view_is) c.requires.1) in
     let slot : IsSlot c.self.inside.size c.self.inside.chain c.self.inside.per c.self.inside.items.items c.args.id c.in-Some.zspage =
-    slot_is _ _ _ _ _ _ _ _ c.self.invariant low c.index_mut-slot.ensures.value c.in-Some.is in
+    slot_is _ _ _ _ _ _ _ _ _ c.self.invariant low c.index_mut-slot.ensures.value c.in-Some.is in
     let left : used_of c.put_cell.new.self.cells ≢ 0 = λ e. both_ways _ c.if-is_empty.false (c.is_empty.ensures.1 e) in (
       c.in-Some.zspage.cells,
       subst (λ z. entry z.zspages c.args.id ≡ Some c.in-Some.zspage.cells) c.self.view_is slot.seen,
@@ -44,3 +44,13 @@ returns-clause-kept c stays =
           (ap (λ zs. zspages_made c.self.inside.size c.self.inside.chain c.self.inside.per zs)
           (slot_changes _ _ _ _ (ap (λ z. z.cells) c.put_cell.ensures.after))),
     )
+
+pub invariant_of-self-in-Some : goal.invariant_of-self-in-Some
+invariant_of-self-in-Some c =
+    let low : c.args.id < length c.self.inside.items.items =
+    id_within _ _ c.requires.0 (subst (λ z. entry z.zspages c.args.id ≡ Some c.requires.0) (sym c.self.view_is) c.requires.1) in
+    let slot : IsSlot c.self.inside.size c.self.inside.chain c.self.inside.per c.self.inside.items.items c.args.id c.in-Some.zspage =
+    slot_is _ _ _ _ _ _ _ _ _ c.self.invariant low c.index_mut-slot.ensures.value c.in-Some.is in
+    rw (c.set-in-Some.ensures, c.set-in-Some-2.ensures)
+    (updated_ranks _ _ _ _ _ _ _ _ _ _ c.self.invariant low
+    (still_fits _ _ _ _ _ _ _ _ slot c.put_cell.ensures.after (length-set _ _ _)) c.rank-rank.ensures c.source-source.ensures)
