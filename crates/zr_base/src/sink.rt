@@ -130,7 +130,8 @@ pub struct StdSink<W> {
 impl<W: Write> StdSink<W> {
     /// A sink to the writer. It hasn't stopped.
     pub fn new(inner: W) -> StdSink<W>
-        ensures { result.stopped ≡ false }
+        ensures goes_on { result.stopped ≡ false }
+        ensures faultless { result.faults ≡ 0 }
     {
         StdSink {
             inner,

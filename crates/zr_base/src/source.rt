@@ -107,7 +107,9 @@ pub struct StdSource<R> {
 
 impl<R: Read> StdSource<R> {
     /// A source of what the reader gives.
-    pub fn new(inner: R) -> StdSource<R> {
+    pub fn new(inner: R) -> StdSource<R>
+        ensures { result.faults ≡ 0 }
+    {
         StdSource { inner, faults: 0 }
     }
 }
