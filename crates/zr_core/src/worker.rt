@@ -181,8 +181,12 @@ impl Worker {
         if self.is_done(ops) {
             return Turn::Finished;
         }
+        // Asked first, since a take of the entry moves its page.
+        if self.entry.is_none() {
+            return self.enter(size, ops, hand);
+        }
         match self.entry.take() {
-            None => self.enter(size, ops, hand),
+            None => unreachable!(),
             Some(entry) => self.leave(size, ops, entry, hand),
         }
     }

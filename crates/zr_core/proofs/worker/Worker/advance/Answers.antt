@@ -16,8 +16,8 @@ leave-requires-clause-gives g c k v what works =
     c.requires.gives k v (sym (ap (next_event c.args.size c.args.ops.now) same) ∙ what)
     (subst (λ (w : Worker). WorksAlways c.args.size c.args.ops.now w v) same works)
 
-pub returns-in-Some-clause-turn : goal.returns-in-Some-clause-turn
-returns-in-Some-clause-turn g c done keeps =
+pub returns-clause-turn : goal.returns-clause-turn
+returns-clause-turn g c done keeps =
     let same = same_worker c.args.self.now c.in-Some.entry c.in-Some.ensures.value in
     subst (λ (w : Worker). Advanced g.H.Hand.takes g.H.Hand.misses g.H.Hand.gives c.args.size c.args.ops.now w c.args.hand.now c.leave.new.self c.leave.new.hand c.leave.result done) same
     (c.leave.ensures.turn done (record { sectors = keeps.sectors }))
