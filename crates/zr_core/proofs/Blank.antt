@@ -1,6 +1,7 @@
 -- The row of a new disk.
 use Rattle.std.proofs.Common.{◌≡◌, ℕ, zero, suc, ◌+◌, ◌<◌, List, [], ◌∷◌, ◌++◌, length, Option, Some, slice_get, refl, sym, ap, ◌∙◌, subst, arith, ⊎_elim}
 use Rattle.std.proofs.lemmas.Bool.{cases_lt}
+use Rattle.std.proofs.lemmas.List.{length_push}
 use Rattle.lock_row.specs.declared.names.LockNo.{LockNo}
 use Rattle.lock_row.specs.declared.names.Held.TheVariants as holds
 use Rattle.lock_row.specs.Rows.{Row, place_in, cell, at_home, names_of, cells_of}
@@ -18,10 +19,6 @@ names_push (x ∷ xs) k v = ap (λ (ks : List LockNo). x.0 ∷ ks) (names_push x
 cells_push : (xs : List (LockNo × DiskHeld)) (k : LockNo) (v : DiskHeld) → cells_of (xs ++ (k, v) ∷ []) ≡ cells_of xs ++ Some v ∷ []
 cells_push [] k v = refl
 cells_push (x ∷ xs) k v = ap (λ (cs : List (Option DiskHeld)). Some x.1 ∷ cs) (cells_push xs k v)
-
-length_push : {A : Type 0} (xs : List A) (x : A) → length (xs ++ x ∷ []) ≡ suc (length xs)
-length_push [] x = refl
-length_push (y ∷ ys) x = ap suc (length_push ys x)
 
 get_below : {A : Type 0} (xs : List A) (x : A) (i : ℕ) → i < length xs → slice_get (xs ++ x ∷ []) i ≡ slice_get xs i
 get_below [] x i lt = absurd (omega arith)

@@ -1,28 +1,25 @@
 -- A phase that is set up: the state before its first turn.
-use Rattle.std.proofs.Common.{◌≡◌, ◌≢◌, ℕ, zero, suc, ◌+◌, ◌*◌, ◌/◌, ◌%◌, ◌<◌, ◌≤◌, List, [], ◌∷◌, ◌++◌, map, length, take, get_or, Option, Some, None, slice_get, refl, sym, ap, ◌∙◌, subst, arith}
+use Rattle.std.proofs.Common.{◌≡◌, ℕ, zero, suc, ◌+◌, ◌*◌, ◌/◌, ◌%◌, ◌<◌, List, [], ◌∷◌, length, get_or, Option, Some, None, slice_get, refl, sym, ap, ◌∙◌, subst, arith}
 use mathlib.Core.Logic.{dite}
 use native.Mathlib.Decide.{ℕ_discrete}
 use Rattle.std.proofs.lemmas.Option.{slice_get_within, get_or_from_slice_get}
 use Rattle.std.proofs.lemmas.List.{length-map}
 use Rattle.zr_base.specs.declared.op.Op.{Op}
 use Rattle.zr_base.specs.Sectors.{page_sector}
-use Rattle.plain_disk.specs.Phases.{Given}
 use Rattle.call_history.specs.declared.part.Done.{Done}
-use Rattle.call_history.specs.declared.part.Part.{Part}
 use Rattle.call_history.specs.Parts.{program}
 use Rattle.lock_row.specs.declared.names.Held.TheVariants as holds
 use Rattle.slot_entry.specs.declared.entry.Kept.{Kept}
 use Rattle.slot_entry.specs.Entries.{EntryState, page_of}
-use Rattle.zr_core.specs.declared.worker.Reply.{Reply}
 use Rattle.zr_core.specs.declared.worker.Worker.{Worker}
 use Rattle.zr_core.specs.Steps.{DiskHeld, Here}
-use Rattle.zr_core.specs.Joint.{pieces_on, owed, HasRoom}
+use Rattle.zr_core.specs.Joint.{pieces_on, owed}
 use Rattle.zr_core.specs.Places.{todo_at}
 use Rattle.zr_core.specs.Machines.{page_in, sector_in, Starts, IsFresh, IsStart}
 use Rattle.zr_core.specs.Workers.{at_of, held_by, here, Keeps}
 use Rattle.zr_core.specs.States.{heres, state, given_on, IsAtRest, IsPrepared, AreFit, AreKept, CanGoOn}
 use Rattle.zr_core.specs.Runs.{nothing_over}
-use Rattle.zr_core.specs.Preparing.{count_at, pieces_each, IsReserved, KeepsPage, AreReserved, IsNewWorker, AreNewWorkers}
+use Rattle.zr_core.specs.Preparing.{count_at, pieces_each, IsReserved, AreReserved, AreNewWorkers}
 use Rattle.zr_core.proofs.Places.{there_is}
 use Rattle.zr_core.proofs.Starts.{start_joint}
 

@@ -1,5 +1,5 @@
 -- Setting a phase up.
-use Rattle.std.proofs.Common.{◌≡◌, ◌≢◌, ℕ, zero, suc, ◌+◌, ◌*◌, ◌<◌, ◌≤◌, Bool, true, false, cond, eqb, List, [], ◌∷◌, ◌++◌, length, get_or, Option, Some, None, slice_get, slice_set, refl, sym, ap, ◌∙◌, subst, arith, length-set}
+use Rattle.std.proofs.Common.{◌≡◌, ◌≢◌, ℕ, zero, suc, ◌<◌, ◌≤◌, List, [], ◌∷◌, length, Option, Some, None, slice_get, slice_set, refl, sym, ap, ◌∙◌, length-set}
 use Rattle.std.specs.Prelude.{Result, Ok, Err, OnOk, OnErr}
 use Rattle.lock_row.specs.declared.names.Held.TheVariants as holds
 use Rattle.lock_row.specs.Rows.{Row, IsIn, place_in, cell, with_cell, at_home}
@@ -7,7 +7,7 @@ use Rattle.slot_entry.specs.Entries.{EntryState}
 use Rattle.zr_core.specs.Steps.{DiskHeld, slot}
 use Rattle.zr_core.specs.States.{slots_of, IsAtRest}
 use Rattle.zr_core.specs.Preparing.{IsReserved}
-use Rattle.zr_core.proofs.States.{slot_place}
+use Rattle.zr_core.proofs.States.{set_same, slot_place}
 
 pub on_ok_both : {A E P Q R : Type 0} (r : Result A E) → (P → Q → R) → OnOk r P → OnOk r Q → OnOk r R
 on_ok_both (Ok x) f p q = f p q
@@ -35,11 +35,6 @@ set_twice : {A : Type 0} (xs : List A) (i : ℕ) (x y : A) → slice_set (slice_
 set_twice [] i x y = refl
 set_twice (z ∷ zs) zero x y = refl
 set_twice (z ∷ zs) (suc i) x y = ap (λ ws. z ∷ ws) (set_twice zs i x y)
-
-set_back : {A : Type 0} (xs : List A) (i : ℕ) (x : A) → slice_get xs i ≡ Some x → slice_set xs i x ≡ xs
-set_back [] i x e = refl
-set_back (z ∷ zs) zero x e = let q : z ≡ x = cc in λ i. sym q i ∷ zs
-set_back (z ∷ zs) (suc i) x e = ap (λ ws. z ∷ ws) (set_back zs i x e)
 
 module _ (size page : ℕ) (lt : page < size) where
   cell_at : (r : Row DiskHeld) → r.names ≡ slots_of size → cell r (slot page) ≡ slice_get r.cells page
@@ -70,7 +65,7 @@ module _ (size page : ℕ) (lt : page < size) where
         cells₂ = ap (λ (x : Row DiskHeld). x.cells) given ∙ cells_with r₁ (Some w) names₁ ∙ ap (λ (cs : List (Option DiskHeld)). slice_set cs page (Some w)) cells₁ ∙ set_twice r.cells page None (Some w)
 
         pub gives_back : w ≡ v → r₂.cells ≡ r.cells
-        gives_back same = cells₂ ∙ set_back r.cells page (Some w) (sym (cell_at r names) ∙ home ∙ ap (λ (x : DiskHeld). Some (Some x)) (sym same))
+        gives_back same = cells₂ ∙ set_same r.cells page (Some w) (sym (cell_at r names) ∙ home ∙ ap (λ (x : DiskHeld). Some (Some x)) (sym same))
 
         pub gives_reserved : (n : ℕ) (e f : EntryState) → v ≡ holds.Slot e → w ≡ holds.Slot f → f.kept ≡ e.kept → f.order ≡ [] → n ≤ f.room → IsReserved page n r.cells r₂.cells
         gives_reserved n e f was is kept order room = record {

@@ -31,7 +31,7 @@ use Rattle.zr_core.proofs.Turns.{part_at, todo_next}
 
 -- ---- lists
 
-set_same : {A : Type 0} (xs : List A) (i : ℕ) (x : A) → slice_get xs i ≡ Some x → slice_set xs i x ≡ xs
+pub set_same : {A : Type 0} (xs : List A) (i : ℕ) (x : A) → slice_get xs i ≡ Some x → slice_set xs i x ≡ xs
 set_same [] i x e = refl
 set_same (y ∷ ys) zero x e = let q : y ≡ x = cc in λ i. sym q i ∷ ys
 set_same (y ∷ ys) (suc i) x e = ap (λ zs. y ∷ zs) (set_same ys i x e)

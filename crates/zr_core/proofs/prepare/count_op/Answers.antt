@@ -1,4 +1,4 @@
-use Rattle.std.proofs.Common.{◌≡◌, ℕ, ◌+◌, ◌-◌, ◌/◌, ◌<◌, Bool, true, false, cond, eqb, List, length, sym, ap, ◌∙◌, subst, arith, refl, length-set}
+use Rattle.std.proofs.Common.{◌≡◌, ℕ, ◌+◌, ◌-◌, ◌/◌, ◌<◌, Bool, true, false, cond, eqb, List, length, sym, ap, ◌∙◌, arith, length-set}
 use Rattle.call_history.specs.Parts.{parts_from}
 use Rattle.zr_core.specs.Joint.{pieces_on}
 use Rattle.zr_core.specs.Preparing.{count_at}

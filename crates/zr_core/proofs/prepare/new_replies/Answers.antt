@@ -1,4 +1,4 @@
-use Rattle.std.proofs.Common.{◌≡◌, ◌∙◌, arith}
+use Rattle.std.proofs.Common.{arith}
 use Rattle.zr_core.proofs.Places.{at_index}
 use Rattle.zr_core.proofs.Beginners.{reply_more}
 use Rattle.zr_core.proofs.prepare.new_replies.Goals as goal

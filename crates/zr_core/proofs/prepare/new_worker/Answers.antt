@@ -1,4 +1,4 @@
-use Rattle.std.proofs.Common.{◌≡◌, refl, ◌∙◌}
+use Rattle.std.proofs.Common.{refl, ◌∙◌}
 use Rattle.zr_core.proofs.Beginners.{is_new_worker}
 use Rattle.zr_core.proofs.prepare.new_worker.Goals as goal
 

@@ -1,6 +1,4 @@
-use Rattle.std.proofs.Common.{◌≡◌, List, Option, refl, sym, ◌∙◌, subst, arith}
-use Rattle.std.proofs.lemmas.Option.{get_or_from_slice_get}
-use Rattle.zr_core.specs.Steps.{DiskHeld}
+use Rattle.std.proofs.Common.{refl, sym, ◌∙◌, subst}
 use Rattle.zr_core.specs.Preparing.{AreReserved}
 use Rattle.zr_core.proofs.Prepared.{reserved_rest, reserved_none, reserved_more, reserved_any}
 use Rattle.zr_core.proofs.prepare.reserve_all.Goals as goal

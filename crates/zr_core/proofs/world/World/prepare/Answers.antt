@@ -1,5 +1,5 @@
-use Rattle.std.proofs.Common.{◌≡◌, ℕ, ◌*◌, ◌<◌, List, ap, sym, ◌∙◌, subst}
-use Rattle.zr_core.specs.Preparing.{count_at, AreReserved}
+use Rattle.std.proofs.Common.{ℕ, List, subst}
+use Rattle.zr_core.specs.Preparing.{AreReserved}
 use Rattle.zr_core.proofs.Preparing.{on_err_any}
 use Rattle.zr_core.proofs.Prepared.{prepared, may_go_on, fit_for, reserved_rest, reserved_holds}
 use Rattle.zr_core.proofs.world.World.prepare.Goals as goal
