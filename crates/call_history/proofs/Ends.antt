@@ -38,24 +38,29 @@ Of nr p = p.nr ≡ nr
 abbrev pub Above : ℕ → Part → Type 0
 Above nr p = nr ≤ p.nr
 
-without_all : (nr : ℕ) (ps rest : List Part) → AllByRecursion (Of nr) ps → without nr (ps ++ rest) ≡ without nr rest
+without_all : (nr : ℕ) (ps rest : List Part) → AllByRecursion (Of nr) ps
+    → without nr (ps ++ rest) ≡ without nr rest
 without_all nr [] rest all = refl
 without_all nr (p ∷ ps) rest all = rw (eq-eqb p.nr nr all.0) (without_all nr ps rest all.1)
 
 without_none : (nr : ℕ) (ps : List Part) → AllByRecursion (Above (nr + 1)) ps → without nr ps ≡ ps
 without_none nr [] all = refl
-without_none nr (p ∷ ps) all = rw (ne_eqb p.nr nr (λ s. let z = all.0 in omega arith)) (ap (λ (qs : List Part). p ∷ qs) (without_none nr ps all.1))
+without_none nr (p ∷ ps) all = rw (ne_eqb p.nr nr (λ s. let z = all.0 in
+    omega arith)) (ap (λ (qs : List Part). p ∷ qs) (without_none nr ps all.1))
 
-pub split : (nr : ℕ) (ps rest : List Part) (done : List Done) → AllByRecursion (Of nr) ps → AllByRecursion (Above (nr + 1)) rest → Follows (ps ++ rest) done [] → Split ps rest done
+pub split : (nr : ℕ) (ps rest : List Part) (done : List Done) → AllByRecursion (Of nr) ps
+    → AllByRecursion (Above (nr + 1)) rest → Follows (ps ++ rest) done [] → Split ps rest done
 split nr [] rest done of above f = record { front = []; back = done; is = refl; mine = refl; later = f }
 split nr (p ∷ ps) rest [] of above f = absurd (let q : [] ≡ p ∷ (ps ++ rest) = f in cc)
 split nr (p ∷ ps) rest (d ∷ ds) of above f = by_end (λ g. split nr ps rest ds of.1 above g) (is_carried d.end) refl where
-  by_end : (Follows (ps ++ rest) ds [] → Split ps rest ds) → (b : Bool) → is_carried d.end ≡ b → Split (p ∷ ps) rest (d ∷ ds)
+  by_end : (Follows (ps ++ rest) ds [] → Split ps rest ds) → (b : Bool) → is_carried d.end ≡ b
+      → Split (p ∷ ps) rest (d ∷ ds)
   by_end again true e =
       let s = again (subst (λ (x : Bool). Follows (cond x (ps ++ rest) (without p.nr (ps ++ rest))) ds []) e f.2) in
       record { front = d ∷ s.front; back = s.back; is = ap (λ (xs : List Done). d ∷ xs) s.is; later = s.later; mine = (f.0, f.1, subst (λ (x : Bool). Mine (cond x ps []) s.front) (sym e) s.mine) }
   by_end again false e =
-      let left : without p.nr (ps ++ rest) ≡ rest = ap (λ (n : ℕ). without n (ps ++ rest)) of.0 ∙ without_all nr ps rest of.1 ∙ without_none nr rest above in
+      let left : without p.nr (ps ++ rest) ≡ rest = ap (λ (n : ℕ). without n (ps ++ rest)) of.0
+      ∙ without_all nr ps rest of.1 ∙ without_none nr rest above in
       record {
         front = d ∷ [];
         back = ds;
@@ -77,7 +82,8 @@ program_above pages nr (op ∷ ops) = every_append (Above nr) (parts pages nr op
 
 -- each piece that is over is of the program
 module _ (P : Part → Type 0) where
-  every_left : (end : PartEnd) (nr : ℕ) (ps : List Part) → AllByRecursion P ps → AllByRecursion P (left_by end nr ps)
+  every_left : (end : PartEnd) (nr : ℕ) (ps : List Part) → AllByRecursion P ps
+      → AllByRecursion P (left_by end nr ps)
   every_left end nr ps all = elim (cases_Bool (is_carried end)) [ inl on ↦ rw on all | inr off ↦ rw off (every_without nr ps all) ] where
     every_without : (nr : ℕ) (ps : List Part) → AllByRecursion P ps → AllByRecursion P (without nr ps)
     every_without nr [] all = tt
@@ -86,12 +92,14 @@ module _ (P : Part → Type 0) where
       | inr off ↦ rw off (all.0, every_without nr ps all.1)
     ]
 
-  pub every_done : (ps : List Part) (ds : List Done) (todo : List Part) → Follows ps ds todo → AllByRecursion P ps → AllByRecursion (λ (d : Done). P d.part) ds
+  pub every_done : (ps : List Part) (ds : List Done) (todo : List Part) → Follows ps ds todo
+      → AllByRecursion P ps → AllByRecursion (λ (d : Done). P d.part) ds
   every_done ps [] todo f all = tt
   every_done [] (d ∷ ds) todo f all = absurd f
   every_done (p ∷ ps) (d ∷ ds) todo f all = (subst P (sym f.0) all.0, every_done (left_by d.end p.nr ps) ds todo f.2 (every_left d.end p.nr ps all.1))
 
-  pub every_mine : (ps : List Part) (ds : List Done) → Mine ps ds → AllByRecursion P ps → AllByRecursion (λ (d : Done). P d.part) ds
+  pub every_mine : (ps : List Part) (ds : List Done) → Mine ps ds → AllByRecursion P ps
+      → AllByRecursion (λ (d : Done). P d.part) ds
   every_mine ps [] m all = tt
   every_mine [] (d ∷ ds) m all = absurd m
   every_mine (p ∷ ps) (d ∷ ds) m all = (subst P (sym m.0) all.0, every_mine (kept d.end ps) ds m.2 (every_kept d.end ps all.1)) where
@@ -110,7 +118,8 @@ noted_append p (x ∷ xs) ys = elim (cases_Bool (is_on p x)) [
 pub got_append : (nr : ℕ) (xs ys : List Done) → got_of nr (xs ++ ys) ≡ got_of nr xs ++ got_of nr ys
 got_append nr [] ys = refl
 got_append nr (x ∷ xs) ys = elim (cases_Bool (eqb x.part.nr nr)) [
-  | inl on ↦ rw on (ap (λ (zs : List (List ℕ)). x.got ++ zs) (got_append nr xs ys) ∙ sym (append_assoc x.got (got_of nr xs) (got_of nr ys)))
+  | inl on ↦ rw on (ap (λ (zs : List (List ℕ)). x.got ++ zs) (got_append nr xs ys)
+      ∙ sym (append_assoc x.got (got_of nr xs) (got_of nr ys)))
   | inr off ↦ rw off (got_append nr xs ys)
 ]
 
@@ -118,11 +127,13 @@ got_append nr (x ∷ xs) ys = elim (cases_Bool (eqb x.part.nr nr)) [
 abbrev pub Else : ℕ → Done → Type 0
 Else nr d = d.part.nr ≢ nr
 
-pub end_none : (nr n : ℕ) (xs ys : List Done) → AllByRecursion (Else nr) xs → end_by nr n (xs ++ ys) ≡ end_by nr n ys
+pub end_none : (nr n : ℕ) (xs ys : List Done) → AllByRecursion (Else nr) xs
+    → end_by nr n (xs ++ ys) ≡ end_by nr n ys
 end_none nr n [] ys all = refl
 end_none nr n (x ∷ xs) ys all = rw (ne_eqb x.part.nr nr all.0) (end_none nr n xs ys all.1)
 
-pub end_front : (nr n : ℕ) (xs ys : List Done) → AllByRecursion (Else nr) ys → end_by nr n (xs ++ ys) ≡ end_by nr n xs
+pub end_front : (nr n : ℕ) (xs ys : List Done) → AllByRecursion (Else nr) ys
+    → end_by nr n (xs ++ ys) ≡ end_by nr n xs
 end_front nr n [] ys all = ap (end_by nr n) (sym (append-nil ys)) ∙ end_none nr n ys [] all
 end_front nr n (x ∷ xs) ys all = elim (cases_Bool (eqb x.part.nr nr)) [
   | inl on ↦ rw on (ap (end_step x.end n) (end_front nr (n + 1) xs ys all))
@@ -133,7 +144,8 @@ pub got_none : (nr : ℕ) (xs : List Done) → AllByRecursion (Else nr) xs → g
 got_none nr [] all = refl
 got_none nr (x ∷ xs) all = rw (ne_eqb x.part.nr nr all.0) (got_none nr xs all.1)
 
-pub all_map : {A : Type 0} (P Q : A → Type 0) (xs : List A) → ((x : A) → P x → Q x) → AllByRecursion P xs → AllByRecursion Q xs
+pub all_map : {A : Type 0} (P Q : A → Type 0) (xs : List A) → ((x : A) → P x → Q x) → AllByRecursion P xs
+    → AllByRecursion Q xs
 all_map P Q [] f all = tt
 all_map P Q (x ∷ xs) f all = (f x all.0, all_map P Q xs f all.1)
 
@@ -175,33 +187,41 @@ within_later a n = and_left (leb (a + 1) a) (ltb a (a + 1 + n)) (lt-leb (a + 1) 
 
 within_step : (a n p : ℕ) → p ≢ a → within a (suc n) p ≡ within (a + 1) n p
 within_step a n p ne = bool_same (within a (suc n) p) (within (a + 1) n p)
-    (λ on. let q = and_parts (leb a p) (ltb p (a + suc n)) on in let q₀ = leb-true a p q.0 in let q₁ = ltb-true p (a + suc n) q.1 in
+    (λ on. let q = and_parts (leb a p) (ltb p (a + suc n)) on in let q₀ = leb-true a p q.0 in
+    let q₁ = ltb-true p (a + suc n) q.1 in
     let d : (a < p) ⊎ (p ≤ a) = cases_lt a p in
     let above : a < p = ⊎_elim (λ h. h) (λ h. absurd (ne (omega arith))) d in
     and_from (leb (a + 1) p) (ltb p (a + 1 + n)) (le-leb (a + 1) p (omega arith)) (lt-ltb p (a + 1 + n) (omega arith)))
-    (λ on. let q = and_parts (leb (a + 1) p) (ltb p (a + 1 + n)) on in let q₀ = leb-true (a + 1) p q.0 in let q₁ = ltb-true p (a + 1 + n) q.1 in
+    (λ on. let q = and_parts (leb (a + 1) p) (ltb p (a + 1 + n)) on in let q₀ = leb-true (a + 1) p q.0 in
+    let q₁ = ltb-true p (a + 1 + n) q.1 in
     and_from (leb a p) (ltb p (a + suc n)) (le-leb a p (omega arith)) (lt-ltb p (a + suc n) (omega arith)))
 
 -- whether a page is the first of some, or among the others
-page_push : (a n p nr : ℕ) (xs : List ℕ) → xs ≡ cond (within (a + 1) n p) (nr ∷ []) [] → cond (eqb a p) (nr ∷ xs) xs ≡ cond (within a (suc n) p) (nr ∷ []) []
+page_push : (a n p nr : ℕ) (xs : List ℕ) → xs ≡ cond (within (a + 1) n p) (nr ∷ []) []
+    → cond (eqb a p) (nr ∷ xs) xs ≡ cond (within a (suc n) p) (nr ∷ []) []
 page_push a n p nr xs e = elim (cases_Bool (eqb a p)) [
   | inl on ↦ let s : a ≡ p = eqb-true a p on in
-      rw on (ap (λ (ys : List ℕ). nr ∷ ys) (e ∙ ap (λ (b : Bool). cond b (nr ∷ []) []) (subst (λ (q : ℕ). within (a + 1) n q ≡ false) s (within_later a n)))
+      rw on (ap (λ (ys : List ℕ). nr ∷ ys) (e
+      ∙ ap (λ (b : Bool). cond b (nr ∷ []) []) (subst (λ (q : ℕ). within (a + 1) n q ≡ false) s (within_later a n)))
       ∙ sym (ap (λ (b : Bool). cond b (nr ∷ []) []) (subst (λ (q : ℕ). within a (suc n) q ≡ true) s (within_first a n))))
-  | inr off ↦ rw off (e ∙ sym (ap (λ (b : Bool). cond b (nr ∷ []) []) (within_step a n p (λ s. eqb-false a p off (sym s)))))
+  | inr off ↦ rw off (e
+      ∙ sym (ap (λ (b : Bool). cond b (nr ∷ []) []) (within_step a n p (λ s. eqb-false a p off (sym s)))))
 ]
 
 abbrev pub piece_of : ℕ → Op → ℕ → Part
 piece_of nr op page = record { nr = nr; op = op; page = page }
 
-pub mine_with : (nr : ℕ) (op : Op) (a n : ℕ) (front : List Done) → has_event op a ≡ true → Mine (parts_from nr op a (suc n)) front → Mine (piece_of nr op a ∷ parts_from nr op (a + 1) n) front
+pub mine_with : (nr : ℕ) (op : Op) (a n : ℕ) (front : List Done) → has_event op a ≡ true
+    → Mine (parts_from nr op a (suc n)) front → Mine (piece_of nr op a ∷ parts_from nr op (a + 1) n) front
 mine_with nr op a n front on m = subst (λ (b : Bool). Mine (cond b (piece_of nr op a ∷ []) [] ++ parts_from nr op (a + 1) n) front) on m
 
-mine_skip : (nr : ℕ) (op : Op) (a n : ℕ) (front : List Done) → has_event op a ≡ false → Mine (parts_from nr op a (suc n)) front → Mine (parts_from nr op (a + 1) n) front
+mine_skip : (nr : ℕ) (op : Op) (a n : ℕ) (front : List Done) → has_event op a ≡ false
+    → Mine (parts_from nr op a (suc n)) front → Mine (parts_from nr op (a + 1) n) front
 mine_skip nr op a n front off m = subst (λ (b : Bool). Mine (cond b (piece_of nr op a ∷ []) [] ++ parts_from nr op (a + 1) n) front) off m
 
 -- where the page p is noted for a piece
-noted_one : (nr p a : ℕ) (op : Op) (d : Done) (ds : List Done) (b : Bool) → d.part ≡ piece_of nr op a → stands_so op d.end ≡ b → noted_on p (d ∷ ds) ≡ cond (eqb a p && b) (nr ∷ noted_on p ds) (noted_on p ds)
+noted_one : (nr p a : ℕ) (op : Op) (d : Done) (ds : List Done) (b : Bool) → d.part ≡ piece_of nr op a
+    → stands_so op d.end ≡ b → noted_on p (d ∷ ds) ≡ cond (eqb a p && b) (nr ∷ noted_on p ds) (noted_on p ds)
 noted_one nr p a op d ds b part e =
     (λ i. cond (eqb (part i).page p && stands_so (part i).op d.end) ((part i).nr ∷ noted_on p ds) (noted_on p ds))
     ∙ ap (λ (c : Bool). cond (eqb a p && c) (nr ∷ noted_on p ds) (noted_on p ds)) e
@@ -214,23 +234,32 @@ and_true : (x : Bool) → (x && true) ≡ x
 and_true true = refl
 and_true false = refl
 
-pub mine_on : (d : Done) (ps : List Part) (ds : List Done) (b : Bool) → is_carried d.end ≡ b → Mine (kept d.end ps) ds → Mine (cond b ps []) ds
+pub mine_on : (d : Done) (ps : List Part) (ds : List Done) (b : Bool) → is_carried d.end ≡ b
+    → Mine (kept d.end ps) ds → Mine (cond b ps []) ds
 mine_on d ps ds b e m = subst (λ (x : Bool). Mine (cond x ps []) ds) e m
 
 -- reads and writes: the pages of the pieces whose tags were noted
-pub pages_noted : (nr : ℕ) (op : Op) (p a n : ℕ) (front : List Done) → ((q : ℕ) → has_event op q ≡ true) → Mine (parts_from nr op a n) front → noted_on p front ≡ cond (within a (noted front) p) (nr ∷ []) []
+pub pages_noted : (nr : ℕ) (op : Op) (p a n : ℕ) (front : List Done) → ((q : ℕ) → has_event op q ≡ true)
+    → Mine (parts_from nr op a n) front → noted_on p front ≡ cond (within a (noted front) p) (nr ∷ []) []
 pages_noted nr op p a zero [] on m = rw (within_none a p) refl
 pages_noted nr op p a zero (d ∷ ds) on m = absurd m
 pages_noted nr op p a (suc n) [] on m = absurd (let q : piece_of nr op a ∷ parts_from nr op (a + 1) n ≡ [] = mine_with nr op a n [] (on a) m in cc)
 pages_noted nr op p a (suc n) (d ∷ ds) on m = by_end (mine_with nr op a n (d ∷ ds) (on a) m) (λ k. pages_noted nr op p (a + 1) n ds on k) (is_carried d.end) refl where
-  by_note : Mine (piece_of nr op a ∷ parts_from nr op (a + 1) n) (d ∷ ds) → is_carried d.end ≡ false → (b : Bool) → stands_so op d.end ≡ b → noted_on p (d ∷ []) ≡ cond (within a (cond b 1 0) p) (nr ∷ []) []
-  by_note k e true h = noted_one nr p a op d [] true k.0 h ∙ ap (λ (x : Bool). cond x (nr ∷ []) []) (and_true (eqb a p)) ∙ page_push a 0 p nr [] (sym (ap (λ (x : Bool). cond x (nr ∷ []) []) (within_none (a + 1) p)))
-  by_note k e false h = noted_one nr p a op d [] false k.0 h ∙ ap (λ (x : Bool). cond x (nr ∷ []) []) (and_right (eqb a p) false refl ∙ sym (within_none a p))
+  by_note : Mine (piece_of nr op a ∷ parts_from nr op (a + 1) n) (d ∷ ds) → is_carried d.end ≡ false
+      → (b : Bool) → stands_so op d.end ≡ b → noted_on p (d ∷ []) ≡ cond (within a (cond b 1 0) p) (nr ∷ []) []
+  by_note k e true h = noted_one nr p a op d [] true k.0 h
+      ∙ ap (λ (x : Bool). cond x (nr ∷ []) []) (and_true (eqb a p))
+      ∙ page_push a 0 p nr [] (sym (ap (λ (x : Bool). cond x (nr ∷ []) []) (within_none (a + 1) p)))
+  by_note k e false h = noted_one nr p a op d [] false k.0 h
+      ∙ ap (λ (x : Bool). cond x (nr ∷ []) []) (and_right (eqb a p) false refl ∙ sym (within_none a p))
 
-  by_end : Mine (piece_of nr op a ∷ parts_from nr op (a + 1) n) (d ∷ ds) → (Mine (parts_from nr op (a + 1) n) ds → noted_on p ds ≡ cond (within (a + 1) (noted ds) p) (nr ∷ []) [])
-      → (b : Bool) → is_carried d.end ≡ b → noted_on p (d ∷ ds) ≡ cond (within a (noted (d ∷ ds)) p) (nr ∷ []) []
+  by_end : Mine (piece_of nr op a ∷ parts_from nr op (a + 1) n) (d ∷ ds) → (Mine (parts_from nr op (a + 1) n) ds
+      → noted_on p ds ≡ cond (within (a + 1) (noted ds) p) (nr ∷ []) [])
+      → (b : Bool) → is_carried d.end ≡ b
+      → noted_on p (d ∷ ds) ≡ cond (within a (noted (d ∷ ds)) p) (nr ∷ []) []
   by_end k again true e =
-      noted_one nr p a op d ds true k.0 (carried_notes op d.end e) ∙ ap (λ (x : Bool). cond x (nr ∷ noted_on p ds) (noted_on p ds)) (and_true (eqb a p))
+      noted_one nr p a op d ds true k.0 (carried_notes op d.end e)
+      ∙ ap (λ (x : Bool). cond x (nr ∷ noted_on p ds) (noted_on p ds)) (and_true (eqb a p))
       ∙ page_push a (noted ds) p nr (noted_on p ds) (again (mine_on d (parts_from nr op (a + 1) n) ds true e k.2))
       ∙ sym (ap (λ (c : Bool). cond (within a (cond c (suc (noted ds)) (cond (stands_so d.part.op d.end) 1 0)) p) (nr ∷ []) []) e)
   by_end k again false e =
@@ -250,18 +279,22 @@ pub record Refused (op : Op) (n c : ℕ) (end : OpEnd) (front : List Done) : Typ
 abbrev pub EndIs : Op → ℕ → ℕ → OpEnd → List Done → Type 0
 EndIs op n c end front = ((end ≡ ends.Ok) × (noted front ≡ n) × (carried front ≡ n)) ⊎ Refused op n c end front
 
-end_here : (nr : ℕ) (op : Op) (a c : ℕ) (d : Done) (ds : List Done) → d.part ≡ piece_of nr op a → end_by nr c (d ∷ ds) ≡ end_step d.end c (end_by nr (c + 1) ds)
+end_here : (nr : ℕ) (op : Op) (a c : ℕ) (d : Done) (ds : List Done) → d.part ≡ piece_of nr op a
+    → end_by nr c (d ∷ ds) ≡ end_step d.end c (end_by nr (c + 1) ds)
 end_here nr op a c d ds part = ap (λ (b : Bool). cond b (end_step d.end c (end_by nr (c + 1) ds)) (end_by nr c ds)) (eq-eqb d.part.nr nr (ap (λ (x : Part). x.nr) part))
 
-pub pages_end : (nr : ℕ) (op : Op) (a n c : ℕ) (front : List Done) → ((q : ℕ) → has_event op q ≡ true) → Mine (parts_from nr op a n) front → EndIs op n c (end_by nr c front) front
+pub pages_end : (nr : ℕ) (op : Op) (a n c : ℕ) (front : List Done) → ((q : ℕ) → has_event op q ≡ true)
+    → Mine (parts_from nr op a n) front → EndIs op n c (end_by nr c front) front
 pages_end nr op a zero c [] on m = inl (refl, refl, refl)
 pages_end nr op a zero c (d ∷ ds) on m = absurd m
 pages_end nr op a (suc n) c [] on m = absurd (let q : piece_of nr op a ∷ parts_from nr op (a + 1) n ≡ [] = mine_with nr op a n [] (on a) m in cc)
 pages_end nr op a (suc n) c (d ∷ ds) on m = by_end (mine_with nr op a n (d ∷ ds) (on a) m) (λ k. pages_end nr op (a + 1) n (c + 1) ds on k) (is_carried d.end) refl where
-  by_end : Mine (piece_of nr op a ∷ parts_from nr op (a + 1) n) (d ∷ ds) → (Mine (parts_from nr op (a + 1) n) ds → EndIs op n (c + 1) (end_by nr (c + 1) ds) ds)
+  by_end : Mine (piece_of nr op a ∷ parts_from nr op (a + 1) n) (d ∷ ds) → (Mine (parts_from nr op (a + 1) n) ds
+      → EndIs op n (c + 1) (end_by nr (c + 1) ds) ds)
       → (b : Bool) → is_carried d.end ≡ b → EndIs op (suc n) c (end_by nr c (d ∷ ds)) (d ∷ ds)
   by_end k again true e =
-      let here = end_here nr op a c d ds k.0 ∙ ap (λ (x : Bool). cond x (end_by nr (c + 1) ds) (op_end d.end c)) e in
+      let here = end_here nr op a c d ds k.0
+      ∙ ap (λ (x : Bool). cond x (end_by nr (c + 1) ds) (op_end d.end c)) e in
       let more : carried (d ∷ ds) ≡ suc (carried ds) = ap (λ (x : Bool). cond x (suc (carried ds)) 0) e in
       let more' : noted (d ∷ ds) ≡ suc (noted ds) = ap (λ (x : Bool). cond x (suc (noted ds)) (cond (stands_so d.part.op d.end) 1 0)) e in
       ⊎_elim
@@ -270,7 +303,8 @@ pages_end nr op a (suc n) c (d ∷ ds) on m = by_end (mine_with nr op a n (d ∷
         last = h.last;
         not = h.not;
         so = h.so;
-        end_is = here ∙ h.end_is ∙ ap (op_end h.last) (let q : c + 1 + carried ds ≡ c + carried (d ∷ ds) = omega arith in q);
+        end_is = here ∙ h.end_is
+            ∙ ap (op_end h.last) (let q : c + 1 + carried ds ≡ c + carried (d ∷ ds) = omega arith in q);
         noted_is = (let q = h.noted_is in omega arith);
         fewer = (let q = h.fewer in omega arith);
       }))
@@ -282,42 +316,61 @@ pages_end nr op a (suc n) c (d ∷ ds) on m = by_end (mine_with nr op a n (d ∷
         last = d.end;
         not = e;
         so = k.1;
-        end_is = end_here nr op a c d ds k.0 ∙ ap (λ (x : Bool). cond x (end_by nr (c + 1) ds) (op_end d.end c)) e ∙ ap (op_end d.end) (let q : c ≡ c + carried (d ∷ ds) = omega arith in q);
+        end_is = end_here nr op a c d ds k.0
+            ∙ ap (λ (x : Bool). cond x (end_by nr (c + 1) ds) (op_end d.end c)) e
+            ∙ ap (op_end d.end) (let q : c ≡ c + carried (d ∷ ds) = omega arith in q);
         noted_is = (let z : noted (d ∷ ds) ≡ cond (stands_so op d.end) 1 0 = ap (λ (x : Bool). cond x (suc (noted ds)) (cond (stands_so d.part.op d.end) 1 0)) e ∙ ap (λ (x : Part). cond (stands_so x.op d.end) 1 0) part in omega arith);
         fewer = omega arith;
       })
 
 -- discards: the pieces of whole pages, each carried out
-pub wholes_noted : (nr : ℕ) (op : Op) (p a n c : ℕ) (front : List Done) → ((x : PartEnd) → EndsSo op x → is_carried x ≡ true) → Mine (parts_from nr op a n) front
+pub wholes_noted : (nr : ℕ) (op : Op) (p a n c : ℕ) (front : List Done) → ((x : PartEnd) → EndsSo op x
+    → is_carried x ≡ true) → Mine (parts_from nr op a n) front
     → (noted_on p front ≡ cond (within a n p && has_event op p) (nr ∷ []) []) × (end_by nr c front ≡ ends.Ok)
 wholes_noted nr op p a zero c [] not m = (rw (within_none a p) refl, refl)
 wholes_noted nr op p a zero c (d ∷ ds) not m = absurd m
 wholes_noted nr op p a (suc n) c front not m = elim (cases_Bool (has_event op a)) [
   | inl on ↦ with_one front (mine_with nr op a n front on m)
       (λ ds k. wholes_noted nr op p (a + 1) n (c + 1) ds not k) on
-  | inr off ↦ let r = wholes_noted nr op p (a + 1) n c front not (mine_skip nr op a n front off m) in (r.0 ∙ ap (λ (b : Bool). cond b (nr ∷ []) []) (skip off), r.1)
+  | inr off ↦ let r = wholes_noted nr op p (a + 1) n c front not (mine_skip nr op a n front off m) in (
+    r.0
+        ∙ ap (λ (b : Bool). cond b (nr ∷ []) []) (skip off),
+    r.1,
+  )
 ] where
-  skip : has_event op a ≡ false → (within (a + 1) n p && has_event op p) ≡ (within a (suc n) p && has_event op p)
+  skip : has_event op a ≡ false
+      → (within (a + 1) n p && has_event op p) ≡ (within a (suc n) p && has_event op p)
   skip off = elim (cases_eq p a) [
-    | inl same ↦ let none : has_event op p ≡ false = ap (has_event op) same ∙ off in and_right (within (a + 1) n p) (has_event op p) none ∙ sym (and_right (within a (suc n) p) (has_event op p) none)
+    | inl same ↦ let none : has_event op p ≡ false = ap (has_event op) same
+        ∙ off in and_right (within (a + 1) n p) (has_event op p) none
+        ∙ sym (and_right (within a (suc n) p) (has_event op p) none)
     | inr ne ↦ ap (λ (b : Bool). b && has_event op p) (sym (within_step a n p ne))
   ]
 
-  join_one : has_event op a ≡ true → (xs : List ℕ) → xs ≡ cond (within (a + 1) n p && has_event op p) (nr ∷ []) [] → cond (eqb a p) (nr ∷ xs) xs ≡ cond (within a (suc n) p && has_event op p) (nr ∷ []) []
+  join_one : has_event op a ≡ true → (xs : List ℕ)
+      → xs ≡ cond (within (a + 1) n p && has_event op p) (nr ∷ []) []
+      → cond (eqb a p) (nr ∷ xs) xs ≡ cond (within a (suc n) p && has_event op p) (nr ∷ []) []
   join_one on xs e = elim (cases_Bool (has_event op p)) [
-    | inl yes_ ↦ page_push a n p nr xs (e ∙ ap (λ (b : Bool). cond b (nr ∷ []) []) (rw yes_ (and_true (within (a + 1) n p)))) ∙ sym (ap (λ (b : Bool). cond b (nr ∷ []) []) (rw yes_ (and_true (within a (suc n) p))))
+    | inl yes_ ↦ page_push a n p nr xs (e
+        ∙ ap (λ (b : Bool). cond b (nr ∷ []) []) (rw yes_ (and_true (within (a + 1) n p))))
+        ∙ sym (ap (λ (b : Bool). cond b (nr ∷ []) []) (rw yes_ (and_true (within a (suc n) p))))
     | inr none ↦
-        let ne : eqb a p ≡ false = ne_eqb a p (λ same. let q : true ≡ false = sym on ∙ (ap (has_event op) same ∙ none) in cc) in
-        rw ne (e ∙ ap (λ (b : Bool). cond b (nr ∷ []) []) (and_right (within (a + 1) n p) (has_event op p) none ∙ sym (and_right (within a (suc n) p) (has_event op p) none)))
+        let ne : eqb a p ≡ false = ne_eqb a p (λ same. let q : true ≡ false = sym on ∙ (ap (has_event op) same
+        ∙ none) in cc) in
+        rw ne (e ∙ ap (λ (b : Bool). cond b (nr ∷ []) []) (and_right (within (a + 1) n p) (has_event op p) none
+        ∙ sym (and_right (within a (suc n) p) (has_event op p) none)))
   ]
 
   with_one : (front : List Done) → Mine (piece_of nr op a ∷ parts_from nr op (a + 1) n) front
-      → ((ds : List Done) → Mine (parts_from nr op (a + 1) n) ds → (noted_on p ds ≡ cond (within (a + 1) n p && has_event op p) (nr ∷ []) []) × (end_by nr (c + 1) ds ≡ ends.Ok)) → has_event op a ≡ true
+      → ((ds : List Done) → Mine (parts_from nr op (a + 1) n) ds
+      → (noted_on p ds ≡ cond (within (a + 1) n p && has_event op p) (nr ∷ []) []) × (end_by nr (c + 1) ds ≡ ends.Ok)) → has_event op a ≡ true
       → (noted_on p front ≡ cond (within a (suc n) p && has_event op p) (nr ∷ []) []) × (end_by nr c front ≡ ends.Ok)
   with_one [] k again on = absurd (let q : piece_of nr op a ∷ parts_from nr op (a + 1) n ≡ [] = k in cc)
   with_one (d ∷ ds) k again on =
       let e = not d.end k.1 in
       let r = again ds (mine_on d (parts_from nr op (a + 1) n) ds true e k.2) in (
-        noted_one nr p a op d ds true k.0 (carried_notes op d.end e) ∙ ap (λ (x : Bool). cond x (nr ∷ noted_on p ds) (noted_on p ds)) (and_true (eqb a p)) ∙ join_one on (noted_on p ds) r.0,
+        noted_one nr p a op d ds true k.0 (carried_notes op d.end e)
+            ∙ ap (λ (x : Bool). cond x (nr ∷ noted_on p ds) (noted_on p ds)) (and_true (eqb a p))
+            ∙ join_one on (noted_on p ds) r.0,
         end_here nr op a c d ds k.0 ∙ ap (λ (x : Bool). cond x (end_by nr (c + 1) ds) (op_end d.end c)) e ∙ r.1,
       )

@@ -17,9 +17,11 @@ use Rattle.call_history.proofs.Told.{content-append, ops_of_push, noted_push, ge
 
 module _ (g : Given) (D D' : ℕ → List Done) (a : ℕ) (d : Done) (grown : Grown D D' a d) where
   -- the tags of a page on which the piece doesn't stand
-  turns_still : (p b : ℕ) (order : List Tag) → is_on p d ≡ false → ops_of b order ≡ noted_on p (D b) → ops_of b order ≡ noted_on p (D' b)
+  turns_still : (p b : ℕ) (order : List Tag) → is_on p d ≡ false → ops_of b order ≡ noted_on p (D b)
+      → ops_of b order ≡ noted_on p (D' b)
   turns_still p b order off h = h ∙ sym (dite (ℕ_discrete b a)
-      (λ s. subst (λ (c : ℕ). noted_on p (D' c) ≡ noted_on p (D c)) (sym s) (ap (noted_on p) grown.here ∙ noted_push p (D a) d ∙ rw off (append-nil (noted_on p (D a)))))
+      (λ s. subst (λ (c : ℕ). noted_on p (D' c) ≡ noted_on p (D c)) (sym s) (ap (noted_on p) grown.here
+      ∙ noted_push p (D a) d ∙ rw off (append-nil (noted_on p (D a)))))
       (λ ne. ap (noted_on p) (grown.others b ne)))
 
   -- a piece that is over now was so before, or it is the new one
@@ -28,10 +30,12 @@ module _ (g : Given) (D D' : ℕ → List Done) (a : ℕ) (d : Done) (grown : Gr
       (λ s. ⊎_elim
       (λ old. inl (ap (λ (c : ℕ). slice_get (D c) i) s ∙ old))
       (λ new. inr (s, new))
-      (get_push (D a) d i x (ap (λ (ds : List Done). slice_get ds i) (sym grown.here) ∙ (ap (λ (c : ℕ). slice_get (D' c) i) (sym s) ∙ e))))
+      (get_push (D a) d i x (ap (λ (ds : List Done). slice_get ds i) (sym grown.here)
+      ∙ (ap (λ (c : ℕ). slice_get (D' c) i) (sym s) ∙ e))))
       (λ ne. inl (ap (λ (ds : List Done). slice_get ds i) (sym (grown.others b ne)) ∙ e))
 
-  pub page_still : (p : ℕ) (page : List ℕ) (order : List Tag) → is_on p d ≡ false → ShowsPage g D p page order → ShowsPage g D' p page order
+  pub page_still : (p : ℕ) (page : List ℕ) (order : List Tag) → is_on p d ≡ false → ShowsPage g D p page order
+      → ShowsPage g D' p page order
   page_still p page order off sh = record {
     holds = sh.holds;
     turns = λ b. turns_still p b order off (sh.turns b);
@@ -57,8 +61,10 @@ module _ (g : Given) (D D' : ℕ → List Done) (a : ℕ) (d : Done) (grown : Gr
 
     -- what the order before the tag makes of the page is the page
     got_is : d.got ≡ cond (is_carried d.end) (got_by d.part.op d.part.page (held_after g order)) []
-    got_is = got ∙ ap (λ (xs : List (List ℕ)). cond (is_carried d.end) xs []) (same_got p.op p.page (λ s. page_sector page (s - 8 * p.page)) (held_after g order)
-        (λ k lt. ap (page_sector page) (let q : 8 * p.page + k - 8 * p.page ≡ k = omega arith in q) ∙ sh.holds k lt)
+    got_is = got
+        ∙ ap (λ (xs : List (List ℕ)). cond (is_carried d.end) xs []) (same_got p.op p.page (λ s. page_sector page (s - 8 * p.page)) (held_after g order)
+        (λ k lt. ap (page_sector page) (let q : 8 * p.page + k - 8 * p.page ≡ k = omega arith in q)
+        ∙ sh.holds k lt)
         ∙ ap (λ (q : Part). got_by q.op q.page (held_after g order)) (sym is))
 
     new_told : IsTold g a d (order ++ tag_by a p ∷ [])
@@ -72,14 +78,17 @@ module _ (g : Given) (D D' : ℕ → List Done) (a : ℕ) (d : Done) (grown : Gr
     turns_here b = ops_of_push b order (tag_by a p) ∙ dite (ℕ_discrete b a)
         (λ s. subst (λ (c : ℕ). ops_of c order ++ cond (eqb a c) (p.nr ∷ []) [] ≡ noted_on p.page (D' c)) (sym s)
         (rw (eq-eqb a a refl) (ap (λ (xs : List ℕ). xs ++ p.nr ∷ []) (sh.turns a)
-        ∙ sym (ap (noted_on p.page) grown.here ∙ noted_push p.page (D a) d ∙ rw on_here (ap (λ (q : Part). noted_on p.page (D a) ++ q.nr ∷ []) is)))))
-        (λ ne. rw (ne_eqb a b (λ s. ne (sym s))) (append-nil (ops_of b order) ∙ sh.turns b ∙ ap (noted_on p.page) (sym (grown.others b ne))))
+        ∙ sym (ap (noted_on p.page) grown.here ∙ noted_push p.page (D a) d
+        ∙ rw on_here (ap (λ (q : Part). noted_on p.page (D a) ++ q.nr ∷ []) is)))))
+        (λ ne. rw (ne_eqb a b (λ s. ne (sym s))) (append-nil (ops_of b order) ∙ sh.turns b
+        ∙ ap (noted_on p.page) (sym (grown.others b ne))))
 
     pub page_here : ShowsPage g D' p.page page' order'
     page_here = record {
       holds = λ k lt.
           work.holds k lt ∙ ap (sector_after p.op (8 * p.page + k)) (sh.holds k lt)
-          ∙ sym (ap (λ (ts : List Tag). held_after g ts (8 * p.page + k)) work.notes ∙ content-append g.actors (8 * p.page + k) (g.before (8 * p.page + k)) order (tag_by a p ∷ [])
+          ∙ sym (ap (λ (ts : List Tag). held_after g ts (8 * p.page + k)) work.notes
+          ∙ content-append g.actors (8 * p.page + k) (g.before (8 * p.page + k)) order (tag_by a p ∷ [])
           ∙ ap (λ (o : Option Op). sector_after_named o (8 * p.page + k) (held_after g order (8 * p.page + k))) named_p);
       turns = λ b. ap (ops_of b) work.notes ∙ turns_here b;
       reads = λ b i x at on. subst (IsTold g b x) (sym work.notes) (⊎_elim

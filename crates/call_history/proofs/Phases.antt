@@ -39,7 +39,8 @@ module _ {A : Type 0} where
   default_there (x ∷ xs) zero d h = absurd (omega arith)
   default_there (x ∷ xs) (suc i) d h = default_there xs i d (omega arith)
 
-  all_from : (P : A → Type 0) (xs : List A) → ((i : ℕ) (x : A) → slice_get xs i ≡ Some x → P x) → AllByRecursion P xs
+  all_from : (P : A → Type 0) (xs : List A) → ((i : ℕ) (x : A) → slice_get xs i ≡ Some x → P x)
+      → AllByRecursion P xs
   all_from P [] f = tt
   all_from P (x ∷ xs) f = (f 0 x refl, all_from P xs (λ i y e. f (suc i) y e))
 
@@ -60,18 +61,21 @@ ends_at pages (x ∷ xs) (y ∷ ys) (suc a) ops done e f = ends_at pages xs ys a
 
 -- ---- pieces lie on the disk
 
-parts_below : (nr : ℕ) (op : Op) (a n m : ℕ) → a + n ≤ m → AllByRecursion (λ (p : Part). p.page < m) (parts_from nr op a n)
+parts_below : (nr : ℕ) (op : Op) (a n m : ℕ) → a + n ≤ m
+    → AllByRecursion (λ (p : Part). p.page < m) (parts_from nr op a n)
 parts_below nr op a zero m le = tt
 parts_below nr op a (suc n) m le = elim (cases_Bool (has_event op a)) [
   | inl on ↦ rw on (omega arith, parts_below nr op (a + 1) n m (omega arith))
   | inr off ↦ rw off (parts_below nr op (a + 1) n m (omega arith))
 ]
 
-pub program_below : (pages nr : ℕ) (ops : List Op) → SomeEach ops → AllByRecursion (λ (p : Part). p.page < pages) (program pages nr ops)
+pub program_below : (pages nr : ℕ) (ops : List Op) → SomeEach ops
+    → AllByRecursion (λ (p : Part). p.page < pages) (program pages nr ops)
 program_below pages nr [] some = tt
 program_below pages nr (op ∷ ops) some = every_append (λ (p : Part). p.page < pages) (parts pages nr op) (program pages (nr + 1) ops) (elim (cases_Bool (is_beyond pages op)) [
   | inl on ↦ rw on tt
-  | inr off ↦ rw off (parts_below nr op (first_page op) (pages_of op) pages (let n = pages_some op some.0 in let z = ltb-false (8 * pages) (start_of op + count_of op) off in omega arith))
+  | inr off ↦ rw off (parts_below nr op (first_page op) (pages_of op) pages (let n = pages_some op some.0 in
+      let z = ltb-false (8 * pages) (start_of op + count_of op) off in omega arith))
 ]) (program_below pages (nr + 1) ops some.1)
 
 -- ---- the phase
@@ -95,15 +99,18 @@ module _ (g : Given) (dones : List (List Done)) (orders : List (List Tag)) (some
   history_is a done e = get_or_from_slice_get dones a done [] e
 
   -- the operations of an actor in an order
-  ops_are : (p : ℕ) → p < g.size → (a : ℕ) (x : Actor a) → ops_of a (nth_order orders p) ≡ stood p 0 x.ops (ends_from g.size 0 x.ops x.done)
-  ops_are p lt a x = agree.turns p a lt ∙ ap (noted_on p) (history_is a x.done x.there) ∙ actor_noted g.size p 0 x.ops x.done x.has_some x.follows
+  ops_are : (p : ℕ) → p < g.size → (a : ℕ) (x : Actor a)
+      → ops_of a (nth_order orders p) ≡ stood p 0 x.ops (ends_from g.size 0 x.ops x.done)
+  ops_are p lt a x = agree.turns p a lt ∙ ap (noted_on p) (history_is a x.done x.there)
+      ∙ actor_noted g.size p 0 x.ops x.done x.has_some x.follows
 
   ops_none : (p : ℕ) → p < g.size → (a : ℕ) → length dones ≤ a → ops_of a (nth_order orders p) ≡ []
   ops_none p lt a le = agree.turns p a lt ∙ ap (noted_on p) (default_there dones a [] le)
 
   rising : (p : ℕ) → p < g.size → (a : ℕ) → Rising (ops_of a (nth_order orders p))
   rising p lt a = elim (cases_lt a (length dones)) [
-    | inl below ↦ let x = actor a below in subst Rising (sym (ops_are p lt a x)) (stood_rises p 0 x.ops (ends_from g.size 0 x.ops x.done))
+    | inl below ↦ let x = actor a below in
+        subst Rising (sym (ops_are p lt a x)) (stood_rises p 0 x.ops (ends_from g.size 0 x.ops x.done))
     | inr above ↦ subst Rising (sym (ops_none p lt a above)) tt
   ]
 
@@ -113,7 +120,8 @@ module _ (g : Given) (dones : List (List Done)) (orders : List (List Tag)) (some
   abbrev ends_now : List (List OpEnd)
   ends_now = ends_each g.size g.actors dones
 
-  once : (p : ℕ) → p < g.size → (a k : ℕ) → let tag : Tag = record { actor = a; op = k } in count_by (same_tag tag) (nth_order orders p) ≡ cond (is_noted g.actors ends_now p tag) 1 0
+  once : (p : ℕ) → p < g.size → (a k : ℕ)
+      → let tag : Tag = record { actor = a; op = k } in count_by (same_tag tag) (nth_order orders p) ≡ cond (is_noted g.actors ends_now p tag) 1 0
   once p lt a k = count_is a k (nth_order orders p) ∙ elim (cases_lt a (length dones)) [
     | inl below ↦
         let x = actor a below in
@@ -135,17 +143,20 @@ module _ (g : Given) (dones : List (List Done)) (orders : List (List Tag)) (some
   one_reads : (a : ℕ) (x : Actor a) (i : ℕ) (d : Done) → slice_get x.done i ≡ Some d → Reads (R a) d
   one_reads a x i d at on =
       let below : d.part.page < g.size = all_get (λ (d : Done). d.part.page < g.size) x.done i d (every_done (λ (p : Part). p.page < g.size) (program g.size 0 x.ops) x.done [] x.follows (program_below g.size 0 x.ops x.has_some)) at in
-      let told = agree.reads a i d (ap (λ (ds : List Done). slice_get ds i) (history_is a x.done x.there) ∙ at) below on in
+      let told = agree.reads a i d (ap (λ (ds : List Done). slice_get ds i) (history_is a x.done x.there)
+      ∙ at) below on in
       let order = nth_order orders d.part.page in
       let before : order_before (tag_by a d.part) order ≡ take told.0 order = before_is order (tag_by a d.part) told.0 (rises d.part.page below) told.1 in
       told.2 ∙ ap (λ (xs : List (List ℕ)). cond (is_carried d.end) xs []) (same_got d.part.op d.part.page (held_after g (take told.0 order)) (R a d.part.nr)
       (λ k lt. ap (λ (ts : List Tag). held_after g ts (8 * d.part.page + k)) (sym before
       ∙ ap (λ (p : ℕ). order_before (tag_by a d.part) (nth_order orders p)) (let q : d.part.page ≡ (8 * d.part.page + k) / 8 = omega arith in q))))
 
-  actor_told : (a : ℕ) (x : Actor a) → told_from g.size 0 x.ops x.done ≡ due_from 0 x.ops (ends_from g.size 0 x.ops x.done) (R a)
+  actor_told : (a : ℕ) (x : Actor a)
+      → told_from g.size 0 x.ops x.done ≡ due_from 0 x.ops (ends_from g.size 0 x.ops x.done) (R a)
   actor_told a x = actor_reads (R a) g.size 0 x.ops x.done x.has_some x.follows (all_from (Reads (R a)) x.done (one_reads a x))
 
-  both : (a : ℕ) (ops : List Op) (done : List Done) → slice_get g.actors a ≡ Some ops → slice_get dones a ≡ Some done
+  both : (a : ℕ) (ops : List Op) (done : List Done) → slice_get g.actors a ≡ Some ops
+      → slice_get dones a ≡ Some done
       → (told_from g.size 0 ops done ≡ due_from 0 ops (ends_from g.size 0 ops done) (R a)) × MayEndAll g.size ops (ends_from g.size 0 ops done)
   both a ops done named there =
       let follows = agree.follows a ops done named there in
@@ -154,20 +165,27 @@ module _ (g : Given) (dones : List (List Done)) (orders : List (List Tag)) (some
         actor_ends g.size 0 ops done has_some follows,
       )
 
-  all_told : (a : ℕ) (actors : List (List Op)) (ds : List (List Done)) → ((i : ℕ) (ops : List Op) (done : List Done) → slice_get actors i ≡ Some ops → slice_get ds i ≡ Some done → told_from g.size 0 ops done ≡ due_from 0 ops (ends_from g.size 0 ops done) (R (a + i)))
+  all_told : (a : ℕ) (actors : List (List Op)) (ds : List (List Done))
+      → ((i : ℕ) (ops : List Op) (done : List Done) → slice_get actors i ≡ Some ops → slice_get ds i ≡ Some done
+      → told_from g.size 0 ops done ≡ due_from 0 ops (ends_from g.size 0 ops done) (R (a + i)))
       → told_each g.size actors ds ≡ due g orders a actors (ends_each g.size actors ds)
   all_told a [] ds f = refl
   all_told a (ops ∷ more) [] f = refl
-  all_told a (ops ∷ more) (done ∷ ds) f = λ i. (f 0 ops done refl refl ∙ ap (λ (b : ℕ). due_from 0 ops (ends_from g.size 0 ops done) (R b)) (let q : a + 0 ≡ a = omega arith in q)) i
-      ∷ all_told (a + 1) more ds (λ j os d e e'. f (suc j) os d e e' ∙ ap (λ (b : ℕ). due_from 0 os (ends_from g.size 0 os d) (R b)) (let q : a + suc j ≡ a + 1 + j = omega arith in q)) i
+  all_told a (ops ∷ more) (done ∷ ds) f = λ i. (f 0 ops done refl refl
+      ∙ ap (λ (b : ℕ). due_from 0 ops (ends_from g.size 0 ops done) (R b)) (let q : a + 0 ≡ a = omega arith in q)) i
+      ∷ all_told (a + 1) more ds (λ j os d e e'. f (suc j) os d e e'
+      ∙ ap (λ (b : ℕ). due_from 0 os (ends_from g.size 0 os d) (R b)) (let q : a + suc j ≡ a + 1 + j = omega arith in q)) i
 
-  all_may : (actors : List (List Op)) (ds : List (List Done)) → length ds ≡ length actors → ((i : ℕ) (ops : List Op) (done : List Done) → slice_get actors i ≡ Some ops → slice_get ds i ≡ Some done → MayEndAll g.size ops (ends_from g.size 0 ops done))
+  all_may : (actors : List (List Op)) (ds : List (List Done)) → length ds ≡ length actors
+      → ((i : ℕ) (ops : List Op) (done : List Done) → slice_get actors i ≡ Some ops → slice_get ds i ≡ Some done
+      → MayEndAll g.size ops (ends_from g.size 0 ops done))
       → MayEndEach g.size actors (ends_each g.size actors ds)
   all_may [] ds e f = tt
   all_may (ops ∷ more) [] e f = absurd (let q : 0 ≡ suc (length more) = e in let none : ⊥ = omega arith in none)
   all_may (ops ∷ more) (done ∷ ds) e f = (f 0 ops done refl refl, all_may more ds (omega arith) (λ i os d x y. f (suc i) os d x y))
 
-  pub is_phase : (after : ℕ → List ℕ) → ((s : ℕ) → s < 8 * g.size → after s ≡ held_after g (nth_order orders (s / 8)) s)
+  pub is_phase : (after : ℕ → List ℕ) → ((s : ℕ) → s < 8 * g.size
+      → after s ≡ held_after g (nth_order orders (s / 8)) s)
       → IsPhase g (phase_lines ends_now (told_each g.size g.actors dones) orders) after
   is_phase after held = record {
     ends = ends_now;
@@ -176,6 +194,7 @@ module _ (g : Given) (dones : List (List Done)) (orders : List (List Tag)) (some
     every_page = agree.every_page;
     each = is_order;
     lines_are = ap (λ (gots : List (List (List (List ℕ)))). phase_lines ends_now gots orders)
-        (all_told 0 g.actors dones (λ i ops done e e'. (both i ops done e e').0 ∙ ap (λ (b : ℕ). due_from 0 ops (ends_from g.size 0 ops done) (R b)) (sym (zero-add i))));
+        (all_told 0 g.actors dones (λ i ops done e e'. (both i ops done e e').0
+        ∙ ap (λ (b : ℕ). due_from 0 ops (ends_from g.size 0 ops done) (R b)) (sym (zero-add i))));
     after_is = held;
   }

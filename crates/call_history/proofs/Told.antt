@@ -11,18 +11,21 @@ use Rattle.call_history.specs.declared.part.Done.{Done}
 use Rattle.zr_base.specs.Plain.{named, sector_after_named, content, is_beyond, has_event}
 use Rattle.call_history.specs.Parts.{first_page, pages_of, parts_from, parts, program, without, left_by, is_carried, EndsSo, Follows, is_on, noted_on, ops_of, got_by}
 
-pub content-append : (actors : List (List Op)) (s : ℕ) (old : List ℕ) (xs ys : List Tag) → content actors s old (xs ++ ys) ≡ content actors s (content actors s old xs) ys
+pub content-append : (actors : List (List Op)) (s : ℕ) (old : List ℕ) (xs ys : List Tag)
+    → content actors s old (xs ++ ys) ≡ content actors s (content actors s old xs) ys
 content-append actors s old [] ys = refl
 content-append actors s old (x ∷ xs) ys = content-append actors s (sector_after_named (named actors x) s old) xs ys
 
-pub ops_of_push : (a : ℕ) (xs : List Tag) (t : Tag) → ops_of a (xs ++ t ∷ []) ≡ ops_of a xs ++ cond (eqb t.actor a) (t.op ∷ []) []
+pub ops_of_push : (a : ℕ) (xs : List Tag) (t : Tag)
+    → ops_of a (xs ++ t ∷ []) ≡ ops_of a xs ++ cond (eqb t.actor a) (t.op ∷ []) []
 ops_of_push a [] t = refl
 ops_of_push a (x ∷ xs) t = elim (cases_Bool (eqb x.actor a)) [
   | inl on ↦ rw on (ap (λ (ys : List ℕ). x.op ∷ ys) (ops_of_push a xs t))
   | inr off ↦ rw off (ops_of_push a xs t)
 ]
 
-pub noted_push : (p : ℕ) (ds : List Done) (d : Done) → noted_on p (ds ++ d ∷ []) ≡ noted_on p ds ++ cond (is_on p d) (d.part.nr ∷ []) []
+pub noted_push : (p : ℕ) (ds : List Done) (d : Done)
+    → noted_on p (ds ++ d ∷ []) ≡ noted_on p ds ++ cond (is_on p d) (d.part.nr ∷ []) []
 noted_push p [] d = refl
 noted_push p (x ∷ xs) d = elim (cases_Bool (is_on p x)) [
   | inl on ↦ rw on (ap (λ (ys : List ℕ). x.part.nr ∷ ys) (noted_push p xs d))
@@ -30,7 +33,8 @@ noted_push p (x ∷ xs) d = elim (cases_Bool (is_on p x)) [
 ]
 
 module _ {A : Type 0} where
-  pub get_push : (xs : List A) (x : A) (i : ℕ) (y : A) → slice_get (xs ++ x ∷ []) i ≡ Some y → (slice_get xs i ≡ Some y) ⊎ (x ≡ y)
+  pub get_push : (xs : List A) (x : A) (i : ℕ) (y : A) → slice_get (xs ++ x ∷ []) i ≡ Some y
+      → (slice_get xs i ≡ Some y) ⊎ (x ≡ y)
   get_push [] x zero y e = inr (let q : Some x ≡ Some y = e in cc)
   get_push [] x (suc i) y e = absurd (cc)
   get_push (z ∷ zs) x zero y e = inl e
@@ -55,7 +59,9 @@ module _ {A : Type 0} where
   take_front (z ∷ zs) ys = ap (λ (xs : List A). z ∷ xs) (take_front zs ys)
 
 -- the pieces of a program go on
-pub follows_on : (ps : List Part) (ds : List Done) (p : Part) (rest : List Part) (d : Done) → Follows ps ds (p ∷ rest) → d.part ≡ p → EndsSo p.op d.end → Follows ps (ds ++ d ∷ []) (left_by d.end p.nr rest)
+pub follows_on : (ps : List Part) (ds : List Done) (p : Part) (rest : List Part) (d : Done)
+    → Follows ps ds (p ∷ rest) → d.part ≡ p → EndsSo p.op d.end
+    → Follows ps (ds ++ d ∷ []) (left_by d.end p.nr rest)
 follows_on [] [] p rest d f e so = absurd (let q : p ∷ rest ≡ [] = f in cc)
 follows_on (x ∷ xs) [] p rest d f e so =
     let q : p ∷ rest ≡ x ∷ xs = f in
@@ -80,7 +86,8 @@ module _ (P : Part → Type 0) where
   every_left : (end : PartEnd) (nr : ℕ) (ps : List Part) → Every ps → Every (left_by end nr ps)
   every_left end nr ps all = elim (cases_Bool (is_carried end)) [ inl on ↦ rw on all | inr off ↦ rw off (every_without nr ps all) ]
 
-  pub every_todo : (ps : List Part) (ds : List Done) (todo : List Part) → Follows ps ds todo → Every ps → Every todo
+  pub every_todo : (ps : List Part) (ds : List Done) (todo : List Part) → Follows ps ds todo → Every ps
+      → Every todo
   every_todo ps [] todo f all = subst Every (sym f) all
   every_todo [] (d ∷ ds) todo f all = absurd f
   every_todo (p ∷ ps) (d ∷ ds) todo f all = every_todo (left_by d.end p.nr ps) ds todo f.2 (every_left d.end p.nr ps all.1)
@@ -89,14 +96,16 @@ module _ (P : Part → Type 0) where
   every_append [] qs a b = b
   every_append (p ∷ ps) qs a b = (a.0, every_append ps qs a.1 b)
 
-  pub every_parts_from : (nr : ℕ) (op : Op) (page n : ℕ) → ((q : ℕ) → P (record { nr = nr; op = op; page = q })) → Every (parts_from nr op page n)
+  pub every_parts_from : (nr : ℕ) (op : Op) (page n : ℕ) → ((q : ℕ) → P (record { nr = nr; op = op; page = q }))
+      → Every (parts_from nr op page n)
   every_parts_from nr op page zero all = tt
   every_parts_from nr op page (suc n) all = elim (cases_Bool (has_event op page)) [
     | inl on ↦ rw on (all page, every_parts_from nr op (page + 1) n all)
     | inr off ↦ rw off (every_parts_from nr op (page + 1) n all)
   ]
 
-  pub every_parts : (pages nr : ℕ) (op : Op) → ((q : ℕ) → P (record { nr = nr; op = op; page = q })) → Every (parts pages nr op)
+  pub every_parts : (pages nr : ℕ) (op : Op) → ((q : ℕ) → P (record { nr = nr; op = op; page = q }))
+      → Every (parts pages nr op)
   every_parts pages nr op all = elim (cases_Bool (is_beyond pages op)) [
     | inl on ↦ rw on tt
     | inr off ↦ rw off (every_parts_from nr op (first_page op) (pages_of op) all)
@@ -106,28 +115,35 @@ module _ (P : Part → Type 0) where
 abbrev pub Named : List Op → Part → Type 0
 Named ops p = slice_get ops p.nr ≡ Some p.op
 
-pub every_named : (pages nr : ℕ) (all ops : List Op) → ((j : ℕ) → slice_get ops j ≡ slice_get all (nr + j)) → AllByRecursion (Named all) (program pages nr ops)
+pub every_named : (pages nr : ℕ) (all ops : List Op) → ((j : ℕ) → slice_get ops j ≡ slice_get all (nr + j))
+    → AllByRecursion (Named all) (program pages nr ops)
 every_named pages nr all [] same = tt
 every_named pages nr all (op ∷ ops) same =
     every_append (Named all) (parts pages nr op) (program pages (nr + 1) ops)
     (every_parts (Named all) pages nr op (λ q. ap (λ (k : ℕ). slice_get all k) (let e : nr ≡ nr + 0 = omega arith in e) ∙ sym (same 0)))
-    (every_named pages (nr + 1) all ops (λ j. same (suc j) ∙ ap (λ (k : ℕ). slice_get all k) (let e : nr + suc j ≡ nr + 1 + j = omega arith in e)))
+    (every_named pages (nr + 1) all ops (λ j. same (suc j)
+    ∙ ap (λ (k : ℕ). slice_get all k) (let e : nr + suc j ≡ nr + 1 + j = omega arith in e)))
 
 -- the piece that is next is of the operation that it names
-pub next_named : (pages : ℕ) (ops : List Op) (ds : List Done) (p : Part) (rest : List Part) → Follows (program pages 0 ops) ds (p ∷ rest) → slice_get ops p.nr ≡ Some p.op
+pub next_named : (pages : ℕ) (ops : List Op) (ds : List Done) (p : Part) (rest : List Part)
+    → Follows (program pages 0 ops) ds (p ∷ rest) → slice_get ops p.nr ≡ Some p.op
 next_named pages ops ds p rest f =
     let all = every_todo (Named ops) (program pages 0 ops) ds (p ∷ rest) f (every_named pages 0 ops ops (λ j. ap (λ (k : ℕ). slice_get ops k) (sym (zero-add j)))) in
     all.0
 
 -- what a piece reads depends on the sectors of its page alone
-same_range : (f g : ℕ → List ℕ) (a n : ℕ) → ((s : ℕ) → a ≤ s → s < a + n → f s ≡ g s) → map f (range_with_len a n) ≡ map g (range_with_len a n)
+same_range : (f g : ℕ → List ℕ) (a n : ℕ) → ((s : ℕ) → a ≤ s → s < a + n → f s ≡ g s)
+    → map f (range_with_len a n) ≡ map g (range_with_len a n)
 same_range f g a zero same = refl
 same_range f g a (suc n) same =
     let others = same_range f g (a + 1) n (λ s low high. same s (omega arith) (omega arith)) in
-    ap (λ (x : List ℕ). x ∷ map f (range_with_len (a + 1) n)) (same a (omega arith) (omega arith)) ∙ ap (λ (xs : List (List ℕ)). g a ∷ xs) others
+    ap (λ (x : List ℕ). x ∷ map f (range_with_len (a + 1) n)) (same a (omega arith) (omega arith))
+    ∙ ap (λ (xs : List (List ℕ)). g a ∷ xs) others
 
-pub same_got : (op : Op) (page : ℕ) (f g : ℕ → List ℕ) → ((k : ℕ) → k < 8 → f (8 * page + k) ≡ g (8 * page + k)) → got_by op page f ≡ got_by op page g
+pub same_got : (op : Op) (page : ℕ) (f g : ℕ → List ℕ) → ((k : ℕ) → k < 8 → f (8 * page + k) ≡ g (8 * page + k))
+    → got_by op page f ≡ got_by op page g
 same_got (Write start count stuff) page f g same = refl
 same_got (Read start count) page f g same = same_range f g (max start (8 * page)) (min (start + count) (8 * page + 8) - max start (8 * page))
-    (λ s low high. let e : 8 * page + (s - 8 * page) ≡ s = omega arith in subst (λ (x : ℕ). f x ≡ g x) e (same (s - 8 * page) (omega arith)))
+    (λ s low high. let e : 8 * page + (s - 8 * page) ≡ s = omega arith in
+    subst (λ (x : ℕ). f x ≡ g x) e (same (s - 8 * page) (omega arith)))
 same_got (Discard start count) page f g same = refl

@@ -54,7 +54,8 @@ pub stay : (h : ℕ) (us vs : List UsedCell) (x : UsedCell) → HasOneMore us vs
 stay h us vs x more among = find_home h vs (omega (arith, more (home h), weigh h us among))
 
 -- one used cell less leaves those of other handles at home
-pub remain : (h : ℕ) (us vs : List UsedCell) (x : UsedCell) → HasOneMore vs us x → h ≢ x.handle → IsAmong h us → IsAmong h vs
+pub remain : (h : ℕ) (us vs : List UsedCell) (x : UsedCell) → HasOneMore vs us x → h ≢ x.handle → IsAmong h us
+    → IsAmong h vs
 remain h us vs x less other among =
     find_home h vs (omega (
       arith,

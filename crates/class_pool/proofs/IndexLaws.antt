@@ -27,7 +27,8 @@ moved zs i j k l e f = ap (λ n. use_at zs n l) e ∙ ap (λ n. use_at zs i n) f
 -- an object goes into a free cell, under a free handle
 pub index_fill : (zs zs' : List (Option Cells)) (places : List (Option Place)) (i j : ℕ) (u : UsedCell)
     → IsIndex zs places → Changes zs zs' i j (Some u) → use_at zs i j ≡ None
-    → u.handle < length places → entry places u.handle ≡ None → IsIndex zs' (set places u.handle (Some (place i j)))
+    → u.handle < length places → entry places u.handle ≡ None
+    → IsIndex zs' (set places u.handle (Some (place i j)))
 index_fill zs zs' places i j u index change gone low free = record {
   found = λ h p at.
       elim (cases_eq h u.handle) [
@@ -42,7 +43,8 @@ index_fill zs zs' places i j u index change gone low free = record {
             let was : (v : UsedCell) × (use_at zs p.zspage p.cell ≡ Some v) × (v.handle ≡ h) =
             index.found h p (sym (entry-set_other places u.handle h (Some (place i j)) other) ∙ at) in
             let apart : p.zspage ≡ i → p.cell ≢ j =
-            λ e f. let none : use_at zs p.zspage p.cell ≡ None = moved zs i j p.zspage p.cell e f ∙ gone in cc (none, was.1) in
+            λ e f. let none : use_at zs p.zspage p.cell ≡ None = moved zs i j p.zspage p.cell e f
+            ∙ gone in cc (none, was.1) in
             (was.0, change.others p.zspage p.cell apart ∙ was.1, was.2)
       ];
   listed = λ k l v at.
@@ -63,7 +65,8 @@ index_fill zs zs' places i j u index change gone low free = record {
 
 -- an object goes away
 pub index_clear : (zs zs' : List (Option Cells)) (places : List (Option Place)) (i j : ℕ) (u : UsedCell)
-    → IsIndex zs places → Changes zs zs' i j None → use_at zs i j ≡ Some u → IsIndex zs' (set places u.handle None)
+    → IsIndex zs places → Changes zs zs' i j None → use_at zs i j ≡ Some u
+    → IsIndex zs' (set places u.handle None)
 index_clear zs zs' places i j u index change used =
     let at_u : entry places u.handle ≡ Some (place i j) = index.listed i j u used in
     let low : u.handle < length places = entry_within places u.handle (place i j) at_u in
@@ -86,11 +89,13 @@ index_clear zs zs' places i j u index change used =
           ];
       listed = λ k l v at.
           elim (same_place i j k l) [
-            | inl same ↦ absurd (let none : use_at zs' k l ≡ None = moved zs' i j k l same.0 same.1 ∙ change.here in cc (none, at))
+            | inl same ↦ absurd (let none : use_at zs' k l ≡ None = moved zs' i j k l same.0 same.1
+                ∙ change.here in cc (none, at))
             | inr apart ↦
                 let was : entry places v.handle ≡ Some (place k l) = index.listed k l v (sym (change.others k l apart) ∙ at) in
                 let other : v.handle ≢ u.handle = λ e.
-                let same : Some (place i j) ≡ Some (place k l) = sym at_u ∙ ap (λ n. entry places n) (sym e) ∙ was in
+                let same : Some (place i j) ≡ Some (place k l) = sym at_u ∙ ap (λ n. entry places n) (sym e)
+                ∙ was in
                 let is : place i j ≡ place k l = cc in
                 apart (ap (λ q. q.zspage) (sym is)) (ap (λ q. q.cell) (sym is)) in
                 entry-set_other places u.handle v.handle None other ∙ was
@@ -99,15 +104,21 @@ index_clear zs zs' places i j u index change used =
 
 -- a cell goes out or comes back under its handle
 pub index_keep : (zs zs' : List (Option Cells)) (places : List (Option Place)) (i j : ℕ) (u v : UsedCell)
-    → IsIndex zs places → Changes zs zs' i j (Some v) → use_at zs i j ≡ Some u → v.handle ≡ u.handle → IsIndex zs' places
+    → IsIndex zs places → Changes zs zs' i j (Some v) → use_at zs i j ≡ Some u → v.handle ≡ u.handle
+    → IsIndex zs' places
 index_keep zs zs' places i j u v index change used same_handle = record {
   found = λ h p at.
       let was : (w : UsedCell) × (use_at zs p.zspage p.cell ≡ Some w) × (w.handle ≡ h) = index.found h p at in
       elim (same_place i j p.zspage p.cell) [
         | inl same ↦
-            let both : Some u ≡ Some was.0 = sym used ∙ sym (moved zs i j p.zspage p.cell same.0 same.1) ∙ was.1 in
-            let is : u ≡ was.0 = cc in
-            (v, moved zs' i j p.zspage p.cell same.0 same.1 ∙ change.here, same_handle ∙ ap (λ w. w.handle) is ∙ was.2)
+            let both : Some u ≡ Some was.0 = sym used ∙ sym (moved zs i j p.zspage p.cell same.0 same.1)
+            ∙ was.1 in
+            let is : u ≡ was.0 = cc in (
+              v,
+              moved zs' i j p.zspage p.cell same.0 same.1 ∙ change.here,
+              same_handle ∙ ap (λ w. w.handle) is
+                  ∙ was.2,
+            )
         | inr apart ↦ (was.0, change.others p.zspage p.cell apart ∙ was.1, was.2)
       ];
   listed = λ k l w at.
@@ -137,7 +148,8 @@ entry-none (suc n) zero = refl
 entry-none (suc n) (suc j) = entry-none n j
 
 -- free numbers behind the others
-pub entry-grown : (places : List (Option Place)) (n j : ℕ) → entry (places ++ replicate n None) j ≡ entry places j
+pub entry-grown : (places : List (Option Place)) (n j : ℕ)
+    → entry (places ++ replicate n None) j ≡ entry places j
 entry-grown [] n j = entry-none n j
 entry-grown (p ∷ places) n zero = refl
 entry-grown (p ∷ places) n (suc j) = entry-grown places n j

@@ -9,7 +9,8 @@ use Rattle.class_pool.specs.Places.{place_rank, ArePlaces}
 -- ---- entries that are there, of any list
 
 -- a free place, where fewer are taken than there are
-pub some_free : {A : Type 0} (xs : List (Option A)) → used_of xs < length xs → (k : ℕ) × (k < length xs) × (entry xs k ≡ None)
+pub some_free : {A : Type 0} (xs : List (Option A)) → used_of xs < length xs
+    → (k : ℕ) × (k < length xs) × (entry xs k ≡ None)
 some_free [] less = absurd (omega arith)
 some_free (None ∷ xs) less = (0, omega arith, refl)
 some_free {A} (Some u ∷ xs) less =
@@ -33,7 +34,8 @@ free_wins items free i are room wins =
 
 -- ---- more numbers
 
-pub one_more : (n : ℕ) (old now new : List (Option Place)) → now ≡ old ++ replicate n None → new ≡ now ++ None ∷ []
+pub one_more : (n : ℕ) (old now new : List (Option Place)) → now ≡ old ++ replicate n None
+    → new ≡ now ++ None ∷ []
     → new ≡ old ++ replicate (n + 1) None
 one_more n old now new so_far is =
     is ∙ ap (λ xs. xs ++ None ∷ []) so_far ∙ append_assoc old (replicate n None) (None ∷ [])

@@ -34,7 +34,8 @@ row_there n (Some cells ∷ zs) r among =
     ]
 
 -- each zspage has its row
-row_from : (n k : ℕ) (zs : List (Option Cells)) (cells : Cells) → entry zs k ≡ Some cells → Contains (rows_from n zs) (row_of (n + k) cells)
+row_from : (n k : ℕ) (zs : List (Option Cells)) (cells : Cells) → entry zs k ≡ Some cells
+    → Contains (rows_from n zs) (row_of (n + k) cells)
 row_from n k [] cells at = absurd (cc)
 row_from n zero (None ∷ zs) cells at = absurd (cc)
 row_from n zero (Some cs ∷ zs) cells at =
@@ -50,8 +51,10 @@ row_from n (suc k) (Some cs ∷ zs) cells at =
     subst (λ m. Contains (rows_from (n + 1) zs) (row_of m cells)) next (row_from (n + 1) k zs cells at) in
     (suc rest.0, omega (arith, rest.1), rest.2)
 
-pub row_among : (k : ℕ) (zs : List (Option Cells)) (cells : Cells) → entry zs k ≡ Some cells → Contains (rows zs) (row_of k cells)
-row_among k zs cells at = let same : 0 + k ≡ k = omega arith in subst (λ m. Contains (rows zs) (row_of m cells)) same (row_from 0 k zs cells at)
+pub row_among : (k : ℕ) (zs : List (Option Cells)) (cells : Cells) → entry zs k ≡ Some cells
+    → Contains (rows zs) (row_of k cells)
+row_among k zs cells at = let same : 0 + k ≡ k = omega arith in
+    subst (λ m. Contains (rows zs) (row_of m cells)) same (row_from 0 k zs cells at)
 
 -- the rows have ids of their own, since these rise
 own_from : (n : ℕ) (zs : List (Option Cells)) → HaveOwnIds (rows_from n zs)
@@ -239,7 +242,8 @@ pub source_row : (size chain per : ℕ) (items : List (Option ZspageState)) (ran
     → IsBest IsEmptier (HasMovable per) (rows (map cells_of items)) found
 source_row size chain per items ranks sources i found z wins some is =
     let rank : slice_index sources i ≡ source_rank (entry (map cells_of items) i) =
-    z.by_source.each i (omega (arith, wins.within, z.by_source.long)) ∙ ap source_rank (sym (entry_of items i)) in
+    z.by_source.each i (omega (arith, wins.within, z.by_source.long))
+    ∙ ap source_rank (sym (entry_of items i)) in
     let there = source_there (entry (map cells_of items) i) (λ e. some (rank ∙ e)) in
     let row : found ≡ Some (row_of i there.0) = is ∙ ap (row_at i) there.1 in
     rw row (best_source size chain per items ranks sources i there.0 z wins some there.1)

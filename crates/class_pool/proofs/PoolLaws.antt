@@ -132,19 +132,22 @@ stored_fits size chain per used z z' places places' i j cells u fit filled at fr
 
 -- ---- what contracts see
 
-pub pool_is : (class size chain per used : ℕ) (z : ZspagesState) (places : List (Option Place)) → IsPooled size chain per used z places
+pub pool_is : (class size chain per used : ℕ) (z : ZspagesState) (places : List (Option Place))
+    → IsPooled size chain per used z places
     → IsPool (record { class = class; size = size; chain = chain; per = per; zspages = z.zspages })
 pool_is class size chain per used z places pooled = record {
   filled = pooled.filled;
   whole = pooled.fit.whole;
   distinct = λ i j k l u v at_u at_v same.
       let one : Some (place i j) ≡ Some (place k l) =
-      sym (pooled.fit.index.listed i j u at_u) ∙ ap (λ n. entry places n) same ∙ pooled.fit.index.listed k l v at_v in
+      sym (pooled.fit.index.listed i j u at_u) ∙ ap (λ n. entry places n) same
+      ∙ pooled.fit.index.listed k l v at_v in
       let is : place i j ≡ place k l = cc in
       (ap (λ p. p.zspage) is, ap (λ p. p.cell) is);
 }
 
-pub fresh_is : (zs : List (Option Cells)) (places : List (Option Place)) (h : ℕ) → IsIndex zs places → entry places h ≡ None
+pub fresh_is : (zs : List (Option Cells)) (places : List (Option Place)) (h : ℕ) → IsIndex zs places
+    → entry places h ≡ None
     → (u : UsedCell) → Contains (used_cells zs) u → u.handle ≢ h
 fresh_is zs places h index free u among same =
     let at : (i : ℕ) × (j : ℕ) × (use_at zs i j ≡ Some u) = find_use zs u among in
@@ -153,7 +156,8 @@ fresh_is zs places h index free u among same =
     cc (there, none)
 
 -- where some cell is free a handle is
-pub number_free : (size chain per used k : ℕ) (z : ZspagesState) (places : List (Option Place)) → FieldsFit size chain per used z places
+pub number_free : (size chain per used k : ℕ) (z : ZspagesState) (places : List (Option Place))
+    → FieldsFit size chain per used z places
     → HasRoom (entry z.zspages k) → used_of places < length places
 number_free size chain per used k z places fit room =
     omega (arith, fewer per k z.zspages fit.whole room, fit.numbers, fit.enough)
@@ -192,16 +196,19 @@ at_place zs places h u p found is =
     record { cells = parts.0; zspage = parts.1; cell = parts.2 }
 
 -- a zspage has one list of cells, and a cell one use
-pub same_cells : (zs : List (Option Cells)) (i : ℕ) (cells others : Cells) → entry zs i ≡ Some cells → entry zs i ≡ Some others → cells ≡ others
+pub same_cells : (zs : List (Option Cells)) (i : ℕ) (cells others : Cells) → entry zs i ≡ Some cells
+    → entry zs i ≡ Some others → cells ≡ others
 same_cells zs i cells others at also = let both : Some cells ≡ Some others = sym at ∙ also in cc
 
-pub same_use : (cells : Cells) (j : ℕ) (u v : UsedCell) → entry cells j ≡ Some u → entry cells j ≡ Some v → u ≡ v
+pub same_use : (cells : Cells) (j : ℕ) (u v : UsedCell) → entry cells j ≡ Some u → entry cells j ≡ Some v
+    → u ≡ v
 same_use cells j u v at also = let both : Some u ≡ Some v = sym at ∙ also in cc
 
 -- ---- a cell goes out or comes back
 
 pub kept_fits : (size chain per used : ℕ) (z z' : ZspagesState) (places : List (Option Place)) (i j : ℕ) (cells : Cells) (u v : UsedCell)
-    → IsPooled size chain per used z places → entry z.zspages i ≡ Some cells → entry cells j ≡ Some u → v.handle ≡ u.handle
+    → IsPooled size chain per used z places → entry z.zspages i ≡ Some cells → entry cells j ≡ Some u
+    → v.handle ≡ u.handle
     → z' ≡ record z { zspages = set z.zspages i (Some (set cells j (Some v))) }
     → IsPooled size chain per used z' places
 kept_fits size chain per used z z' places i j cells u v pooled at here same z_is =
@@ -243,7 +250,8 @@ freed_numbers size chain per used z places i j u fit at =
     omega (arith, taken, was)
 
 pub cleared_fits : (size chain per used : ℕ) (z z' : ZspagesState) (places : List (Option Place)) (i j : ℕ) (cells : Cells) (u : UsedCell)
-    → IsPooled size chain per used z places → entry z.zspages i ≡ Some cells → entry cells j ≡ Some u → 2 ≤ used_of cells
+    → IsPooled size chain per used z places → entry z.zspages i ≡ Some cells → entry cells j ≡ Some u
+    → 2 ≤ used_of cells
     → z' ≡ record z { zspages = set z.zspages i (Some (set cells j None)) }
     → IsPooled size chain per (used - 1) z' (set places u.handle None)
 cleared_fits size chain per used z z' places i j cells u pooled at here many z_is =
@@ -273,7 +281,8 @@ cleared_fits size chain per used z z' places i j cells u pooled at here many z_i
     }
 
 pub gone_fits : (size chain per used : ℕ) (z z' : ZspagesState) (places : List (Option Place)) (i j : ℕ) (cells : Cells) (u : UsedCell)
-    → IsPooled size chain per used z places → entry z.zspages i ≡ Some cells → entry cells j ≡ Some u → used_of cells ≡ 1
+    → IsPooled size chain per used z places → entry z.zspages i ≡ Some cells → entry cells j ≡ Some u
+    → used_of cells ≡ 1
     → z' ≡ record z { zspages = set z.zspages i None }
     → IsPooled size chain per (used - 1) z' (set places u.handle None)
 gone_fits size chain per used z z' places i j cells u pooled at here one z_is =
@@ -361,7 +370,8 @@ outcome z z' i j false goes stays =
     let case = stays refl in record { cells = case.0; zspage = case.1; way = inr (case.2, case.3) }
 
 -- the cell of the object in the zspage of the outcome
-pub cell_of : (z z' : ZspagesState) (p : Place) (u : UsedCell) (o : Outcome z z' p.zspage p.cell) → IsAt z.zspages p u → entry o.cells p.cell ≡ Some u
+pub cell_of : (z z' : ZspagesState) (p : Place) (u : UsedCell) (o : Outcome z z' p.zspage p.cell)
+    → IsAt z.zspages p u → entry o.cells p.cell ≡ Some u
 cell_of z z' p u o at = subst (λ cs. entry cs p.cell ≡ Some u) (same_cells z.zspages p.zspage at.cells o.cells at.zspage o.zspage) at.cell
 
 pub freed_fits : (size chain per used : ℕ) (z z' : ZspagesState) (places : List (Option Place)) (p : Place) (u : UsedCell)
@@ -373,7 +383,8 @@ freed_fits size chain per used z z' places p u pooled at o =
       | inr w ↦ cleared_fits size chain per used z z' places p.zspage p.cell o.cells u pooled o.zspage (cell_of z z' p u o at) w.0 w.1
     ]
 
-pub freed_object : (z z' : ZspagesState) (p : Place) (u : UsedCell) → IsAt z.zspages p u → Outcome z z' p.zspage p.cell
+pub freed_object : (z z' : ZspagesState) (p : Place) (u : UsedCell) → IsAt z.zspages p u
+    → Outcome z z' p.zspage p.cell
     → HasOneMore (map object_of (used_cells z'.zspages)) (map object_of (used_cells z.zspages)) (object_of u)
 freed_object z z' p u at o =
     elim o.way [
@@ -388,7 +399,8 @@ used_some size chain per used z places u fit (k, low, at) = omega (arith, fit.co
 
 -- ---- a new zspage
 
-set-put : (zs : List (Option Cells)) (i : ℕ) (x y : Option Cells) → i ≤ length zs → set (put_at zs i x) i y ≡ put_at zs i y
+set-put : (zs : List (Option Cells)) (i : ℕ) (x y : Option Cells) → i ≤ length zs
+    → set (put_at zs i x) i y ≡ put_at zs i y
 set-put [] zero x y low = refl
 set-put [] (suc i) x y low = absurd (omega arith)
 set-put (z ∷ zs) zero x y low = refl
@@ -441,13 +453,15 @@ grown_fits size chain per used i z places places' fit within grows =
     }
 
 pub added_fits : (size chain per used i : ℕ) (z z' : ZspagesState) (places : List (Option Place))
-    → FieldsFit size chain per used z places → IsLeastAbsent z.zspages i → i + 1 < 2 ^ 32 → (i + 1) * per ≤ length places
+    → FieldsFit size chain per used z places → IsLeastAbsent z.zspages i → i + 1 < 2 ^ 32
+    → (i + 1) * per ≤ length places
     → z' ≡ record z { zspages = put_at z.zspages i (Some (replicate z.per None)) }
     → FieldsFit size chain per used z' places
 added_fits size chain per used i z z' places fit least small room z_is =
     let zs' : List (Option Cells) = put_at z.zspages i (Some (replicate z.per None)) in
     let live : length (used_cells zs') ≡ length (used_cells z.zspages) =
-    length_sum (used_cells zs') ∙ sum_put (λ u. 1) z.zspages i z.per least ∙ sym (length_sum (used_cells z.zspages)) in
+    length_sum (used_cells zs') ∙ sum_put (λ u. 1) z.zspages i z.per least
+    ∙ sym (length_sum (used_cells z.zspages)) in
     let grown : length z.zspages ≤ length zs' = length-put z.zspages i (Some (replicate z.per None)) least.within in
     let more : per * (length z.zspages + 1) ≤ per * (length zs' + 1) =
     mul-le per (length z.zspages + 1) per (length zs' + 1) (omega arith) (omega arith) in
@@ -492,7 +506,8 @@ new_entry z z' i least z_is =
     ap (λ v. entry v.zspages i) z_is ∙ entry-put_same z.zspages i (Some (replicate z.per None)) least.within
 
 pub new_room : (z z' : ZspagesState) (i : ℕ) → IsLeastAbsent z.zspages i → 1 ≤ z.per
-    → z' ≡ record z { zspages = put_at z.zspages i (Some (replicate z.per None)) } → HasRoom (entry z'.zspages i)
+    → z' ≡ record z { zspages = put_at z.zspages i (Some (replicate z.per None)) }
+    → HasRoom (entry z'.zspages i)
 new_room z z' i least some z_is =
     subst HasRoom (sym (new_entry z z' i least z_is)) (omega (arith, used_of-free z.per, length-replicate {A = Option UsedCell} z.per None))
 
@@ -503,7 +518,8 @@ first_cell (suc n) zero some lowest = refl
 first_cell (suc n) (suc j) some lowest = absurd (lowest.lowest 0 (omega arith) refl)
 
 -- the zspages after a new one has its object
-pub made_zspages : (z z1 z2 : ZspagesState) (i j : ℕ) (cells : Cells) (u : UsedCell) → IsLeastAbsent z.zspages i → 1 ≤ z.per
+pub made_zspages : (z z1 z2 : ZspagesState) (i j : ℕ) (cells : Cells) (u : UsedCell) → IsLeastAbsent z.zspages i
+    → 1 ≤ z.per
     → z1 ≡ record z { zspages = put_at z.zspages i (Some (replicate z.per None)) }
     → entry z1.zspages i ≡ Some cells → IsLowestFree cells j
     → z2 ≡ record z1 { zspages = set z1.zspages i (Some (set cells j (Some u))) }
@@ -542,7 +558,8 @@ contains_in (Some v ∷ cells) (suc j) u at =
     let rest : Contains (used_cells_in cells) u = contains_in cells j u at in
     (suc rest.0, omega (arith, rest.1), rest.2)
 
-contains_use : (zs : List (Option Cells)) (i j : ℕ) (u : UsedCell) → use_at zs i j ≡ Some u → Contains (used_cells zs) u
+contains_use : (zs : List (Option Cells)) (i j : ℕ) (u : UsedCell) → use_at zs i j ≡ Some u
+    → Contains (used_cells zs) u
 contains_use [] i j u at = absurd (cc)
 contains_use (None ∷ zs) zero j u at = absurd (cc)
 contains_use (None ∷ zs) (suc i) j u at = contains_use zs i j u at
@@ -553,7 +570,8 @@ contains_use (Some cells ∷ zs) (suc i) j u at =
 -- the cell that a call changed is used so
 pub among_after : (z z' : ZspagesState) (i j : ℕ) (cells : Cells) (u : UsedCell)
     → entry z.zspages i ≡ Some cells → j < length cells
-    → z' ≡ record z { zspages = set z.zspages i (Some (set cells j (Some u))) } → Contains (used_cells z'.zspages) u
+    → z' ≡ record z { zspages = set z.zspages i (Some (set cells j (Some u))) }
+    → Contains (used_cells z'.zspages) u
 among_after z z' i j cells u at low z_is =
     subst (λ v. Contains (used_cells v.zspages) u) (sym z_is)
     (contains_use (set z.zspages i (Some (set cells j (Some u)))) i j u (changes_cell z.zspages i j cells (Some u) at low).here)

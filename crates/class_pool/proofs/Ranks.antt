@@ -13,7 +13,8 @@ use Rattle.class_pool.specs.Zspages.{Cells, ZspagesState, used_in, HasRoom, IsFu
 
 -- ---- what an entry is
 
-pub entry_of : (items : List (Option ZspageState)) (k : ℕ) → entry (map cells_of items) k ≡ cells_of (entry items k)
+pub entry_of : (items : List (Option ZspageState)) (k : ℕ)
+    → entry (map cells_of items) k ≡ cells_of (entry items k)
 entry_of items k = get_or-map cells_of items k None
 
 pub entry_past : {A : Type 0} (xs : List (Option A)) (k : ℕ) → length xs ≤ k → entry xs k ≡ None
@@ -53,10 +54,13 @@ rank_full (Some cells) full =
     elim (cases_lt (rank_of (Some cells)) 2) [ inl low ↦ omega arith | inr high ↦ absurd (full (rank_room (Some cells) high)) ]
 
 pub rank_at : (size chain per : ℕ) (items : List (Option ZspageState)) (ranks sources : List ℕ) (k : ℕ)
-    → AreZspages size chain per items ranks sources → k < length ranks → slice_index ranks k ≡ rank_of (entry (map cells_of items) k)
-rank_at size chain per items ranks sources k z low = z.by_room.each k (omega (arith, z.by_room.long)) ∙ ap rank_of (sym (entry_of items k))
+    → AreZspages size chain per items ranks sources → k < length ranks
+    → slice_index ranks k ≡ rank_of (entry (map cells_of items) k)
+rank_at size chain per items ranks sources k z low = z.by_room.each k (omega (arith, z.by_room.long))
+    ∙ ap rank_of (sym (entry_of items k))
 
-pub room_within : (items : List (Option ZspageState)) (k : ℕ) → HasRoom (entry (map cells_of items) k) → k < length items
+pub room_within : (items : List (Option ZspageState)) (k : ℕ) → HasRoom (entry (map cells_of items) k)
+    → k < length items
 room_within items k room =
     elim (cases_lt k (length items)) [
       | inl low ↦ low
@@ -72,7 +76,8 @@ winner_room size chain per items ranks sources i k z wins room =
     omega (arith, wins.highest k low, rank_at size chain per items ranks sources k z low, room_rank (entry (map cells_of items) k) room)
 
 pub winner_has : (size chain per : ℕ) (items : List (Option ZspageState)) (ranks sources : List ℕ) (i : ℕ)
-    → AreZspages size chain per items ranks sources → IsWinner ranks i → 2 ≤ slice_index ranks i → HasRoom (entry (map cells_of items) i)
+    → AreZspages size chain per items ranks sources → IsWinner ranks i → 2 ≤ slice_index ranks i
+    → HasRoom (entry (map cells_of items) i)
 winner_has size chain per items ranks sources i z wins high =
     rank_room (entry (map cells_of items) i) (omega (arith, rank_at size chain per items ranks sources i z wins.within))
 
@@ -83,7 +88,8 @@ fullest_is size chain per items ranks sources i k z wins room =
     let here : HasRoom (entry (map cells_of items) i) =
     winner_has size chain per items ranks sources i z wins (winner_room size chain per items ranks sources i k z wins room) in
     let rank_i : slice_index ranks i ≡ used_in (entry (map cells_of items) i) + 2 =
-    rank_at size chain per items ranks sources i z wins.within ∙ room_rank (entry (map cells_of items) i) here in
+    rank_at size chain per items ranks sources i z wins.within
+    ∙ room_rank (entry (map cells_of items) i) here in
     record {
       room = here;
       most = λ j has.
@@ -102,7 +108,8 @@ fullest_is size chain per items ranks sources i k z wins room =
 
 -- where none has room the first absent id wins, and else all are full
 pub absent_first : (size chain per : ℕ) (items : List (Option ZspageState)) (ranks sources : List ℕ) (i : ℕ)
-    → AreZspages size chain per items ranks sources → IsWinner ranks i → slice_index ranks i ≡ 1 → IsLeastAbsent (map cells_of items) i
+    → AreZspages size chain per items ranks sources → IsWinner ranks i → slice_index ranks i ≡ 1
+    → IsLeastAbsent (map cells_of items) i
 absent_first size chain per items ranks sources i z wins one = record {
   within = rw length-map (omega (arith, wins.within, z.by_room.long));
   absent = rank_absent (entry (map cells_of items) i) (sym (rank_at size chain per items ranks sources i z wins.within) ∙ one);
@@ -132,10 +139,12 @@ all_full size chain per items ranks sources i z wins full other =
 
 pub per_bound : (size chain per : ℕ) → 32 ≤ size → chain ≤ 16 → per ≡ chain * 4096 / size → per ≤ 2048
 per_bound size chain per low few is =
-    let below : chain * 4096 / size < 2049 = div_below (chain * 4096) size 2049 (omega arith) (omega arith) in omega arith
+    let below : chain * 4096 / size < 2049 = div_below (chain * 4096) size 2049 (omega arith) (omega arith) in
+    omega arith
 
 -- the zspage at an id is another one, or none, and gets its new rank
-pub ranked_set : (rank : Option Cells → ℕ) (items : List (Option ZspageState)) (ranks : List ℕ) (id r : ℕ) (new : Option ZspageState)
+pub ranked_set : (rank : Option Cells
+    → ℕ) (items : List (Option ZspageState)) (ranks : List ℕ) (id r : ℕ) (new : Option ZspageState)
     → AreRanked rank items ranks → id < length items → r ≡ rank (cells_of new)
     → AreRanked rank (set items id new) (set ranks id r)
 ranked_set rank items ranks id r new are low is = record {
@@ -148,7 +157,8 @@ ranked_set rank items ranks id r new are low is = record {
 }
 
 -- it keeps its rank
-pub ranked_same : (rank : Option Cells → ℕ) (items : List (Option ZspageState)) (ranks : List ℕ) (id : ℕ) (new : Option ZspageState)
+pub ranked_same : (rank : Option Cells
+    → ℕ) (items : List (Option ZspageState)) (ranks : List ℕ) (id : ℕ) (new : Option ZspageState)
     → AreRanked rank items ranks → id < length items → rank (cells_of (entry items id)) ≡ rank (cells_of new)
     → AreRanked rank (set items id new) ranks
 ranked_same rank items ranks id new are low is = record {
@@ -161,8 +171,10 @@ ranked_same rank items ranks id new are low is = record {
 }
 
 -- one more zspage behind the others
-pub ranked_push : (rank : Option Cells → ℕ) (items : List (Option ZspageState)) (ranks : List ℕ) (r : ℕ) (new : Option ZspageState)
-    → AreRanked rank items ranks → r ≡ rank (cells_of new) → AreRanked rank (items ++ new ∷ []) (ranks ++ r ∷ [])
+pub ranked_push : (rank : Option Cells
+    → ℕ) (items : List (Option ZspageState)) (ranks : List ℕ) (r : ℕ) (new : Option ZspageState)
+    → AreRanked rank items ranks → r ≡ rank (cells_of new)
+    → AreRanked rank (items ++ new ∷ []) (ranks ++ r ∷ [])
 ranked_push rank items ranks r new are is = record {
   long = omega (arith, are.long, length-append items (new ∷ []), length-append ranks (r ∷ []));
   each = λ k within.
@@ -259,22 +271,27 @@ pub record IsSlot (size chain per : ℕ) (items : List (Option ZspageState)) (id
   pub id_is : z.id ≡ id
   pub seen : entry (map cells_of items) id ≡ Some z.cells
 
-pub id_within : (items : List (Option ZspageState)) (id : ℕ) (cells : Cells) → entry (map cells_of items) id ≡ Some cells → id < length items
+pub id_within : (items : List (Option ZspageState)) (id : ℕ) (cells : Cells)
+    → entry (map cells_of items) id ≡ Some cells → id < length items
 id_within items id cells is = rw length-map at (entry_within (map cells_of items) id cells is)
 
-whole_of : (size chain per k : ℕ) (cells : Cells) (o : Option ZspageState) → IsOf size chain per k o → cells_of o ≡ Some cells
+whole_of : (size chain per k : ℕ) (cells : Cells) (o : Option ZspageState) → IsOf size chain per k o
+    → cells_of o ≡ Some cells
     → length cells ≡ per
 whole_of size chain per k cells None fits at = absurd (cc)
-whole_of size chain per k cells (Some z) fits at = let is : z.cells ≡ cells = cc in subst (λ cs. length cs ≡ per) is fits.2
+whole_of size chain per k cells (Some z) fits at = let is : z.cells ≡ cells = cc in
+    subst (λ cs. length cs ≡ per) is fits.2
 
 -- a zspage has as many cells as its class says
 pub whole_is : (size chain per : ℕ) (items : List (Option ZspageState)) (ranks sources : List ℕ) (k : ℕ) (cells : Cells)
-    → AreZspages size chain per items ranks sources → entry (map cells_of items) k ≡ Some cells → length cells ≡ per
+    → AreZspages size chain per items ranks sources → entry (map cells_of items) k ≡ Some cells
+    → length cells ≡ per
 whole_is size chain per items ranks sources k cells are at =
     whole_of size chain per k cells (entry items k) (are.each k (id_within items k cells at)) (sym (entry_of items k) ∙ at)
 
 pub slot_is : (size chain per : ℕ) (items : List (Option ZspageState)) (ranks sources : List ℕ) (id : ℕ) (slot : Option ZspageState) (z : ZspageState)
-    → AreZspages size chain per items ranks sources → id < length items → slot ≡ get_or items id slot → slot ≡ Some z
+    → AreZspages size chain per items ranks sources → id < length items → slot ≡ get_or items id slot
+    → slot ≡ Some z
     → IsSlot size chain per items id z
 slot_is size chain per items ranks sources id slot z are low at is =
     let there : entry items id ≡ Some z = get_or_default items id None slot low ∙ sym at ∙ is in
@@ -291,7 +308,8 @@ slot_is size chain per items ranks sources id slot z are low at is =
 -- what is left where the zspage in the slot has other cells
 pub slot_changes : (items : List (Option ZspageState)) (id : ℕ) (new : ZspageState) (cells : Cells)
     → new.cells ≡ cells → map cells_of (set items id (Some new)) ≡ set (map cells_of items) id (Some cells)
-slot_changes items id new cells is = map-set cells_of items id (Some new) ∙ ap (λ cs. set (map cells_of items) id (Some cs)) is
+slot_changes items id new cells is = map-set cells_of items id (Some new)
+    ∙ ap (λ cs. set (map cells_of items) id (Some cs)) is
 
 pub slot_goes : (items : List (Option ZspageState)) (id : ℕ) (x : Option ZspageState)
     → map cells_of (set (set items id x) id None) ≡ set (map cells_of items) id None

@@ -13,11 +13,13 @@ use Rattle.class_pool.proofs.SumLaws.{one_of}
 
 -- ---- what the count of used cells tells
 
-pub there : (o : Option Cells) (used : ℕ) → used ≡ used_in o → 0 < used → (cells : Cells) × (o ≡ Some cells) × (used ≡ used_of cells)
+pub there : (o : Option Cells) (used : ℕ) → used ≡ used_in o → 0 < used
+    → (cells : Cells) × (o ≡ Some cells) × (used ≡ used_of cells)
 there None used is some = absurd (omega arith)
 there (Some cells) used is some = (cells, refl, is)
 
-pub not_there : (o : Option Cells) (used : ℕ) → used ≡ used_in o → used ≤ 0 → ((cells : Cells) → o ≡ Some cells → 1 ≤ used_of cells) → o ≡ None
+pub not_there : (o : Option Cells) (used : ℕ) → used ≡ used_in o → used ≤ 0 → ((cells : Cells) → o ≡ Some cells
+    → 1 ≤ used_of cells) → o ≡ None
 not_there None used is none filled = refl
 not_there (Some cells) used is none filled = absurd (omega (arith, filled cells refl))
 
@@ -32,9 +34,11 @@ there_alone : (o : Option Cells) → used_of (o ∷ []) ≡ one_of o
 there_alone None = refl
 there_alone (Some cells) = refl
 
-pub there_more : (zs : List (Option Cells)) (i : ℕ) → i < length zs → used_of (take (i + 1) zs) ≡ used_of (take i zs) + one_of (entry zs i)
+pub there_more : (zs : List (Option Cells)) (i : ℕ) → i < length zs
+    → used_of (take (i + 1) zs) ≡ used_of (take i zs) + one_of (entry zs i)
 there_more zs i low =
-    ap used_of (take_more zs i None low) ∙ there_append (take i zs) (entry zs i ∷ []) ∙ ap (λ n. used_of (take i zs) + n) (there_alone (entry zs i))
+    ap used_of (take_more zs i None low) ∙ there_append (take i zs) (entry zs i ∷ [])
+    ∙ ap (λ n. used_of (take i zs) + n) (there_alone (entry zs i))
 
 there_most : (zs : List (Option Cells)) → used_of zs ≤ length zs
 there_most [] = omega arith
@@ -46,14 +50,17 @@ there_few zs i low = omega (arith, there_most (take i zs), length-take-le i zs l
 
 -- ---- the counts of the groups
 
-pub in_group_few : (per g i : ℕ) (zs : List (Option Cells)) → i ≤ length zs → count_by (is_in_group per g) (take i zs) ≤ i
+pub in_group_few : (per g i : ℕ) (zs : List (Option Cells)) → i ≤ length zs
+    → count_by (is_in_group per g) (take i zs) ≤ i
 in_group_few per g i zs low = omega (arith, count_by-le-length (is_in_group per g) (take i zs), length-take-le i zs low)
 
 -- a zspage of a group adds one to its count
 pub group_more : (per place i : ℕ) (zs : List (Option Cells)) (cells : Cells) (groups : List ℕ)
-    → i < length zs → entry zs i ≡ Some cells → group_of (used_of cells) per ≡ place + 1 → length groups ≡ 11 → place < 11
+    → i < length zs → entry zs i ≡ Some cells → group_of (used_of cells) per ≡ place + 1 → length groups ≡ 11
+    → place < 11
     → ((g : ℕ) → g < 11 → slice_index groups g ≡ count_by (is_in_group per (g + 1)) (take i zs))
-    → (g : ℕ) → g < 11 → slice_index (set groups place (slice_index groups place + 1)) g ≡ count_by (is_in_group per (g + 1)) (take (i + 1) zs)
+    → (g : ℕ) → g < 11
+    → slice_index (set groups place (slice_index groups place + 1)) g ≡ count_by (is_in_group per (g + 1)) (take (i + 1) zs)
 group_more per place i zs cells groups low at group long small so_far g few =
     elim (cases_eq g place) [
       | inl e ↦
@@ -66,8 +73,10 @@ group_more per place i zs cells groups low at group long small so_far g few =
           ∙ sym (count_by_more_yes (is_in_group per (g + 1)) zs i None low yes))
       | inr other ↦
           let no_match : is_in_group per (g + 1) (get_or zs i None) ≡ false =
-          ap (is_in_group per (g + 1)) at ∙ ne_eqb (group_of (used_of cells) per) (g + 1) (λ e. other (omega arith)) in
-          rw get_or-set_other (so_far g few ∙ sym (count_by_more_no (is_in_group per (g + 1)) zs i None low no_match))
+          ap (is_in_group per (g + 1)) at
+          ∙ ne_eqb (group_of (used_of cells) per) (g + 1) (λ e. other (omega arith)) in
+          rw get_or-set_other (so_far g few
+          ∙ sym (count_by_more_no (is_in_group per (g + 1)) zs i None low no_match))
     ]
 
 -- an absent zspage is in no group

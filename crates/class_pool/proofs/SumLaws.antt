@@ -52,7 +52,8 @@ sum_ones (None ∷ cells) = let r = sum_ones cells in omega arith
 sum_ones (Some u ∷ cells) = omega (arith, sum_ones cells, sum_by-cons (at_use (λ x. 1)) (Some u) cells)
 
 -- the one used cell has the whole weight
-sum_alone : (f : UsedCell → ℕ) (cells : Cells) (j : ℕ) (u : UsedCell) → entry cells j ≡ Some u → used_of cells ≡ 1
+sum_alone : (f : UsedCell → ℕ) (cells : Cells) (j : ℕ) (u : UsedCell) → entry cells j ≡ Some u
+    → used_of cells ≡ 1
     → sum_by (at_use f) cells ≡ f u
 sum_alone f cells j u at one =
     let low : j < length cells = entry_within cells j u at in
@@ -103,7 +104,8 @@ sum_gone f zs i j cells u at here one =
     let after = sum_all f (set zs i None) in
     omega arith
 
-sum_put_at : (g : Option Cells → ℕ) (zs : List (Option Cells)) (i : ℕ) (y : Option Cells) → g None ≡ 0 → i ≤ length zs
+sum_put_at : (g : Option Cells → ℕ) (zs : List (Option Cells)) (i : ℕ) (y : Option Cells) → g None ≡ 0
+    → i ≤ length zs
     → sum_by g (put_at zs i y) + g (entry zs i) ≡ sum_by g zs + g y
 sum_put_at g [] zero y none low = omega (arith, none, sum_by-cons g y [])
 sum_put_at g [] (suc i) y none low = absurd (omega arith)
@@ -132,13 +134,15 @@ length_sum {A} (x ∷ xs) = omega (arith, length_sum xs, sum_by-cons {X = A} (λ
 
 -- ---- lists of objects
 
-pub sum_map : (f : Object → ℕ) (us : List UsedCell) → sum_by f (map object_of us) ≡ sum_by (λ u. f (object_of u)) us
+pub sum_map : (f : Object → ℕ) (us : List UsedCell)
+    → sum_by f (map object_of us) ≡ sum_by (λ u. f (object_of u)) us
 sum_map f [] = refl
 sum_map f (u ∷ us) =
     omega (arith, sum_map f us, sum_by-cons f (object_of u) (map object_of us), sum_by-cons (λ v. f (object_of v)) u us)
 
 -- one more used cell is one more object
-pub object_more : (us vs : List UsedCell) (u : UsedCell) → HasOneMore us vs u → HasOneMore (map object_of us) (map object_of vs) (object_of u)
+pub object_more : (us vs : List UsedCell) (u : UsedCell) → HasOneMore us vs u
+    → HasOneMore (map object_of us) (map object_of vs) (object_of u)
 object_more us vs u more f =
     let a = sum_map f us in
     let b = sum_map f vs in
@@ -164,7 +168,8 @@ keep_zspage (None ∷ zs) (suc i) cells new at same = keep_zspage zs i cells new
 keep_zspage (Some old ∷ zs) zero cells new at same =
     let is : old ≡ cells = cc in
     map-append object_of (used_cells_in new) (used_cells zs)
-    ∙ ap (λ os. os ++ map object_of (used_cells zs)) (same ∙ ap (λ cs. map object_of (used_cells_in cs)) (sym is))
+    ∙ ap (λ os. os ++ map object_of (used_cells zs)) (same
+    ∙ ap (λ cs. map object_of (used_cells_in cs)) (sym is))
     ∙ sym (map-append object_of (used_cells_in old) (used_cells zs))
 keep_zspage (Some old ∷ zs) (suc i) cells new at same =
     map-append object_of (used_cells_in old) (used_cells (set zs i (Some new)))
@@ -179,15 +184,18 @@ objects_keep zs i j cells u v at here same = keep_zspage zs i cells (set cells j
 
 -- ---- room for a handle
 
-most_in : (per : ℕ) (o : Option Cells) → ((cells : Cells) → o ≡ Some cells → length cells ≡ per) → in_zspage (λ u. 1) o ≤ per
+most_in : (per : ℕ) (o : Option Cells) → ((cells : Cells) → o ≡ Some cells → length cells ≡ per)
+    → in_zspage (λ u. 1) o ≤ per
 most_in per None whole = omega arith
 most_in per (Some cells) whole = omega (arith, sum_ones cells, used_most cells, whole cells refl)
 
-less_in : (per : ℕ) (o : Option Cells) → ((cells : Cells) → o ≡ Some cells → length cells ≡ per) → HasRoom o → in_zspage (λ u. 1) o < per
+less_in : (per : ℕ) (o : Option Cells) → ((cells : Cells) → o ≡ Some cells → length cells ≡ per) → HasRoom o
+    → in_zspage (λ u. 1) o < per
 less_in per None whole room = absurd room
 less_in per (Some cells) whole room = omega (arith, sum_ones cells, whole cells refl)
 
-most_all : (per : ℕ) (zs : List (Option Cells)) → ((k : ℕ) (cells : Cells) → entry zs k ≡ Some cells → length cells ≡ per)
+most_all : (per : ℕ) (zs : List (Option Cells)) → ((k : ℕ) (cells : Cells) → entry zs k ≡ Some cells
+    → length cells ≡ per)
     → sum_by (in_zspage (λ u. 1)) zs ≤ per * length zs
 most_all per [] whole = omega arith
 most_all per (o ∷ zs) whole =
@@ -195,7 +203,8 @@ most_all per (o ∷ zs) whole =
     let here : in_zspage (λ u. 1) o ≤ per = most_in per o (whole zero) in
     omega (arith, rest, here, sum_by-cons (in_zspage (λ u. 1)) o zs, mul-suc per (length zs))
 
-less_all : (per k : ℕ) (zs : List (Option Cells)) → ((k : ℕ) (cells : Cells) → entry zs k ≡ Some cells → length cells ≡ per)
+less_all : (per k : ℕ) (zs : List (Option Cells)) → ((k : ℕ) (cells : Cells) → entry zs k ≡ Some cells
+    → length cells ≡ per)
     → HasRoom (entry zs k) → sum_by (in_zspage (λ u. 1)) zs < per * length zs
 less_all per k [] whole room = absurd room
 less_all per zero (o ∷ zs) whole room =
@@ -208,19 +217,23 @@ less_all per (suc k) (o ∷ zs) whole room =
     omega (arith, rest, here, sum_by-cons (in_zspage (λ u. 1)) o zs, mul-suc per (length zs))
 
 -- with a free cell there are fewer objects than cells
-pub fewer : (per k : ℕ) (zs : List (Option Cells)) → ((k : ℕ) (cells : Cells) → entry zs k ≡ Some cells → length cells ≡ per)
+pub fewer : (per k : ℕ) (zs : List (Option Cells)) → ((k : ℕ) (cells : Cells) → entry zs k ≡ Some cells
+    → length cells ≡ per)
     → HasRoom (entry zs k) → length (used_cells zs) < per * length zs
 fewer per k zs whole room =
     omega (arith, length_sum (used_cells zs), sum_all (λ u. 1) zs, less_all per k zs whole room)
 
 -- each zspage below the least absent id has an object
-filled_in : (o : Option Cells) (cells : Cells) → o ≡ Some cells → ((cells : Cells) → o ≡ Some cells → 1 ≤ used_of cells)
+filled_in : (o : Option Cells) (cells : Cells) → o ≡ Some cells → ((cells : Cells) → o ≡ Some cells
+    → 1 ≤ used_of cells)
     → 1 ≤ in_zspage (λ u. 1) o
 filled_in None cells is filled = absurd (cc)
 filled_in (Some all) cells is filled = omega (arith, sum_ones all, filled all refl)
 
-filled_below : (zs : List (Option Cells)) (id : ℕ) → ((k : ℕ) → k < id → (cells : Cells) × (entry zs k ≡ Some cells))
-    → ((k : ℕ) (cells : Cells) → entry zs k ≡ Some cells → 1 ≤ used_of cells) → id ≤ sum_by (in_zspage (λ u. 1)) zs
+filled_below : (zs : List (Option Cells)) (id : ℕ) → ((k : ℕ) → k < id
+    → (cells : Cells) × (entry zs k ≡ Some cells))
+    → ((k : ℕ) (cells : Cells) → entry zs k ≡ Some cells → 1 ≤ used_of cells)
+    → id ≤ sum_by (in_zspage (λ u. 1)) zs
 filled_below zs zero there filled = omega arith
 filled_below [] (suc id) there filled = let first : (cells : Cells) × (None ≡ Some cells) = there zero (omega arith) in absurd (cc (first.1))
 filled_below (o ∷ zs) (suc id) there filled =

@@ -10,13 +10,16 @@ use Rattle.class_pool.proofs.Ranks.{entry_within}
 
 -- ---- entries after a change
 
-pub entry-set_same : {A : Type 0} (xs : List (Option A)) (i : ℕ) (y : Option A) → i < length xs → entry (set xs i y) i ≡ y
+pub entry-set_same : {A : Type 0} (xs : List (Option A)) (i : ℕ) (y : Option A) → i < length xs
+    → entry (set xs i y) i ≡ y
 entry-set_same xs i y low = rw get_or-set_same refl
 
-pub entry-set_other : {A : Type 0} (xs : List (Option A)) (i j : ℕ) (y : Option A) → j ≢ i → entry (set xs i y) j ≡ entry xs j
+pub entry-set_other : {A : Type 0} (xs : List (Option A)) (i j : ℕ) (y : Option A) → j ≢ i
+    → entry (set xs i y) j ≡ entry xs j
 entry-set_other xs i j y other = rw get_or-set_other refl
 
-pub entry-put_same : {A : Type 0} (xs : List (Option A)) (i : ℕ) (y : Option A) → i ≤ length xs → entry (put_at xs i y) i ≡ y
+pub entry-put_same : {A : Type 0} (xs : List (Option A)) (i : ℕ) (y : Option A) → i ≤ length xs
+    → entry (put_at xs i y) i ≡ y
 entry-put_same [] zero y low = refl
 entry-put_same [] (suc i) y low = absurd (omega arith)
 entry-put_same (x ∷ xs) zero y low = refl
@@ -49,7 +52,8 @@ none_there (None ∷ xs) zero none = refl
 none_there (None ∷ xs) (suc j) none = none_there xs j none
 none_there (Some x ∷ xs) j none = absurd (omega arith)
 
-pub alone : {A : Type 0} (xs : List (Option A)) (i j : ℕ) (x : A) → used_of xs ≡ 1 → entry xs i ≡ Some x → j ≢ i → entry xs j ≡ None
+pub alone : {A : Type 0} (xs : List (Option A)) (i j : ℕ) (x : A) → used_of xs ≡ 1 → entry xs i ≡ Some x → j ≢ i
+    → entry xs j ≡ None
 alone [] i j x one at other = refl
 alone (None ∷ xs) zero j x one at other = absurd (cc)
 alone (None ∷ xs) (suc i) zero x one at other = refl
@@ -75,7 +79,8 @@ pub record Changes (old new : List (Option Cells)) (i j : ℕ) (o : Option UsedC
   pub others : (k l : ℕ) → (k ≡ i → l ≢ j) → use_at new k l ≡ use_at old k l
 
 -- a use that is there is in a zspage that is there
-pub use_there : (zs : List (Option Cells)) (i j : ℕ) (cells : Cells) → entry zs i ≡ Some cells → use_at zs i j ≡ entry cells j
+pub use_there : (zs : List (Option Cells)) (i j : ℕ) (cells : Cells) → entry zs i ≡ Some cells
+    → use_at zs i j ≡ entry cells j
 use_there zs i j cells at = ap (λ z. use_in z j) at
 
 pub changes_cell : (zs : List (Option Cells)) (i j : ℕ) (cells : Cells) (o : Option UsedCell)
@@ -83,7 +88,8 @@ pub changes_cell : (zs : List (Option Cells)) (i j : ℕ) (cells : Cells) (o : O
 changes_cell zs i j cells o at low =
     let within : i < length zs = entry_within zs i cells at in
     record {
-      here = ap (λ z. use_in z j) (entry-set_same zs i (Some (set cells j o)) within) ∙ entry-set_same cells j o low;
+      here = ap (λ z. use_in z j) (entry-set_same zs i (Some (set cells j o)) within)
+          ∙ entry-set_same cells j o low;
       others = λ k l apart.
           elim (cases_eq k i) [
             | inl e ↦
@@ -141,19 +147,22 @@ find_in (None ∷ cells) u among =
 find_in (Some v ∷ cells) u among =
     elim (contains_cons v (used_cells_in cells) u among) [
       | inl e ↦ (0, ap (λ x. Some x) e)
-      | inr later ↦ let rest : (j : ℕ) × (entry cells j ≡ Some u) = find_in cells u later in (suc rest.0, rest.1)
+      | inr later ↦ let rest : (j : ℕ) × (entry cells j ≡ Some u) = find_in cells u later in
+          (suc rest.0, rest.1)
     ]
 
 pub find_use : (zs : List (Option Cells)) (u : UsedCell) → Contains (used_cells zs) u
     → (i : ℕ) × (j : ℕ) × (use_at zs i j ≡ Some u)
 find_use [] u (k, low, at) = absurd (omega arith)
 find_use (None ∷ zs) u among =
-    let rest : (i : ℕ) × (j : ℕ) × (use_at zs i j ≡ Some u) = find_use zs u among in (suc rest.0, rest.1, rest.2)
+    let rest : (i : ℕ) × (j : ℕ) × (use_at zs i j ≡ Some u) = find_use zs u among in
+    (suc rest.0, rest.1, rest.2)
 find_use (Some cells ∷ zs) u among =
     elim (Contains-append_cases (used_cells_in cells) (used_cells zs) u among) [
       | inl here ↦ let at : (j : ℕ) × (entry cells j ≡ Some u) = find_in cells u here in (0, at.0, at.1)
       | inr later ↦
-          let rest : (i : ℕ) × (j : ℕ) × (use_at zs i j ≡ Some u) = find_use zs u later in (suc rest.0, rest.1, rest.2)
+          let rest : (i : ℕ) × (j : ℕ) × (use_at zs i j ≡ Some u) = find_use zs u later in
+          (suc rest.0, rest.1, rest.2)
     ]
 
 -- the zspage and the cell of a use

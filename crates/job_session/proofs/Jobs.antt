@@ -29,7 +29,8 @@ use Rattle.job_session.proofs.Telling.{LinesTold-none, LinesTold-more}
 
 -- ---- one after the other
 
-stepped_append : (xs ys : List Item) (d m last : Disk) (ts us : List (List ℕ)) (ls ks : List OutLine) → Stepped d xs ts ls m → Stepped m ys us ks last → Stepped d (xs ++ ys) (ts ++ us) (ls ++ ks) last
+stepped_append : (xs ys : List Item) (d m last : Disk) (ts us : List (List ℕ)) (ls ks : List OutLine)
+    → Stepped d xs ts ls m → Stepped m ys us ks last → Stepped d (xs ++ ys) (ts ++ us) (ls ++ ks) last
 stepped_append [] ys d m last ts us ls ks s next =
     let P : List (List ℕ) × List OutLine × Disk → Type 0 = λ x. Stepped x.2 ys (x.0 ++ us) (x.1 ++ ks) last in
     subst P (λ i. (sym s.0 i, sym s.1 i, s.2 i)) next
@@ -47,7 +48,8 @@ stepped_append (items.Phase phase ∷ xs) ys d m last ts us ls ks s next = (
   ap (λ (x : List OutLine). x ++ ks) s.9 ∙ append_assoc s.3 s.4 ks,
 )
 
-own_append : (xs ys : List Item) (ts us : List (List ℕ)) → AreOwn xs ts → AreOwn ys us → AreOwn (xs ++ ys) (ts ++ us)
+own_append : (xs ys : List Item) (ts us : List (List ℕ)) → AreOwn xs ts → AreOwn ys us
+    → AreOwn (xs ++ ys) (ts ++ us)
 own_append [] ys ts us own next = subst (λ (x : List (List ℕ)). AreOwn ys (x ++ us)) (sym own) next
 own_append (items.Attr attr ∷ xs) ys ts us own next = own_append xs ys ts us own next
 own_append (items.Phase phase ∷ xs) ys [] us own next = absurd own
@@ -66,11 +68,13 @@ items_append xs ys d m last u v w a b c r s x y = record {
   told = LinesTold-more u v w a b c r s x.lines y.lines x.told y.told;
 }
 
-pub attr_told : (d m : Disk) (attr : Attr) (u : Option (List ℕ)) (a : List ℕ) → Stepped d (items.Attr attr ∷ []) [] [] m → ItemsTold d (items.Attr attr ∷ []) m u u a a false
+pub attr_told : (d m : Disk) (attr : Attr) (u : Option (List ℕ)) (a : List ℕ)
+    → Stepped d (items.Attr attr ∷ []) [] [] m → ItemsTold d (items.Attr attr ∷ []) m u u a a false
 attr_told d m attr u a s = record { turns = []; lines = []; stepped = s; own = refl; told = LinesTold-none u a }
 
 pub phase_told : (d m : Disk) (phase : PhaseText) (actors : List (List Op)) (schedule : List Turns) (u v : Option (List ℕ)) (a b : List ℕ) (refused : Bool)
-    → actors ≡ phase.actors → schedule ≡ phase.schedule → m.size ≡ d.size → PhaseTold d actors schedule m u v a b refused → ItemsTold d (items.Phase phase ∷ []) m u v a b refused
+    → actors ≡ phase.actors → schedule ≡ phase.schedule → m.size ≡ d.size
+    → PhaseTold d actors schedule m u v a b refused → ItemsTold d (items.Phase phase ∷ []) m u v a b refused
 phase_told d m phase actors schedule u v a b refused are is size told =
     let t : PhaseTold d phase.actors phase.schedule m u v a b refused =
     subst (λ (x : List (List Op) × List Turns). PhaseTold d x.0 x.1 m u v a b refused) (λ i. (are i, is i)) told in
@@ -87,9 +91,11 @@ phase_told d m phase actors schedule u v a b refused are is size told =
 zeros_there : (at : ℕ) → at < 8 → page_sector (replicate 4096 0) at ≡ zero_sector
 unfolding zero_sector
 zeros_there at lt =
-    ap (λ (bytes : List ℕ). take 512 bytes) (drop-replicate (512 * at) 4096 0) ∙ take-replicate 512 (4096 - 512 * at) 0 (omega arith)
+    ap (λ (bytes : List ℕ). take 512 bytes) (drop-replicate (512 * at) 4096 0)
+    ∙ take-replicate 512 (4096 - 512 * at) 0 (omega arith)
 
-blank_holds : (n : ℕ) (row : List (Option DiskHeld)) → IsBlank n row → (s : ℕ) → s < 8 * n → sector_in row s ≡ zero_sector
+blank_holds : (n : ℕ) (row : List (Option DiskHeld)) → IsBlank n row → (s : ℕ) → s < 8 * n
+    → sector_in row s ≡ zero_sector
 blank_holds n row blank s lt =
     let e = blank.each (s / 8) (omega arith) in
     ap (λ (c : Option DiskHeld). page_sector (page_in c) (s % 8)) (get_or_from_slice_get row (s / 8) (Some (holds.Slot e.0)) None e.1)
@@ -111,8 +117,10 @@ has_some_each : (actors : List (List Op)) → IsWork actors → HasSomeEach acto
 has_some_each actors work a ops is = some_each ops (work.requests a ops is)
 
 -- where each phase prints what the plain disk allows, so does the job
-pub legal_by : ((g : Given) (turns : List ℕ) (lines : List OutLine) (row : List (Option DiskHeld)) → HasSomeEach g.actors → PhaseSteps g turns lines row → IsPhase g lines (sector_in row))
-    → (job : List Item) (d : Disk) (turns : List (List ℕ)) (lines : List OutLine) (last : Disk) → MayStandAll d.size job → Stepped d job turns lines last → Legal (rest_of d) job lines (rest_of last)
+pub legal_by : ((g : Given) (turns : List ℕ) (lines : List OutLine) (row : List (Option DiskHeld))
+    → HasSomeEach g.actors → PhaseSteps g turns lines row → IsPhase g lines (sector_in row))
+    → (job : List Item) (d : Disk) (turns : List (List ℕ)) (lines : List OutLine) (last : Disk)
+    → MayStandAll d.size job → Stepped d job turns lines last → Legal (rest_of d) job lines (rest_of last)
 legal_by phases [] d turns lines last may s = (s.1, ap rest_of s.2)
 legal_by phases (items.Attr (DiskPages n) ∷ more) d turns lines last may s = (
   rest_of s.0,

@@ -21,7 +21,8 @@ pub any_refusal-append : (xs ys : List OutLine) → any_refusal (xs ++ ys) ≡ (
 any_refusal-append [] ys = refl
 any_refusal-append (x ∷ xs) ys = by (is_refusal x) (any_refusal-append xs ys)
   where
-    by : (b : Bool) → any_refusal (xs ++ ys) ≡ (any_refusal xs || any_refusal ys) → (b || any_refusal (xs ++ ys)) ≡ ((b || any_refusal xs) || any_refusal ys)
+    by : (b : Bool) → any_refusal (xs ++ ys) ≡ (any_refusal xs || any_refusal ys)
+        → (b || any_refusal (xs ++ ys)) ≡ ((b || any_refusal xs) || any_refusal ys)
     by true e = refl
     by false e = e
 
@@ -35,8 +36,10 @@ any_refusal-orders p ([] ∷ orders) = any_refusal-orders (p + 1) orders
 any_refusal-orders p ((tag ∷ tags) ∷ orders) = any_refusal-orders (p + 1) orders
 
 -- an operation's lines say a refusal where its end does
-pub any_refusal-op : (tag : Tag) (end : OpEnd) (got : List (List ℕ)) → any_refusal (op_lines tag end got) ≡ is_refusal (ended tag end)
-any_refusal-op tag end got = ap (λ (b : Bool). is_refusal (ended tag end) || b) (any_refusal-sectors got) ∙ or_false (is_refusal (ended tag end))
+pub any_refusal-op : (tag : Tag) (end : OpEnd) (got : List (List ℕ))
+    → any_refusal (op_lines tag end got) ≡ is_refusal (ended tag end)
+any_refusal-op tag end got = ap (λ (b : Bool). is_refusal (ended tag end) || b) (any_refusal-sectors got)
+    ∙ or_false (is_refusal (ended tag end))
 
 -- ---- what an actor's operations have
 
@@ -47,23 +50,27 @@ module _ {A : Type 0} where
   of_op_is (xs ∷ all) (suc actor) op = of_op_is all actor op
 
   drop_at : (xs : List A) (i : ℕ) (x : A) → slice_get xs i ≡ Some x → drop i xs ≡ x ∷ drop (i + 1) xs
-  drop_at xs i x is = drop_more xs i x (slice_get_within xs i x is) ∙ ap (λ (y : A). y ∷ drop (i + 1) xs) (get_or_from_slice_get xs i x x is)
+  drop_at xs i x is = drop_more xs i x (slice_get_within xs i x is)
+      ∙ ap (λ (y : A). y ∷ drop (i + 1) xs) (get_or_from_slice_get xs i x x is)
 
 -- ---- lines from a place on
 
 -- those of an actor's operations
-pub next_op : (actor op : ℕ) (es : List OpEnd) (gots : List (List (List ℕ))) (end : OpEnd) (got : List (List ℕ)) → slice_get es op ≡ Some end → slice_get gots op ≡ Some got
+pub next_op : (actor op : ℕ) (es : List OpEnd) (gots : List (List (List ℕ))) (end : OpEnd) (got : List (List ℕ))
+    → slice_get es op ≡ Some end → slice_get gots op ≡ Some got
     → actor_lines actor op (drop op es) (drop op gots) ≡ op_lines (record { actor = actor; op = op }) end got ++ actor_lines actor (op + 1) (drop (op + 1) es) (drop (op + 1) gots)
 next_op actor op es gots end got e g = λ i. actor_lines actor op (drop_at es op end e i) (drop_at gots op got g i)
 
 -- those of the actors
-pub next_actor : (actor : ℕ) (es : List (List OpEnd)) (gots : List (List (List (List ℕ)))) → actor < length es → actor < length gots
+pub next_actor : (actor : ℕ) (es : List (List OpEnd)) (gots : List (List (List (List ℕ)))) → actor < length es
+    → actor < length gots
     → actors_lines actor (drop actor es) (drop actor gots)
     ≡ actor_lines actor 0 (get_or es actor []) (get_or gots actor []) ++ actors_lines (actor + 1) (drop (actor + 1) es) (drop (actor + 1) gots)
 next_actor actor es gots e g = λ i. actors_lines actor (drop_more es actor [] e i) (drop_more gots actor [] g i)
 
 -- those of the pages
-pub next_page : (page : ℕ) (cells : List (Option DiskHeld)) (cell : Option DiskHeld) → slice_get cells page ≡ Some cell
+pub next_page : (page : ℕ) (cells : List (Option DiskHeld)) (cell : Option DiskHeld)
+    → slice_get cells page ≡ Some cell
     → text (order_lines page (orders_of (drop page cells))) ≡ text (order_line page (order_in cell)) ++ text (order_lines (page + 1) (orders_of (drop (page + 1) cells)))
 next_page page cells cell is =
     ap (λ (cs : List (Option DiskHeld)). text (order_lines page (orders_of cs))) (drop_at cells page cell is)

@@ -17,19 +17,23 @@ module _ {A : Type 0} where
   there_is (x ∷ xs) (suc i) h = there_is xs i (omega arith)
 
   -- an item of an actor's operation, where the actor has so many
-  pub op_there : (all : List (List A)) (actor op : ℕ) → op < length (get_or all actor []) → IsSome (of_op all actor op)
-  op_there all actor op lt = subst IsSome (sym (of_op_is all actor op ∙ (there_is (get_or all actor []) op lt).1)) refl
+  pub op_there : (all : List (List A)) (actor op : ℕ) → op < length (get_or all actor [])
+      → IsSome (of_op all actor op)
+  op_there all actor op lt = subst IsSome (sym (of_op_is all actor op
+      ∙ (there_is (get_or all actor []) op lt).1)) refl
 
 module _ (size : ℕ) (actors : List (List Op)) (ws : List Worker) (fit : AreFit size actors ws) where
   pub ends_count : length (ends_shown ws) ≡ length actors
   ends_count = length-map ws (λ (w : Worker). map (λ (r : Reply). r.end) w.replies.items) ∙ fit.count
 
   pub sectors_count : length (sectors_shown ws) ≡ length actors
-  sectors_count = length-map ws (λ (w : Worker). map (λ (r : Reply). r.sectors.items) w.replies.items) ∙ fit.count
+  sectors_count = length-map ws (λ (w : Worker). map (λ (r : Reply). r.sectors.items) w.replies.items)
+      ∙ fit.count
 
   module _ (actor : ℕ) (ops : List Op) (named : slice_get actors actor ≡ Some ops) where
     worker : (w : Worker) × (slice_get ws actor ≡ Some w)
-    worker = there_is ws actor (let lt : actor < length actors = slice_get_within actors actor ops named in let n : length ws ≡ length actors = fit.count in omega arith)
+    worker = there_is ws actor (let lt : actor < length actors = slice_get_within actors actor ops named in
+        let n : length ws ≡ length actors = fit.count in omega arith)
 
     is_fit : IsFit size ops worker.0
     is_fit = fit.each actor ops worker.0 named worker.1
@@ -52,5 +56,6 @@ module _ (size : ℕ) (actors : List (List Op)) (ws : List Worker) (fit : AreFit
         ∙ is_fit.replies
 
 -- an element of a list that was read
-pub item_at : {A : Type 0} (xs : List A) (i : ℕ) (x : A) → i < length xs → x ≡ get_or xs i x → slice_get xs i ≡ Some x
+pub item_at : {A : Type 0} (xs : List A) (i : ℕ) (x : A) → i < length xs → x ≡ get_or xs i x
+    → slice_get xs i ≡ Some x
 item_at xs i x lt is = slice_get-get_or xs i x lt ∙ ap Some (sym is)

@@ -19,7 +19,12 @@ pub record SoFar (written written_now : Option (List ℕ)) (faults faults_now : 
 
 -- bytes were put into the buffer, and some of it sent
 pub Tells-spilled : (u v : Option (List ℕ)) (a b c x : List ℕ) → b ≡ a ++ x → Tells u v b c [] → Tells u v a c x
-Tells-spilled u v a b c x e t = record { sent = t.sent; appended = t.appended; kept = sym e ∙ sym (append-nil b) ∙ t.kept }
+Tells-spilled u v a b c x e t = record {
+  sent = t.sent;
+  appended = t.appended;
+  kept = sym e ∙ sym (append-nil b)
+      ∙ t.kept;
+}
 
 -- at the start nothing was told
 pub SoFar-start : (u : Option (List ℕ)) (m : ℕ) (a all : List ℕ) → SoFar u u m m a a all all
@@ -27,7 +32,8 @@ SoFar-start u m a all = record { front = []; told = Tells-none u a; joined = ref
 
 module _ (u v w : Option (List ℕ)) (m n o : ℕ) (a b c left all : List ℕ) where
   -- some more of what is left
-  pub SoFar-more : (x rest : List ℕ) → SoFar u v m n a b left all → left ≡ x ++ rest → Tells v w b c x → n ≤ o → SoFar u w m o a c rest all
+  pub SoFar-more : (x rest : List ℕ) → SoFar u v m n a b left all → left ≡ x ++ rest → Tells v w b c x → n ≤ o
+      → SoFar u w m o a c rest all
   SoFar-more x rest s e t later = record {
     front = s.front ++ x;
     told = Tells-more u v w a b c s.front x s.told t;
@@ -47,7 +53,8 @@ pub LinesTold-none : (u : Option (List ℕ)) (a : List ℕ) → LinesTold u u a 
 LinesTold-none u a = record { told = Tells-none u a; refused_is = refl }
 
 -- one after the other
-pub LinesTold-more : (u v w : Option (List ℕ)) (a b c : List ℕ) (r s : Bool) (xs ys : List OutLine) → LinesTold u v a b r xs → LinesTold v w b c s ys → LinesTold u w a c (r || s) (xs ++ ys)
+pub LinesTold-more : (u v w : Option (List ℕ)) (a b c : List ℕ) (r s : Bool) (xs ys : List OutLine)
+    → LinesTold u v a b r xs → LinesTold v w b c s ys → LinesTold u w a c (r || s) (xs ++ ys)
 LinesTold-more u v w a b c r s xs ys x y =
     let T : List ℕ → Type 0 = λ bytes. Tells u w a c bytes in
     record {
@@ -65,11 +72,13 @@ pub record LinesSoFar (written written_now : Option (List ℕ)) (faults faults_n
   pub joined : front ++ left ≡ all
   pub later : faults ≤ faults_now
 
-pub LinesSoFar-start : (u : Option (List ℕ)) (m : ℕ) (a : List ℕ) (all : List OutLine) → LinesSoFar u u m m a a false all all
+pub LinesSoFar-start : (u : Option (List ℕ)) (m : ℕ) (a : List ℕ) (all : List OutLine)
+    → LinesSoFar u u m m a a false all all
 LinesSoFar-start u m a all = record { front = []; told = LinesTold-none u a; joined = refl; later = omega arith }
 
 module _ (u v w : Option (List ℕ)) (m n o : ℕ) (a b c : List ℕ) (r s : Bool) (left all : List OutLine) where
-  pub LinesSoFar-more : (x rest : List OutLine) → LinesSoFar u v m n a b r left all → left ≡ x ++ rest → LinesTold v w b c s x → n ≤ o → LinesSoFar u w m o a c (r || s) rest all
+  pub LinesSoFar-more : (x rest : List OutLine) → LinesSoFar u v m n a b r left all → left ≡ x ++ rest
+      → LinesTold v w b c s x → n ≤ o → LinesSoFar u w m o a c (r || s) rest all
   LinesSoFar-more x rest f e t later = record {
     front = f.front ++ x;
     told = LinesTold-more u v w a b c r s f.front x f.told t;

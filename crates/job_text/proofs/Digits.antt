@@ -16,11 +16,14 @@ grown base value (c ∷ cs) some large = grown base (value * base + digit_value 
     more : 2 ^ 64 - 1 ≤ value * base + digit_value c
     more = let n : value * 1 ≤ value * base = mul-le-mul_left value some in omega arith
 
-pub saturated_first : (base value : ℕ) (cs : List ℕ) → 1 ≤ base → saturated (value_from base (saturated value) cs) ≡ saturated (value_from base value cs)
+pub saturated_first : (base value : ℕ) (cs : List ℕ) → 1 ≤ base
+    → saturated (value_from base (saturated value) cs) ≡ saturated (value_from base value cs)
 saturated_first base value cs some = by (cases_lt value (2 ^ 64 - 1))
   where
-    by : (value < 2 ^ 64 - 1) ⊎ (2 ^ 64 - 1 ≤ value) → saturated (value_from base (saturated value) cs) ≡ saturated (value_from base value cs)
-    by (inl small) = let same : saturated value ≡ value = omega arith in ap (λ v. saturated (value_from base v cs)) same
+    by : (value < 2 ^ 64 - 1) ⊎ (2 ^ 64 - 1 ≤ value)
+        → saturated (value_from base (saturated value) cs) ≡ saturated (value_from base value cs)
+    by (inl small) = let same : saturated value ≡ value = omega arith in
+        ap (λ v. saturated (value_from base v cs)) same
     by (inr large) =
         let a : 2 ^ 64 - 1 ≤ value_from base value cs = grown base value cs some large in
         let b : 2 ^ 64 - 1 ≤ value_from base (saturated value) cs = grown base (saturated value) cs some (omega arith) in
@@ -37,7 +40,8 @@ module _ (base value i : ℕ) (word : List ℕ) (below : i < length word) where
       ∙ sym (saturated_first base (value * base + digit_value (get_or word i 0)) (drop (i + 1) word) some)
       ∙ ap (λ v. saturated (value_from base v (drop (i + 1) word))) (sym is)
 
-  pub are_more : digit_value (get_or word i 0) < base → are_digits base (drop i word) ≡ are_digits base (drop (i + 1) word)
+  pub are_more : digit_value (get_or word i 0) < base
+      → are_digits base (drop i word) ≡ are_digits base (drop (i + 1) word)
   are_more small =
       ap (are_digits base) (drop_more word i 0 below)
       ∙ ap (λ b. b && are_digits base (drop (i + 1) word)) (lt-ltb _ _ small)
@@ -50,9 +54,11 @@ module _ (base value i : ℕ) (word : List ℕ) (below : i < length word) where
 -- ---- words of 8 bytes
 
 -- so many digits of a base stand for less than its power
-bounded : (base value : ℕ) (cs : List ℕ) → are_digits base cs ≡ true → value_from base value cs + 1 ≤ (value + 1) * base ^ length cs
+bounded : (base value : ℕ) (cs : List ℕ) → are_digits base cs ≡ true
+    → value_from base value cs + 1 ≤ (value + 1) * base ^ length cs
 bounded base value [] are =
-    let one : (value + 1) * base ^ 0 ≡ value + 1 = ap (λ p. (value + 1) * p) (pow-zero base) ∙ mul-one (value + 1) in
+    let one : (value + 1) * base ^ 0 ≡ value + 1 = ap (λ p. (value + 1) * p) (pow-zero base)
+    ∙ mul-one (value + 1) in
     omega arith
 bounded base value (c ∷ cs) are =
     let parts = and_parts (nat_lt (digit_value c) base) (are_digits base cs) are in
@@ -62,7 +68,8 @@ bounded base value (c ∷ cs) are =
     let first : value * base + digit_value c + 1 ≤ (value + 1) * base = omega arith in
     let grown : (value * base + digit_value c + 1) * base ^ length cs ≤ (value + 1) * base * base ^ length cs = mul-le-mul_right (base ^ length cs) first in
     let joined : (value + 1) * base * base ^ length cs ≡ (value + 1) * base ^ suc (length cs) =
-    mul_assoc (value + 1) base (base ^ length cs) ∙ ap (λ p. (value + 1) * p) (sym (pow-succ' base (length cs))) in
+    mul_assoc (value + 1) base (base ^ length cs)
+    ∙ ap (λ p. (value + 1) * p) (sym (pow-succ' base (length cs))) in
     let last : value_from base (value * base + digit_value c) cs + 1 ≤ (value + 1) * base ^ suc (length cs) = omega arith in
     last
 

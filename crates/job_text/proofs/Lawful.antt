@@ -45,20 +45,23 @@ may_turn (t ∷ ts) all =
     (grind (arith, nat_tests, parts.0), grind (arith, nat_tests, parts.0), grind (arith, nat_tests, parts.0), may_turn ts parts.1)
 
 -- the bytes of a request, where its digits are as many as they must be
-filled : (digits : List ℕ) (count : ℕ) → fill_sectors (length digits) count ≡ true → 1 ≤ count → count ≤ 2048 → 512 * count ≤ length (bytes_by digits)
+filled : (digits : List ℕ) (count : ℕ) → fill_sectors (length digits) count ≡ true → 1 ≤ count → count ≤ 2048
+    → 512 * count ≤ length (bytes_by digits)
 filled digits count fill some most =
     let n : length digits ≡ 1024 * count = exact (length digits) count fill some most in
     let l : length (bytes_by digits) ≡ length digits / 2 = length-map-range_with_len (λ k. 16 * digit_value (get_or digits (2 * k) 0) + digit_value (get_or digits (2 * k + 1) 0)) 0 (length digits / 2) in
     omega arith
   where
-    exact : (digits count : ℕ) → fill_sectors digits count ≡ true → 1 ≤ count → count ≤ 2048 → digits ≡ 1024 * count
+    exact : (digits count : ℕ) → fill_sectors digits count ≡ true → 1 ≤ count → count ≤ 2048
+        → digits ≡ 1024 * count
     exact digits count fill some most =
         let a : nat_le 1 count ≡ true = le-leb 1 count some in
         let b : nat_le count 2048 ≡ true = le-leb count 2048 most in
         let c : not (nat_le 1 count && nat_le count 2048) ≡ false = rw (a, b) refl in
         eqb-true digits (1024 * count) (let d = ap (λ x. x || digits == 1024 * count) c in sym d ∙ fill)
 
-form-lawful : (form : Form) → HasWords form → is_malformed form ≡ false → has_bad_value (meaning form) ≡ false → IsLine (meaning form)
+form-lawful : (form : Form) → HasWords form → is_malformed form ≡ false → has_bad_value (meaning form) ≡ false
+    → IsLine (meaning form)
 unfolding is_malformed meaning
 form-lawful blank_form has well good = tt
 form-lawful (size_form size) has well good = sized (pages_of size) good
@@ -150,7 +153,8 @@ form-words (name ∷ words) =
     (when (bytes_eq name (codes "schedule")) _ _ (schedule-words words)
     (when (bytes_eq name (codes "run")) _ _ (alone-words run_form words tt) tt))))))
 
-line-lawful-by : (form : Form) → HasWords form → (m b : Bool) → is_malformed form ≡ m → has_bad_value (meaning form) ≡ b
+line-lawful-by : (form : Form) → HasWords form → (m b : Bool) → is_malformed form ≡ m
+    → has_bad_value (meaning form) ≡ b
     → IfRead IsLine (cond m (Err causes.Number) (cond b (Err causes.Range) (Ok (meaning form))))
 line-lawful-by form has true b well good = tt
 line-lawful-by form has false true well good = tt
@@ -164,6 +168,8 @@ line-lawful words = by (form_of words) (form-words words)
     by (Some form) has = line-lawful-by form has (is_malformed form) (has_bad_value (meaning form)) refl refl
 
 -- what a call that answers for words gives
-pub answered-lawful : (words : List (List ℕ)) (result : Result Line Stop) → Answers (line_of words) result → IfOk result IsLine
-answered-lawful words (Ok line) is = let P : Result Line Cause → Type 0 = IfRead IsLine in subst P is (line-lawful words)
+pub answered-lawful : (words : List (List ℕ)) (result : Result Line Stop) → Answers (line_of words) result
+    → IfOk result IsLine
+answered-lawful words (Ok line) is = let P : Result Line Cause → Type 0 = IfRead IsLine in
+    subst P is (line-lawful words)
 answered-lawful words (Err stop) is = tt

@@ -25,7 +25,8 @@ actors_keep u (ops ∷ more) = actors_keep (with_ops u ops) more ∙ (ops_keep u
 
 -- ---- from a job to its spelling
 
-spelled_ops : (u : Used) (begun : Begun) (ops : List Op) (rest : List Saying) → is_scheduled begun ≡ false → MayOperate u ops
+spelled_ops : (u : Used) (begun : Begun) (ops : List Op) (rest : List Saying) → is_scheduled begun ≡ false
+    → MayOperate u ops
     → items_from u (Some begun) (map says_operation ops ++ rest) ≡ items_from (with_ops u ops) (Some (record begun { last = begun.last ++ ops })) rest
 spelled_ops u begun [] rest none may = ap (λ ops. items_from u (Some (record begun { last = ops })) rest) (sym (append-nil begun.last))
 spelled_ops u begun (op ∷ ops) rest none may =
@@ -39,7 +40,8 @@ abbrev with_more : Begun → List (List Op) → Begun
 with_more begun [] = begun
 with_more begun (ops ∷ more) = with_more (record begun { actors = begun.actors ++ begun.last ∷ []; last = ops }) more
 
-more_actors : (begun : Begun) (more : List (List Op)) → all_actors (with_more begun more) ≡ all_actors begun ++ more
+more_actors : (begun : Begun) (more : List (List Op))
+    → all_actors (with_more begun more) ≡ all_actors begun ++ more
 more_actors begun [] = sym (append-nil (all_actors begun))
 more_actors begun (ops ∷ more) =
     more_actors (record begun { actors = begun.actors ++ begun.last ∷ []; last = ops }) more
@@ -49,7 +51,8 @@ more_schedule : (begun : Begun) (more : List (List Op)) → (with_more begun mor
 more_schedule begun [] = refl
 more_schedule begun (ops ∷ more) = more_schedule (record begun { actors = begun.actors ++ begun.last ∷ []; last = ops }) more
 
-spelled_actors : (u : Used) (begun : Begun) (actors : List (List Op)) (rest : List Saying) → is_scheduled begun ≡ false → u.disk ≡ true
+spelled_actors : (u : Used) (begun : Begun) (actors : List (List Op)) (rest : List Saying)
+    → is_scheduled begun ≡ false → u.disk ≡ true
     → length begun.actors + 1 + length actors ≤ 64 → MayAct u actors
     → items_from u (Some begun) (flat_map actor_sayings actors ++ rest) ≡ items_from (with_actors u actors) (Some (with_more begun actors)) rest
 spelled_actors u begun [] rest none disk few may = refl
@@ -62,15 +65,18 @@ spelled_actors u begun (ops ∷ more) rest none disk few may =
     ∙ ap (λ b. cond (b && nat_le (length begun.actors + 1 + 1) 64) (items_from u (Some next) (map says_operation ops ++ (flat_map actor_sayings more ++ rest))) None) disk
     ∙ ap (λ b. cond b (items_from u (Some next) (map says_operation ops ++ (flat_map actor_sayings more ++ rest))) None) left
     ∙ spelled_ops u next ops (flat_map actor_sayings more ++ rest) none may.0
-    ∙ spelled_actors (with_ops u ops) (record next { last = ops }) more rest none ((ops_keep u ops).0 ∙ disk) fewer may.1
+    ∙ spelled_actors (with_ops u ops) (record next { last = ops }) more rest none ((ops_keep u ops).0
+    ∙ disk) fewer may.1
 
-named_all : (actors : ℕ) (turns : List Turns) → MayTurn actors turns → list_all (λ t. nat_lt t.actor actors) turns ≡ true
+named_all : (actors : ℕ) (turns : List Turns) → MayTurn actors turns
+    → list_all (λ t. nat_lt t.actor actors) turns ≡ true
 named_all actors [] may = refl
 named_all actors (t ∷ ts) may =
     ap (λ b. b && list_all (λ t. nat_lt t.actor actors) ts) (lt-ltb _ _ may.0) ∙ named_all actors ts may.3
 
 -- a schedule and its `run`, behind a phase's actors
-spelled_end : (u : Used) (begun : Begun) (schedule : List Turns) (rest : List Saying) → MayTurn (length begun.actors + 1) schedule → u.turns ≤ 16777216
+spelled_end : (u : Used) (begun : Begun) (schedule : List Turns) (rest : List Saying)
+    → MayTurn (length begun.actors + 1) schedule → u.turns ≤ 16777216
     → has_turns_left u schedule ≡ true
     → items_from u (Some begun) (map says_turns schedule ++ says_run ∷ rest)
     ≡ option_map (λ later. items.Phase (record { actors = all_actors begun; schedule = begun.schedule ++ schedule }) ∷ later) (items_from (with_turns u schedule) None rest)
@@ -83,7 +89,8 @@ spelled_end u begun schedule rest may fits left =
 regroup : (a b rest : List Saying) → ((a ++ b) ++ says_run ∷ []) ++ rest ≡ a ++ (b ++ says_run ∷ rest)
 regroup a b rest = append_assoc (a ++ b) (says_run ∷ []) rest ∙ append_assoc a b (says_run ∷ rest)
 
-spelled_phase : (u : Used) (actors : List (List Op)) (schedule : List Turns) (rest : List Saying) → u.turns ≤ 16777216 → MayRun u actors schedule
+spelled_phase : (u : Used) (actors : List (List Op)) (schedule : List Turns) (rest : List Saying)
+    → u.turns ≤ 16777216 → MayRun u actors schedule
     → items_from u None (flat_map actor_sayings actors ++ (map says_turns schedule ++ says_run ∷ rest))
     ≡ option_map (λ later. items.Phase (record { actors = actors; schedule = schedule }) ∷ later) (items_from (with_text u actors schedule) None rest)
 spelled_phase u [] [] rest fits may =
@@ -100,7 +107,8 @@ spelled_phase u (ops ∷ more) schedule rest fits may =
     let disk : (with_ops (with_phase u) ops).disk ≡ true = (ops_keep (with_phase u) ops).0 ∙ may.has_disk in
     let end = with_more first more in
     let all : all_actors end ≡ ops ∷ more = more_actors first more in
-    let number : length end.actors + 1 ≡ length (ops ∷ more) = sym (length_push end.actors end.last) ∙ ap length all in
+    let number : length end.actors + 1 ≡ length (ops ∷ more) = sym (length_push end.actors end.last)
+    ∙ ap length all in
     let P : ℕ → Type 0 = λ n. MayTurn n schedule in
     let keep : v.turns ≡ u.turns = actors_keep (with_phase u) (ops ∷ more) in
     let vfits : v.turns ≤ 16777216 = omega arith in
@@ -113,7 +121,8 @@ spelled_phase u (ops ∷ more) schedule rest fits may =
     ∙ ap (λ actors. option_map (λ later. items.Phase (record { actors = actors; schedule = end.schedule ++ schedule }) ∷ later) (items_from (with_turns v schedule) None rest)) all
     ∙ ap (λ turns. option_map (λ later. items.Phase (record { actors = ops ∷ more; schedule = turns ++ schedule }) ∷ later) (items_from (with_turns v schedule) None rest)) (more_schedule first more)
 
-pub spelled_read : (u : Used) (job : List Item) → u.turns ≤ 16777216 → MayFollow u job → items_from u None (flat_map item_sayings job) ≡ Some job
+pub spelled_read : (u : Used) (job : List Item) → u.turns ≤ 16777216 → MayFollow u job
+    → items_from u None (flat_map item_sayings job) ≡ Some job
 spelled_read u [] fits may = refl
 spelled_read u (items.Attr (DiskPages pages) ∷ more) fits may =
     ap (λ b. cond b None (option_map (λ later. items.Attr (DiskPages pages) ∷ later) (items_from (with_disk u) None (flat_map item_sayings more)))) may.0

@@ -11,7 +11,8 @@ module _ (p : ℕ → Bool) where
   split_whole [] h = refl
   split_whole (x ∷ xs) h = by (p x) refl (split_whole xs)
     where
-      by : (b : Bool) → p x ≡ b → (length xs ≤ position_or_len p xs → slice_split p xs ≡ xs ∷ []) → slice_split p (x ∷ xs) ≡ (x ∷ xs) ∷ []
+      by : (b : Bool) → p x ≡ b → (length xs ≤ position_or_len p xs → slice_split p xs ≡ xs ∷ [])
+          → slice_split p (x ∷ xs) ≡ (x ∷ xs) ∷ []
       by true e rest =
           let none : position_or_len p (x ∷ xs) ≡ 0 = rw e refl in
           absurd (omega arith)
@@ -23,7 +24,8 @@ module _ (p : ℕ → Bool) where
   some_is true n i e = (refl, cc)
   some_is false n i e = cc
 
-  pub split-Some : (xs : List ℕ) (i : ℕ) → position p xs ≡ Some i → slice_split p xs ≡ take i xs ∷ slice_split p (drop (i + 1) xs)
+  pub split-Some : (xs : List ℕ) (i : ℕ) → position p xs ≡ Some i
+      → slice_split p xs ≡ take i xs ∷ slice_split p (drop (i + 1) xs)
   split-Some xs i e =
       let is = some_is (nat_lt (position_or_len p xs) (length xs)) (position_or_len p xs) i e in
       let inside : position_or_len p xs < length xs = ltb-true _ _ is.0 in

@@ -86,7 +86,8 @@ turns_step u begun (t ∷ ts) rest fits =
     by (nat_lt t.actor (length begun.actors + 1)) (has_turns_left u (t ∷ [])) refl (λ few. turns_step (with_turns u (t ∷ [])) (with_schedule begun (t ∷ [])) ts rest few)
   where
     by : (named left : Bool) → has_turns_left u (t ∷ []) ≡ left
-        → (u.turns + (t.times + 0) ≤ 16777216 → items_from (with_turns u (t ∷ [])) (Some (with_schedule begun (t ∷ []))) (map says_turns ts ++ rest)
+        → (u.turns + (t.times + 0) ≤ 16777216
+        → items_from (with_turns u (t ∷ [])) (Some (with_schedule begun (t ∷ []))) (map says_turns ts ++ rest)
         ≡ cond (are_named begun ts && has_turns_left (with_turns u (t ∷ [])) ts) (items_from (with_turns (with_turns u (t ∷ [])) ts) (Some (with_schedule (with_schedule begun (t ∷ [])) ts)) rest) None)
         → cond (named && left) (items_from (with_turns u (t ∷ [])) (Some (with_schedule begun (t ∷ []))) (map says_turns ts ++ rest)) None
         ≡ cond ((named && are_named begun ts) && has_turns_left u (t ∷ ts)) (items_from (with_turns u (t ∷ ts)) (Some (with_schedule begun (t ∷ ts))) rest) None
@@ -96,7 +97,8 @@ turns_step u begun (t ∷ ts) rest fits =
         let more : has_turns_left u (t ∷ ts) ≡ false = lt-leb (u.turns + (t.times + turns_in ts)) 16777216 (omega arith) in
         sym (ap (λ b. cond (are_named begun ts && b) (items_from (with_turns u (t ∷ ts)) (Some (with_schedule begun (t ∷ ts))) rest) None) more ∙ off (are_named begun ts))
       where
-        off : (b : Bool) → cond (b && false) (items_from (with_turns u (t ∷ ts)) (Some (with_schedule begun (t ∷ ts))) rest) None ≡ None
+        off : (b : Bool)
+            → cond (b && false) (items_from (with_turns u (t ∷ ts)) (Some (with_schedule begun (t ∷ ts))) rest) None ≡ None
         off true = refl
         off false = refl
     by true true is further =
@@ -108,7 +110,8 @@ turns_step u begun (t ∷ ts) rest fits =
 
 -- ---- a line
 
-pub line_step : (u : Used) (begun : Option Begun) (first : ℕ) (line : Line) (rest : List Saying) → IsLine line → u.turns ≤ 16777216
+pub line_step : (u : Used) (begun : Option Begun) (first : ℕ) (line : Line) (rest : List Saying) → IsLine line
+    → u.turns ≤ 16777216
     → items_from u begun (said_by line ++ rest)
     ≡ unless (place_cause u (phase_at first begun) line)
     (option_map (λ later. items_by begun line ++ later) (items_from (used_with u (phase_at first begun) line) (begun_with begun line) rest))
@@ -154,13 +157,15 @@ phase_step number first None (Operation op) is = refl
 phase_step number first (Some begun) (Operation op) is = refl
 phase_step number first None (Schedule turns) is = refl
 phase_step number first (Some begun) (Schedule turns) is =
-    let some : length (begun.schedule ++ turns) ≡ 0 → ⊥ = λ e. omega (arith, length-append begun.schedule turns, is.0) in
+    let some : length (begun.schedule ++ turns) ≡ 0
+    → ⊥ = λ e. omega (arith, length-append begun.schedule turns, is.0) in
     ap (λ b. Some (record { first = first; actors = length begun.actors + 1; scheduled = not b })) (sym (ne_eqb _ _ some))
 phase_step number first None Run is = refl
 phase_step number first (Some begun) Run is = refl
 
 -- turns stay within the limit
-turns_fit : (u : Used) (phase : Option Phase) (line : Line) → place_cause u phase line ≡ None → u.turns ≤ 16777216 → (used_with u phase line).turns ≤ 16777216
+turns_fit : (u : Used) (phase : Option Phase) (line : Line) → place_cause u phase line ≡ None
+    → u.turns ≤ 16777216 → (used_with u phase line).turns ≤ 16777216
 turns_fit u None Blank free fits = fits
 turns_fit u (Some phase) Blank free fits = fits
 turns_fit u None (Disk pages) free fits = fits
@@ -173,7 +178,8 @@ turns_fit u None (Schedule turns) free fits = cc
 turns_fit u (Some phase) (Schedule turns) free fits =
     by (list_all (λ t. nat_lt t.actor phase.actors) turns) (has_turns_left u turns) refl free
   where
-    by : (named left : Bool) → has_turns_left u turns ≡ left → cond (not named) (Some causes.Range) (cond (not left) (Some causes.TooMany) None) ≡ None
+    by : (named left : Bool) → has_turns_left u turns ≡ left
+        → cond (not named) (Some causes.Range) (cond (not left) (Some causes.TooMany) None) ≡ None
         → u.turns + turns_in turns ≤ 16777216
     by true true is free = leb-true _ _ is
     by true false is free = cc
@@ -188,10 +194,12 @@ abbrev HasCause : Used → Option Phase → List (List ℕ) → Result Line Caus
 HasCause u phase words (Err cause) = cause_of u phase words ≡ Some cause
 HasCause u phase words (Ok line) = (cause_of u phase words ≡ place_cause u phase line) × (said_in (form_of words) ≡ line)
 
-causes_agree : (u : Used) (phase : Option Phase) (words : List (List ℕ)) → HasCause u phase words (line_of words)
+causes_agree : (u : Used) (phase : Option Phase) (words : List (List ℕ))
+    → HasCause u phase words (line_of words)
 causes_agree u phase words = by (form_of words) refl
   where
-    tests : (form : Form) → form_of words ≡ Some form → (m b : Bool) → is_malformed form ≡ m → has_bad_value (meaning form) ≡ b
+    tests : (form : Form) → form_of words ≡ Some form → (m b : Bool) → is_malformed form ≡ m
+        → has_bad_value (meaning form) ≡ b
         → HasCause u phase words (cond m (Err causes.Number) (cond b (Err causes.Range) (Ok (meaning form))))
     tests form is true b well good = ap (cause_in u phase) is ∙ rw well refl
     tests form is false true well good = ap (cause_in u phase) is ∙ rw (well, good) refl
@@ -213,11 +221,13 @@ fault_step u (Some phase) number text texts = refl
 abbrev GivesNone : JobFault → List (List ℕ) → Option (List Saying) → Type 0
 GivesNone fault texts said =
     (u : Used) (begun : Option Begun) (first number : ℕ) → u.turns ≤ 16777216
-    → first_fault_from u (phase_at first begun) number texts ≡ Some fault → option_and_then (items_from u begun) said ≡ None
+    → first_fault_from u (phase_at first begun) number texts ≡ Some fault
+    → option_and_then (items_from u begun) said ≡ None
 
 module _ (u : Used) (begun : Option Begun) (first number : ℕ) (text : List ℕ) (texts : List (List ℕ)) (fault : JobFault) (fits : u.turns ≤ 16777216)
     (e : first_fault_from u (phase_at first begun) number (text ∷ texts) ≡ Some fault) where
-  none_behind : (line : Line) (more : List Saying) → IsLine line → HasCause u (phase_at first begun) (words_of text) (Ok line) → GivesNone fault texts (Some more)
+  none_behind : (line : Line) (more : List Saying) → IsLine line
+      → HasCause u (phase_at first begun) (words_of text) (Ok line) → GivesNone fault texts (Some more)
       → (cause : Option Cause) → place_cause u (phase_at first begun) line ≡ cause
       → unless cause (option_map (λ later. items_by begun line ++ later) (items_from (used_with u (phase_at first begun) line) (begun_with begun line) more)) ≡ None
   none_behind line more is has none (Some cause) free = refl
@@ -232,12 +242,14 @@ module _ (u : Used) (begun : Option Begun) (first number : ℕ) (text : List ℕ
       (ap (λ p. first_fault_from (used_with u phase line) p (number + 1) texts) (sym (phase_step number first begun line is)) ∙ next) in
       ap (option_map (λ later. items_by begun line ++ later)) later
 
-  none_here : (read : Result Line Cause) (said : Option (List Saying)) → IfRead IsLine read → HasCause u (phase_at first begun) (words_of text) read → GivesNone fault texts said
+  none_here : (read : Result Line Cause) (said : Option (List Saying)) → IfRead IsLine read
+      → HasCause u (phase_at first begun) (words_of text) read → GivesNone fault texts said
       → option_and_then (items_from u begun) (said_before read said) ≡ None
   none_here (Err cause) said is has none = refl
   none_here (Ok line) None is has none = refl
   none_here (Ok line) (Some more) is has none =
-      line_step u begun first line more is fits ∙ none_behind line more is has none (place_cause u (phase_at first begun) line) refl
+      line_step u begun first line more is fits
+      ∙ none_behind line more is has none (place_cause u (phase_at first begun) line) refl
 
 pub no_items : (lines : List (List ℕ)) (fault : JobFault) → GivesNone fault lines (sayings lines)
 no_items [] fault u None first number fits e = cc
@@ -249,15 +261,18 @@ no_items (text ∷ texts) fault u begun first number fits e =
 -- ---- a line that was taken
 
 module _ (r next : Reading) (number : ℕ) (text : List ℕ) (line : Line) where
-  pub goes_on : line_of (words_of text) ≡ Ok line → IsLine line → IsNext r number line next → (rest : List (List ℕ))
+  pub goes_on : line_of (words_of text) ≡ Ok line → IsLine line → IsNext r number line next
+      → (rest : List (List ℕ))
       → items_behind r (text ∷ rest) ≡ items_behind next rest
   goes_on said is taken rest = ap (λ read. option_and_then (items_with r) (said_before read (sayings rest))) said ∙ by (sayings rest)
     where
-      joined : (a b : List Item) (x : Option (List Item)) → option_map (λ later. a ++ later) (option_map (λ later. b ++ later) x) ≡ option_map (λ later. (a ++ b) ++ later) x
+      joined : (a b : List Item) (x : Option (List Item))
+          → option_map (λ later. a ++ later) (option_map (λ later. b ++ later) x) ≡ option_map (λ later. (a ++ b) ++ later) x
       joined a b None = refl
       joined a b (Some later) = ap Some (sym (append_assoc a b later))
 
-      by : (said : Option (List Saying)) → option_and_then (items_with r) (said_before (Ok line) said) ≡ option_and_then (items_with next) said
+      by : (said : Option (List Saying))
+          → option_and_then (items_with r) (said_before (Ok line) said) ≡ option_and_then (items_with next) said
       by None = refl
       by (Some more) =
           let phase = phase_of r in

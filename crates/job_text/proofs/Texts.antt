@@ -21,11 +21,13 @@ use Rattle.job_text.proofs.Unspelling.{IsSaid, free_of, unspelled}
 
 -- ---- what lines say is in its range
 
-said_turns : (actors : ℕ) (turns : List Turns) (more : List Saying) → MayTurn actors turns → AllByRecursion IsSaid more → AllByRecursion IsSaid (map says_turns turns ++ more)
+said_turns : (actors : ℕ) (turns : List Turns) (more : List Saying) → MayTurn actors turns
+    → AllByRecursion IsSaid more → AllByRecursion IsSaid (map says_turns turns ++ more)
 said_turns actors [] more may rest = rest
 said_turns actors (t ∷ ts) more may rest = ((may.1, may.2), said_turns actors ts more may.3 rest)
 
-said_more : (line : Line) (more : List Saying) → IsLine line → AllByRecursion IsSaid more → AllByRecursion IsSaid (said_by line ++ more)
+said_more : (line : Line) (more : List Saying) → IsLine line → AllByRecursion IsSaid more
+    → AllByRecursion IsSaid (said_by line ++ more)
 said_more Blank more is rest = rest
 said_more (Disk pages) more is rest = (is, rest)
 said_more Actor more is rest = (tt, rest)
@@ -41,7 +43,8 @@ sayings_said : (texts : List (List ℕ)) → IfSaid (sayings texts)
 sayings_said [] = tt
 sayings_said (text ∷ texts) = by (line_of (words_of text)) (line-lawful (words_of text)) (sayings texts) (sayings_said texts)
   where
-    by : (read : Result Line Cause) → IfRead IsLine read → (more : Option (List Saying)) → IfSaid more → IfSaid (said_before read more)
+    by : (read : Result Line Cause) → IfRead IsLine read → (more : Option (List Saying)) → IfSaid more
+        → IfSaid (said_before read more)
     by (Err cause) is more rest = tt
     by (Ok line) is None rest = tt
     by (Ok line) is (Some more) rest = said_more line more is rest
@@ -54,7 +57,8 @@ is_job bytes job e =
     by (sayings (text_lines bytes)) refl (sayings_said (text_lines bytes)) small.1 (ltb-false _ _ small.0)
   where
     by : (said : Option (List Saying)) → sayings (text_lines bytes) ≡ said → IfSaid said
-        → option_and_then (items_from nothing_used None) said ≡ Some job → length bytes ≤ 16777216 → IsJob bytes job
+        → option_and_then (items_from nothing_used None) said ≡ Some job → length bytes ≤ 16777216
+        → IsJob bytes job
     by None is are read small = cc
     by (Some said) is are read small =
         let none : nothing_used.turns ≤ 16777216 = omega arith in
@@ -69,7 +73,8 @@ job_is bytes job is =
     ∙ spelled_read nothing_used job none is.lawful
 
 -- a text with a fault is no job
-pub no_job : (bytes : List ℕ) (fault : JobFault) (job : List Item) → first_fault bytes ≡ Some fault → IsJob bytes job → ⊥
+pub no_job : (bytes : List ℕ) (fault : JobFault) (job : List Item) → first_fault bytes ≡ Some fault
+    → IsJob bytes job → ⊥
 no_job bytes fault job first is =
     let none : nothing_used.turns ≤ 16777216 = omega arith in
     let small : nat_lt 16777216 (length bytes) ≡ false = le-ltb _ _ is.size in

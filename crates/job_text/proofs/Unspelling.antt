@@ -28,7 +28,8 @@ ops_push : (u : Used) (ops : List Op) (op : Op) → with_ops u (ops ++ op ∷ []
 ops_push u [] op = refl
 ops_push u (o ∷ ops) op = ops_push (with_op u o) ops op
 
-actors_push : (u : Used) (actors : List (List Op)) (ops : List Op) → with_actors u (actors ++ ops ∷ []) ≡ with_ops (with_actors u actors) ops
+actors_push : (u : Used) (actors : List (List Op)) (ops : List Op)
+    → with_actors u (actors ++ ops ∷ []) ≡ with_ops (with_actors u actors) ops
 actors_push u [] ops = refl
 actors_push u (o ∷ more) ops = actors_push (with_ops u o) more ops
 
@@ -36,15 +37,18 @@ turns_push : (turns : List Turns) (t : Turns) → turns_in (turns ++ t ∷ []) �
 turns_push [] t = omega arith
 turns_push (o ∷ more) t = let n : turns_in (more ++ t ∷ []) ≡ turns_in more + (t.times + 0) = turns_push more t in omega arith
 
-operate_push : (u : Used) (ops : List Op) (op : Op) → MayOperate u ops → IsRequest op → has_left_for (with_ops u ops) op ≡ true → MayOperate u (ops ++ op ∷ [])
+operate_push : (u : Used) (ops : List Op) (op : Op) → MayOperate u ops → IsRequest op
+    → has_left_for (with_ops u ops) op ≡ true → MayOperate u (ops ++ op ∷ [])
 operate_push u [] op may request left = (request, left, tt)
 operate_push u (o ∷ ops) op may request left = (may.0, may.1, operate_push (with_op u o) ops op may.2 request left)
 
-act_push : (u : Used) (actors : List (List Op)) (ops : List Op) → MayAct u actors → MayOperate (with_actors u actors) ops → MayAct u (actors ++ ops ∷ [])
+act_push : (u : Used) (actors : List (List Op)) (ops : List Op) → MayAct u actors
+    → MayOperate (with_actors u actors) ops → MayAct u (actors ++ ops ∷ [])
 act_push u [] ops may more = (more, tt)
 act_push u (o ∷ actors) ops may more = (may.0, act_push (with_ops u o) actors ops may.1 more)
 
-turn_push : (actors : ℕ) (turns : List Turns) (t : Turns) → MayTurn actors turns → t.actor < actors → (1 ≤ t.times) × (t.times ≤ 16777216) → MayTurn actors (turns ++ t ∷ [])
+turn_push : (actors : ℕ) (turns : List Turns) (t : Turns) → MayTurn actors turns → t.actor < actors
+    → (1 ≤ t.times) × (t.times ≤ 16777216) → MayTurn actors (turns ++ t ∷ [])
 turn_push actors [] t may named is = (named, is.0, is.1, tt)
 turn_push actors (o ∷ more) t may named is = (may.0, may.1, may.2, turn_push actors more t may.3 named is)
 
@@ -98,14 +102,16 @@ begin before u at fits disk left =
       fits = fits;
     }
 
-next_actor : (before u : Used) (begun : Begun) → InPhase before u begun → is_scheduled begun ≡ false → nat_le (length begun.actors + 1 + 1) 64 ≡ true
+next_actor : (before u : Used) (begun : Begun) → InPhase before u begun → is_scheduled begun ≡ false
+    → nat_le (length begun.actors + 1 + 1) 64 ≡ true
     → InPhase before u (record begun { actors = begun.actors ++ begun.last ∷ []; last = [] })
 next_actor before u begun at none few =
     let empty = no_schedule begun none in
     let n : length begun.actors + 1 + 1 ≤ 64 = leb-true _ _ few in
     let P : List Turns → Type 0 = λ turns. MayTurn (length (begun.actors ++ begun.last ∷ []) + 1) turns in
     record {
-      used = at.used ∙ ap (λ v. with_turns v begun.schedule) (sym (actors_push (with_phase before) begun.actors begun.last));
+      used = at.used
+          ∙ ap (λ v. with_turns v begun.schedule) (sym (actors_push (with_phase before) begun.actors begun.last));
       phase_left = at.phase_left;
       few = omega (arith, length_push begun.actors begun.last);
       disk = at.disk;
@@ -115,13 +121,16 @@ next_actor before u begun at none few =
       fits = at.fits;
     }
 
-next_op : (before u : Used) (begun : Begun) (op : Op) → InPhase before u begun → IsRequest op → has_left_for u op ≡ true
+next_op : (before u : Used) (begun : Begun) (op : Op) → InPhase before u begun → IsRequest op
+    → has_left_for u op ≡ true
     → InPhase before (with_op u op) (record begun { last = begun.last ++ op ∷ [] })
 next_op before u begun op at request left =
     let v = with_actors (with_phase before) begun.actors in
-    let same : has_left_for (with_ops v begun.last) op ≡ true = ap (λ x. has_left_for x op) (sym at.used) ∙ left in
+    let same : has_left_for (with_ops v begun.last) op ≡ true = ap (λ x. has_left_for x op) (sym at.used)
+    ∙ left in
     record {
-      used = ap (λ x. with_op x op) at.used ∙ ap (λ x. with_turns x begun.schedule) (sym (ops_push v begun.last op));
+      used = ap (λ x. with_op x op) at.used
+          ∙ ap (λ x. with_turns x begun.schedule) (sym (ops_push v begun.last op));
       phase_left = at.phase_left;
       few = at.few;
       disk = at.disk;
@@ -131,7 +140,8 @@ next_op before u begun op at request left =
       fits = at.fits;
     }
 
-next_turns : (before u : Used) (begun : Begun) (t : Turns) → InPhase before u begun → (1 ≤ t.times) × (t.times ≤ 16777216)
+next_turns : (before u : Used) (begun : Begun) (t : Turns) → InPhase before u begun
+    → (1 ≤ t.times) × (t.times ≤ 16777216)
     → nat_lt t.actor (length begun.actors + 1) ≡ true → has_turns_left u (t ∷ []) ≡ true
     → InPhase before (with_turns u (t ∷ [])) (record begun { schedule = begun.schedule ++ t ∷ [] })
 next_turns before u begun t at is named left =
@@ -190,8 +200,10 @@ op_said begun op rest none =
     let empty = no_schedule begun none in
     let before = flat_map actor_sayings begun.actors in
     let all = flat_map actor_sayings (all_actors begun) in
-    let one : (ops : List Op) → flat_map actor_sayings (begun.actors ++ ops ∷ []) ≡ before ++ actor_sayings ops =
-    λ ops. flat_map-append actor_sayings begun.actors (ops ∷ []) ∙ ap (λ (xs : List Saying). before ++ xs) (append-nil (actor_sayings ops)) in
+    let one : (ops : List Op)
+    → flat_map actor_sayings (begun.actors ++ ops ∷ []) ≡ before ++ actor_sayings ops =
+    λ ops. flat_map-append actor_sayings begun.actors (ops ∷ [])
+    ∙ ap (λ (xs : List Saying). before ++ xs) (append-nil (actor_sayings ops)) in
     let more : flat_map actor_sayings (begun.actors ++ (begun.last ++ op ∷ []) ∷ []) ≡ all ++ says_operation op ∷ [] =
     one (begun.last ++ op ∷ [])
     ∙ ap (λ (xs : List Saying). before ++ says_actor ∷ xs) (map-append says_operation begun.last (op ∷ []))
@@ -230,7 +242,8 @@ module _ {A : Type 0} where
 abbrev Spelled : Used → Option Begun → List Saying → List Item → Type 0
 Spelled before begun said job = (flat_map item_sayings job ≡ begun_sayings begun ++ said) × MayFollow before job
 
-pub unspelled : (before u : Used) (begun : Option Begun) (said : List Saying) (job : List Item) → IsIn before u begun
+pub unspelled : (before u : Used) (begun : Option Begun) (said : List Saying) (job : List Item)
+    → IsIn before u begun
     → AllByRecursion IsSaid said → items_from u begun said ≡ Some job → Spelled before begun said job
 unspelled before u None [] job at are e =
     let P : List Item → Type 0 = λ j. Spelled before None [] j in

@@ -37,7 +37,8 @@ locks_none : (at : At) → locks_at at [] ≡ []
 locks_none Start = refl
 locks_none Entered = refl
 
-nth_is : (row : List (Option DiskHeld)) (p : ℕ) (c : Option DiskHeld) → slice_get row p ≡ Some c → nth_order (orders_of row) p ≡ order_in c
+nth_is : (row : List (Option DiskHeld)) (p : ℕ) (c : Option DiskHeld) → slice_get row p ≡ Some c
+    → nth_order (orders_of row) p ≡ order_in c
 nth_is [] p c e = absurd (cc)
 nth_is (x ∷ xs) zero c e = ap order_in (let q : x ≡ c = (let h : Some x ≡ Some c = e in cc) in q)
 nth_is (x ∷ xs) (suc p) c e = nth_is xs p c e
@@ -47,7 +48,8 @@ history_is [] a = refl
 history_is (l ∷ ls) zero = refl
 history_is (l ∷ ls) (suc a) = history_is ls a
 
-local_of : (ls : List Here) (a : ℕ) (done : List Done) → slice_get (histories ls) a ≡ Some done → (l : Here) × (slice_get ls a ≡ Some l) × (l.done ≡ done)
+local_of : (ls : List Here) (a : ℕ) (done : List Done) → slice_get (histories ls) a ≡ Some done
+    → (l : Here) × (slice_get ls a ≡ Some l) × (l.done ≡ done)
 local_of [] a done e = absurd (cc)
 local_of (l ∷ ls) zero done e = (l, refl, (let h : Some l.done ≡ Some done = e in cc))
 local_of (l ∷ ls) (suc a) done e = local_of ls a done e
@@ -57,10 +59,12 @@ module _ (g : Given) (w : State DiskHeld) (j : Joint g w) (fin : AllFinished w) 
   no_todo a l who = finished_is l.todo l.at (fin a l who)
 
   nothing_held : (a : ℕ) (l : Here) → slice_get w.locals a ≡ Some l → l.held ≡ []
-  nothing_held a l who = map_nil (λ (x : LockNo × DiskHeld). x.0) l.held ((j.told.actors a l who).locks ∙ ap (locks_at l.at) (no_todo a l who) ∙ locks_none l.at)
+  nothing_held a l who = map_nil (λ (x : LockNo × DiskHeld). x.0) l.held ((j.told.actors a l who).locks
+      ∙ ap (locks_at l.at) (no_todo a l who) ∙ locks_none l.at)
 
   -- each value is in the row
-  by_cell : (p : ℕ) (c : Option DiskHeld) → slice_get w.row p ≡ Some c → (v : DiskHeld) × (slice_get w.row p ≡ Some (Some v))
+  by_cell : (p : ℕ) (c : Option DiskHeld) → slice_get w.row p ≡ Some c
+      → (v : DiskHeld) × (slice_get w.row p ≡ Some (Some v))
   by_cell p (Some v) e = (v, e)
   by_cell p None e =
       let h = j.apart.keeper p e in
@@ -92,7 +96,8 @@ module _ (g : Given) (w : State DiskHeld) (j : Joint g w) (fin : AllFinished w) 
   order_is : (p : ℕ) (x : Page p) → nth_order (orders_of w.row) p ≡ x.entry.order
   order_is p x = nth_is w.row p (Some (holds.Slot x.entry)) x.there
 
-  follows : (a : ℕ) (ops : List Op) (done : List Done) → slice_get g.actors a ≡ Some ops → slice_get (histories w.locals) a ≡ Some done → Follows (program g.size 0 ops) done []
+  follows : (a : ℕ) (ops : List Op) (done : List Done) → slice_get g.actors a ≡ Some ops
+      → slice_get (histories w.locals) a ≡ Some done → Follows (program g.size 0 ops) done []
   follows a ops done named there =
       let l = local_of w.locals a done there in
       let h = j.told.actors a l.0 l.1 in
@@ -104,7 +109,8 @@ module _ (g : Given) (w : State DiskHeld) (j : Joint g w) (fin : AllFinished w) 
     count = length-map w.locals (λ (l : Here). l.done) ∙ j.told.count;
     follows = follows;
     every_page = length-map w.row order_in ∙ j.told.row;
-    turns = λ p a lt. let x = page p lt in ap (ops_of a) (order_is p x) ∙ x.shows.turns a ∙ ap (noted_on p) (sym (history_is w.locals a));
+    turns = λ p a lt. let x = page p lt in ap (ops_of a) (order_is p x) ∙ x.shows.turns a
+        ∙ ap (noted_on p) (sym (history_is w.locals a));
     reads = λ a i d at lt stands.
         let x = page d.part.page lt in
         subst (IsTold g a d) (sym (order_is d.part.page x))
@@ -112,7 +118,8 @@ module _ (g : Given) (w : State DiskHeld) (j : Joint g w) (fin : AllFinished w) 
         (and_from _ (stands_so d.part.op d.end) (eq-eqb d.part.page d.part.page refl) stands));
   }
 
-  holds_now : (s : ℕ) → s < 8 * g.size → sector_in w.row s ≡ held_after g (nth_order (orders_of w.row) (s / 8)) s
+  holds_now : (s : ℕ) → s < 8 * g.size
+      → sector_in w.row s ≡ held_after g (nth_order (orders_of w.row) (s / 8)) s
   holds_now s lt =
       let x = page (s / 8) (omega arith) in
       ap (λ (c : Option DiskHeld). page_sector (page_in c) (s % 8)) (get_or_from_slice_get w.row (s / 8) (Some (holds.Slot x.entry)) None x.there)

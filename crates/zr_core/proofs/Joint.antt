@@ -19,11 +19,12 @@ joint_keeps g a w n j (taken l k v e) = subst (Joint g) (sym e.after) record {
   apart = take_exclusive spot w a l k e.who j.apart v (took l v) e.there (ap (λ p. (lock_of p, v) ∷ l.held) e.what);
   room = room_take w j.room a l k e.who v e.what e.there;
 }
-joint_keeps g a w n j (given l k v m e) = let x = gift l k v m e.what e.work in subst (Joint g) (sym e.after) record {
-  told = told_give g w j.told j.apart a l k e.who v m e.there x;
-  apart = give_exclusive spot w a l k e.who j.apart v m (holds.Slot x.e) e.there x.held;
-  room = room_give w j.room a l k e.who j.apart v m e.there x;
-}
+joint_keeps g a w n j (given l k v m e) = let x = gift l k v m e.what e.work in
+    subst (Joint g) (sym e.after) record {
+      told = told_give g w j.told j.apart a l k e.who v m e.there x;
+      apart = give_exclusive spot w a l k e.who j.apart v m (holds.Slot x.e) e.there x.held;
+      room = room_give w j.room a l k e.who j.apart v m e.there x;
+    }
 
 pub joint_run : (g : Given) (turns : List ℕ) (w n : State DiskHeld) → Joint g w → Turns turns w n → Joint g n
 joint_run g [] w n j r = subst (Joint g) (sym r) j

@@ -41,7 +41,8 @@ more_at nr got n old new m k r e = dite (ℕ_discrete k nr)
     (λ ne. inr (ne, sym (m.others k ne) ∙ e))
 
 -- a later place asks for no more room
-fits_later : (size : ℕ) (pl pl' : Place) (k : ℕ) (op : Op) (r : Reply) → k ≢ pl.nr → IsOnward (behind pl) pl' → ReplyFits size pl k op r → ReplyFits size pl' k op r
+fits_later : (size : ℕ) (pl pl' : Place) (k : ℕ) (op : Op) (r : Reply) → k ≢ pl.nr → IsOnward (behind pl) pl'
+    → ReplyFits size pl k op r → ReplyFits size pl' k op r
 fits_later size pl pl' k (Write start count stuff) r ne on f = f
 fits_later size pl pl' k (Discard start count) r ne on f = f
 fits_later size pl pl' k (Read start count) r ne on f = (
@@ -56,13 +57,20 @@ fits_later size pl pl' k (Read start count) r ne on f = (
 )
 
 -- the piece's own reply
-fits_here : (size : ℕ) (pl pl' : Place) (op : Op) (was is : Reply) → IsOnward (behind pl) pl' → vec_len is.sectors ≡ vec_len was.sectors + reads op pl.page → vec_capacity is.sectors ≡ vec_capacity was.sectors
-    → is_beyond size op ≡ false → (bytes : ℕ → List ℕ) → is.sectors.items ≡ was.sectors.items ++ got_by op pl.page bytes → ReplyFits size pl pl.nr op was → ReplyFits size pl' pl.nr op is
-fits_here size pl pl' (Write start count stuff) was is on len cap inside bytes got f = got ∙ append-nil was.sectors.items ∙ f
-fits_here size pl pl' (Discard start count) was is on len cap inside bytes got f = got ∙ append-nil was.sectors.items ∙ f
+fits_here : (size : ℕ) (pl pl' : Place) (op : Op) (was is : Reply) → IsOnward (behind pl) pl'
+    → vec_len is.sectors ≡ vec_len was.sectors + reads op pl.page
+    → vec_capacity is.sectors ≡ vec_capacity was.sectors
+    → is_beyond size op ≡ false → (bytes : ℕ → List ℕ)
+    → is.sectors.items ≡ was.sectors.items ++ got_by op pl.page bytes → ReplyFits size pl pl.nr op was
+    → ReplyFits size pl' pl.nr op is
+fits_here size pl pl' (Write start count stuff) was is on len cap inside bytes got f = got
+    ∙ append-nil was.sectors.items ∙ f
+fits_here size pl pl' (Discard start count) was is on len cap inside bytes got f = got
+    ∙ append-nil was.sectors.items ∙ f
 fits_here size pl pl' (Read start count) was is on len cap inside₀ bytes got f = (
   record {
-    later = λ lt inside. absurd (⊎_elim (λ h. let none : ⊥ = omega arith in none) (λ h. let q = h.0 in let none : ⊥ = omega arith in none) on);
+    later = λ lt inside. absurd (⊎_elim (λ h. let none : ⊥ = omega arith in none) (λ h. let q = h.0 in
+        let none : ⊥ = omega arith in none) on);
     here = λ e inside. ⊎_elim
         (λ h. absurd (let none : ⊥ = omega arith in none))
         (λ h. let q = f.0.here refl inside in let p = h.1 in omega arith)
@@ -71,7 +79,9 @@ fits_here size pl pl' (Read start count) was is on len cap inside₀ bytes got f
   λ beyond. absurd (let q : true ≡ false = sym beyond ∙ inside₀ in cc),
 )
 
-room_for : (size : ℕ) (pl : Place) (op : Op) (r : Reply) → is_beyond size op ≡ false → ReplyFits size pl pl.nr op r → vec_len r.sectors ≤ vec_capacity r.sectors → vec_len r.sectors + reads op pl.page ≤ vec_capacity r.sectors
+room_for : (size : ℕ) (pl : Place) (op : Op) (r : Reply) → is_beyond size op ≡ false
+    → ReplyFits size pl pl.nr op r → vec_len r.sectors ≤ vec_capacity r.sectors
+    → vec_len r.sectors + reads op pl.page ≤ vec_capacity r.sectors
 room_for size pl (Write start count stuff) r inside f le = omega arith
 room_for size pl (Discard start count) r inside f le = omega arith
 room_for size pl (Read start count) r inside f le = let q = f.0.here refl inside in omega arith
@@ -106,22 +116,28 @@ module _ (size : ℕ) (ops : List Op) (v : Worker) (e : EntryState) where
       last = omega arith;
     }
 
-    pub has_room : (r : Reply) → slice_get v.replies.items v.place.nr ≡ Some r → vec_len r.sectors ≤ vec_capacity r.sectors → vec_len r.sectors + reads op v.place.page ≤ vec_capacity r.sectors
+    pub has_room : (r : Reply) → slice_get v.replies.items v.place.nr ≡ Some r
+        → vec_len r.sectors ≤ vec_capacity r.sectors
+        → vec_len r.sectors + reads op v.place.page ≤ vec_capacity r.sectors
     has_room r there le = room_for size v.place op r (on.inside some_left) (fit.reads v.place.nr op r at there) le
 
     pub behind_place : IsPlace size ops (behind v.place)
     behind_place = place_here size ops v.place.nr op at (v.place.page + 1) (v.place.left - 1)
-        (let f = on.first in let l = on.last in let s = some_left in record { inside = λ more. on.inside some_left; first = omega arith; last = omega arith })
+        (let f = on.first in let l = on.last in let s = some_left in
+        record { inside = λ more. on.inside some_left; first = omega arith; last = omega arith })
 
     pub gives_slot : next_event size ops w ≡ Give (slot v.place.page)
     gives_slot = ap (λ ps. plan_at ps stage.Entered) todo_is
 
-    module _ (f : EntryState) (kept : (k : ℕ) → k < 8 → page_sector (page_of f.kept) k ≡ sector_after op (8 * v.place.page + k) (page_sector (page_of e.kept) k))
+    module _ (f : EntryState) (kept : (k : ℕ) → k < 8
+        → page_sector (page_of f.kept) k ≡ sector_after op (8 * v.place.page + k) (page_sector (page_of e.kept) k))
         (order : f.order ≡ e.order ++ tag_by v.actor p ∷ []) (room : e.room ≤ f.room + 1) where
       pub works : WorksAlways size ops w (holds.Slot f)
       works done = carries p rest e f todo_is refl refl refl (record { work = record { notes = order; holds = kept }; room = room }) (ap (gave_by (here size ops w done)) todo_is)
 
-      module _ {X : Type 0} (takes : X → LockNo → (Here → DiskHeld → Here) → DiskHeld → X → Type 0) (misses : X → LockNo → X → Type 0) (gives : X → LockNo → (Here → DiskHeld → Here) → DiskHeld → X → Type 0) (h g : X)
+      module _ {X : Type 0} (takes : X → LockNo → (Here → DiskHeld → Here) → DiskHeld → X → Type 0) (misses : X
+          → LockNo → X → Type 0) (gives : X → LockNo → (Here → DiskHeld → Here) → DiskHeld → X
+          → Type 0) (h g : X)
           (w' : Worker) (m : HasMore v.place.nr (got_from (page_of e.kept) p) (reads op v.place.page) v.replies.items w'.replies.items)
           (actor : w'.actor ≡ v.actor) (empty : w'.entry ≡ None) (same : todo_at size ops w'.place ≡ rest) where
         abbrev d : Done
@@ -134,11 +150,13 @@ module _ (size : ℕ) (ops : List Op) (v : Worker) (e : EntryState) where
               (m.sectors ∙ ap (λ (xs : List (List ℕ)). xs ++ d.got) (keeps.sectors v.place.nr m.was m.before)
               ∙ sym (ap (λ (n : ℕ). got_of n (done ++ d ∷ [])) s.0 ∙ got_append v.place.nr done (d ∷ [])
               ∙ ap (λ (b : Bool). got_of v.place.nr done ++ cond b (d.got ++ []) []) (eq-eqb v.place.nr v.place.nr refl) ∙ ap (λ (xs : List (List ℕ)). got_of v.place.nr done ++ xs) (append-nil d.got))))
-              (λ o. keeps.sectors k r o.1 ∙ sym (got_append k done (d ∷ []) ∙ ap (λ (b : Bool). got_of k done ++ cond b (d.got ++ []) []) (ne_eqb v.place.nr k (λ s. o.0 (sym s))) ∙ append-nil (got_of k done)))
+              (λ o. keeps.sectors k r o.1 ∙ sym (got_append k done (d ∷ [])
+              ∙ ap (λ (b : Bool). got_of k done ++ cond b (d.got ++ []) []) (ne_eqb v.place.nr k (λ s. o.0 (sym s))) ∙ append-nil (got_of k done)))
               (more_at v.place.nr (got_from (page_of e.kept) p) (reads op v.place.page) v.replies.items w'.replies.items m k r there);
         }
 
-        pub given : (done : List Done) → Keeps v done → gives h (slot v.place.page) gave (holds.Slot f) g → Advanced takes misses gives size ops w h w' g turn.Went done
+        pub given : (done : List Done) → Keeps v done → gives h (slot v.place.page) gave (holds.Slot f) g
+            → Advanced takes misses gives size ops w h w' g turn.Went done
         given done keeps give = (
           done ++ d ∷ [],
           keeps_more done keeps,
@@ -147,7 +165,8 @@ module _ (size : ℕ) (ops : List Op) (v : Worker) (e : EntryState) where
               ∙ sym (ap (gave_by (here size ops w done)) todo_is)),
         )
 
-        pub still_fit : IsPlace size ops w'.place → IsSettled ops w'.place → IsOnward (behind v.place) w'.place → IsFit size ops w'
+        pub still_fit : IsPlace size ops w'.place → IsSettled ops w'.place → IsOnward (behind v.place) w'.place
+            → IsFit size ops w'
         still_fit place settled onward = record {
           requests = fit.requests;
           few = fit.few;
@@ -161,10 +180,12 @@ module _ (size : ℕ) (ops : List Op) (v : Worker) (e : EntryState) where
               (λ x. fit.ends k o r named x.1)
               (more_at v.place.nr (got_from (page_of e.kept) p) (reads op v.place.page) v.replies.items w'.replies.items m k r there);
           reads = λ k o r named there. ⊎_elim
-              (λ s. mine k o r s.0 s.1 (let q : Some op ≡ Some o = sym at ∙ (ap (slice_get ops) (sym s.0) ∙ named) in cc))
+              (λ s. mine k o r s.0 s.1 (let q : Some op ≡ Some o = sym at ∙ (ap (slice_get ops) (sym s.0)
+              ∙ named) in cc))
               (λ x. fits_later size v.place w'.place k o r x.0 onward (fit.reads k o r named x.1))
               (more_at v.place.nr (got_from (page_of e.kept) p) (reads op v.place.page) v.replies.items w'.replies.items m k r there);
         } where
-          mine : (k : ℕ) (o : Op) (r : Reply) → k ≡ v.place.nr → m.is ≡ r → op ≡ o → ReplyFits size w'.place k o r
+          mine : (k : ℕ) (o : Op) (r : Reply) → k ≡ v.place.nr → m.is ≡ r → op ≡ o
+              → ReplyFits size w'.place k o r
           mine k o r s t u = subst (λ (x : ℕ × Op × Reply). ReplyFits size w'.place x.0 x.1 x.2) (λ i. (sym s i, u i, t i))
               (fits_here size v.place w'.place op m.was m.is onward m.len m.room (on.inside some_left) (λ s. page_sector (page_of e.kept) (s - 8 * v.place.page)) m.sectors (fit.reads v.place.nr op m.was at m.before))

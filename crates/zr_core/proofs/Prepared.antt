@@ -25,10 +25,12 @@ use Rattle.zr_core.proofs.Starts.{start_joint}
 
 -- ---- the row
 
-same_entry : (e f : EntryState) (c : Option (Option DiskHeld)) → c ≡ Some (Some (holds.Slot e)) → c ≡ Some (Some (holds.Slot f)) → e ≡ f
+same_entry : (e f : EntryState) (c : Option (Option DiskHeld)) → c ≡ Some (Some (holds.Slot e))
+    → c ≡ Some (Some (holds.Slot f)) → e ≡ f
 same_entry e f c p q = let r : c ≡ Some (Some (holds.Slot f)) = q in cc
 
-pub reserved_none : (size : ℕ) (counts : List ℕ) (cells : List (Option DiskHeld)) → IsAtRest size cells → AreReserved 0 counts cells cells
+pub reserved_none : (size : ℕ) (counts : List ℕ) (cells : List (Option DiskHeld)) → IsAtRest size cells
+    → AreReserved 0 counts cells cells
 reserved_none size counts cells rest = record {
   size = refl;
   each = λ p lt. let e = rest.each p (let s = rest.size in omega arith) in record {
@@ -42,12 +44,15 @@ reserved_none size counts cells rest = record {
   };
 }
 
-pub reserved_more : (counts : List ℕ) (page n : ℕ) (old mid new : List (Option DiskHeld)) → n ≡ count_at counts page → AreReserved page counts old mid → IsReserved page n mid new → AreReserved (page + 1) counts old new
+pub reserved_more : (counts : List ℕ) (page n : ℕ) (old mid new : List (Option DiskHeld))
+    → n ≡ count_at counts page → AreReserved page counts old mid → IsReserved page n mid new
+    → AreReserved (page + 1) counts old new
 reserved_more counts page n old mid new count r x = record {
   size = x.size ∙ r.size;
   each = λ p lt. let k = r.each p lt in dite (ℕ_discrete p page)
       (λ s.
-      let mine = same_entry x.was k.is (slice_get mid page) x.before (ap (slice_get mid) (sym s) ∙ k.after) in record {
+      let mine = same_entry x.was k.is (slice_get mid page) x.before (ap (slice_get mid) (sym s) ∙ k.after) in
+      record {
         was = k.was;
         is = x.is;
         before = k.before;
@@ -67,7 +72,8 @@ reserved_more counts page n old mid new count r x = record {
       });
 }
 
-pub reserved_any : (n : ℕ) (counts : List ℕ) (old new : List (Option DiskHeld)) → AreReserved n counts old new → AreReserved 0 counts old new
+pub reserved_any : (n : ℕ) (counts : List ℕ) (old new : List (Option DiskHeld)) → AreReserved n counts old new
+    → AreReserved 0 counts old new
 reserved_any n counts old new r = record {
   size = r.size;
   each = λ p lt. let k = r.each p lt in record {
@@ -81,16 +87,19 @@ reserved_any n counts old new r = record {
   };
 }
 
-pub reserved_rest : (size n : ℕ) (counts : List ℕ) (old new : List (Option DiskHeld)) → IsAtRest size old → AreReserved n counts old new → IsAtRest size new
+pub reserved_rest : (size n : ℕ) (counts : List ℕ) (old new : List (Option DiskHeld)) → IsAtRest size old
+    → AreReserved n counts old new → IsAtRest size new
 reserved_rest size n counts old new rest r = record {
   size = r.size ∙ rest.size;
   each = λ p lt. let k = r.each p (let s = rest.size in omega arith) in (k.is, k.after);
 }
 
-page_at : (cells : List (Option DiskHeld)) (p : ℕ) (e : EntryState) → slice_get cells p ≡ Some (Some (holds.Slot e)) → page_in (get_or cells p None) ≡ page_of e.kept
+page_at : (cells : List (Option DiskHeld)) (p : ℕ) (e : EntryState)
+    → slice_get cells p ≡ Some (Some (holds.Slot e)) → page_in (get_or cells p None) ≡ page_of e.kept
 page_at cells p e at = ap page_in (get_or_from_slice_get cells p (Some (holds.Slot e)) None at)
 
-pub reserved_holds : (size n : ℕ) (counts : List ℕ) (old new : List (Option DiskHeld)) → IsAtRest size old → AreReserved n counts old new → (s : ℕ) → s < 8 * size → sector_in new s ≡ sector_in old s
+pub reserved_holds : (size n : ℕ) (counts : List ℕ) (old new : List (Option DiskHeld)) → IsAtRest size old
+    → AreReserved n counts old new → (s : ℕ) → s < 8 * size → sector_in new s ≡ sector_in old s
 reserved_holds size n counts old new rest r s lt =
     let k = r.each (s / 8) (let e = rest.size in omega arith) in
     ap (λ (page : List ℕ). page_sector page (s % 8))
@@ -98,7 +107,8 @@ reserved_holds size n counts old new rest r s lt =
 
 -- ---- the workers
 
-none_over : (ws : List Worker) (a : ℕ) (done : List Done) → slice_get (nothing_over ws) a ≡ Some done → done ≡ []
+none_over : (ws : List Worker) (a : ℕ) (done : List Done) → slice_get (nothing_over ws) a ≡ Some done
+    → done ≡ []
 none_over [] a done e = absurd (cc)
 none_over (w ∷ ws) zero done e = let q : Some (let ds : List Done = [] in ds) ≡ Some done = e in cc
 none_over (w ∷ ws) (suc a) done e = none_over ws a done e
@@ -110,29 +120,36 @@ record HereAt (size : ℕ) (actors : List (List Op)) (ws : List Worker) (a : ℕ
   there : slice_get ws a ≡ Some worker
   is : l ≡ here size ops worker []
 
-here_at : (size : ℕ) (actors : List (List Op)) (ws : List Worker) (a : ℕ) (l : Here) → slice_get (heres size actors ws (nothing_over ws)) a ≡ Some l → HereAt size actors ws a l
+here_at : (size : ℕ) (actors : List (List Op)) (ws : List Worker) (a : ℕ) (l : Here)
+    → slice_get (heres size actors ws (nothing_over ws)) a ≡ Some l → HereAt size actors ws a l
 here_at size [] ws a l e = absurd (cc)
 here_at size (ops ∷ more) [] a l e = absurd (cc)
 here_at size (ops ∷ more) (w ∷ ws) zero l e = record { ops = ops; worker = w; named = refl; there = refl; is = (let q : Some (here size ops w []) ≡ Some l = e in cc) }
-here_at size (ops ∷ more) (w ∷ ws) (suc a) l e = let h = here_at size more ws a l e in record { ops = h.ops; worker = h.worker; named = h.named; there = h.there; is = h.is }
+here_at size (ops ∷ more) (w ∷ ws) (suc a) l e = let h = here_at size more ws a l e in
+    record { ops = h.ops; worker = h.worker; named = h.named; there = h.there; is = h.is }
 
-as_many : (size : ℕ) (actors : List (List Op)) (ws : List Worker) → length ws ≡ length actors → length (heres size actors ws (nothing_over ws)) ≡ length actors
+as_many : (size : ℕ) (actors : List (List Op)) (ws : List Worker) → length ws ≡ length actors
+    → length (heres size actors ws (nothing_over ws)) ≡ length actors
 as_many size [] ws e = refl
-as_many size (ops ∷ more) [] e = absurd (let q : 0 ≡ suc (length more) = e in let none : ⊥ = omega arith in none)
+as_many size (ops ∷ more) [] e = absurd (let q : 0 ≡ suc (length more) = e in
+    let none : ⊥ = omega arith in none)
 as_many size (ops ∷ more) (w ∷ ws) e = ap suc (as_many size more ws (omega arith))
 
 owed_is : (size p : ℕ) (actors : List (List Op)) (ws : List Worker) → length ws ≡ length actors
-    → ((a : ℕ) (ops : List Op) (w : Worker) → slice_get actors a ≡ Some ops → slice_get ws a ≡ Some w → todo_at size ops w.place ≡ program size 0 ops)
+    → ((a : ℕ) (ops : List Op) (w : Worker) → slice_get actors a ≡ Some ops → slice_get ws a ≡ Some w
+    → todo_at size ops w.place ≡ program size 0 ops)
     → owed (heres size actors ws (nothing_over ws)) p ≡ pieces_each size actors p
 owed_is size p [] ws e todo = refl
-owed_is size p (ops ∷ more) [] e todo = absurd (let q : 0 ≡ suc (length more) = e in let none : ⊥ = omega arith in none)
+owed_is size p (ops ∷ more) [] e todo = absurd (let q : 0 ≡ suc (length more) = e in
+    let none : ⊥ = omega arith in none)
 owed_is size p (ops ∷ more) (w ∷ ws) e todo =
     λ i. pieces_on p (todo 0 ops w refl refl i) + owed_is size p more ws (omega arith) (λ a os v named there. todo (suc a) os v named there) i
 
 -- ---- the state before the first turn
 
 module _ (size : ℕ) (actors : List (List Op)) (cells cells' : List (Option DiskHeld)) (ws : List Worker) (counts : List ℕ) (new : AreNewWorkers size actors ws)
-    (counted : (p : ℕ) → p < size → count_at counts p ≡ pieces_each size actors p) (rest : IsAtRest size cells) (r : AreReserved size counts cells cells') where
+    (counted : (p : ℕ) → p < size
+    → count_at counts p ≡ pieces_each size actors p) (rest : IsAtRest size cells) (r : AreReserved size counts cells cells') where
   kept : AreKept ws (nothing_over ws)
   kept = record {
     count = length-map ws (λ (w : Worker). (let ds : List Done = [] in ds));
@@ -146,11 +163,14 @@ module _ (size : ℕ) (actors : List (List Op)) (cells cells' : List (Option Dis
   abbrev locals : List Here
   locals = heres size actors ws (nothing_over ws)
 
-  fresh : (p : ℕ) (c : Option DiskHeld) → slice_get cells' p ≡ Some c → IsFresh (given_on size actors cells) locals p c
+  fresh : (p : ℕ) (c : Option DiskHeld) → slice_get cells' p ≡ Some c
+      → IsFresh (given_on size actors cells) locals p c
   fresh p c e =
-      let lt : p < size = (let q = slice_get_within cells' p c e in let s = r.size in let t = rest.size in omega arith) in
+      let lt : p < size = (let q = slice_get_within cells' p c e in let s = r.size in let t = rest.size in
+      omega arith) in
       let k = r.each p (let t = rest.size in omega arith) in
-      let is : Some (holds.Slot k.is) ≡ c = (let q : Some (Some (holds.Slot k.is)) ≡ Some c = sym k.after ∙ e in cc) in
+      let is : Some (holds.Slot k.is) ≡ c = (let q : Some (Some (holds.Slot k.is)) ≡ Some c = sym k.after
+      ∙ e in cc) in
       subst (IsFresh (given_on size actors cells) locals p) is (
         k.order lt,
         (λ j small.
@@ -175,7 +195,13 @@ module _ (size : ℕ) (actors : List (List Op)) (cells cells' : List (Option Dis
       }
 
   first_state : IsStart (given_on size actors cells) (state size actors cells' ws (nothing_over ws))
-  first_state = record { row = r.size ∙ rest.size; count = as_many size actors ws new.count; values = fresh; actors = starts }
+  first_state = record {
+    row = r.size
+        ∙ rest.size;
+    count = as_many size actors ws new.count;
+    values = fresh;
+    actors = starts;
+  }
 
   pub prepared : IsPrepared (given_on size actors cells) cells' ws
   prepared = record { dones = nothing_over ws; kept = kept; start = first_state }
@@ -190,5 +216,6 @@ module _ (size : ℕ) (actors : List (List Op)) (cells cells' : List (Option Dis
     joint = start_joint (given_on size actors cells) (state size actors cells' ws (nothing_over ws)) first_state;
   }
 
-pub fit_for : (size : ℕ) (actors : List (List Op)) (ws : List Worker) → AreNewWorkers size actors ws → AreFit size actors ws
+pub fit_for : (size : ℕ) (actors : List (List Op)) (ws : List Worker) → AreNewWorkers size actors ws
+    → AreFit size actors ws
 fit_for size actors ws new = record { count = new.count; each = λ a ops w named there. (new.each a ops w named there).fit }

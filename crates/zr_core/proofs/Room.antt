@@ -33,7 +33,8 @@ module _ (w : State DiskHeld) (room : Everywhere spot (HasRoom w.locals) w) (a :
     now = slice_set w.locals a m
 
     before : (i : ℕ) → owed_by i l ≡ cond (eqb x.p.page i) 1 0 + owed_by i m
-    before i = ap (pieces_on i) x.was ∙ ap (λ (ps : List Part). cond (eqb x.p.page i) 1 0 + pieces_on i ps) (sym x.todo)
+    before i = ap (pieces_on i) x.was
+        ∙ ap (λ (ps : List Part). cond (eqb x.p.page i) 1 0 + pieces_on i ps) (sym x.todo)
 
     fewer : (i : ℕ) → owed now i ≤ owed w.locals i
     fewer i = let q = locals_set (owed_by i) w.locals a l m who in let r = before i in omega arith
@@ -42,7 +43,8 @@ module _ (w : State DiskHeld) (room : Everywhere spot (HasRoom w.locals) w) (a :
     one_less : owed now x.p.page + 1 ≡ owed w.locals x.p.page
     one_less =
         let q = locals_set (owed_by x.p.page) w.locals a l m who in
-        let r : owed_by x.p.page l ≡ 1 + owed_by x.p.page m = before x.p.page ∙ ap (λ (b : Bool). cond b 1 0 + owed_by x.p.page m) (eq-eqb x.p.page x.p.page refl) in
+        let r : owed_by x.p.page l ≡ 1 + owed_by x.p.page m = before x.p.page
+        ∙ ap (λ (b : Bool). cond b 1 0 + owed_by x.p.page m) (eq-eqb x.p.page x.p.page refl) in
         omega arith
 
     old : owed w.locals x.p.page ≤ x.e.room
@@ -54,4 +56,5 @@ module _ (w : State DiskHeld) (room : Everywhere spot (HasRoom w.locals) w) (a :
         (λ i u ne. less_room w.locals now i u (fewer i))
         v (holds.Slot x.e) m there x.held
         (subst (λ (c : LockNo × DiskHeld). HasRoom now (spot c.0) c.1) (λ i. (sym x.lock i, sym x.value i))
-        (let q = one_less in let r = old in let s = x.work.room in let h : owed now x.p.page ≤ x.f.room = omega arith in h))
+        (let q = one_less in let r = old in let s = x.work.room in
+        let h : owed now x.p.page ≤ x.f.room = omega arith in h))

@@ -36,39 +36,59 @@ use Rattle.zr_core.proofs.Worlds.{one_turn}
 
 -- ---- who can go on
 
-get_map : {A B : Type 0} (f : A → B) (xs : List A) (i : ℕ) (x : A) → slice_get xs i ≡ Some x → slice_get (map f xs) i ≡ Some (f x)
+get_map : {A B : Type 0} (f : A → B) (xs : List A) (i : ℕ) (x : A) → slice_get xs i ≡ Some x
+    → slice_get (map f xs) i ≡ Some (f x)
 get_map f [] i x e = absurd (cc)
 get_map f (y ∷ ys) zero x e = let q : y ≡ x = cc in ap (λ z. Some (f z)) q
 get_map f (y ∷ ys) (suc i) x e = get_map f ys i x e
 
 -- who holds a lock gives it next
-gives_next : (ps : List Part) (at : At) (i : ℕ) (k : LockNo) → slice_get (locks_at at ps) i ≡ Some k → (m : LockNo) × (plan_at ps at ≡ Give m)
+gives_next : (ps : List Part) (at : At) (i : ℕ) (k : LockNo) → slice_get (locks_at at ps) i ≡ Some k
+    → (m : LockNo) × (plan_at ps at ≡ Give m)
 gives_next [] Start i k e = absurd (cc)
 gives_next [] Entered i k e = absurd (cc)
 gives_next (p ∷ ps) Start i k e = absurd (cc)
 gives_next (p ∷ ps) Entered i k e = (slot p.page, refl)
 
-take_on_disk : (ps : List Part) (at : At) (k : LockNo) → plan_at ps at ≡ Take k → (p : Part) × (rest : List Part) × (ps ≡ p ∷ rest) × (k ≡ slot p.page)
+take_on_disk : (ps : List Part) (at : At) (k : LockNo) → plan_at ps at ≡ Take k
+    → (p : Part) × (rest : List Part) × (ps ≡ p ∷ rest) × (k ≡ slot p.page)
 take_on_disk [] at k e = absurd (cc)
-take_on_disk (p ∷ ps) Start k e = (p, ps, refl, (let q : Take (slot p.page) ≡ Take k = e in let r : slot p.page ≡ k = cc in sym r))
+take_on_disk (p ∷ ps) Start k e = (
+  p,
+  ps,
+  refl,
+  (let q : Take (slot p.page) ≡ Take k = e in
+      let r : slot p.page ≡ k = cc in sym r),
+)
 take_on_disk (p ∷ ps) Entered k e = absurd (cc)
 
 module _ (g : Given) (w : State DiskHeld) (j : Joint g w) where
   free_give : (a : ℕ) (l : Here) (m : LockNo) → slice_get w.locals a ≡ Some l → plan l ≡ Give m → IsFree w a
-  free_give a l m who what = (l, who, (λ e. absurd (let q : Give m ≡ Finished = sym what ∙ e in cc)), (λ k e. absurd (let q : Give m ≡ Take k = sym what ∙ e in cc)))
+  free_give a l m who what = (
+    l,
+    who,
+    (λ e. absurd (let q : Give m ≡ Finished = sym what
+        ∙ e in cc)),
+    (λ k e. absurd (let q : Give m ≡ Take k = sym what ∙ e in cc)),
+  )
 
-  free_take : (a : ℕ) (l : Here) (k : LockNo) (v : DiskHeld) → slice_get w.locals a ≡ Some l → plan l ≡ Take k → slice_get w.row (spot k) ≡ Some (Some v) → IsFree w a
+  free_take : (a : ℕ) (l : Here) (k : LockNo) (v : DiskHeld) → slice_get w.locals a ≡ Some l → plan l ≡ Take k
+      → slice_get w.row (spot k) ≡ Some (Some v) → IsFree w a
   free_take a l k v who what there = (
     l,
     who,
     (λ e. absurd (let q : Take k ≡ Finished = sym what ∙ e in cc)),
-    (λ m e. let q : k ≡ m = (let z : Take k ≡ Take m = sym what ∙ e in cc) in (v, ap (λ (c : LockNo). slice_get w.row (spot c)) (sym q) ∙ there)),
+    (λ m e. let q : k ≡ m = (let z : Take k ≡ Take m = sym what ∙ e in cc) in
+        (v, ap (λ (c : LockNo). slice_get w.row (spot c)) (sym q) ∙ there)),
   )
 
-  lock_held : (h : ℕ) (m : Here) (i : ℕ) (x : LockNo × DiskHeld) → slice_get w.locals h ≡ Some m → slice_get m.held i ≡ Some x → slice_get (locks_at m.at m.todo) i ≡ Some x.0
-  lock_held h m i x who at = ap (λ ks. slice_get ks i) (sym (j.told.actors h m who).locks) ∙ get_map (λ (y : LockNo × DiskHeld). y.0) m.held i x at
+  lock_held : (h : ℕ) (m : Here) (i : ℕ) (x : LockNo × DiskHeld) → slice_get w.locals h ≡ Some m
+      → slice_get m.held i ≡ Some x → slice_get (locks_at m.at m.todo) i ≡ Some x.0
+  lock_held h m i x who at = ap (λ ks. slice_get ks i) (sym (j.told.actors h m who).locks)
+      ∙ get_map (λ (y : LockNo × DiskHeld). y.0) m.held i x at
 
-  by_cell : (a : ℕ) (l : Here) (k : LockNo) → slice_get w.locals a ≡ Some l → plan l ≡ Take k → (c : Option DiskHeld) → slice_get w.row (spot k) ≡ Some c → (f : ℕ) × IsFree w f
+  by_cell : (a : ℕ) (l : Here) (k : LockNo) → slice_get w.locals a ≡ Some l → plan l ≡ Take k
+      → (c : Option DiskHeld) → slice_get w.row (spot k) ≡ Some c → (f : ℕ) × IsFree w f
   by_cell a l k who what (Some v) e = (a, free_take a l k v who what e)
   by_cell a l k who what None e =
       let h = j.apart.keeper (spot k) e in
@@ -76,14 +96,17 @@ module _ (g : Given) (w : State DiskHeld) (j : Joint g w) where
       (h.0, free_give h.0 h.1 m.0 h.4 m.1)
 
   -- where some actor can take on the disk, some actor can go on
-  pub some_free : (a : ℕ) (l : Here) (p : Plan) → slice_get w.locals a ≡ Some l → plan l ≡ p → p ≢ Finished → ((k : LockNo) → plan l ≡ Take k → (c : Option DiskHeld) × (slice_get w.row (spot k) ≡ Some c)) → (f : ℕ) × IsFree w f
+  pub some_free : (a : ℕ) (l : Here) (p : Plan) → slice_get w.locals a ≡ Some l → plan l ≡ p → p ≢ Finished
+      → ((k : LockNo) → plan l ≡ Take k → (c : Option DiskHeld) × (slice_get w.row (spot k) ≡ Some c))
+      → (f : ℕ) × IsFree w f
   some_free a l Finished who what ne on = absurd (ne refl)
   some_free a l (Give k) who what ne on = (a, free_give a l k who what)
   some_free a l (Take k) who what ne on = let c = on k what in by_cell a l k who what c.0 c.1
 
 -- ---- fewer are left
 
-take_falls : (ps : List Part) (at : At) (k : LockNo) → plan_at ps at ≡ Take k → left_at ps Entered < left_at ps at
+take_falls : (ps : List Part) (at : At) (k : LockNo) → plan_at ps at ≡ Take k
+    → left_at ps Entered < left_at ps at
 take_falls [] at k e = absurd (cc)
 take_falls (p ∷ ps) Start k e = omega arith
 take_falls (p ∷ ps) Entered k e = absurd (cc)
@@ -95,9 +118,11 @@ starts_left (p ∷ ps) = omega arith
 give_falls : (l : Here) (v : DiskHeld) (m : Here) → Works l v m → left_by m < left_by l
 give_falls l v m (carries p rest e f todo at held v_is work m_is) =
     subst (λ (n : Here). left_by n < left_by l) (sym m_is)
-    (let s = starts_left rest in let q : left_by l ≡ 1 + 2 * length rest = (λ i. left_at (todo i) (at i)) in omega arith)
+    (let s = starts_left rest in let q : left_by l ≡ 1 + 2 * length rest = (λ i. left_at (todo i) (at i)) in
+    omega arith)
 
-less_left : (ls : List Here) (a : ℕ) (l m : Here) → slice_get ls a ≡ Some l → left_by m < left_by l → locals_sum left_by (slice_set ls a m) < locals_sum left_by ls
+less_left : (ls : List Here) (a : ℕ) (l m : Here) → slice_get ls a ≡ Some l → left_by m < left_by l
+    → locals_sum left_by (slice_set ls a m) < locals_sum left_by ls
 less_left ls a l m who lt = let q = locals_set left_by ls a l m who in omega arith
 
 -- a turn changes nothing, or leaves fewer events; that of a free actor leaves fewer
@@ -108,7 +133,8 @@ falls a w n (taken l k v t) = inr (subst (λ (u : State DiskHeld). all_left u < 
 falls a w n (given l k v m t) = inr (subst (λ (u : State DiskHeld). all_left u < all_left w) (sym t.after) (less_left w.locals a l m t.who (give_falls l v m t.work)))
 
 pub free_falls : (a : ℕ) (w n : State DiskHeld) → IsFree w a → OneTurn a w n → all_left n < all_left w
-free_falls a w n f (finished l who what same) = absurd (f.2 (ap plan (let q : Some f.0 ≡ Some l = sym f.1 ∙ who in let r : f.0 ≡ l = cc in r) ∙ what))
+free_falls a w n f (finished l who what same) = absurd (f.2 (ap plan (let q : Some f.0 ≡ Some l = sym f.1
+    ∙ who in let r : f.0 ≡ l = cc in r) ∙ what))
 free_falls a w n f (missed l k who what there same) =
     let r : f.0 ≡ l = (let q : Some f.0 ≡ Some l = sym f.1 ∙ who in cc) in
     let t = f.3 k (ap plan r ∙ what) in absurd (let z : Some (Some t.0) ≡ Some None = sym t.1 ∙ there in cc)
@@ -117,7 +143,8 @@ free_falls a w n f (given l k v m t) = subst (λ (u : State DiskHeld). all_left 
 
 -- ---- a round
 
-pub round_more : (start now next : State DiskHeld) (i : ℕ) → Round start now i → OneTurn i now next → Round start next (i + 1)
+pub round_more : (start now next : State DiskHeld) (i : ℕ) → Round start now i → OneTurn i now next
+    → Round start next (i + 1)
 round_more start now next i (inl less) t = inl (⊎_elim (λ same. let q : all_left next ≡ all_left now = ap all_left same in omega arith) (λ fell. omega arith) (falls i now next t))
 round_more start now next i (inr r) t =
     let base : all_left now ≡ all_left start = ap all_left r.0 in ⊎_elim
@@ -125,7 +152,8 @@ round_more start now next i (inr r) t =
       same ∙ r.0,
       λ f free. dite (ℕ_discrete f i)
           (λ e. absurd (let g : IsFree now i = subst (λ (p : State DiskHeld × ℕ). IsFree p.0 p.1) (λ k. (sym r.0 k, e k)) free in
-          let h = free_falls i now next g t in let q : all_left next ≡ all_left now = ap all_left same in let none : ⊥ = omega arith in none))
+          let h = free_falls i now next g t in let q : all_left next ≡ all_left now = ap all_left same in
+          let none : ⊥ = omega arith in none))
           (λ ne. let h = r.1 f free in omega arith),
     ))
     (λ fell. inl (omega arith))
@@ -134,20 +162,25 @@ round_more start now next i (inr r) t =
 pub round_none : (start : State DiskHeld) → Round start start 0
 round_none start = inr (refl, (λ f free. omega arith))
 
-pub round_falls : (start now : State DiskHeld) (n : ℕ) → length start.locals ≤ n → (f : ℕ) → IsFree start f → Round start now n → all_left now < all_left start
+pub round_falls : (start now : State DiskHeld) (n : ℕ) → length start.locals ≤ n → (f : ℕ) → IsFree start f
+    → Round start now n → all_left now < all_left start
 round_falls start now n many f free (inl less) = less
-round_falls start now n many f free (inr r) = absurd (let b = slice_get_within start.locals f free.0 free.1 in let h = r.1 f free in let none : ⊥ = omega arith in none)
+round_falls start now n many f free (inr r) = absurd (let b = slice_get_within start.locals f free.0 free.1 in
+    let h = r.1 f free in let none : ⊥ = omega arith in none)
 
 -- ---- workers
 
 -- what is left doesn't depend on what is over
-pub left_same : (size : ℕ) (actors : List (List Op)) (ws : List Worker) (dones : List (List Done)) → length dones ≡ length ws → locals_sum left_by (heres size actors ws dones) ≡ left_of size actors ws
+pub left_same : (size : ℕ) (actors : List (List Op)) (ws : List Worker) (dones : List (List Done))
+    → length dones ≡ length ws → locals_sum left_by (heres size actors ws dones) ≡ left_of size actors ws
 left_same size [] ws ds e = refl
 left_same size (ops ∷ more) [] ds e = refl
-left_same size (ops ∷ more) (w ∷ ws) [] e = absurd (let q : 0 ≡ suc (length ws) = e in let none : ⊥ = omega arith in none)
+left_same size (ops ∷ more) (w ∷ ws) [] e = absurd (let q : 0 ≡ suc (length ws) = e in
+    let none : ⊥ = omega arith in none)
 left_same size (ops ∷ more) (w ∷ ws) (d ∷ ds) e = ap (λ (n : ℕ). left_by (here size ops w d) + n) (left_same size more ws ds (omega arith))
 
-pub heres_length : (size : ℕ) (actors : List (List Op)) (ws : List Worker) (dones : List (List Done)) → length (heres size actors ws dones) ≤ length actors
+pub heres_length : (size : ℕ) (actors : List (List Op)) (ws : List Worker) (dones : List (List Done))
+    → length (heres size actors ws dones) ≤ length actors
 heres_length size [] ws ds = omega arith
 heres_length size (ops ∷ more) [] ds = omega arith
 heres_length size (ops ∷ more) (w ∷ ws) [] = omega arith
@@ -157,7 +190,8 @@ module _ (size : ℕ) (actors : List (List Op)) (cells : List (Option DiskHeld))
   -- the busy actor's local isn't finished, and takes on the disk
   pub busy_free : (f : ℕ) × IsFree (state size actors cells ws j.dones) f
   busy_free =
-      let done = there_is j.dones busy.actor (let n = j.kept.count in let q = slice_get_within ws busy.actor busy.worker busy.there in omega arith) in
+      let done = there_is j.dones busy.actor (let n = j.kept.count in
+      let q = slice_get_within ws busy.actor busy.worker busy.there in omega arith) in
       let is_fit = fit.each busy.actor busy.ops busy.worker busy.named busy.there in
       let op = there_is busy.ops busy.worker.place.nr busy.more in
       let todo = todo_next size busy.ops busy.worker.place op.0 op.1 is_fit.settled in
@@ -172,7 +206,9 @@ module _ (size : ℕ) (actors : List (List Op)) (cells : List (Option DiskHeld))
         not_over Entered {p} e f = absurd (let q : Give (slot p.page) ≡ Finished = sym (ap (λ xs. plan_at xs Entered) e) ∙ f in cc)
 
   -- a whole round leaves fewer events
-  pub round_left : (cells' : List (Option DiskHeld)) (ws' : List Worker) (dones' : List (List Done)) → AreKept ws' dones' → (n : ℕ) → length actors ≤ n → Round (state size actors cells ws j.dones) (state size actors cells' ws' dones') n
+  pub round_left : (cells' : List (Option DiskHeld)) (ws' : List Worker) (dones' : List (List Done))
+      → AreKept ws' dones' → (n : ℕ) → length actors ≤ n
+      → Round (state size actors cells ws j.dones) (state size actors cells' ws' dones') n
       → left_of size actors ws' < left_of size actors ws
   round_left cells' ws' dones' kept n many r =
       let f = busy_free in
@@ -185,7 +221,8 @@ pub all_finished : (size : ℕ) (actors : List (List Op)) (cells : List (Option 
 all_finished size actors cells ws dones over a l who =
     let x = of_here actors ws dones a who in
     subst (λ (m : Here). plan m ≡ Finished) x.4 (ap (λ ps. plan_at ps (at_of x.1.entry)) (no_todo size x.1.place.nr x.0 x.1.place.page x.1.place.left (over a x.0 x.1 x.3.0 x.3.1))) where
-      of_here : (actors : List (List Op)) (ws : List Worker) (dones : List (List Done)) (a : ℕ) → slice_get (heres size actors ws dones) a ≡ Some l
+      of_here : (actors : List (List Op)) (ws : List Worker) (dones : List (List Done)) (a : ℕ)
+          → slice_get (heres size actors ws dones) a ≡ Some l
           → (ops : List Op) × (w : Worker) × (done : List Done) × ((slice_get actors a ≡ Some ops) × (slice_get ws a ≡ Some w)) × (here size ops w done ≡ l)
       of_here [] ws ds a e = absurd (cc)
       of_here (x ∷ xs) [] ds a e = absurd (cc)
@@ -194,9 +231,12 @@ all_finished size actors cells ws dones over a l who =
       of_here (x ∷ xs) (y ∷ ys) (z ∷ zs) (suc a) e = of_here xs ys zs a e
 
 -- one more actor that is finished
-pub more_over : (actors : List (List Op)) (ws : List Worker) (n : ℕ) (ops : List Op) (w : Worker) → slice_get actors n ≡ Some ops → slice_get ws n ≡ Some w → length ops ≤ w.place.nr
-    → ((a : ℕ) (os : List Op) (v : Worker) → a < n → slice_get actors a ≡ Some os → slice_get ws a ≡ Some v → length os ≤ v.place.nr)
-    → (a : ℕ) (os : List Op) (v : Worker) → a < n + 1 → slice_get actors a ≡ Some os → slice_get ws a ≡ Some v → length os ≤ v.place.nr
+pub more_over : (actors : List (List Op)) (ws : List Worker) (n : ℕ) (ops : List Op) (w : Worker)
+    → slice_get actors n ≡ Some ops → slice_get ws n ≡ Some w → length ops ≤ w.place.nr
+    → ((a : ℕ) (os : List Op) (v : Worker) → a < n → slice_get actors a ≡ Some os → slice_get ws a ≡ Some v
+    → length os ≤ v.place.nr)
+    → (a : ℕ) (os : List Op) (v : Worker) → a < n + 1 → slice_get actors a ≡ Some os → slice_get ws a ≡ Some v
+    → length os ≤ v.place.nr
 more_over actors ws n ops w named there over before a os v lt e f = dite (ℕ_discrete a n)
     (λ s.
     let p : ops ≡ os = (let q : Some ops ≡ Some os = sym named ∙ (ap (slice_get actors) (sym s) ∙ e) in cc) in
@@ -217,7 +257,8 @@ module _ (size : ℕ) (actors : List (List Op)) (start : State DiskHeld) where
   RoundTo cells ws i = (dones : List (List Done)) × AreKept ws dones × Turns (range_with_len 0 i) start (state size actors cells ws dones) × Round start (state size actors cells ws dones) i
 
   pub turn_more : (cells cells' : List (Option DiskHeld)) (ws ws' : List Worker) (i : ℕ) → RoundTo cells ws i
-      → ((dones : List (List Done)) → AreKept ws dones → (dones' : List (List Done)) × AreKept ws' dones' × OneTurn i (state size actors cells ws dones) (state size actors cells' ws' dones')) → RoundTo cells' ws' (i + 1)
+      → ((dones : List (List Done)) → AreKept ws dones
+      → (dones' : List (List Done)) × AreKept ws' dones' × OneTurn i (state size actors cells ws dones) (state size actors cells' ws' dones')) → RoundTo cells' ws' (i + 1)
   turn_more cells cells' ws ws' i r t =
       let x = t r.0 r.1 in (
         x.0,
@@ -231,7 +272,9 @@ pub goes_nowhere : (size : ℕ) (actors : List (List Op)) (cells : List (Option 
 goes_nowhere size actors cells ws dones kept = (dones, kept, refl)
 
 pub goes_on_by : (xs ys : List ℕ) (size : ℕ) (actors : List (List Op)) (cells : List (Option DiskHeld)) (ws : List Worker) (cells₁ : List (Option DiskHeld)) (ws₁ : List Worker) (cells₂ : List (Option DiskHeld)) (ws₂ : List Worker) (dones : List (List Done))
-    → GoesBy xs size actors cells ws cells₁ ws₁ dones → ((ds : List (List Done)) → AreKept ws₁ ds → GoesBy ys size actors cells₁ ws₁ cells₂ ws₂ ds) → GoesBy (xs ++ ys) size actors cells ws cells₂ ws₂ dones
+    → GoesBy xs size actors cells ws cells₁ ws₁ dones → ((ds : List (List Done)) → AreKept ws₁ ds
+    → GoesBy ys size actors cells₁ ws₁ cells₂ ws₂ ds)
+    → GoesBy (xs ++ ys) size actors cells ws cells₂ ws₂ dones
 goes_on_by xs ys size actors cells ws cells₁ ws₁ cells₂ ws₂ dones first then =
     let x = then first.0 first.1 in
     (x.0, x.1, run_both spot plan took Works xs ys (state size actors cells ws dones) (state size actors cells₁ ws₁ first.0) (state size actors cells₂ ws₂ x.0) first.2 x.2)
@@ -244,11 +287,13 @@ replicate_push n a = suc_push n ∙ ap (λ (k : ℕ). replicate k a) (let q : su
 
 rounds_push : (n r : ℕ) → rounds_of n r ++ range_with_len 0 n ≡ rounds_of n (suc r)
 rounds_push n zero = sym (append-nil (range_with_len 0 n))
-rounds_push n (suc r) = append_assoc (range_with_len 0 n) (rounds_of n r) (range_with_len 0 n) ∙ ap (λ (xs : List ℕ). range_with_len 0 n ++ xs) (rounds_push n r)
+rounds_push n (suc r) = append_assoc (range_with_len 0 n) (rounds_of n r) (range_with_len 0 n)
+    ∙ ap (λ (xs : List ℕ). range_with_len 0 n ++ xs) (rounds_push n r)
 
 turns_append : (xs : List By) (t : By) → turns_of (xs ++ t ∷ []) ≡ turns_of xs ++ replicate t.times t.actor
 turns_append [] t = append-nil (replicate t.times t.actor)
-turns_append (x ∷ xs) t = ap (λ (ys : List ℕ). replicate x.times x.actor ++ ys) (turns_append xs t) ∙ sym (append_assoc (replicate x.times x.actor) (turns_of xs) (replicate t.times t.actor))
+turns_append (x ∷ xs) t = ap (λ (ys : List ℕ). replicate x.times x.actor ++ ys) (turns_append xs t)
+    ∙ sym (append_assoc (replicate x.times x.actor) (turns_of xs) (replicate t.times t.actor))
 
 -- more turns, of a world whose pages are as many
 module _ (size size' : ℕ) (same : size' ≡ size) (actors : List (List Op)) (cells cells₁ cells₂ : List (Option DiskHeld)) (ws ws₁ ws₂ : List Worker) where
@@ -258,33 +303,44 @@ module _ (size size' : ℕ) (same : size' ≡ size) (actors : List (List Op)) (c
   abbrev pub After : List ℕ → Type 0
   After xs = (dones : List (List Done)) → AreKept ws dones → GoesBy xs size actors cells ws cells₂ ws₂ dones
 
-  pub then_turns : (xs ys : List ℕ) → Before xs → ((ds : List (List Done)) → AreKept ws₁ ds → GoesBy ys size' actors cells₁ ws₁ cells₂ ws₂ ds) → After (xs ++ ys)
+  pub then_turns : (xs ys : List ℕ) → Before xs → ((ds : List (List Done)) → AreKept ws₁ ds
+      → GoesBy ys size' actors cells₁ ws₁ cells₂ ws₂ ds) → After (xs ++ ys)
   then_turns xs ys before more dones kept =
       goes_on_by xs ys size actors cells ws cells₁ ws₁ cells₂ ws₂ dones (before dones kept) (λ ds k. subst (λ (n : ℕ). GoesBy ys n actors cells₁ ws₁ cells₂ ws₂ ds) same (more ds k))
 
-  pub then_once : (n a : ℕ) (t : WasTurn) → Before (replicate n a) → ((ds : List (List Done)) → AreKept ws₁ ds → TurnsOnce a size' actors cells₁ ws₁ cells₂ ws₂ t ds) → After (replicate (n + 1) a)
+  pub then_once : (n a : ℕ) (t : WasTurn) → Before (replicate n a) → ((ds : List (List Done)) → AreKept ws₁ ds
+      → TurnsOnce a size' actors cells₁ ws₁ cells₂ ws₂ t ds) → After (replicate (n + 1) a)
   then_once n a t before more = subst After (replicate_push n a) (then_turns (replicate n a) (a ∷ []) before (λ ds k. let x = more ds k in (x.0, x.1, (state size' actors cells₂ ws₂ x.0, one_turn a _ _ t x.2, refl))))
 
-  pub then_schedule : (schedule : List By) (i : ℕ) (t : By) → slice_get schedule i ≡ Some t → Before (turns_of (take i schedule)) → ((ds : List (List Done)) → AreKept ws₁ ds → GoesBy (replicate t.times t.actor) size' actors cells₁ ws₁ cells₂ ws₂ ds)
+  pub then_schedule : (schedule : List By) (i : ℕ) (t : By) → slice_get schedule i ≡ Some t
+      → Before (turns_of (take i schedule)) → ((ds : List (List Done)) → AreKept ws₁ ds
+      → GoesBy (replicate t.times t.actor) size' actors cells₁ ws₁ cells₂ ws₂ ds)
       → After (turns_of (take (i + 1) schedule))
   then_schedule schedule i t at before more =
-      subst After (sym (ap turns_of (take_push schedule i at) ∙ turns_append (take i schedule) t)) (then_turns (turns_of (take i schedule)) (replicate t.times t.actor) before more) where
+      subst After (sym (ap turns_of (take_push schedule i at)
+      ∙ turns_append (take i schedule) t)) (then_turns (turns_of (take i schedule)) (replicate t.times t.actor) before more) where
         take_suc : (xs : List By) (i : ℕ) → slice_get xs i ≡ Some t → take (suc i) xs ≡ take i xs ++ t ∷ []
         take_suc [] i e = absurd (cc)
-        take_suc (x ∷ xs) zero e = let q : x ≡ t = (let h : Some x ≡ Some t = e in cc) in ap (λ (y : By). y ∷ []) q
+        take_suc (x ∷ xs) zero e = let q : x ≡ t = (let h : Some x ≡ Some t = e in cc) in
+            ap (λ (y : By). y ∷ []) q
         take_suc (x ∷ xs) (suc i) e = ap (λ (ys : List By). x ∷ ys) (take_suc xs i e)
 
         take_push : (xs : List By) (i : ℕ) → slice_get xs i ≡ Some t → take (i + 1) xs ≡ take i xs ++ t ∷ []
-        take_push xs i e = ap (λ (k : ℕ). take k xs) (let q : i + 1 ≡ suc i = omega arith in q) ∙ take_suc xs i e
+        take_push xs i e = ap (λ (k : ℕ). take k xs) (let q : i + 1 ≡ suc i = omega arith in q)
+            ∙ take_suc xs i e
 
-  pub then_round : (n : ℕ) → ((r : ℕ) × Before (rounds_of n r)) → ((ds : List (List Done)) → AreKept ws₁ ds → GoesBy (range_with_len 0 n) size' actors cells₁ ws₁ cells₂ ws₂ ds) → (r : ℕ) × After (rounds_of n r)
+  pub then_round : (n : ℕ) → ((r : ℕ) × Before (rounds_of n r)) → ((ds : List (List Done)) → AreKept ws₁ ds
+      → GoesBy (range_with_len 0 n) size' actors cells₁ ws₁ cells₂ ws₂ ds) → (r : ℕ) × After (rounds_of n r)
   then_round n before more = (suc before.0, subst After (rounds_push n before.0) (then_turns (rounds_of n before.0) (range_with_len 0 n) before.1 more))
 
 -- a schedule, and then rounds until all actors are finished
-pub runs_out : (size size' : ℕ) → size' ≡ size → (actors : List (List Op)) (cells cells₁ cells₂ : List (Option DiskHeld)) (ws ws₁ ws₂ : List Worker) (turns : List ℕ)
+pub runs_out : (size size' : ℕ) → size' ≡ size
+    → (actors : List (List Op)) (cells cells₁ cells₂ : List (Option DiskHeld)) (ws ws₁ ws₂ : List Worker) (turns : List ℕ)
     → ((dones : List (List Done)) → AreKept ws dones → GoesBy turns size actors cells ws cells₁ ws₁ dones)
-    → ((r : ℕ) × ((dones : List (List Done)) → AreKept ws₁ dones → GoesBy (rounds_of (length actors) r) size' actors cells₁ ws₁ cells₂ ws₂ dones))
-    → AllOver actors ws₂ → (dones : List (List Done)) → AreKept ws dones → RunsOut turns size actors cells ws cells₂ ws₂ dones
+    → ((r : ℕ) × ((dones : List (List Done)) → AreKept ws₁ dones
+    → GoesBy (rounds_of (length actors) r) size' actors cells₁ ws₁ cells₂ ws₂ dones))
+    → AllOver actors ws₂ → (dones : List (List Done)) → AreKept ws dones
+    → RunsOut turns size actors cells ws cells₂ ws₂ dones
 runs_out size size' same actors cells cells₁ cells₂ ws ws₁ ws₂ turns play finish over dones kept =
     let x = then_turns size size' same actors cells cells₁ cells₂ ws ws₁ ws₂ turns (rounds_of (length actors) finish.0) play finish.1 dones kept in
     (finish.0, x.0, x.1, x.2, all_finished size actors cells₂ ws₂ x.0 over)

@@ -24,21 +24,25 @@ module _ (g : Given) (w : State DiskHeld) (s : IsStart g w) where
   dones_none : (a : ℕ) → dones w.locals a ≡ []
   dones_none a = none_done a (slice_get w.locals a) refl
 
-  fresh_page : (p : ℕ) (e : EntryState) → e.order ≡ [] → ((k : ℕ) → k < 8 → page_sector (page_of e.kept) k ≡ g.before (8 * p + k)) → ShowsPage g (dones w.locals) p (page_of e.kept) e.order
+  fresh_page : (p : ℕ) (e : EntryState) → e.order ≡ [] → ((k : ℕ) → k < 8
+      → page_sector (page_of e.kept) k ≡ g.before (8 * p + k))
+      → ShowsPage g (dones w.locals) p (page_of e.kept) e.order
   fresh_page p e none same = record {
     holds = λ k lt. same k lt ∙ ap (λ (ts : List Tag). held_after g ts (8 * p + k)) (sym none);
     turns = λ a. ap (ops_of a) none ∙ sym (ap (noted_on p) (dones_none a));
     reads = λ a i d at on. absurd (let q : slice_get (let ds : List Done = [] in ds) i ≡ Some d = ap (λ (ds : List Done). slice_get ds i) (sym (dones_none a)) ∙ at in cc);
   }
 
-  fresh : (p : ℕ) (v : DiskHeld) → IsFresh g w.locals p (Some v) → Shows g (dones w.locals) p v × HasRoom w.locals p v
+  fresh : (p : ℕ) (v : DiskHeld) → IsFresh g w.locals p (Some v)
+      → Shows g (dones w.locals) p v × HasRoom w.locals p v
   fresh p (holds.Slot e) h = (fresh_page p e h.0 h.1, h.2)
   fresh p (holds.Class x) h = (tt, tt)
   fresh p (holds.Account x) h = (tt, tt)
   fresh p (holds.Blocks x) h = (tt, tt)
   fresh p (holds.Device x) h = (tt, tt)
 
-  no_lock : (a i : ℕ) (l : Here) (x : LockNo × DiskHeld) → slice_get w.locals a ≡ Some l → slice_get l.held i ≡ Some x → ⊥
+  no_lock : (a i : ℕ) (l : Here) (x : LockNo × DiskHeld) → slice_get w.locals a ≡ Some l
+      → slice_get l.held i ≡ Some x → ⊥
   no_lock a i l x who at = let q : slice_get (let ys : List (LockNo × DiskHeld) = [] in ys) i ≡ Some x = ap (λ (ys : List (LockNo × DiskHeld)). slice_get ys i) (sym (s.actors a l who).held) ∙ at in cc
 
   pub start_joint : Joint g w
@@ -50,7 +54,8 @@ module _ (g : Given) (w : State DiskHeld) (s : IsStart g w) where
         ops = h.ops;
         named = h.named;
         follows = subst (λ (c : List Done × List Part). Follows (program g.size 0 h.ops) c.0 c.1) (λ i. (sym h.done i, sym h.todo i)) refl;
-        locks = ap (map (λ (x : LockNo × DiskHeld). x.0)) h.held ∙ sym (ap (λ (at : At). locks_at at l.todo) h.at);
+        locks = ap (map (λ (x : LockNo × DiskHeld). x.0)) h.held
+            ∙ sym (ap (λ (at : At). locks_at at l.todo) h.at);
       };
       count = s.count;
       row = s.row;

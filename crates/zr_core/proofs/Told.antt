@@ -31,24 +31,29 @@ use Rattle.zr_core.specs.Joint.{done_by, dones, Shows, locks_at, IsActor, Told}
 -- ---- locals
 
 -- what is over, where one local is changed
-dones_here : (ls : List Here) (a : ℕ) (l m : Here) → slice_get ls a ≡ Some l → dones (slice_set ls a m) a ≡ m.done
+dones_here : (ls : List Here) (a : ℕ) (l m : Here) → slice_get ls a ≡ Some l
+    → dones (slice_set ls a m) a ≡ m.done
 dones_here ls a l m who = ap done_by (get_here ls a m l who)
 
 dones_else : (ls : List Here) (a b : ℕ) (m : Here) → b ≢ a → dones (slice_set ls a m) b ≡ dones ls b
 dones_else ls a b m ne = ap done_by (get_else ls a b m ne)
 
-dones_same : (ls : List Here) (a : ℕ) (l m : Here) → slice_get ls a ≡ Some l → m.done ≡ l.done → dones ls ≡ dones (slice_set ls a m)
+dones_same : (ls : List Here) (a : ℕ) (l m : Here) → slice_get ls a ≡ Some l → m.done ≡ l.done
+    → dones ls ≡ dones (slice_set ls a m)
 dones_same ls a l m who same = fun_ext (λ b. dite (ℕ_discrete b a)
-    (λ s. subst (λ (c : ℕ). dones ls c ≡ dones (slice_set ls a m) c) (sym s) (ap done_by who ∙ sym (dones_here ls a l m who ∙ same)))
+    (λ s. subst (λ (c : ℕ). dones ls c ≡ dones (slice_set ls a m) c) (sym s) (ap done_by who
+    ∙ sym (dones_here ls a l m who ∙ same)))
     (λ ne. sym (dones_else ls a b m ne)))
 
-dones_grown : (ls : List Here) (a : ℕ) (l m : Here) (d : Done) → slice_get ls a ≡ Some l → m.done ≡ l.done ++ d ∷ [] → Grown (dones ls) (dones (slice_set ls a m)) a d
+dones_grown : (ls : List Here) (a : ℕ) (l m : Here) (d : Done) → slice_get ls a ≡ Some l
+    → m.done ≡ l.done ++ d ∷ [] → Grown (dones ls) (dones (slice_set ls a m)) a d
 dones_grown ls a l m d who more = record {
   here = dones_here ls a l m who ∙ more ∙ ap (λ (o : Option Here). done_by o ++ d ∷ []) (sym who);
   others = λ b ne. dones_else ls a b m ne;
 }
 
-locks_take : (ps : List Part) (at : At) (k : LockNo) → plan_at ps at ≡ Take k → lock_of (plan_at ps at) ∷ locks_at at ps ≡ locks_at Entered ps
+locks_take : (ps : List Part) (at : At) (k : LockNo) → plan_at ps at ≡ Take k
+    → lock_of (plan_at ps at) ∷ locks_at at ps ≡ locks_at Entered ps
 locks_take [] at k e = absurd (cc)
 locks_take (p ∷ ps) Start k e = refl
 locks_take (p ∷ ps) Entered k e = absurd (cc)
@@ -95,7 +100,8 @@ gift l k v m what (carries p rest e f todo at held v_is work m_is) =
 
 -- ---- values
 
-shows_still : (g : Given) (D D' : ℕ → List Done) (a : ℕ) (d : Done) → Grown D D' a d → (i : ℕ) (u : DiskHeld) → is_on i d ≡ false → Shows g D i u → Shows g D' i u
+shows_still : (g : Given) (D D' : ℕ → List Done) (a : ℕ) (d : Done) → Grown D D' a d → (i : ℕ) (u : DiskHeld)
+    → is_on i d ≡ false → Shows g D i u → Shows g D' i u
 shows_still g D D' a d grown i (holds.Slot e) off h = page_still g D D' a d grown i (page_of e.kept) e.order off h
 shows_still g D D' a d grown i (holds.Class x) off h = tt
 shows_still g D D' a d grown i (holds.Account x) off h = tt
@@ -105,13 +111,15 @@ shows_still g D D' a d grown i (holds.Device x) off h = tt
 -- ---- the law
 
 module _ (g : Given) (w : State DiskHeld) (t : Told g w) (ex : Exclusive spot w) (a : ℕ) (l : Here) (k : LockNo) (who : slice_get w.locals a ≡ Some l) where
-  others : (m : Here) → IsActor g a m → (b : ℕ) (n : Here) → slice_get (slice_set w.locals a m) b ≡ Some n → IsActor g b n
+  others : (m : Here) → IsActor g a m → (b : ℕ) (n : Here) → slice_get (slice_set w.locals a m) b ≡ Some n
+      → IsActor g b n
   others m is b n at = ⊎_elim
       (λ s. subst (λ (p : ℕ × Here). IsActor g p.0 p.1) (λ i. (sym s.0 i, s.1 i)) is)
       (λ o. t.actors b n o.1)
       (get_set w.locals a b m n l who at)
 
-  after_put : (cell : Option DiskHeld) (m : Here) → IsActor g a m → let n : State DiskHeld = record { row = slice_set w.row (spot k) cell; locals = slice_set w.locals a m } in Everywhere spot (Shows g (dones n.locals)) n → Told g n
+  after_put : (cell : Option DiskHeld) (m : Here) → IsActor g a m
+      → let n : State DiskHeld = record { row = slice_set w.row (spot k) cell; locals = slice_set w.locals a m } in Everywhere spot (Shows g (dones n.locals)) n → Told g n
   after_put cell m is values = record {
     values = values;
     actors = others m is;
@@ -119,7 +127,8 @@ module _ (g : Given) (w : State DiskHeld) (t : Told g w) (ex : Exclusive spot w)
     row = length-set w.row (spot k) cell ∙ t.row;
   }
 
-  pub told_take : (v : DiskHeld) → plan l ≡ Take k → slice_get w.row (spot k) ≡ Some (Some v) → Told g (record { row = slice_set w.row (spot k) None; locals = slice_set w.locals a (took l v) })
+  pub told_take : (v : DiskHeld) → plan l ≡ Take k → slice_get w.row (spot k) ≡ Some (Some v)
+      → Told g (record { row = slice_set w.row (spot k) None; locals = slice_set w.locals a (took l v) })
   told_take v what there =
       let h = t.actors a l who in
       after_put None (took l v) (record { who = h.who; ops = h.ops; named = h.named; follows = h.follows; locks = ap (λ ks. lock_of (plan l) ∷ ks) h.locks ∙ locks_take l.todo l.at k what })

@@ -57,7 +57,8 @@ module _ (size : ℕ) (actors : List (List Op)) (cells : List (Option DiskHeld))
         let x = in_row j.given (state size actors cells ws j.dones) j.joint a size j.pages ops w done_of.0 is_fit who w.place.page d.1 in
         (x.0, cell_is k d.0 d.1 ∙ x.1)
 
-    pub may_fit : (k : LockNo) (v : DiskHeld) → next_event size ops w ≡ Take k → cell r k ≡ Some (Some v) → Fits v
+    pub may_fit : (k : LockNo) (v : DiskHeld) → next_event size ops w ≡ Take k → cell r k ≡ Some (Some v)
+        → Fits v
     may_fit k v what at =
         let d = takes_here size ops w k is_fit what in
         value_fits j.given (state size actors cells ws j.dones) j.joint a size j.pages ops w done_of.0 is_fit who k v what (sym (cell_is k d.0 d.1) ∙ at)
@@ -65,18 +66,24 @@ module _ (size : ℕ) (actors : List (List Op)) (cells : List (Option DiskHeld))
     pub may_give : (k : LockNo) → next_event size ops w ≡ Give k → cell r k ≡ Some None
     may_give k what =
         let d = gives_here size ops w k is_fit what in
-        cell_is k d.0 d.1 ∙ is_out j.given (state size actors cells ws j.dones) j.joint a size j.pages ops w done_of.0 is_fit who k what
+        cell_is k d.0 d.1
+        ∙ is_out j.given (state size actors cells ws j.dones) j.joint a size j.pages ops w done_of.0 is_fit who k what
 
-  module _ {X : Type 0} {takes : X → LockNo → (Here → DiskHeld → Here) → DiskHeld → X → Type 0} {misses : X → LockNo → X → Type 0} {gives : X → LockNo → (Here → DiskHeld → Here) → DiskHeld → X → Type 0}
+  module _ {X : Type 0} {takes : X → LockNo → (Here → DiskHeld → Here) → DiskHeld → X → Type 0} {misses : X
+      → LockNo → X → Type 0} {gives : X → LockNo → (Here → DiskHeld → Here) → DiskHeld → X → Type 0}
       (h g : X) (row_of : X → Row DiskHeld) (is : row_of h ≡ r)
-      (t : (k : LockNo) (f : Here → DiskHeld → Here) (v : DiskHeld) → takes h k f v g → (cell (row_of h) k ≡ Some (Some v)) × (row_of g ≡ with_cell (row_of h) k None))
+      (t : (k : LockNo) (f : Here → DiskHeld → Here) (v : DiskHeld) → takes h k f v g
+      → (cell (row_of h) k ≡ Some (Some v)) × (row_of g ≡ with_cell (row_of h) k None))
       (n : (k : LockNo) → misses h k g → (cell (row_of h) k ≡ Some None) × (row_of g ≡ row_of h))
-      (s : (k : LockNo) (f : Here → DiskHeld → Here) (v : DiskHeld) → gives h k f v g → (cell (row_of h) k ≡ Some None) × (row_of g ≡ with_cell (row_of h) k (Some v)))
-      (w' : Worker) (res : Turn) (all : (done : List Done) → Keeps w done → Advanced takes misses gives size ops w h w' g res done) where
+      (s : (k : LockNo) (f : Here → DiskHeld → Here) (v : DiskHeld) → gives h k f v g
+      → (cell (row_of h) k ≡ Some None) × (row_of g ≡ with_cell (row_of h) k (Some v)))
+      (w' : Worker) (res : Turn) (all : (done : List Done) → Keeps w done
+      → Advanced takes misses gives size ops w h w' g res done) where
     at_name : (k : LockNo) → place_in (row_of h).names k ≡ place_in r.names k
     at_name k = ap (λ (x : Row DiskHeld). place_in x.names k) is
 
-    pub turns_once : (dones : List (List Done)) → AreKept ws dones → TurnsOnce a size actors cells ws (row_of g).cells (slice_set ws a w') res dones
+    pub turns_once : (dones : List (List Done)) → AreKept ws dones
+        → TurnsOnce a size actors cells ws (row_of g).cells (slice_set ws a w') res dones
     turns_once dones kept =
         let lt : a < length ws = slice_get_within ws a w there in
         let done = there_is dones a (let q = kept.count in omega arith) in
@@ -86,7 +93,8 @@ module _ (size : ℕ) (actors : List (List Op)) (cells : List (Option DiskHeld))
           kept_set ws dones a w w' done.0 adv.0 kept there done.1 adv.1,
           subst (λ (ls : List Here). TurnIs a (state size actors cells ws dones) (record { row = (row_of g).cells; locals = ls }) res)
               (sym (heres_set size actors ws dones a ops w' adv.0 named lt (let q = kept.count in omega arith)))
-              (turn_is row_of cells (heres size actors ws dones) a who (ap (λ (x : Row DiskHeld). x.cells) is ∙ cells_are)
+              (turn_is row_of cells (heres size actors ws dones) a who (ap (λ (x : Row DiskHeld). x.cells) is
+              ∙ cells_are)
               (λ k what. at_name k ∙ take_place k what) (λ k what. at_name k ∙ give_place k what) t n s adv.2),
         )
 
@@ -102,8 +110,10 @@ module _ (size : ℕ) (actors : List (List Op)) (cells : List (Option DiskHeld))
         }
 
     -- what each event keeps, the turn keeps
-    pub keeps_name : {Y : Type 0} (name : X → Y) → CanGoOn size actors cells ws → ((k : LockNo) (f : Here → DiskHeld → Here) (v : DiskHeld) → takes h k f v g → name g ≡ name h)
-        → ((k : LockNo) → misses h k g → name g ≡ name h) → ((k : LockNo) (f : Here → DiskHeld → Here) (v : DiskHeld) → gives h k f v g → name g ≡ name h) → name g ≡ name h
+    pub keeps_name : {Y : Type 0} (name : X → Y) → CanGoOn size actors cells ws → ((k : LockNo) (f : Here
+        → DiskHeld → Here) (v : DiskHeld) → takes h k f v g → name g ≡ name h)
+        → ((k : LockNo) → misses h k g → name g ≡ name h) → ((k : LockNo) (f : Here → DiskHeld
+        → Here) (v : DiskHeld) → gives h k f v g → name g ≡ name h) → name g ≡ name h
     keeps_name name j x y z =
         let lt : a < length ws = slice_get_within ws a w there in
         let done = there_is j.dones a (let q = j.kept.count in omega arith) in

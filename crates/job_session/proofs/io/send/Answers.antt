@@ -14,8 +14,10 @@ returns-in_err-at-clause-some g c = record {
 }
 
 -- some more of what is left
-taken_more : (bytes : List ℕ) (at n : ℕ) → take at bytes ++ take n (take (length bytes - at) (drop at bytes)) ≡ take (at + n) bytes
-taken_more bytes at n = ap (λ (xs : List ℕ). take at bytes ++ take n xs) (take_rest bytes at) ∙ sym (take-add at n bytes)
+taken_more : (bytes : List ℕ) (at n : ℕ)
+    → take at bytes ++ take n (take (length bytes - at) (drop at bytes)) ≡ take (at + n) bytes
+taken_more bytes at n = ap (λ (xs : List ℕ). take at bytes ++ take n xs) (take_rest bytes at)
+    ∙ sym (take-add at n bytes)
 
 pub loop-at-preserved : goal.loop-at-preserved
 loop-at-preserved g c =
@@ -23,7 +25,8 @@ loop-at-preserved g c =
     let n : ℕ = c.in_ok-at.field-0 in
     let fits : length (take (length c.args.bytes.now - at) (drop at c.args.bytes.now)) ≡ length c.args.bytes.now - at =
     ap length (take_rest c.args.bytes.now at) ∙ length-drop at c.args.bytes.now in
-    let P : List ℕ → Type 0 = λ xs. Appends (g.K.Sink.written c.args.out.now) (g.K.Sink.written c.send_some.new.out) xs in (
+    let P : List ℕ
+    → Type 0 = λ xs. Appends (g.K.Sink.written c.args.out.now) (g.K.Sink.written c.send_some.new.out) xs in (
       omega (arith, fits, c.in_ok-at.ensures.some, c.loop-at.invariant.0),
       omega (arith, c.loop-at.invariant.1, c.send_some.ensures.later),
       subst P (taken_more c.args.bytes.now at n)

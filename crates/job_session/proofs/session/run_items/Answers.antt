@@ -13,11 +13,13 @@ loop-item-preserved g c =
     let front : List Item = take at c.args.job.now in
     let back : List Item = drop (at + 1) c.args.job.now in
     let taken : take (at + 1) c.args.job.now ≡ front ++ item ∷ [] =
-    take_more c.args.job.now at item c.loop-item-test.true ∙ ap (λ (x : Item). front ++ x ∷ []) (sym c.item-item.is) in
+    take_more c.args.job.now at item c.loop-item-test.true
+    ∙ ap (λ (x : Item). front ++ x ∷ []) (sym c.item-item.is) in
     let left : drop at c.args.job.now ≡ item ∷ back =
     drop_more c.args.job.now at item c.loop-item-test.true ∙ ap (λ (x : Item). x ∷ back) (sym c.item-item.is) in
     let may : MayStandAll c.loop-item.world.pages (item ∷ back) = subst (MayStandAll c.loop-item.world.pages) left c.loop-item.invariant.may in
-    let P : List Item → Type 0 = λ xs. ItemsTold without_pages xs (disk_of c.run_item.new.world) (g.K.Sink.written c.args.out.now) (g.K.Sink.written c.run_item.new.out)
+    let P : List Item
+    → Type 0 = λ xs. ItemsTold without_pages xs (disk_of c.run_item.new.world) (g.K.Sink.written c.args.out.now) (g.K.Sink.written c.run_item.new.out)
     c.args.buffer.now.items c.run_item.new.buffer.items (c.loop-item.refused || c.in_ok-this_one.this_one) in
     record {
       told = subst P (sym taken)

@@ -11,14 +11,17 @@ use Rattle.job_session.proofs.Lawful.{may_stand}
 use Rattle.job_session.proofs.sim.run_all.Goals as goal
 
 -- all that was told was sent, where the buffer was empty and its rest was sent too
-all_written : ((d : Disk) (job : List Item) (turns : List (List ℕ)) (lines : List OutLine) (last : Disk) → MayStandAll d.size job → Stepped d job turns lines last → Legal (rest_of d) job lines (rest_of last))
-    → (job : List Item) (u v w : Option (List ℕ)) (a b bytes : List ℕ) (refused : Bool) → MayStandAll 0 job → JobTold job u v a b refused → a ≡ [] → Appends v w bytes → bytes ≡ b
+all_written : ((d : Disk) (job : List Item) (turns : List (List ℕ)) (lines : List OutLine) (last : Disk)
+    → MayStandAll d.size job → Stepped d job turns lines last → Legal (rest_of d) job lines (rest_of last))
+    → (job : List Item) (u v w : Option (List ℕ)) (a b bytes : List ℕ) (refused : Bool) → MayStandAll 0 job
+    → JobTold job u v a b refused → a ≡ [] → Appends v w bytes → bytes ≡ b
     → IsWritten job u w refused
 all_written legal job u v w a b bytes refused may t empty sent is =
     let S : List ℕ → Type 0 = λ xs. Appends v w xs in
     let A : List ℕ → Type 0 = λ xs. Appends u w xs in
     let told = t.told.told.told in
-    let whole : told.sent ++ b ≡ text t.told.lines = sym told.kept ∙ ap (λ (xs : List ℕ). xs ++ text t.told.lines) empty in
+    let whole : told.sent ++ b ≡ text t.told.lines = sym told.kept
+    ∙ ap (λ (xs : List ℕ). xs ++ text t.told.lines) empty in
     record {
       lines = t.told.lines;
       first = rest_of without_pages;

@@ -21,7 +21,8 @@ tell_end-requires-clause-sectors g c = op_there (sectors_shown c.args.phase.now.
 told_op : (actor op : ℕ) (ends : List (List OpEnd)) (sectors : List (List (List (List ℕ)))) (u v w : Option (List ℕ)) (m n o : ℕ) (a b c : List ℕ) (r s : Bool)
     → op < length (get_or ends actor []) → op < length (get_or sectors actor [])
     → LinesSoFar u v m n a b r (actor_lines actor op (drop op (get_or ends actor [])) (drop op (get_or sectors actor []))) (actor_lines actor 0 (get_or ends actor []) (get_or sectors actor []))
-    → ((end : OpEnd) (got : List (List ℕ)) → of_op ends actor op ≡ Some end → of_op sectors actor op ≡ Some got → LinesTold v w b c s (op_lines (record { actor = actor; op = op }) end got)) → n ≤ o
+    → ((end : OpEnd) (got : List (List ℕ)) → of_op ends actor op ≡ Some end → of_op sectors actor op ≡ Some got
+    → LinesTold v w b c s (op_lines (record { actor = actor; op = op }) end got)) → n ≤ o
     → LinesSoFar u w m o a c (r || s) (actor_lines actor (op + 1) (drop (op + 1) (get_or ends actor [])) (drop (op + 1) (get_or sectors actor [])))
     (actor_lines actor 0 (get_or ends actor []) (get_or sectors actor []))
 told_op actor op ends sectors u v w m n o a b c r s e g so_far told later =

@@ -10,7 +10,8 @@ use Rattle.job_session.proofs.tell.tell_end.Goals as goal
 
 -- what was told of an end and of sectors was told of those that they are
 told_is : (u v : Option (List ℕ)) (a b : List ℕ) (refused : Bool) (tag : Tag) (end end_is : OpEnd) (got got_is : List (List ℕ)) → Some end ≡ Some end_is → Some got ≡ Some got_is
-    → Tells u v a b (text (op_lines tag end got)) → refused ≡ is_refusal (ended tag end) → LinesTold u v a b refused (op_lines tag end_is got_is)
+    → Tells u v a b (text (op_lines tag end got)) → refused ≡ is_refusal (ended tag end)
+    → LinesTold u v a b refused (op_lines tag end_is got_is)
 told_is u v a b refused tag end end_is got got_is e g told is =
     subst (λ (x : OpEnd × List (List ℕ)). LinesTold u v a b refused (op_lines tag x.0 x.1)) (λ i. (unwrap_or (e i) end, unwrap_or (g i) got))
     (record { told = told; refused_is = is ∙ sym (any_refusal-op tag end got) })

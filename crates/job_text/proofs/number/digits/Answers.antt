@@ -8,7 +8,8 @@ use Rattle.job_text.proofs.number.digits.Goals as goal
 pub loop-c-preserved : goal.loop-c-preserved
 loop-c-preserved c = (
   omega arith,
-  c.loop-c.invariant.1 ∙ are_more c.args.base c.loop-c.value c.loop-c.c-index c.args.word.now c.loop-c-test.true (omega arith),
+  c.loop-c.invariant.1
+      ∙ are_more c.args.base c.loop-c.value c.loop-c.c-index c.args.word.now c.loop-c-test.true (omega arith),
   c.loop-c.invariant.2
       ∙ saturated_more c.args.base c.loop-c.value c.loop-c.c-index c.args.word.now c.loop-c-test.true c.saturating_add-value.result c.requires.low (omega arith),
 )
@@ -16,8 +17,10 @@ loop-c-preserved c = (
 pub returns : goal.returns
 returns c =
     let all : are_digits c.args.base c.args.word.now ≡ true =
-    c.loop-c.invariant.1 ∙ ap (are_digits c.args.base) (drop_all c.loop-c.c-index c.args.word.now c.loop-c-test.false) in
+    c.loop-c.invariant.1
+    ∙ ap (are_digits c.args.base) (drop_all c.loop-c.c-index c.args.word.now c.loop-c-test.false) in
     let value : saturated (value_from c.args.base 0 c.args.word.now) ≡ saturated c.loop-c.value =
-    c.loop-c.invariant.2 ∙ ap (λ cs. saturated (value_from c.args.base c.loop-c.value cs)) (drop_all c.loop-c.c-index c.args.word.now c.loop-c-test.false) in
+    c.loop-c.invariant.2
+    ∙ ap (λ cs. saturated (value_from c.args.base c.loop-c.value cs)) (drop_all c.loop-c.c-index c.args.word.now c.loop-c-test.false) in
     let same : saturated c.loop-c.value ≡ c.loop-c.value = omega (arith, c.loop-c.invariant.0) in
     rw (all, value, same) refl

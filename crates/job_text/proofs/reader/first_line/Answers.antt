@@ -11,4 +11,5 @@ returns-in-Some-clause-lines c =
     (sym (take_all _ (drop (c.in-Some.at + 1) c.args.text.now) (omega (arith, length-drop (c.in-Some.at + 1) c.args.text.now))))
 
 pub returns-in-None-clause-lines : goal.returns-in-None-clause-lines
-returns-in-None-clause-lines c = split-None (λ byte. byte == 10) c.args.text.now (sym c.line_end.ensures ∙ c.in-None.is)
+returns-in-None-clause-lines c = split-None (λ byte. byte == 10) c.args.text.now (sym c.line_end.ensures
+    ∙ c.in-None.is)

@@ -6,7 +6,8 @@ use Rattle.job_text.specs.declared.job.Item.{Item}
 use Rattle.job_text.specs.Reading.{lines_behind, fault_behind}
 use Rattle.job_text.proofs.reader.read_exact.Goals as goal
 
-handed_on : (result : Result (List Item) ReadFault) (given : ReadFault) (fault : JobFault) → IsErr result × IsErrAnd result (λ e. e ≡ given) → result ≡ Err (Bad fault)
+handed_on : (result : Result (List Item) ReadFault) (given : ReadFault) (fault : JobFault)
+    → IsErr result × IsErrAnd result (λ e. e ≡ given) → result ≡ Err (Bad fault)
     → given ≡ Bad fault
 handed_on (Ok job) given fault h is = cc
 handed_on (Err e) given fault h is = let same = h.1 in cc

@@ -9,7 +9,8 @@ use Rattle.job_text.proofs.reader.read_job.Goals as goal
 pub returns-clause-found : goal.returns-clause-found
 returns-clause-found c = by c.read_exact.result c.read_exact.ensures.found
   where
-    by : (r : Result (List Item) ReadFault) → IfOk r (λ job. job_of c.args.bytes.now ≡ Some job) → IfOk r (λ job. IsJob c.args.bytes.now job)
+    by : (r : Result (List Item) ReadFault) → IfOk r (λ job. job_of c.args.bytes.now ≡ Some job)
+        → IfOk r (λ job. IsJob c.args.bytes.now job)
     by (Ok job) e = is_job c.args.bytes.now job e
     by (Err fault) e = tt
 

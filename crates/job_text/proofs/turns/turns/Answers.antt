@@ -11,7 +11,8 @@ use Rattle.job_text.specs.Answers.{Answers, turns_with}
 use Rattle.job_text.proofs.Joins.{turn_at, bad_at}
 use Rattle.job_text.proofs.turns.turns.Goals as goal
 
-refused : (words : List (List ℕ)) (cause : Cause) (r : Result (List Turns) Stop) → IsErr r × IsErrAnd r (λ stop. stop ≡ stops.Told cause)
+refused : (words : List (List ℕ)) (cause : Cause) (r : Result (List Turns) Stop)
+    → IsErr r × IsErrAnd r (λ stop. stop ≡ stops.Told cause)
     → cause ≡ causes.Range → list_all may_give (map turn_of words) ≡ false → Answers (turns_with words) r
 refused words cause (Ok turns) h range bad = let off = h.0 in cc
 refused words cause (Err (stops.Told told)) h range bad =

@@ -5,7 +5,8 @@ use Rattle.zr_core.proofs.place.first_piece.Goals as goal
 use Rattle.zr_core.proofs.place.first_piece.Goals.{After-bounds-first, After-index-ops-nr}
 
 at_nr : (c : After-index-ops-nr) → slice_get c.args.ops.now c.args.nr ≡ Some c.index-ops-nr.result
-at_nr c = at_index c.args.ops.now c.args.nr c.index-ops-nr.result (let f = c.if-nr-ops.false in omega arith) c.index-ops-nr.is
+at_nr c = at_index c.args.ops.now c.args.nr c.index-ops-nr.result (let f = c.if-nr-ops.false in
+    omega arith) c.index-ops-nr.is
 
 pub overflow_cast-result : goal.overflow_cast-result
 overflow_cast-result c =

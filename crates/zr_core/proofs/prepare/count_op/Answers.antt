@@ -8,12 +8,14 @@ use Rattle.zr_core.proofs.prepare.count_op.Goals.{After-has_work, then-has_work,
 
 below : (c : After-has_work) → c.loop-page.page < c.args.size
 below c = page_below c.args.size c.args.op.now c.loop-page.page c.pages_to_do-left.result c.requires.request c.pages_to_do-left.ensures
-    (let s = c.bounds.ensures.start in let f = c.loop-page.invariant.from in omega arith) (let s = c.bounds.ensures.start in let t = c.loop-page-test.true in omega arith)
+    (let s = c.bounds.ensures.start in let f = c.loop-page.invariant.from in
+    omega arith) (let s = c.bounds.ensures.start in let t = c.loop-page-test.true in omega arith)
 
 abbrev rest_from : (c : After-has_work) → ℕ → ℕ → ℕ
 rest_from c p page = pieces_on p (parts_from 0 c.args.op.now page (c.bounds.result.0 / 8 + c.pages_to_do-left.result - page))
 
-next : (c : After-has_work) (p : ℕ) (b : Bool) → c.has_work.result ≡ b → rest_from c p c.loop-page.page ≡ cond b (cond (eqb c.loop-page.page p) 1 0) 0 + rest_from c p (c.loop-page.page + 1)
+next : (c : After-has_work) (p : ℕ) (b : Bool) → c.has_work.result ≡ b
+    → rest_from c p c.loop-page.page ≡ cond b (cond (eqb c.loop-page.page p) 1 0) 0 + rest_from c p (c.loop-page.page + 1)
 next c p b e = pieces_until 0 p c.args.op.now c.loop-page.page (c.bounds.result.0 / 8 + c.pages_to_do-left.result) (let t = c.loop-page-test.true in omega arith)
     ∙ ap (λ (x : Bool). cond x (cond (eqb c.loop-page.page p) 1 0) 0 + rest_from c p (c.loop-page.page + 1)) (sym c.has_work.ensures ∙ e)
 
@@ -36,7 +38,9 @@ loop-page-preserved c =
         counted = λ p lt.
             let q = i.counted p lt in
             let n = next a p true w.if-has_work.true in
-            let m = ap (λ (cs : List ℕ). count_at cs p) w.counts-is ∙ count_more c.loop-page.counts c.loop-page.page p (let s = i.size in let b = below a in omega arith) in omega arith;
+            let m = ap (λ (cs : List ℕ). count_at cs p) w.counts-is
+            ∙ count_more c.loop-page.counts c.loop-page.page p (let s = i.size in let b = below a in
+            omega arith) in omega arith;
       }
       | else-has_work w ↦ record {
         from = (let f = i.from in omega arith);

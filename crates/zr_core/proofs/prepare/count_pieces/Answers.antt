@@ -14,4 +14,5 @@ count_actor-requires-clause-fits c p lt =
     let q = c.loop-actor.invariant.counted p lt in
     let f = few_pieces c.args.size p c.args.ops.now c.requires in
     let v = ap (λ (cs : List ℕ). count_at cs p) c.deref_mut.ensures.value in
-    let n = each_next c.args.size p c.loop-actor.actor-index c.args.ops.now c.as_slice.result.now (ops_at a) in omega arith
+    let n = each_next c.args.size p c.loop-actor.actor-index c.args.ops.now c.as_slice.result.now (ops_at a) in
+    omega arith

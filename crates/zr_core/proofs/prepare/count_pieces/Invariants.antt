@@ -5,5 +5,6 @@ use Rattle.zr_core.proofs.prepare.count_pieces.Given as goal
 abbrev pub invariant-loop-actor : goal.invariant-loop-actor
 invariant-loop-actor l = record {
   size : length l.counts.items ≡ l.size;
-  counted : (p : ℕ) → p < l.size → count_at l.counts.items p + pieces_each l.size (drop l.actor-index l.ops) p ≡ pieces_each l.size l.ops p;
+  counted : (p : ℕ) → p < l.size
+      → count_at l.counts.items p + pieces_each l.size (drop l.actor-index l.ops) p ≡ pieces_each l.size l.ops p;
 }

@@ -12,5 +12,7 @@ returns-in-Some c =
     OnTrue_from c.is_empty.result _ (λ on. (
       c.entry_in.result.now,
       at ∙ ap (λ (v : DiskHeld). Some (Some v)) c.entry_in.ensures,
-      sym c.order.ensures ∙ nil_from_length c.order.result.now (eqb-true (length c.order.result.now) 0 (sym c.is_empty.ensures ∙ on)),
+      sym c.order.ensures
+          ∙ nil_from_length c.order.result.now (eqb-true (length c.order.result.now) 0 (sym c.is_empty.ensures
+          ∙ on)),
     ))

@@ -10,7 +10,8 @@ ops_at c = at_index c.args.ops.now c.loop-actor.actor c.index-ops-actor.result (
 pub new_worker-requires-clause-few : goal.new_worker-requires-clause-few
 new_worker-requires-clause-few c =
     let a = (goal.at.new_worker-requires-clause-few c).After-as_slice in
-    let f = few_of c.args.ops.now c.loop-actor.actor c.as_slice.result.now (ops_at a) in let m = c.requires.most in omega arith
+    let f = few_of c.args.ops.now c.loop-actor.actor c.as_slice.result.now (ops_at a) in
+    let m = c.requires.most in omega arith
 
 pub loop-actor-preserved : goal.loop-actor-preserved
 loop-actor-preserved c =
@@ -20,5 +21,6 @@ loop-actor-preserved c =
       len = (let q = p.len in let r = i.len in omega arith);
       room = (let q = p.capacity in let r = i.room in omega arith);
       workers = worker_more c.args.size c.args.ops.now c.loop-actor.actor _ c.as_slice.result.now c.loop-actor.workers.items c.push_reserved.new.self.items c.in_ok-worker.worker
-          refl (ops_at a) (let t = c.loop-actor-test.true in omega arith) p.items i.workers c.in_ok-worker.ensures;
+          refl (ops_at a) (let t = c.loop-actor-test.true in
+          omega arith) p.items i.workers c.in_ok-worker.ensures;
     }

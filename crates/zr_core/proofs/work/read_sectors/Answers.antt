@@ -12,7 +12,8 @@ loop-at-preserved c =
     let f = page_sector (page_of c.args.kept.now) in
     let n : ℕ = c.loop-at.at - c.args.first in
     let low = c.loop-at.auto.at in record {
-      items = p.items ∙ (λ j. i.items j ++ c.sector_of.ensures j ∷ []) ∙ append_assoc c.args.sectors.now.items (map f (range_with_len c.args.first n)) (f c.loop-at.at ∷ [])
+      items = p.items ∙ (λ j. i.items j ++ c.sector_of.ensures j ∷ [])
+          ∙ append_assoc c.args.sectors.now.items (map f (range_with_len c.args.first n)) (f c.loop-at.at ∷ [])
           ∙ ap (λ (xs : List (List ℕ)). c.args.sectors.now.items ++ xs) (sym (map_range_push f c.args.first n c.loop-at.at (omega arith)))
           ∙ ap (λ (m : ℕ). c.args.sectors.now.items ++ map f (range_with_len c.args.first m)) (let q : n + 1 ≡ c.loop-at.at + 1 - c.args.first = omega arith in q);
       len = (let q = i.len in let r = p.len in omega arith);

@@ -6,4 +6,5 @@ use Rattle.zr_core.proofs.Sectors.{zeros_sector}
 use Rattle.zr_core.proofs.work.sector_of.Goals as goal
 
 pub returns-in-Empty : goal.returns-in-Empty
-returns-in-Empty c = sym (ap (λ (kept : Kept). page_sector (page_of kept) c.args.at) c.in-Empty.is ∙ zeros_sector c.args.at c.requires)
+returns-in-Empty c = sym (ap (λ (kept : Kept). page_sector (page_of kept) c.args.at) c.in-Empty.is
+    ∙ zeros_sector c.args.at c.requires)

@@ -47,7 +47,8 @@ returns-clause-cell c =
       },
       ap (λ u. u.out) same ∙ c.requires.3,
       c.lend.ensures.4,
-      subst (λ h. IsStored h c.lend.ensures.1.bytes c.lend.result) (ap (λ u. u.handle) same ∙ c.requires.2) c.lend.ensures.5,
+      subst (λ h. IsStored h c.lend.ensures.1.bytes c.lend.result) (ap (λ u. u.handle) same
+          ∙ c.requires.2) c.lend.ensures.5,
       rw (← c.self.view_is)
           (ap (λ z. pool_made c.self.inside.class c.self.inside.size c.self.inside.chain c.self.inside.per z.zspages) c.lend.ensures.6),
     )

@@ -33,7 +33,8 @@ loop-id-preserved c =
             long = ap length w.groups-is ∙ length-set _ _ _ ∙ c.loop-id.invariant.long;
             counts = rw w.groups-is
                 (group_more c.self.inside.per (w.group.result - 1) c.loop-id.id c.self.inside.zspages.zspages case.0 c.loop-id.groups
-                low case.1 (ap (λ n. group_of n c.self.inside.per) (sym case.2) ∙ sym w.group.ensures.value ∙ (omega arith))
+                low case.1 (ap (λ n. group_of n c.self.inside.per) (sym case.2) ∙ sym w.group.ensures.value
+                ∙ (omega arith))
                 c.loop-id.invariant.long (omega (arith, w.group.ensures.bound)) c.loop-id.invariant.counts);
           }
       | else-used-gt0 w ↦

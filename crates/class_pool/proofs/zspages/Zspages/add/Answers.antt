@@ -15,8 +15,10 @@ invariant_of-self c =
     (new_stays c.in_ok-zspage.zspage _ (ap (λ z. z.cells) c.in_ok-zspage.ensures)))
 
 -- the last of a list is taken away again
-taken_back : {A : Type 0} (xs all : List A) (z : A) (n : ℕ) → all ≡ xs ++ z ∷ [] → n ≡ length xs → take n all ≡ xs
-taken_back xs all z n is size = ap (take n) is ∙ ap (λ k. take k (xs ++ z ∷ [])) size ∙ take-append_seam xs (z ∷ [])
+taken_back : {A : Type 0} (xs all : List A) (z : A) (n : ℕ) → all ≡ xs ++ z ∷ [] → n ≡ length xs
+    → take n all ≡ xs
+taken_back xs all z n is size = ap (take n) is ∙ ap (λ k. take k (xs ++ z ∷ [])) size
+    ∙ take-append_seam xs (z ∷ [])
 
 -- the zspage that found no room among the ranks is taken away again
 pub invariant_of-self-in-Err : goal.invariant_of-self-in-Err
@@ -54,5 +56,6 @@ returns-clause-ok c =
     ap (λ z. z.cells) c.in_ok-zspage.ensures ∙ ap (λ n. replicate n None) (sym c.self.invariant.cells) in
     rw (← c.self.view_is)
     (ap (λ zs. zspages_made c.self.inside.size c.self.inside.chain c.self.inside.per zs)
-    (ap (map cells_of) c.in_ok-push.ensures.items ∙ map-append cells_of _ _ ∙ ap (λ cs. map cells_of c.self.inside.items.items ++ Some cs ∷ []) cells
+    (ap (map cells_of) c.in_ok-push.ensures.items ∙ map-append cells_of _ _
+    ∙ ap (λ cs. map cells_of c.self.inside.items.items ++ Some cs ∷ []) cells
     ∙ sym (put_at-end _ _ _ (last ∙ sym (length-map _ _)))))

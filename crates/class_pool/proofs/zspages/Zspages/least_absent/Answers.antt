@@ -8,7 +8,8 @@ use Rattle.class_pool.proofs.zspages.Zspages.least_absent.Goals as goal
 pub returns-then-rank-eq-ABSENT : goal.returns-then-rank-eq-ABSENT
 returns-then-rank-eq-ABSENT c =
     subst (λ z. IsLeastAbsent z.zspages c.winner-winner.result) c.self.view_is
-    (absent_first _ _ _ _ _ _ _ c.self.invariant c.winner-winner.ensures (sym c.rank.ensures ∙ c.if-rank-eq-ABSENT.true))
+    (absent_first _ _ _ _ _ _ _ c.self.invariant c.winner-winner.ensures (sym c.rank.ensures
+    ∙ c.if-rank-eq-ABSENT.true))
 
 pub returns-else-rank-eq-ABSENT : goal.returns-else-rank-eq-ABSENT
 returns-else-rank-eq-ABSENT c =

@@ -9,7 +9,8 @@ use Rattle.class_pool.proofs.zspages.Zspages.source.Goals as goal
 pub returns-then-rank-eq-STAYS : goal.returns-then-rank-eq-STAYS
 returns-then-rank-eq-STAYS c =
     subst (λ z. IsBest IsEmptier (HasMovable z.per) (rows z.zspages) None) c.self.view_is
-    (no_source _ _ _ _ _ _ _ c.self.invariant c.last_winner-last.ensures (sym c.rank.ensures ∙ c.if-rank-eq-STAYS.true))
+    (no_source _ _ _ _ _ _ _ c.self.invariant c.last_winner-last.ensures (sym c.rank.ensures
+    ∙ c.if-rank-eq-STAYS.true))
 
 pub returns : goal.returns
 returns c =

@@ -23,7 +23,8 @@ give-requires g c =
     c.requires.gives _ _ (gives_slot c.args.size c.args.ops.now c.args.self.now c.args.entry c.requires.fit c.index-ops-nr.result at)
     (works c.args.size c.args.ops.now c.args.self.now c.args.entry c.requires.fit c.index-ops-nr.result at c.note.new.self
     (λ k lt. ap (λ (kept : Kept). page_sector (page_of kept) k) c.note.ensures.kept ∙ c.work.ensures.holds k lt)
-    (c.note.ensures.noted ∙ ap (λ (order : List Tag). order ++ record { actor = c.args.self.now.actor; op = c.args.self.now.place.nr } ∷ []) c.work.ensures.order)
+    (c.note.ensures.noted
+    ∙ ap (λ (order : List Tag). order ++ record { actor = c.args.self.now.actor; op = c.args.self.now.place.nr } ∷ []) c.work.ensures.order)
     (let r = c.note.ensures.room in let s = c.work.ensures.room in omega arith))
 
 pub returns-clause-fit : goal.returns-clause-fit
@@ -32,7 +33,8 @@ returns-clause-fit g c =
     let s = c.settled-self.ensures in
     still_fit c.args.size c.args.ops.now c.args.self.now c.args.entry c.requires.fit c.index-ops-nr.result at c.note.new.self
     (λ k lt. ap (λ (kept : Kept). page_sector (page_of kept) k) c.note.ensures.kept ∙ c.work.ensures.holds k lt)
-    (c.note.ensures.noted ∙ ap (λ (order : List Tag). order ++ record { actor = c.args.self.now.actor; op = c.args.self.now.place.nr } ∷ []) c.work.ensures.order)
+    (c.note.ensures.noted
+    ∙ ap (λ (order : List Tag). order ++ record { actor = c.args.self.now.actor; op = c.args.self.now.place.nr } ∷ []) c.work.ensures.order)
     (let r = c.note.ensures.room in let t = c.work.ensures.room in omega arith)
     g.H.Hand.takes g.H.Hand.misses g.H.Hand.gives c.args.hand.now c.give.new.self
     (record { actor = c.args.self.now.actor; place = c.settled-self.result; entry = c.args.self.now.entry; replies = c.work.new.replies })
@@ -44,7 +46,8 @@ returns-clause-turn g c done keeps =
     let s = c.settled-self.ensures in
     given c.args.size c.args.ops.now c.args.self.now c.args.entry c.requires.fit c.index-ops-nr.result at c.note.new.self
     (λ k lt. ap (λ (kept : Kept). page_sector (page_of kept) k) c.note.ensures.kept ∙ c.work.ensures.holds k lt)
-    (c.note.ensures.noted ∙ ap (λ (order : List Tag). order ++ record { actor = c.args.self.now.actor; op = c.args.self.now.place.nr } ∷ []) c.work.ensures.order)
+    (c.note.ensures.noted
+    ∙ ap (λ (order : List Tag). order ++ record { actor = c.args.self.now.actor; op = c.args.self.now.place.nr } ∷ []) c.work.ensures.order)
     (let r = c.note.ensures.room in let t = c.work.ensures.room in omega arith)
     g.H.Hand.takes g.H.Hand.misses g.H.Hand.gives c.args.hand.now c.give.new.self
     (record { actor = c.args.self.now.actor; place = c.settled-self.result; entry = c.args.self.now.entry; replies = c.work.new.replies })

@@ -9,12 +9,15 @@ use Rattle.zr_core.proofs.world.World.is_busy.Goals.{After-as_slice}
 below : (c : After-as_slice) → c.loop-actor.actor < length c.args.ops.now
 below c = let t = c.loop-actor-test.true in omega arith
 
-worker_at : (c : After-as_slice) → slice_get c.args.phase.now.workers.items c.loop-actor.actor ≡ Some c.index.result.now
+worker_at : (c : After-as_slice)
+    → slice_get c.args.phase.now.workers.items c.loop-actor.actor ≡ Some c.index.result.now
 worker_at c = at_index c.args.phase.now.workers.items c.loop-actor.actor c.index.result.now
-    (let q = below c in let n = c.requires in let k = c.args.phase.now.workers.ok in omega (arith, q, n, k.0)) c.index.ensures
+    (let q = below c in let n = c.requires in let k = c.args.phase.now.workers.ok in
+    omega (arith, q, n, k.0)) c.index.ensures
 
 ops_at : (c : After-as_slice) → slice_get c.args.ops.now c.loop-actor.actor ≡ Some c.as_slice.result.now
-ops_at c = at_index c.args.ops.now c.loop-actor.actor c.index-ops-actor.result (below c) c.index-ops-actor.is ∙ ap Some (sym c.as_slice.ensures)
+ops_at c = at_index c.args.ops.now c.loop-actor.actor c.index-ops-actor.result (below c) c.index-ops-actor.is
+    ∙ ap Some (sym c.as_slice.ensures)
 
 pub returns-then-not-is_done-clause-busy : goal.returns-then-not-is_done-clause-busy
 returns-then-not-is_done-clause-busy c = let a = (goal.at.returns-then-not-is_done-clause-busy c).After-as_slice in record {
@@ -33,4 +36,5 @@ loop-actor-preserved c = let a = (goal.at.loop-actor-preserved c).After-as_slice
 
 pub returns-clause-over : goal.returns-clause-over
 returns-clause-over c a ops w named there =
-    c.loop-actor.invariant a ops w (let lt = slice_get_within c.args.ops.now a ops named in let t = c.loop-actor-test.false in omega arith) named there
+    c.loop-actor.invariant a ops w (let lt = slice_get_within c.args.ops.now a ops named in
+    let t = c.loop-actor-test.false in omega arith) named there

@@ -15,5 +15,6 @@ loop-turns-preserved c =
       joint = t.joint;
       turns = then_schedule c.args.self.now.pages c.loop-turns.self.pages i.pages c.args.ops.now c.args.self.now.row.cells c.loop-turns.self.row.cells c.repeat.new.self.row.cells
           c.args.phase.now.workers.items c.loop-turns.phase.workers.items c.repeat.new.phase.workers.items c.args.schedule.now c.loop-turns.turns-index _
-          (slice_get-get_or c.args.schedule.now c.loop-turns.turns-index _ (let q = c.loop-turns-test.true in omega arith)) i.turns t.turns;
+          (slice_get-get_or c.args.schedule.now c.loop-turns.turns-index _ (let q = c.loop-turns-test.true in
+          omega arith)) i.turns t.turns;
     }

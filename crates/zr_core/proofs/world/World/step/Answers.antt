@@ -10,12 +10,15 @@ use Rattle.zr_core.proofs.world.World.step.Goals.{After-as_slice, After-advance}
 
 -- ---- the actor's worker, its operations, and the row
 
-worker_at : (c : After-as_slice) → slice_get c.args.phase.now.workers.items c.args.actor ≡ Some c.index_mut-worker.result.now
+worker_at : (c : After-as_slice)
+    → slice_get c.args.phase.now.workers.items c.args.actor ≡ Some c.index_mut-worker.result.now
 worker_at c = at_index c.args.phase.now.workers.items c.args.actor c.index_mut-worker.result.now
-    (let q = c.requires.actor in let n = c.requires.fit.count in omega (arith, q, n)) c.index_mut-worker.ensures.value
+    (let q = c.requires.actor in let n = c.requires.fit.count in
+    omega (arith, q, n)) c.index_mut-worker.ensures.value
 
 ops_at : (c : After-as_slice) → slice_get c.args.ops.now c.args.actor ≡ Some c.as_slice.result.now
-ops_at c = at_index c.args.ops.now c.args.actor c.index-ops-actor.result c.requires.actor c.index-ops-actor.is ∙ ap Some (sym c.as_slice.ensures)
+ops_at c = at_index c.args.ops.now c.args.actor c.index-ops-actor.result c.requires.actor c.index-ops-actor.is
+    ∙ ap Some (sym c.as_slice.ensures)
 
 names_are : (c : After-as_slice) → c.hand-hand.result.row.now.names ≡ slots_of c.args.self.now.pages
 names_are c = ap (λ (r : Row DiskHeld). r.names) c.hand-hand.ensures.row ∙ c.args.self.now.slots
