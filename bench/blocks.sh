@@ -2,11 +2,8 @@
 # Times a reservation with its release in a map of 65,536 blocks, by how many blocks are taken already.
 # The work of making the map and taking blocks is measured by a run without rounds, and taken off.
 set -u
-cd "$(dirname "$0")/.." || exit 1
-program=crates/bench_blocks/out/bench_blocks
+source "$(dirname "$0")/timing.sh" bench_blocks
 rounds=${1:-20000000}
-source bench/timing.sh
-need_program
 
 printf '%8s %24s\n' taken 'ns a reserve and release'
 for taken in 0 1 32768 65000 65535; do

@@ -4,11 +4,8 @@
 # 262,144 whole pages take 1 GiB of memory.
 # The work of making the pool and filling it is measured by a run without rounds, and taken off.
 set -u
-cd "$(dirname "$0")/.." || exit 1
-program=crates/bench_pool/out/bench_pool
+source "$(dirname "$0")/timing.sh" bench_pool
 rounds=${1:-1000000}
-source bench/timing.sh
-need_program
 
 printf '%8s %8s %16s %20s %24s\n' length live 'ns to fill one' 'ns to add and free' 'ns to pin, plan, unpin'
 for length in 32 400 1120 3256 4096; do

@@ -1,12 +1,12 @@
-# For the scripts that time a proved program, which source this file: `program` is its path.
+# For the scripts that time a proved program, which source this file with the crate of the program: `program` is its path
+# from the top of the repository, where the script then stands.
 
-# Ends the script where the program isn't there.
-need_program() {
-  if [ ! -x "$program" ]; then
-    echo "skipped: $program is missing; rt run in ${program%/out/*} makes it"
-    exit 0
-  fi
-}
+cd "$(dirname "${BASH_SOURCE[0]}")/.." || exit 1
+program=crates/$1/out/$1
+if [ ! -x "$program" ]; then
+  echo "skipped: $program is missing; rt run in crates/$1 makes it"
+  exit 0
+fi
 
 # Nanoseconds that one run of the program with these words takes.
 run_time() {
