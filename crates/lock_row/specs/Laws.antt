@@ -3,7 +3,6 @@ use Rattle.std.specs.Prelude.{◌≡◌, ℕ, ◌+◌, ◌≤◌, List, ◌∷�
 use Rattle.lock_row.specs.declared.names.LockNo.{LockNo}
 use Rattle.lock_row.specs.declared.names.Local.{Local}
 use Rattle.lock_row.specs.declared.names.State.{State}
-use Rattle.lock_row.specs.Rows.{IsDistinct, place_in}
 use Rattle.lock_row.specs.Values.{Exclusive}
 use Rattle.lock_row.specs.Totals.{mass, locals_sum, total}
 
@@ -34,7 +33,7 @@ module _ (V : Type 0) where
   GivingMovesTotal = (spot : LockNo → ℕ) (f : ℕ → V → ℕ) (g : Local V → ℕ) (w : State V) (a : ℕ) (l : Local V) (k : LockNo) (v : V) (m : Local V)
       → slice_get w.locals a ≡ Some l → slice_get w.row (spot k) ≡ Some None
       → total spot f g (record { row = slice_set w.row (spot k) (Some v); locals = slice_set w.locals a m }) + mass spot f g l
-          ≡ total spot f g w + mass spot f g m + f (spot k) v
+      ≡ total spot f g w + mass spot f g m + f (spot k) v
 
   -- a sum over actors changes by what one of them changes
   abbrev pub SumMoves : Type 0
@@ -45,8 +44,3 @@ module _ (V : Type 0) where
   abbrev pub IsPartOfSum : Type 0
   IsPartOfSum = (g : Local V → ℕ) (ls : List (Local V)) (a : ℕ) (l : Local V) → slice_get ls a ≡ Some l
       → g l ≤ locals_sum g ls
-
--- a name has its place where it stands
-abbrev pub HasItsPlace : Type 0
-HasItsPlace = (names : List LockNo) (i : ℕ) (k : LockNo) → IsDistinct names → slice_get names i ≡ Some k
-    → place_in names k ≡ i

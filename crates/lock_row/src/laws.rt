@@ -1,7 +1,7 @@
 //! What a turn of the machine keeps, whatever its user's events are. Each law is a function with an empty
 //! body: who wants it calls it, and has its clauses.
 
-ghost use Rattle.lock_row.specs.Laws.{TakingStaysApart, GivingStaysApart, TakingKeepsTotal, GivingMovesTotal, SumMoves, IsPartOfSum, HasItsPlace};
+ghost use Rattle.lock_row.specs.Laws.{TakingStaysApart, GivingStaysApart, TakingKeepsTotal, GivingMovesTotal, SumMoves, IsPartOfSum};
 
 /// Each value is in the row or with one actor, after a taking and after a giving too.
 pub fn values_stay_apart<V>()
@@ -20,9 +20,4 @@ pub fn totals_move<V>()
 pub fn sums_move<V>()
     ensures moves { SumMoves V }
     ensures part { IsPartOfSum V }
-{}
-
-/// A lock's place in a row is where its name stands.
-pub fn names_have_places()
-    ensures { HasItsPlace }
 {}
