@@ -1,5 +1,6 @@
 -- Where an actor is among the pieces of its operations.
 use Rattle.std.specs.Prelude.{◌≡◌, ◌⊎◌, ℕ, ◌+◌, ◌-◌, ◌*◌, ◌<◌, ◌≤◌, true, false, List, [], ◌∷◌, ◌++◌, length, drop, Some, slice_get}
+use Rattle.zr_base.specs.declared.limits.TheConstants.{MOST_ACTORS, MOST_OPERATIONS}
 use Rattle.zr_base.specs.declared.op.Op.{Op}
 use Rattle.zr_base.specs.Plain.{is_beyond, has_event, IsRequest}
 use Rattle.call_history.specs.declared.part.Part.{Part}
@@ -15,10 +16,10 @@ abbrev pub operations : List (List Op) → ℕ
 operations [] = 0
 operations (ops ∷ more) = length ops + operations more
 
--- What a phase may have to do: at most 64 actors, with at most 1,000,000 requests in all.
+-- What a phase may have to do: at most so many actors, with at most so many requests in all.
 pub record IsWork (actors : List (List Op)) : Type 0 where
-  pub few : length actors ≤ 64
-  pub most : operations actors ≤ 1000000
+  pub few : length actors ≤ MOST_ACTORS
+  pub most : operations actors ≤ MOST_OPERATIONS
   pub requests : (a : ℕ) (ops : List Op) → slice_get actors a ≡ Some ops → AreRequests ops
 
 -- so many pages of the first operation are left, from a page on, and then the later operations

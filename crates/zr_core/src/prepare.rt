@@ -12,7 +12,7 @@ ghost use Rattle.zr_core.specs.Places.{AreRequests, IsWork};
 ghost use Rattle.zr_core.specs.States.{slots_of, IsAtRest};
 ghost use Rattle.zr_core.specs.Preparing.{count_at, pieces_each, IsReserved, AreReserved, IsNewReply, AreNewReplies, IsNewWorker, AreNewWorkers};
 
-use crate::place::{bounds, first_piece, has_work, pages_to_do, settled};
+use crate::place::{first_piece, pages_to_do, settled};
 use crate::worker::{DiskHeld, Reply, Worker, entry_in, entry_of};
 use lock_row::{Hand, Held, LockNo, SimRow, Still};
 use std::alloc::{AllocError, Global};
@@ -26,10 +26,10 @@ fn count_op(size: u32, op: &Op, counts: &mut [u32])
     ensures size { length counts.new ≡ length counts.old }
     ensures counted { (p : ℕ) → p < size → count_at counts.new p ≡ count_at counts.old p + pieces_on p (parts size 0 op.now) }
 {
-    let first = (bounds(op).0 / 8) as u32;
+    let first = op.first_page();
     let left = pages_to_do(size, op);
     for page in first..first + left {
-        if has_work(op, page) {
+        if op.has_event(page) {
             counts[page as usize] += 1;
         }
     }
@@ -124,11 +124,10 @@ fn new_reply(alloc: Global, size: u32, op: &Op) -> Result<Reply, AllocError>
     requires { IsRequest op.now }
     ensures { IfOk result (IsNewReply size op.now) }
 {
-    let (start, count) = bounds(op);
-    let is_beyond = 8 * (size as u64) < start + count as u64;
+    let is_beyond = op.is_beyond(size);
     let end = if is_beyond { OpEnd::Range } else { OpEnd::Ok };
     let room = match op {
-        Op::Read { .. } if !is_beyond => count as usize,
+        Op::Read { count, .. } if !is_beyond => *count as usize,
         _ => 0,
     };
     let sectors = Vec::with_capacity(alloc, room)?;

@@ -9,6 +9,7 @@
 ghost use Rattle.std.specs.Prelude.{◌≡◌, ℕ, ◌*◌, ◌<◌, ◌≤◌, ◌++◌, length, vec_len, replicate, slice_get, Some, IfOk, OnErr};
 ghost use Rattle.std.specs.Bool.{OnTrue, OnFalse};
 ghost use Rattle.std.specs.List.{range_with_len};
+ghost use Rattle.zr_base.specs.declared.limits.TheConstants.{MOST_ACTORS};
 ghost use Rattle.plain_disk.specs.Phases.{IsPhase};
 ghost use Rattle.zr_core.specs.Machines.{rounds_of, sector_in, PhaseSteps};
 ghost use Rattle.zr_core.specs.Places.{IsWork};
@@ -85,7 +86,7 @@ impl World {
 
     // One turn of each actor.
     fn round(&mut self, phase: &mut Phase, actors: &[ActorOps])
-        requires few { length actors.now ≤ 64 }
+        requires few { length actors.now ≤ MOST_ACTORS }
         requires can { CanGoOn (playing self.old phase.old actors.now) }
         ensures plays { Plays (range_with_len 0 (length actors.now)) (playing self.old phase.old actors.now)
             (playing self.new phase.new actors.now) }
@@ -124,7 +125,7 @@ impl World {
 
     // Rounds, until all actors are finished.
     fn finish(&mut self, phase: &mut Phase, actors: &[ActorOps])
-        requires few { length actors.now ≤ 64 }
+        requires few { length actors.now ≤ MOST_ACTORS }
         requires can { CanGoOn (playing self.old phase.old actors.now) }
         ensures plays { (rounds : ℕ) × Plays (rounds_of (length actors.now) rounds) (playing self.old phase.old actors.now)
             (playing self.new phase.new actors.now) }
@@ -137,7 +138,7 @@ impl World {
 
     /// The schedule's turns, and then rounds of a turn for each actor, until all actors are finished.
     pub fn run(&mut self, phase: &mut Phase, actors: &[ActorOps], schedule: &[Turns])
-        requires few { length actors.now ≤ 64 }
+        requires few { length actors.now ≤ MOST_ACTORS }
         requires actors { (k : ℕ) (t : _) → slice_get schedule.now k ≡ Some t → t.actor < length actors.now }
         requires can { CanGoOn (playing self.old phase.old actors.now) }
         ensures pages { self.new.pages ≡ self.old.pages }
