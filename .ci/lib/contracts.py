@@ -81,9 +81,8 @@ def functions_in(crate: str, path: str) -> list[Function]:
             found.append(now)
         if now is not None:
             now.text += line + "\n"
-            if line.strip() == "{" or line.endswith((" {", ";", "}")) and not CLAUSE.search(line):
-                now = None
-            elif re.search(r"\};$", line) and CLAUSE.search(line):
+            ends = line.strip() in ("{", "{}") or line.endswith(("};", "{}"))
+            if ends or (line.endswith((" {", ";")) and not CLAUSE.search(line)):
                 now = None
     for each in found:
         each.clauses = {name for name in CLAUSE.findall(each.text) if name}

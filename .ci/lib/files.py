@@ -1,4 +1,5 @@
 """The repository's files, and its crates as crates.txt lists them."""
+import functools
 import os
 import re
 import subprocess
@@ -18,11 +19,13 @@ def at(path: str) -> str:
     return os.path.join(TOP, path)
 
 
+@functools.cache
 def text(path: str) -> str:
     with open(at(path), encoding="utf-8") as file:
         return file.read()
 
 
+@functools.cache
 def tracked() -> list[str]:
     """The paths of the repository's files that git knows or would add, and that are texts of this checkout."""
     command = ["git", "ls-files", "-z", "--cached", "--others", "--exclude-standard"]
@@ -38,6 +41,7 @@ def is_text(path: str) -> bool:
     return True
 
 
+@functools.cache
 def crates() -> list[Crate]:
     """The crates in the order of crates.txt; a comment line before them names their layer."""
     found, layer = [], ""
@@ -66,11 +70,22 @@ def section(page: str, heading: str) -> str:
     return found.group(2) if found else ""
 
 
-def rows(markdown: str) -> list[list[str]]:
-    """The cells of the rows of the tables in a piece of a page, heads and rules left out."""
-    lines = [line for line in markdown.splitlines() if line.startswith("|")]
-    rules = {number for number, line in enumerate(lines) if re.fullmatch(r"[|\s:-]+", line)}
-    return [cells(line) for number, line in enumerate(lines) if number not in rules and number + 1 not in rules]
+class Table(NamedTuple):
+    head: list[str]
+    rows: list[list[str]]
+
+
+def tables(markdown: str) -> list[Table]:
+    """The tables of a piece of a page."""
+    found: list[Table] = []
+    last = ""
+    for line in markdown.splitlines():
+        if line.startswith("|") and not last.startswith("|"):
+            found.append(Table(cells(line), []))
+        elif line.startswith("|") and not re.fullmatch(r"[|\s:-]+", line):
+            found[-1].rows.append(cells(line))
+        last = line
+    return found
 
 
 def cells(line: str) -> list[str]:

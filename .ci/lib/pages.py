@@ -42,27 +42,35 @@ def table(head: list[str], rows: list[list[str]]) -> str:
 # ---- a job beside its output
 
 
-def said(lines: list[str], notes: list[str], path: str) -> list[tuple[str, str]]:
-    """Each line with its half sentence, which stands behind the same line in the notes."""
+def said(group: str) -> list[tuple[str, str]]:
+    """The lines of a group of notes, each with its half sentence: `LINE | half a sentence`."""
     pairs = []
-    for line, note in itertools.zip_longest(lines, notes, fillvalue=""):
-        head, bar, half = (part.strip() for part in note.partition("|"))
-        if head != line or not half:
-            raise Lost(f"{EXAMPLE}.notes: '{note}' should be '{line} | half a sentence': the notes follow {path} line by line")
+    for note in group.strip().splitlines():
+        line, _, half = (part.strip() for part in note.partition("|"))
         pairs.append((f"`{line}`", half))
     return pairs
 
 
+def same_lines(noted: list[tuple[str, str]], path: str) -> None:
+    """Lost where the notes don't have the lines of the stored file, without its comments, each with a half sentence."""
+    stored = [line for line in files.text(path).splitlines() if not line.startswith("#")]
+    for line, note in itertools.zip_longest(stored, noted):
+        if line is None or note is None or note[0] != f"`{line}`" or not note[1]:
+            raise Lost(f"{EXAMPLE}.notes: {note[0] if note else 'the end'} stands where {path} has {line}: write `{line} | half a sentence`")
+
+
 def beside() -> str:
-    """A stored job without its comment, and its output, line by line."""
-    job = [line for line in files.text(EXAMPLE + ".job").splitlines() if not line.startswith("#")]
-    out = files.text(EXAMPLE + ".out").splitlines()
-    notes = files.text(EXAMPLE + ".notes").split("\n\n")
-    if len(notes) != 2:
-        raise Lost(f"{EXAMPLE}.notes: keep one empty line between the lines of the job and those of the output")
-    left = said(job, notes[0].splitlines(), EXAMPLE + ".job")
-    right = said(out, notes[1].splitlines(), EXAMPLE + ".out")
-    rows = [[*a, *b] for a, b in itertools.zip_longest(left, right, fillvalue=("", ""))]
+    """A stored job without its comment beside its output, phase by phase and line by line.
+
+    In the notes the lines of a phase's job, and then those of its output, are a group each, with an empty line between.
+    """
+    groups = [said(group) for group in files.text(EXAMPLE + ".notes").split("\n\n")]
+    jobs, outputs = groups[::2], groups[1::2]
+    same_lines([pair for group in jobs for pair in group], EXAMPLE + ".job")
+    same_lines([pair for group in outputs for pair in group], EXAMPLE + ".out")
+    rows = []
+    for job, output in itertools.zip_longest(jobs, outputs, fillvalue=[]):
+        rows += [[*left, *right] for left, right in itertools.zip_longest(job, output, fillvalue=("", ""))]
     return table(["Line of the job", "What it says", "Line of the output", "What it says"], rows)
 
 
@@ -137,8 +145,18 @@ def by_layer() -> list[tuple[str, list[str]]]:
 
 
 def promises(crate: str) -> list[list[str]]:
-    """The rows of the tables under "What is proved" of a crate's README."""
-    return files.rows(files.section(files.text(f"crates/{crate}/README.md"), "What is proved"))
+    """The promises of a crate's README, each with its functions and clauses, from the tables under "What is proved".
+
+    A column headed "Clause of `f`" is of clauses of f.
+    """
+    found = []
+    for each in files.tables(files.section(files.text(f"crates/{crate}/README.md"), "What is proved")):
+        of = re.match(r"Clause of (.*)", each.head[-1])
+        lead = f"{of.group(1).replace(' and of', ',')}: " if of else ""
+        named = re.findall(r"`\w+`:?", lead)
+        for promise, clause in (row for row in each.rows if len(row) == 2):
+            found.append([promise, clause if any(f"{name.strip(':')}:" in clause for name in named) else lead + clause])
+    return found
 
 
 def proved() -> str:
