@@ -224,9 +224,14 @@ def short_functions() -> Iterator[Breach]:
 def body_lines(lines: list[str], number: int, indent: int) -> int:
     """The lines between a function's braces."""
     margin = " " * indent
-    opening = next((at for at in range(number, len(lines)) if lines[at] == margin + "{" or lines[at].endswith((";", "{}", " {"))), number)
-    if not lines[opening].endswith("{"):
-        return 0
+    opening = number
+    while lines[opening] != margin + "{":
+        in_head = not any(contracts.CLAUSE.search(line) for line in lines[number:opening + 1])
+        if in_head and lines[opening].endswith(" {"):
+            break
+        opening += 1
+        if opening == len(lines) or lines[opening].startswith("}") or contracts.FUNCTION.match(lines[opening]):
+            return 0
     closing = next((at for at in range(opening + 1, len(lines)) if lines[at] == margin + "}"), opening + 1)
     return closing - opening - 1
 

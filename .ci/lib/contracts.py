@@ -77,12 +77,13 @@ def functions_in(crate: str, path: str) -> list[Function]:
         if match:
             inside = owner if match["indent"] else ""
             named = (inside or match["name"]) in public_names(crate)
-            now = Function(inside, match["name"], path, number, named and (bool(match["pub"]) or (of_trait and bool(inside))))
+            is_public = named and (bool(match["pub"]) or (of_trait and bool(inside)))
+            now = Function(inside, match["name"], path, number, is_public)
             found.append(now)
         if now is not None:
             now.text += line + "\n"
-            ends = line.strip() in ("{", "{}") or line.endswith(("};", "{}"))
-            if ends or (line.endswith((" {", ";")) and not CLAUSE.search(line)):
+            in_head = not CLAUSE.search(now.text)
+            if line.strip() == "{" or line.startswith("}") or (in_head and line.endswith((" {", ";", "}"))):
                 now = None
     for each in found:
         each.clauses = {name for name in CLAUSE.findall(each.text) if name}
