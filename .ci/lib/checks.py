@@ -12,6 +12,7 @@ Breach = tuple[str, int, str]
 
 MOST_LINES = 800
 MOST_BODY = 40
+MOST_EDITS = 5
 MOST_COLUMNS = 100
 MOST_LONG = 3.0
 PATH = re.compile(r"(?<![\w.])/(work|tmp|opt|root|home)/")
@@ -86,6 +87,18 @@ def crates_are_listed() -> Iterator[Breach]:
     known = [crate.name for crate in files.crates() if crate.name in listed]
     if [name for name in listed if name in known] != known:
         yield "README.md", 1, "the crates stand in another order than in crates.txt"
+
+
+def plain_words() -> Iterator[Breach]:
+    """Pages and comments say after for what comes later, and out of memory: no 'behind', no 'wanting'."""
+    made = set(pages.made_pages()) - {"README.md", "docs/JOBS.md", "docs/OUTPUT.md"}
+    for path in files.tracked():
+        if path in made or not path.endswith((".md", ".rt", ".antt", ".job", ".sh")):
+            continue
+        for number, line in enumerate(files.text(path).splitlines(), 1):
+            said = line if path.endswith(".md") else "".join(re.findall(r"(?:--|//|#) .*", line))
+            for word in re.findall(r"\b(?:behind|wanting)\b", said):
+                yield path, number, f"'{word}': say after, or out of memory"
 
 
 # ---- the READMEs of crates
@@ -270,6 +283,26 @@ def definitions_have_sentences() -> Iterator[Breach]:
                 yield path, each.line, f"no sentence stands above {each.name}: say what it means"
 
 
+def few_edits() -> Iterator[Breach]:
+    """A crate has at most five edits that must fail: those that tell most."""
+    for crate in files.crates():
+        folder = f"crates/{crate.name}/must-fail"
+        edits = [path for path in files.tracked() if path.startswith(folder + "/") and path.endswith(".edit")]
+        if len(edits) > MOST_EDITS:
+            yield folder, 1, f"{len(edits)} edits: keep the {MOST_EDITS} that tell most"
+
+
+def named_lemmas_are_there() -> Iterator[Breach]:
+    """Each lemma that docs/NAMES.md gives as an example stands in some crate."""
+    path = "docs/NAMES.md"
+    known = {name for crate in files.crates() for _, _, _, name in lemmas_of(crate.name)}
+    for each in files.tables(files.section(files.text(path), "Lemmas")):
+        for row in each.rows:
+            for name in re.findall(r"`([^`]+)`", row[-1]):
+                if name not in known:
+                    yield path, line_of(path, f"`{name}`"), f"no lemma is called {name}: give another example"
+
+
 # ---- one text for three widths
 
 
@@ -328,6 +361,7 @@ RULES = [
     readmes_have_the_headings,
     short_functions,
     lanes_are_one_text,
+    named_lemmas_are_there,
 ]
 
 # Rules that the sources don't meet yet: `.ci/rules --all` tries them too.
@@ -338,4 +372,6 @@ WAITING = [
     short_lines,
     specs_have_no_lemmas,
     definitions_have_sentences,
+    few_edits,
+    plain_words,
 ]
