@@ -89,6 +89,21 @@ def crates_are_listed() -> Iterator[Breach]:
         yield "README.md", 1, "the crates stand in another order than in crates.txt"
 
 
+def arrows_are_right() -> Iterator[Breach]:
+    """Each arrow of the README's drawing leads to a crate on which the other stands, in its layer, and all those are drawn."""
+    layer = {crate.name: crate.layer for crate in files.crates()}
+    needs = {(crate.name, other) for crate in files.crates() for other in crate.needs if layer.get(other) == crate.layer}
+    drawn = set()
+    for number, line in enumerate(files.text("README.md").splitlines(), 1):
+        for one, other in re.findall(r"(?=\b(\w+) -> (\w+))", line):
+            drawn.add((one, other))
+            if (one, other) not in needs:
+                yield "README.md", number, f"{one} doesn't stand on {other} in its layer: see crates.txt"
+    for one, other in sorted(needs - drawn):
+        if layer[one] != "benches" and not any((one, mid) in drawn and (mid, other) in drawn for mid in layer):
+            yield "README.md", 1, f"no arrow leads from {one} to {other}, on which it stands"
+
+
 def plain_words() -> Iterator[Breach]:
     """Pages and comments say after for what comes later, and out of memory: no 'behind', no 'wanting'."""
     made = set(pages.made_pages()) - {"README.md", "docs/JOBS.md", "docs/OUTPUT.md"}
@@ -358,6 +373,7 @@ RULES = [
     named_files_are_there,
     pages_are_renewed,
     crates_are_listed,
+    arrows_are_right,
     readmes_have_the_headings,
     short_functions,
     lanes_are_one_text,
