@@ -14,7 +14,8 @@ use Rattle.call_history.specs.declared.part.PartEnd.{PartEnd}
 use Rattle.call_history.specs.declared.part.PartEnd.TheVariants.{Carried}
 use Rattle.call_history.specs.declared.part.Done.{Done}
 use Rattle.zr_base.specs.Plain.{start_of, count_of, is_beyond, has_event, touches, stands_on, stands_named}
-use Rattle.call_history.specs.Parts.{first_page, pages_of, parts_from, parts, program, EndsSo, Follows, is_carried, stands_so, op_end, noted_on, got_by, got_of, end_by, end_of, ends_from, shown, told_from}
+use Rattle.zr_base.specs.Pieces.{first_page, pages_of}
+use Rattle.call_history.specs.Parts.{parts_from, parts, program, EndsSo, Follows, is_carried, stands_so, op_end, noted_on, got_by, got_of, end_by, end_of, ends_from, shown, told_from}
 use Rattle.plain_disk.specs.Ends.{MayEnd, MayEndAll, read_by, due_from}
 use Rattle.call_history.specs.Histories.{SomeEach}
 use Rattle.call_history.proofs.Orders.{Rising}
@@ -83,14 +84,26 @@ pages_some op some = ap (λ (b : Bool). cond b 0 ((start_of op + count_of op - 1
 
 touches_within : (op : Op) (p : ℕ) → 1 ≤ count_of op
     → touches (start_of op) (count_of op) p ≡ within (first_page op) (pages_of op) p
-touches_within op p some = let n = pages_some op some in bool_same (touches (start_of op) (count_of op) p) (within (first_page op) (pages_of op) p)
-    (λ on. let q = and_parts (ltb (start_of op) (8 * p + 8)) (ltb (8 * p) (start_of op + count_of op)) on in
+touches_within op p some =
+    let n = pages_some op some in
+    let from = ltb (start_of op) (8 * p + 8) in
+    let to = ltb (8 * p) (start_of op + count_of op) in
+    let first = leb (first_page op) p in
+    let last = ltb p (first_page op + pages_of op) in
+    bool_same (touches (start_of op) (count_of op) p) (within (first_page op) (pages_of op) p)
+    (λ on. let q = and_parts from to (and_parts (ltb 0 (count_of op)) (from && to) on).1 in
     let q₀ = ltb-true (start_of op) (8 * p + 8) q.0 in
     let q₁ = ltb-true (8 * p) (start_of op + count_of op) q.1 in
-    and_from (leb (first_page op) p) (ltb p (first_page op + pages_of op)) (le-leb (first_page op) p (omega arith)) (lt-ltb p (first_page op + pages_of op) (omega arith)))
-    (λ on. let q = and_parts (leb (first_page op) p) (ltb p (first_page op + pages_of op)) on in
-    let q₀ = leb-true (first_page op) p q.0 in let q₁ = ltb-true p (first_page op + pages_of op) q.1 in
-    and_from (ltb (start_of op) (8 * p + 8)) (ltb (8 * p) (start_of op + count_of op)) (lt-ltb (start_of op) (8 * p + 8) (omega arith)) (lt-ltb (8 * p) (start_of op + count_of op) (omega arith)))
+    and_from first last
+    (le-leb (first_page op) p (omega arith))
+    (lt-ltb p (first_page op + pages_of op) (omega arith)))
+    (λ on. let q = and_parts first last on in
+    let q₀ = leb-true (first_page op) p q.0 in
+    let q₁ = ltb-true p (first_page op + pages_of op) q.1 in
+    and_from (ltb 0 (count_of op)) (from && to) (lt-ltb 0 (count_of op) some)
+    (and_from from to
+    (lt-ltb (start_of op) (8 * p + 8) (omega arith))
+    (lt-ltb (8 * p) (start_of op + count_of op) (omega arith))))
 
 -- what the pieces of an operation say of it
 pub record IsOp (pages p nr : ℕ) (op : Op) (end : OpEnd) (front : List Done) : Type 0 where

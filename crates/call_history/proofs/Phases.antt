@@ -13,7 +13,8 @@ use Rattle.plain_disk.specs.Output.{phase_lines}
 use Rattle.plain_disk.specs.Phases.{Given, held_after, nth_order, sector_read, due, IsPhase}
 use Rattle.call_history.specs.declared.part.Part.{Part}
 use Rattle.call_history.specs.declared.part.Done.{Done}
-use Rattle.call_history.specs.Parts.{first_page, pages_of, parts_from, parts, program, Follows, is_carried, noted_on, ops_of, ends_from, told_from}
+use Rattle.zr_base.specs.Pieces.{first_page, pages_of}
+use Rattle.call_history.specs.Parts.{parts_from, parts, program, Follows, is_carried, noted_on, ops_of, ends_from, told_from}
 use Rattle.call_history.specs.Shows.{tag_by}
 use Rattle.call_history.specs.Histories.{ends_each, told_each, history, SomeEach, HasSomeEach, Agree}
 use Rattle.call_history.proofs.Told.{same_got, every_append}

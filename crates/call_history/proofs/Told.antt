@@ -9,7 +9,8 @@ use Rattle.call_history.specs.declared.part.Part.{Part}
 use Rattle.call_history.specs.declared.part.PartEnd.{PartEnd}
 use Rattle.call_history.specs.declared.part.Done.{Done}
 use Rattle.zr_base.specs.Plain.{named, sector_after_named, content, is_beyond, has_event}
-use Rattle.call_history.specs.Parts.{first_page, pages_of, parts_from, parts, program, without, left_by, is_carried, EndsSo, Follows, is_on, noted_on, ops_of, got_by}
+use Rattle.zr_base.specs.Pieces.{first_page, pages_of}
+use Rattle.call_history.specs.Parts.{parts_from, parts, program, without, left_by, is_carried, EndsSo, Follows, is_on, noted_on, ops_of, got_by}
 
 pub content-append : (actors : List (List Op)) (s : ℕ) (old : List ℕ) (xs ys : List Tag)
     → content actors s old (xs ++ ys) ≡ content actors s (content actors s old xs) ys

@@ -1,5 +1,5 @@
 -- The pieces of operations that have events, and what is over of them.
-use Rattle.std.specs.Prelude.{◌≡◌, ℕ, zero, suc, ◌+◌, ◌-◌, ◌*◌, ◌/◌, ◌==◌, Bool, true, ◌&&◌, min, max, List, [], ◌∷◌, ◌++◌, map, if◌then◌else◌, ⊤}
+use Rattle.std.specs.Prelude.{◌≡◌, ℕ, zero, suc, ◌+◌, ◌-◌, ◌*◌, ◌==◌, Bool, true, ◌&&◌, min, max, List, [], ◌∷◌, ◌++◌, map, if◌then◌else◌, ⊤}
 use Rattle.std.specs.List.{range_with_len}
 use Rattle.zr_base.specs.declared.op.Tag.{Tag}
 use Rattle.zr_base.specs.declared.op.Op.{Op}
@@ -10,16 +10,8 @@ use Rattle.call_history.specs.declared.part.Part.{Part}
 use Rattle.call_history.specs.declared.part.PartEnd.{PartEnd}
 use Rattle.call_history.specs.declared.part.PartEnd.TheVariants.{Carried}
 use Rattle.call_history.specs.declared.part.Done.{Done}
-use Rattle.zr_base.specs.Pieces.{pages_touched}
+use Rattle.zr_base.specs.Pieces.{first_page, pages_of}
 use Rattle.zr_base.specs.Plain.{start_of, count_of, is_beyond, has_event}
-
--- the first page of a request
-abbrev pub first_page : Op → ℕ
-first_page op = start_of op / 8
-
--- how many pages it touches
-abbrev pub pages_of : Op → ℕ
-pages_of op = pages_touched (start_of op) (count_of op)
 
 -- the pieces with events of an operation on so many pages, from a page on
 

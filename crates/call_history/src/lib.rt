@@ -5,5 +5,5 @@
 mod laws;
 mod part;
 
-pub use laws::{histories_tell, pieces_keep};
+pub use laws::{histories_go_on, histories_tell, pieces_keep};
 pub use part::{Done, Part, PartEnd};

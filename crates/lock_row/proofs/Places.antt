@@ -79,12 +79,6 @@ placed names k (Some i) d found none = (sym (place_of names i k d found), slice_
 
 -- ---- cells
 
-module _ {X : Type 0} where
-  pub get_none : (xs : List X) (i : ℕ) → length xs ≤ i → slice_get xs i ≡ None
-  get_none [] i h = refl
-  get_none (x ∷ xs) zero h = absurd (omega arith)
-  get_none (x ∷ xs) (suc i) h = get_none xs i (omega arith)
-
 module _ {V : Type 0} (r : Row V) (names : List LockNo) (cells : List (Option V)) (k : LockNo)
     (view : (let row : Row V = record { names = names; cells = cells } in row) ≡ r) (size : length cells ≡ length names) where
   module _ (i : ℕ) (is : i ≡ place_in names k) (below : i < length names) where

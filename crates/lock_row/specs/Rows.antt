@@ -42,15 +42,7 @@ module _ {V : Type 0} where
   at_home None = None
   at_home (Some x) = x
 
-  abbrev pub names_of : List (LockNo × V) → List LockNo
-  names_of values = map (λ x. x.0) values
-
-  -- all values at home
-  abbrev pub cells_of : List (LockNo × V) → List (Option V)
-  cells_of values = map (λ x. Some x.1) values
-
-  pub record IsWhole (names : List LockNo) (cells : List (Option V)) (spare : List (LockNo × V)) (room : ℕ) : Type 0 where
+  -- each name has its cell, and no name stands twice
+  pub record IsWhole (names : List LockNo) (cells : List (Option V)) : Type 0 where
     pub size : length cells ≡ length names
     pub distinct : IsDistinct names
-    pub empty : spare ≡ []
-    pub has_room : length names ≤ room

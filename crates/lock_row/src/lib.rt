@@ -8,6 +8,6 @@ mod names;
 mod row;
 
 pub use hand::{Hand, NextLocal, Still};
-pub use laws::{totals_move, values_stay_apart};
+pub use laws::{sums_move, totals_move, values_stay_apart};
 pub use names::{At, Held, Local, LockNo, Plan, State};
 pub use row::{SimHand, SimRow};

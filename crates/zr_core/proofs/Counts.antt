@@ -7,7 +7,8 @@ use Rattle.std.proofs.lemmas.List.{get_or-set_same, get_or-set_other}
 use Rattle.zr_base.specs.declared.op.Op.{Op}
 use Rattle.zr_base.specs.Plain.{is_beyond, has_event, IsRequest}
 use Rattle.call_history.specs.declared.part.Part.{Part}
-use Rattle.call_history.specs.Parts.{first_page, pages_of, parts_from, parts, program}
+use Rattle.zr_base.specs.Pieces.{first_page, pages_of}
+use Rattle.call_history.specs.Parts.{parts_from, parts, program}
 use Rattle.zr_core.specs.Joint.{pieces_on}
 use Rattle.zr_core.specs.Places.{AreRequests, IsWork, operations}
 use Rattle.zr_core.specs.Preparing.{count_at, pieces_each}

@@ -11,7 +11,7 @@ use Rattle.call_history.specs.declared.part.Done.{Done}
 use Rattle.call_history.specs.Parts.{program, Follows, stands_so, noted_on, ops_of}
 use Rattle.call_history.specs.Shows.{ShowsPage, IsTold}
 use Rattle.call_history.specs.Histories.{history, HasSomeEach, Agree}
-use Rattle.call_history.proofs.Phases.{is_phase}
+use Rattle.call_history.specs.Laws.{TellsPhase}
 use Rattle.lock_row.specs.declared.names.LockNo.{LockNo}
 use Rattle.lock_row.specs.declared.names.Held.TheVariants as holds
 use Rattle.lock_row.specs.declared.names.At.{At}
@@ -126,5 +126,6 @@ module _ (g : Given) (w : State DiskHeld) (j : Joint g w) (fin : AllFinished w) 
       ∙ x.shows.holds (s % 8) (omega arith)
       ∙ (λ i. held_after g (sym (order_is (s / 8) x) i) ((let q : 8 * (s / 8) + s % 8 ≡ s = omega arith in q) i))
 
-  pub finished_prints : HasSomeEach g.actors → IsPhase g (printed g w) (sector_in w.row)
-  finished_prints some = is_phase g (histories w.locals) (orders_of w.row) some agree (sector_in w.row) holds_now
+  pub finished_prints : TellsPhase → HasSomeEach g.actors → IsPhase g (printed g w) (sector_in w.row)
+  finished_prints tells some =
+      tells g (histories w.locals) (orders_of w.row) (sector_in w.row) some agree holds_now

@@ -6,7 +6,8 @@ use Rattle.zr_base.specs.declared.op.Op.{Op}
 use Rattle.zr_base.specs.declared.op.Op.TheVariants.{Write, Read, Discard}
 use Rattle.zr_base.specs.Plain.{start_of, count_of, is_beyond, has_event, IsRequest, InBounds}
 use Rattle.call_history.specs.declared.part.Part.{Part}
-use Rattle.call_history.specs.Parts.{first_page, pages_of, parts_from, program}
+use Rattle.zr_base.specs.Pieces.{first_page, pages_of}
+use Rattle.call_history.specs.Parts.{parts_from, program}
 use Rattle.zr_core.specs.declared.place.Place.{Place}
 use Rattle.zr_core.specs.Places.{todo_by, IsOn, IsPlaceBy, IsSettledBy, IsOnward}
 

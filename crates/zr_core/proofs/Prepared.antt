@@ -17,11 +17,11 @@ use Rattle.zr_core.specs.Joint.{pieces_on, owed}
 use Rattle.zr_core.specs.Places.{todo_at}
 use Rattle.zr_core.specs.Machines.{page_in, sector_in, Starts, IsFresh, IsStart}
 use Rattle.zr_core.specs.Workers.{at_of, held_by, here, Keeps}
-use Rattle.zr_core.specs.States.{heres, state, given_on, IsAtRest, IsPrepared, AreFit, AreKept, CanGoOn}
+use Rattle.zr_core.specs.Laws.{StartHasJoint}
+use Rattle.zr_core.specs.States.{heres, state, Playing, given_on, IsAtRest, IsPrepared, AreKept, HasJoint, CanGoOn}
 use Rattle.zr_core.specs.Runs.{nothing_over}
 use Rattle.zr_core.specs.Preparing.{count_at, pieces_each, IsReserved, AreReserved, AreNewWorkers}
 use Rattle.zr_core.proofs.Places.{there_is}
-use Rattle.zr_core.proofs.Starts.{start_joint}
 
 -- ---- the row
 
@@ -160,6 +160,9 @@ module _ (size : ℕ) (actors : List (List Op)) (cells cells' : List (Option Dis
     };
   }
 
+  abbrev now : Playing
+  now = record { size = size; actors = actors; cells = cells'; workers = ws }
+
   abbrev locals : List Here
   locals = heres size actors ws (nothing_over ws)
 
@@ -206,16 +209,18 @@ module _ (size : ℕ) (actors : List (List Op)) (cells cells' : List (Option Dis
   pub prepared : IsPrepared (given_on size actors cells) cells' ws
   prepared = record { dones = nothing_over ws; kept = kept; start = first_state }
 
-  pub may_go_on : CanGoOn size actors cells' ws
-  may_go_on = record {
-    given = given_on size actors cells;
-    dones = nothing_over ws;
+  pub has_joint : StartHasJoint → HasJoint (given_on size actors cells) now
+  has_joint start = record {
     pages = refl;
     ops = refl;
+    dones = nothing_over ws;
     kept = kept;
-    joint = start_joint (given_on size actors cells) (state size actors cells' ws (nothing_over ws)) first_state;
+    joint = start (given_on size actors cells) (state size actors cells' ws (nothing_over ws)) first_state;
   }
 
-pub fit_for : (size : ℕ) (actors : List (List Op)) (ws : List Worker) → AreNewWorkers size actors ws
-    → AreFit size actors ws
-fit_for size actors ws new = record { count = new.count; each = λ a ops w named there. (new.each a ops w named there).fit }
+  pub may_go_on : StartHasJoint → CanGoOn now
+  may_go_on start = record {
+    fit = record { count = new.count; each = λ a ops w named there. (new.each a ops w named there).fit };
+    given = given_on size actors cells;
+    joint = has_joint start;
+  }

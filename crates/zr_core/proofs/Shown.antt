@@ -24,7 +24,8 @@ use Rattle.zr_core.specs.Machines.{histories, orders_of, sector_in, printed, Tur
 use Rattle.zr_core.specs.Workers.{Keeps, ReplyFits, IsFit}
 use Rattle.zr_core.specs.States.{heres, state, ends_shown, sectors_shown, IsAtRest, IsPrepared, AreFit, AreKept}
 use Rattle.zr_core.proofs.Places.{in_bounds, there_is}
-use Rattle.zr_core.proofs.Finished.{entry_home, finished_prints}
+use Rattle.zr_core.specs.Laws.{PrintsPhase}
+use Rattle.zr_core.proofs.Finished.{entry_home}
 
 step_is : (end : PartEnd) (n : ℕ) (later : OpEnd) → end_step end n later ≡ later
 step_is Carried n later = refl
@@ -98,7 +99,7 @@ each_reply size ops w done fit keeps k op r named there = subst (λ (j : ℕ). R
 
 module _ (size : ℕ) where
   pub all_ends : (actors : List (List Op)) (ws : List Worker) (dones : List (List Done)) → AreFit size actors ws
-      → AreKept ws dones → ends_each size actors (histories (heres size actors ws dones)) ≡ ends_shown ws
+      → AreKept ws dones → ends_each size actors dones ≡ ends_shown ws
   all_ends [] [] ds fit kept = refl
   all_ends [] (w ∷ ws) ds fit kept = absurd (let q : suc (length ws) ≡ 0 = fit.count in
       let none : ⊥ = omega arith in none)
@@ -116,7 +117,7 @@ module _ (size : ℕ) where
       }) (record { count = (let q = kept.count in omega arith); each = λ a v x e g. kept.each (suc a) v x e g }) i
 
   pub all_told : (actors : List (List Op)) (ws : List Worker) (dones : List (List Done)) → AreFit size actors ws
-      → AreKept ws dones → told_each size actors (histories (heres size actors ws dones)) ≡ sectors_shown ws
+      → AreKept ws dones → told_each size actors dones ≡ sectors_shown ws
   all_told [] [] ds fit kept = refl
   all_told [] (w ∷ ws) ds fit kept = absurd (let q : suc (length ws) ≡ 0 = fit.count in
       let none : ⊥ = omega arith in none)
@@ -133,6 +134,20 @@ module _ (size : ℕ) where
         each = λ a os v e g. fit.each (suc a) os v e g;
       }) (record { count = (let q = kept.count in omega arith); each = λ a v x e g. kept.each (suc a) v x e g }) i
 
+-- the histories of the workers' locals are what is over
+histories_are : (size : ℕ) (actors : List (List Op)) (ws : List Worker) (dones : List (List Done))
+    → AreFit size actors ws → AreKept ws dones → histories (heres size actors ws dones) ≡ dones
+histories_are size actors ws dones fit kept = same actors ws dones fit.count kept.count where
+  same : (actors : List (List Op)) (ws : List Worker) (dones : List (List Done)) → length ws ≡ length actors
+      → length dones ≡ length ws → histories (heres size actors ws dones) ≡ dones
+  same [] [] [] e f = refl
+  same [] [] (d ∷ ds) e f = absurd (let q : suc (length ds) ≡ 0 = f in let none : ⊥ = omega arith in none)
+  same [] (w ∷ ws) ds e f = absurd (let q : suc (length ws) ≡ 0 = e in let none : ⊥ = omega arith in none)
+  same (x ∷ xs) [] ds e f = absurd (let q : 0 ≡ suc (length xs) = e in let none : ⊥ = omega arith in none)
+  same (x ∷ xs) (w ∷ ws) [] e f = absurd (let q : 0 ≡ suc (length ws) = f in let none : ⊥ = omega arith in none)
+  same (x ∷ xs) (w ∷ ws) (d ∷ ds) e f =
+      ap (λ (hs : List (List Done)). d ∷ hs) (same xs ws ds (omega arith) (omega arith))
+
 -- each request has a sector at least
 some_from : (ops : List Op) → AreRequests ops → SomeEach ops
 some_from [] r = tt
@@ -143,17 +158,17 @@ module _ (size : ℕ) (actors : List (List Op)) (cells : List (Option DiskHeld))
   pub shows_lines : AreFit size actors ws → AreKept ws dones
       → phase_lines (ends_shown ws) (sectors_shown ws) (orders_of cells) ≡ printed g (state size actors cells ws dones)
   shows_lines fit kept =
-      let hs = histories (heres size actors ws dones) in
-      sym (λ i. phase_lines (((λ k. ends_each (pages k) (named k) hs)
-      ∙ all_ends size actors ws dones fit kept) i) (((λ k. told_each (pages k) (named k) hs)
-      ∙ all_told size actors ws dones fit kept) i) (orders_of cells))
+      let same = histories_are size actors ws dones fit kept in
+      let es = (λ k. ends_each (pages k) (named k) (same k)) ∙ all_ends size actors ws dones fit kept in
+      let told = (λ k. told_each (pages k) (named k) (same k)) ∙ all_told size actors ws dones fit kept in
+      sym (λ i. phase_lines (es i) (told i) (orders_of cells))
 
-  pub shows_phase : AreFit size actors ws → AreKept ws dones → Joint g (state size actors cells ws dones)
+  pub shows_phase : PrintsPhase → AreFit size actors ws → AreKept ws dones → Joint g (state size actors cells ws dones)
       → AllFinished (state size actors cells ws dones)
       → IsPhase g (phase_lines (ends_shown ws) (sectors_shown ws) (orders_of cells)) (sector_in cells)
-  shows_phase fit kept j fin =
+  shows_phase prints fit kept j fin =
       subst (λ (ls : List OutLine). IsPhase g ls (sector_in cells)) (sym (shows_lines fit kept))
-      (finished_prints g (state size actors cells ws dones) j fin some) where
+      (prints g (state size actors cells ws dones) j fin some) where
         some : HasSomeEach g.actors
         some a ops e =
             let at : slice_get actors a ≡ Some ops = ap (λ (xs : List (List Op)). slice_get xs a) (sym named)

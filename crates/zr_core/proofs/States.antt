@@ -1,7 +1,7 @@
 -- The state that a row and its workers stand for, and its turns.
 use Rattle.std.proofs.Common.{◌≡◌, ◌⊎◌, ℕ, zero, suc, ◌+◌, ◌*◌, ◌<◌, ◌≤◌, Bool, cond, eqb, List, [], ◌∷◌, map, length, Option, Some, None, slice_get, slice_set, refl, sym, ap, ◌∙◌, subst, arith, inl, inr, ⊎_elim, length-set}
 use Rattle.std.specs.List.{range_with_len}
-use Rattle.std.proofs.lemmas.Bool.{cases_lt, eq-eqb, ltb-false}
+use Rattle.std.proofs.lemmas.Bool.{ne_eqb, cases_lt, eq-eqb, ltb-false}
 use Rattle.std.proofs.lemmas.Option.{slice_get_within}
 use Rattle.zr_base.specs.declared.op.Op.{Op}
 use Rattle.zr_base.specs.Plain.{start_of, count_of, IsRequest}
@@ -15,9 +15,7 @@ use Rattle.lock_row.specs.declared.names.At.TheVariants as stage
 use Rattle.lock_row.specs.declared.names.Plan.TheVariants.{Finished, Take, Give}
 use Rattle.lock_row.specs.declared.names.State.{State}
 use Rattle.lock_row.specs.Rows.{Row, IsDistinct, place_in, cell, with_cell}
-use Rattle.lock_row.proofs.Places.{place_of}
-use Rattle.lock_row.proofs.Values.{get_set}
-use Rattle.lock_row.proofs.Totals.{locals_le}
+use Rattle.lock_row.specs.Laws.{IsPartOfSum}
 use Rattle.slot_entry.specs.Entries.{EntryState}
 use Rattle.zr_core.specs.declared.worker.Worker.{Worker}
 use Rattle.zr_core.specs.declared.worker.Turn.{Turn}
@@ -26,6 +24,7 @@ use Rattle.zr_core.specs.Joint.{pieces_on, owed_by, owed, HasRoom, Joint}
 use Rattle.zr_core.specs.Places.{IsOn}
 use Rattle.zr_core.specs.Workers.{at_of, held_by, here, next_event, Keeps, Fits, IsFit, Turned, finished, waited, took_it, gave_it}
 use Rattle.zr_core.specs.States.{slots_of, heres, AreFit, AreKept, taken, given, TurnIs}
+use Rattle.zr_core.proofs.Lists.{get_set}
 use Rattle.zr_core.proofs.Places.{there_is, no_todo, on_here, has_settled, in_bounds, pages_some}
 use Rattle.zr_core.proofs.Turns.{part_at, todo_next}
 
@@ -115,8 +114,20 @@ is_slot size i k e =
 pub slots_distinct : (size : ℕ) → IsDistinct (slots_of size)
 slots_distinct size = record { once = λ i j k e f. ap spot (is_slot size i k e ∙ sym (is_slot size j k f)) }
 
+place_from : (a n i : ℕ) → i < n → place_in (map slot (range_with_len a n)) (slot (a + i)) ≡ i
+place_from a zero i lt = absurd (omega arith)
+place_from a (suc n) zero lt =
+    ap (λ (b : Bool). cond b 0 (suc (place_in (map slot (range_with_len (a + 1) n)) (slot (a + 0)))))
+    (eq-eqb a (a + 0) (omega arith))
+place_from a (suc n) (suc i) lt =
+    ap (λ (b : Bool). cond b 0 (suc (place_in (map slot (range_with_len (a + 1) n)) (slot (a + suc i)))))
+    (ne_eqb a (a + suc i) (λ e. let none : ⊥ = omega arith in none))
+    ∙ ap suc (ap (λ (k : ℕ). place_in (map slot (range_with_len (a + 1) n)) (slot k))
+    (let q : a + suc i ≡ a + 1 + i = omega arith in q) ∙ place_from (a + 1) n i (omega arith))
+
 pub slot_place : (size page : ℕ) → page < size → place_in (slots_of size) (slot page) ≡ page
-slot_place size page lt = place_of (slots_of size) page (slot page) (slots_distinct size) (slot_at 0 size page lt ∙ ap (λ (k : ℕ). Some (slot k)) (let q : 0 + page ≡ page = omega arith in q))
+slot_place size page lt = ap (λ (k : ℕ). place_in (slots_of size) (slot k))
+    (let q : page ≡ 0 + page = omega arith in q) ∙ place_from 0 size page lt
 
 -- ---- the next lock of a worker
 
@@ -193,13 +204,13 @@ module _ (g : Given) (s : State DiskHeld) (j : Joint g s) (a size : ℕ) (pages 
   pub in_row : (page : ℕ) → page < size → (x : Option DiskHeld) × (slice_get s.row page ≡ Some x)
   in_row page lt = there_is s.row page (let q = j.told.row in omega arith)
 
-  pub value_fits : (k : LockNo) (v : DiskHeld) → next_event size ops w ≡ Take k
+  pub value_fits : IsPartOfSum DiskHeld → (k : LockNo) (v : DiskHeld) → next_event size ops w ≡ Take k
       → slice_get s.row w.place.page ≡ Some (Some v) → Fits v
-  value_fits k v what there = ⊎_elim
+  value_fits part k v what there = ⊎_elim
       (λ n.
       let e : owed_by w.place.page (here size ops w done) ≡ cond (eqb n.p.page w.place.page) 1 0 + pieces_on w.place.page n.rest = ap (pieces_on w.place.page) (n.here done) in
       let on = ap (λ (b : Bool). cond b 1 0 + pieces_on w.place.page n.rest) (eq-eqb n.p.page w.place.page n.same) in
-      let le = locals_le (owed_by w.place.page) s.locals a (here size ops w done) who in
+      let le = part (owed_by w.place.page) s.locals a (here size ops w done) who in
       fits_room s.locals w.place.page v (omega arith) (j.room.in_row w.place.page v there))
       (λ none. absurd (let q : Finished ≡ Take k = sym none ∙ what in cc))
       (next_or_none size ops w fit)

@@ -12,8 +12,6 @@ use Rattle.call_history.specs.declared.part.PartEnd.TheVariants.{Carried}
 use Rattle.call_history.specs.declared.part.Done.{Done}
 use Rattle.call_history.specs.Parts.{program, Follows, is_on, stands_so}
 use Rattle.call_history.specs.Shows.{ShowsPage, Carries, Grown, tag_by, got_from}
-use Rattle.call_history.proofs.Told.{follows_on, next_named}
-use Rattle.call_history.proofs.Grown.{page_still, page_here}
 use Rattle.lock_row.specs.declared.names.LockNo.{LockNo}
 use Rattle.lock_row.specs.declared.names.Held.TheVariants as holds
 use Rattle.lock_row.specs.declared.names.At.{At}
@@ -21,12 +19,14 @@ use Rattle.lock_row.specs.declared.names.At.TheVariants.{Start, Entered}
 use Rattle.lock_row.specs.declared.names.Plan.{Plan}
 use Rattle.lock_row.specs.declared.names.Plan.TheVariants.{Take, Give}
 use Rattle.lock_row.specs.declared.names.State.{State}
-use Rattle.lock_row.specs.Values.{Everywhere, Exclusive}
-use Rattle.lock_row.proofs.Runs.{get_here, get_else}
-use Rattle.lock_row.proofs.Values.{get_set, take_everywhere, give_everywhere}
+use Rattle.lock_row.specs.Values.{Exclusive}
 use Rattle.slot_entry.specs.Entries.{EntryState, page_of}
 use Rattle.zr_core.specs.Steps.{DiskHeld, Here, slot, spot, plan, plan_at, took, lock_of, CarriesOut, Works, carries}
+use Rattle.zr_core.specs.Values.{Everywhere}
 use Rattle.zr_core.specs.Joint.{done_by, dones, Shows, locks_at, IsActor, Told}
+use Rattle.zr_core.proofs.Cited.{Cited}
+use Rattle.zr_core.proofs.Lists.{get_here, get_else, get_set}
+use Rattle.zr_core.proofs.Values.{take_everywhere, give_everywhere}
 
 -- ---- locals
 
@@ -100,17 +100,19 @@ gift l k v m what (carries p rest e f todo at held v_is work m_is) =
 
 -- ---- values
 
-shows_still : (g : Given) (D D' : ℕ → List Done) (a : ℕ) (d : Done) → Grown D D' a d → (i : ℕ) (u : DiskHeld)
-    → is_on i d ≡ false → Shows g D i u → Shows g D' i u
-shows_still g D D' a d grown i (holds.Slot e) off h = page_still g D D' a d grown i (page_of e.kept) e.order off h
-shows_still g D D' a d grown i (holds.Class x) off h = tt
-shows_still g D D' a d grown i (holds.Account x) off h = tt
-shows_still g D D' a d grown i (holds.Blocks x) off h = tt
-shows_still g D D' a d grown i (holds.Device x) off h = tt
+shows_still : Cited → (g : Given) (D D' : ℕ → List Done) (a : ℕ) (d : Done) → Grown D D' a d
+    → (i : ℕ) (u : DiskHeld) → is_on i d ≡ false → Shows g D i u → Shows g D' i u
+shows_still cited g D D' a d grown i (holds.Slot e) off h =
+    cited.elsewhere g D D' a d i (page_of e.kept) e.order grown off h
+shows_still cited g D D' a d grown i (holds.Class x) off h = tt
+shows_still cited g D D' a d grown i (holds.Account x) off h = tt
+shows_still cited g D D' a d grown i (holds.Blocks x) off h = tt
+shows_still cited g D D' a d grown i (holds.Device x) off h = tt
 
 -- ---- the law
 
-module _ (g : Given) (w : State DiskHeld) (t : Told g w) (ex : Exclusive spot w) (a : ℕ) (l : Here) (k : LockNo) (who : slice_get w.locals a ≡ Some l) where
+module _ (cited : Cited) (g : Given) (w : State DiskHeld) (t : Told g w) (ex : Exclusive spot w)
+    (a : ℕ) (l : Here) (k : LockNo) (who : slice_get w.locals a ≡ Some l) where
   others : (m : Here) → IsActor g a m → (b : ℕ) (n : Here) → slice_get (slice_set w.locals a m) b ≡ Some n
       → IsActor g b n
   others m is b n at = ⊎_elim
@@ -159,19 +161,21 @@ module _ (g : Given) (w : State DiskHeld) (t : Told g w) (ex : Exclusive spot w)
       named = h.named;
       locks = x.locks;
       follows = subst (λ (c : List Done × List Part). Follows (program g.size 0 h.ops) c.0 c.1) (λ j. (sym x.done j, sym x.todo j))
-          (follows_on (program g.size 0 h.ops) l.done x.p x.rest d next refl tt);
+          (cited.follows (program g.size 0 h.ops) l.done x.p x.rest d next refl tt);
     }
 
     is_named : named g.actors (tag_by a x.p) ≡ Some x.p.op
-    is_named = let h = t.actors a l who in ap named_in h.named ∙ next_named g.size h.ops l.done x.p x.rest next
+    is_named = let h = t.actors a l who in ap named_in h.named ∙ cited.named g.size h.ops l.done x.p x.rest next
 
     old : ShowsPage g (dones w.locals) x.p.page (page_of x.e.kept) x.e.order
     old = subst (λ (c : LockNo). Shows g (dones w.locals) (spot c) (holds.Slot x.e)) x.lock
         (t.values.in_hand a 0 l (k, holds.Slot x.e) who (ap (λ (ys : List (LockNo × DiskHeld)). slice_get ys 0) x.held))
 
     new : ShowsPage g (dones now) x.p.page (page_of x.f.kept) x.f.order
-    new = page_here g (dones w.locals) (dones now) a d grown x.p (page_of x.e.kept) x.e.order (page_of x.f.kept) x.f.order refl refl
-        (subst (λ (n : ℕ). Carries n x.p (page_of x.e.kept) x.e.order (page_of x.f.kept) x.f.order) (t.actors a l who).who x.work.work) is_named refl old
+    new = cited.here g (dones w.locals) (dones now) a d x.p (page_of x.e.kept) x.e.order
+        (page_of x.f.kept) x.f.order grown refl refl
+        (subst (λ (n : ℕ). Carries n x.p (page_of x.e.kept) x.e.order (page_of x.f.kept) x.f.order)
+        (t.actors a l who).who x.work.work) is_named refl old
 
     elsewhere : (i : ℕ) → i ≢ spot k → is_on i d ≡ false
     elsewhere i ne = and_left (eqb x.p.page i) (stands_so x.p.op Carried) (ne_eqb x.p.page i (λ same. ne (sym same ∙ ap spot (sym x.lock))))
@@ -179,6 +183,6 @@ module _ (g : Given) (w : State DiskHeld) (t : Told g w) (ex : Exclusive spot w)
     pub told_give : Told g (record { row = slice_set w.row (spot k) (Some v); locals = now })
     told_give = after_put (Some v) m is_actor
         (give_everywhere spot w a l k who (Shows g (dones w.locals)) (Shows g (dones now)) t.values ex
-        (λ i u ne. shows_still g (dones w.locals) (dones now) a d grown i u (elsewhere i ne))
+        (λ i u ne. shows_still cited g (dones w.locals) (dones now) a d grown i u (elsewhere i ne))
         v (holds.Slot x.e) m there x.held
         (subst (λ (c : LockNo × DiskHeld). Shows g (dones now) (spot c.0) c.1) (λ i. (sym x.lock i, sym x.value i)) new))

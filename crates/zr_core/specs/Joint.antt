@@ -11,10 +11,11 @@ use Rattle.lock_row.specs.declared.names.Held.TheVariants as holds
 use Rattle.lock_row.specs.declared.names.At.{At}
 use Rattle.lock_row.specs.declared.names.At.TheVariants.{Start, Entered}
 use Rattle.lock_row.specs.declared.names.State.{State}
-use Rattle.lock_row.specs.Values.{Everywhere, Exclusive}
+use Rattle.lock_row.specs.Values.{Exclusive}
 use Rattle.lock_row.specs.Totals.{locals_sum}
 use Rattle.slot_entry.specs.Entries.{page_of}
 use Rattle.zr_core.specs.Steps.{DiskHeld, Here, slot, spot}
+use Rattle.zr_core.specs.Values.{Everywhere}
 
 abbrev pub done_by : Option Here → List Done
 done_by None = []

@@ -18,7 +18,7 @@ use Rattle.zr_core.specs.declared.worker.Turn.{Turn}
 use Rattle.zr_core.specs.declared.worker.Turn.TheVariants as turn
 use Rattle.zr_core.specs.Steps.{DiskHeld, Here, slot, spot, plan, took, Works}
 use Rattle.zr_core.specs.Joint.{Joint}
-use Rattle.zr_core.specs.Machines.{sector_in, IsStart}
+use Rattle.zr_core.specs.Machines.{sector_in, IsStart, IsReached}
 use Rattle.zr_core.specs.Workers.{here, Keeps, IsFit}
 
 -- the names of a disk's locks: the slots of its pages, in rising order
@@ -61,14 +61,36 @@ pub record IsPrepared (g : Given) (cells : List (Option DiskHeld)) (ws : List Wo
   pub kept : AreKept ws dones
   pub start : IsStart g (state g.size g.actors cells ws dones)
 
--- The joint rule holds for some phase's start.
-pub record CanGoOn (size : ℕ) (actors : List (List Op)) (cells : List (Option DiskHeld)) (ws : List Worker) : Type 0 where
-  pub given : Given
+-- A phase between two turns: the pages of the disk, the actors' operations, the row and the workers.
+pub record Playing : Type 0 where
+  pub size : ℕ
+  pub actors : List (List Op)
+  pub cells : List (Option DiskHeld)
+  pub workers : List Worker
+
+-- the state that it stands for, where these pieces of each actor are over
+abbrev pub state_of : Playing → List (List Done) → State DiskHeld
+state_of x dones = state x.size x.actors x.cells x.workers dones
+
+-- The joint rule holds for this start.
+pub record HasJoint (g : Given) (x : Playing) : Type 0 where
+  pub pages : g.size ≡ x.size
+  pub ops : g.actors ≡ x.actors
   pub dones : List (List Done)
-  pub pages : given.size ≡ size
-  pub ops : given.actors ≡ actors
-  pub kept : AreKept ws dones
-  pub joint : Joint given (state size actors cells ws dones)
+  pub kept : AreKept x.workers dones
+  pub joint : Joint g (state_of x dones)
+
+-- Turns lead from this state to the one that it stands for.
+pub record IsReachedFrom (start : State DiskHeld) (x : Playing) : Type 0 where
+  pub dones : List (List Done)
+  pub kept : AreKept x.workers dones
+  pub reached : IsReached start (state_of x dones)
+
+-- Each worker is fit for its operations, and the joint rule holds for some start.
+pub record CanGoOn (x : Playing) : Type 0 where
+  pub fit : AreFit x.size x.actors x.workers
+  pub given : Given
+  pub joint : HasJoint given x
 
 -- one event of an actor
 pub data IsEvent (a : ℕ) (w n : State DiskHeld) : Type 0 where
@@ -82,12 +104,17 @@ TurnIs a w n (turn.Waited k) = (l : Here) × (slice_get w.locals a ≡ Some l) �
 TurnIs a w n turn.Finished = (l : Here) × (slice_get w.locals a ≡ Some l) × (plan l ≡ Finished) × (n ≡ w)
 
 -- a turn from the state that was to one that is, whatever was over before
-abbrev pub TurnsOnce : ℕ → ℕ → List (List Op) → List (Option DiskHeld) → List Worker → List (Option DiskHeld) → List Worker → Turn → List (List Done) → Type 0
-TurnsOnce a size actors cells ws cells' ws' t dones = (dones' : List (List Done)) × AreKept ws' dones' × TurnIs a (state size actors cells ws dones) (state size actors cells' ws' dones') t
+abbrev pub TurnsOnce : ℕ → Playing → Playing → Turn → List (List Done) → Type 0
+TurnsOnce a x y t dones = (dones' : List (List Done)) × AreKept y.workers dones'
+    × TurnIs a (state_of x dones) (state_of y dones') t
 
 -- an item of an actor's operation
 abbrev pub of_op : {A : Type 0} → List (List A) → ℕ → ℕ → Option A
 of_op all actor op = option_and_then (λ xs. slice_get xs op) (slice_get all actor)
+
+-- the operation is over: its actor is past it
+abbrev pub HasEnded : List Worker → ℕ → ℕ → Type 0
+HasEnded ws actor op = (w : Worker) × (slice_get ws actor ≡ Some w) × (op < w.place.nr)
 
 -- Each page has its entry at home, as between two phases.
 pub record IsAtRest (pages : ℕ) (cells : List (Option DiskHeld)) : Type 0 where

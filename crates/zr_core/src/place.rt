@@ -3,7 +3,8 @@
 ghost use Rattle.std.specs.Prelude.{◌≡◌, ◌<◌, ◌≤◌, false, Some, length, drop, slice_get, if◌then◌else◌};
 ghost use Rattle.std.specs.Bool.{OnTrue, OnFalse};
 ghost use Rattle.zr_base.specs.Plain.{start_of, count_of, is_beyond, has_event, IsRequest};
-ghost use Rattle.call_history.specs.Parts.{pages_of, program};
+ghost use Rattle.zr_base.specs.Pieces.{pages_of};
+ghost use Rattle.call_history.specs.Parts.{program};
 ghost use Rattle.zr_core.specs.Places.{AreRequests, todo_at, IsPlace, IsSettled, IsOnward, steps_left};
 
 use zr_base::Op;

@@ -1,5 +1,5 @@
 use Rattle.std.proofs.Common.{◌≡◌, Some, slice_get, refl, arith}
-use Rattle.call_history.specs.Parts.{first_page}
+use Rattle.zr_base.specs.Pieces.{first_page}
 use Rattle.zr_core.proofs.Places.{at_index, in_bounds, few_first}
 use Rattle.zr_core.proofs.place.first_piece.Goals as goal
 use Rattle.zr_core.proofs.place.first_piece.Goals.{After-bounds-first, After-index-ops-nr}

@@ -1,5 +1,5 @@
 use Rattle.std.proofs.Common.{◌<◌, length, refl, arith, length-set}
-use Rattle.lock_row.proofs.Runs.{get_here, get_else}
+use Rattle.zr_core.proofs.Lists.{get_here, get_else}
 use Rattle.zr_core.proofs.Places.{at_index}
 use Rattle.zr_core.proofs.worker.work.Goals as goal
 
