@@ -44,7 +44,8 @@ fn find(names: &[LockNo], lock: LockNo) -> Option<usize>
 // The place of a lock among the names.
 fn place(names: &[LockNo], lock: LockNo) -> Option<usize>
     requires { IsDistinct names.now }
-    ensures { MatchOption result (length names.now ≤ place_in names.now lock) (λ i. (i ≡ place_in names.now lock) × (i < length names.now)) }
+    ensures { MatchOption result (length names.now ≤ place_in names.now lock)
+        (λ i. (i ≡ place_in names.now lock) × (i < length names.now)) }
 {
     find(names, lock)
 }
@@ -92,7 +93,9 @@ impl<V: Drop> SimRow<V> {
 
     fn take_at(&mut self, lock: LockNo) -> Option<V>
         requires { IsIn self.old lock }
-        ensures { MatchOption result ((cell self.old lock ≡ Some None) × (self.new ≡ self.old)) (λ v. (cell self.old lock ≡ Some (Some v)) × (self.new ≡ with_cell self.old lock None)) }
+        ensures { MatchOption result ((cell self.old lock ≡ Some None) × (self.new ≡ self.old))
+            (λ v. (cell self.old lock ≡ Some (Some v))
+            × (self.new ≡ with_cell self.old lock None)) }
     {
         let Some(at) = place(&self.names, lock) else {
             unreachable!()
@@ -115,7 +118,8 @@ impl<V: Drop> SimRow<V> {
     }
 }
 
-/// The hand of an actor over a row of its own thread: it finds the row's own value alone, and allows every
+/// The hand of an actor over a row of its own thread: it finds the row's own value alone, and
+/// allows every
 /// event. It can't tell its actors apart, so it holds what is out.
 #[derive(Drop)]
 pub struct SimHand<'a, V: Drop> {

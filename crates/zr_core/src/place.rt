@@ -9,7 +9,8 @@ ghost use Rattle.zr_core.specs.Places.{AreRequests, todo_at, IsPlace, IsSettled,
 
 use zr_base::Op;
 
-/// The operation in work, counted from 0, the page of its next piece, and how many of its pages are left.
+/// The operation in work, counted from 0, the page of its next piece, and how many of its pages are
+/// left.
 #[derive(Clone, Copy)]
 pub struct Place {
     pub nr: usize,
@@ -52,7 +53,10 @@ pub fn first_piece(size: u32, ops: &[Op], nr: usize) -> Place
 fn is_settled(ops: &[Op], place: Place) -> bool
     requires { AreRequests ops.now }
     ensures on { OnTrue result (IsSettled ops.now place) }
-    ensures off { OnFalse result ((place.nr < length ops.now) × ((op : _) → slice_get ops.now place.nr ≡ Some op → 1 ≤ place.left → has_event op place.page ≡ false)) }
+    ensures off { OnFalse result
+        ((place.nr < length ops.now)
+        × ((op : _) → slice_get ops.now place.nr ≡ Some op → 1 ≤ place.left
+        → has_event op place.page ≡ false)) }
 {
     if place.nr >= ops.len() {
         return true;
@@ -65,7 +69,8 @@ fn passed(size: u32, ops: &[Op], place: Place) -> Place
     requires requests { AreRequests ops.now }
     requires place { IsPlace size ops.now place }
     requires more { place.nr < length ops.now }
-    requires off { (op : _) → slice_get ops.now place.nr ≡ Some op → 1 ≤ place.left → has_event op place.page ≡ false }
+    requires off { (op : _) → slice_get ops.now place.nr ≡ Some op → 1 ≤ place.left
+        → has_event op place.page ≡ false }
     ensures place { IsPlace size ops.now result }
     ensures same { todo_at size ops.now result ≡ todo_at size ops.now place }
     ensures onward { IsOnward place result }

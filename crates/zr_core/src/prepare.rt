@@ -24,7 +24,8 @@ fn count_op(size: u32, op: &Op, counts: &mut [u32])
     requires size { length counts.old ≡ size }
     requires fits { (p : ℕ) → p < size → count_at counts.old p + pieces_on p (parts size 0 op.now) < 2 ^ 32 }
     ensures size { length counts.new ≡ length counts.old }
-    ensures counted { (p : ℕ) → p < size → count_at counts.new p ≡ count_at counts.old p + pieces_on p (parts size 0 op.now) }
+    ensures counted { (p : ℕ) → p < size
+        → count_at counts.new p ≡ count_at counts.old p + pieces_on p (parts size 0 op.now) }
 {
     let first = op.first_page();
     let left = pages_to_do(size, op);
@@ -41,7 +42,8 @@ fn count_actor(size: u32, ops: &[Op], counts: &mut [u32])
     requires size { length counts.old ≡ size }
     requires fits { (p : ℕ) → p < size → count_at counts.old p + pieces_on p (program size 0 ops.now) < 2 ^ 32 }
     ensures size { length counts.new ≡ length counts.old }
-    ensures counted { (p : ℕ) → p < size → count_at counts.new p ≡ count_at counts.old p + pieces_on p (program size 0 ops.now) }
+    ensures counted { (p : ℕ) → p < size
+        → count_at counts.new p ≡ count_at counts.old p + pieces_on p (program size 0 ops.now) }
 {
     for op in ops {
         count_op(size, op, counts);
@@ -56,7 +58,8 @@ pub(crate) fn count_pieces(
 ) -> Result<Vec<u32>, AllocError>
     requires { IsWork ops.now }
     ensures size { IfOk result (λ counts. length counts.items ≡ size) }
-    ensures counted { IfOk result (λ counts. (p : ℕ) → p < size → count_at counts.items p ≡ pieces_each size ops.now p) }
+    ensures counted { IfOk result (λ counts. (p : ℕ) → p < size
+        → count_at counts.items p ≡ pieces_each size ops.now p) }
 {
     let mut counts = vec![in alloc; 0; size as usize]?;
     for actor in ops {
@@ -69,7 +72,9 @@ pub(crate) fn count_pieces(
 fn is_unused(row: &SimRow<DiskHeld>, size: u32, page: u32) -> bool
     requires names { row.now.names ≡ slots_of size }
     requires page { page < size }
-    ensures { OnTrue result ((e : EntryState) × (slice_get row.now.cells page ≡ Some (Some (holds.Slot e))) × (e.order ≡ [])) }
+    ensures { OnTrue result
+        ((e : EntryState) × (slice_get row.now.cells page ≡ Some (Some (holds.Slot e)))
+        × (e.order ≡ [])) }
 {
     match row.value(LockNo::Slot(PageIx(page))) {
         None => false,

@@ -1,8 +1,11 @@
 //! What a piece does to its page's entry while it has the slot.
 //!
-//! A write copies the page, changes its sectors and puts it back. Nobody can come between, since the page's slot
-//! is held from `Worker::enter` to `Worker::leave`: else of two writers of one page one would put back what it had
-//! copied before the other's put, and the other's sectors would be lost (`examples/race_partial_writes.job`).
+//! A write copies the page, changes its sectors and puts it back. Nobody can come between, since
+//! the page's slot
+//! is held from `Worker::enter` to `Worker::leave`: else of two writers of one page one would put
+//! back what it had
+//! copied before the other's put, and the other's sectors would be lost
+//! (`examples/race_partial_writes.job`).
 
 ghost use Rattle.std.specs.Prelude.{◌≡◌, ◌⊎◌, ℕ, ◌+◌, ◌-◌, ◌*◌, ◌/◌, ◌<◌, ◌≤◌, ◌^◌, List, ◌++◌, map, length, vec_len, vec_capacity};
 ghost use Rattle.std.specs.List.{range_with_len};
@@ -43,7 +46,8 @@ fn sector_of(kept: &Kept, at: u8) -> [u8; 512]
 fn read_sectors(kept: &Kept, first: u8, count: u8, sectors: &mut Vec<[u8; 512]>)
     requires within { first + count ≤ 8 }
     requires room { vec_len sectors.old + count ≤ vec_capacity sectors.old }
-    ensures items { sectors.new.items ≡ sectors.old.items ++ map (page_sector (page_of kept.now)) (range_with_len first count) }
+    ensures items { sectors.new.items
+        ≡ sectors.old.items ++ map (page_sector (page_of kept.now)) (range_with_len first count) }
     ensures len { vec_len sectors.new ≡ vec_len sectors.old + count }
     ensures capacity { vec_capacity sectors.new ≡ vec_capacity sectors.old }
 {
@@ -57,8 +61,10 @@ fn write_sectors(stuff: &Stuff, from: u32, page: &mut Page, first: u8, count: u8
     requires within { first + count ≤ 8 }
     requires small { from < 2 ^ 31 }
     requires there { HasSectors stuff.now (from + count) }
-    ensures put { (k : ℕ) → first ≤ k → k < first + count → page_sector page.new k ≡ stuff_sector stuff.now (from + (k - first)) }
-    ensures others { (k : ℕ) → k < 8 → (k < first) ⊎ (first + count ≤ k) → page_sector page.new k ≡ page_sector page.old k }
+    ensures put { (k : ℕ) → first ≤ k → k < first + count
+        → page_sector page.new k ≡ stuff_sector stuff.now (from + (k - first)) }
+    ensures others { (k : ℕ) → k < 8 → (k < first) ⊎ (first + count ≤ k)
+        → page_sector page.new k ≡ page_sector page.old k }
 {
     let mut sector = [0; 512];
     for at in first..first + count {

@@ -1,9 +1,13 @@
 //! The world of a disk: its row of entries, which the actors of a phase work on by turns.
 //!
-//! `prepare` sets a phase up; its workers then stand before their first turns, and the row and they are the
-//! phase's start. `step` makes one turn of one actor, and `run` all turns of a schedule and then rounds until all
-//! actors are finished. Between any two turns the phase can go on (`CanGoOn`): each worker is fit for its
-//! operations, and the joint rule holds for the phase's start. Each call says so for every start that the rule
+//! `prepare` sets a phase up; its workers then stand before their first turns, and the row and they
+//! are the
+//! phase's start. `step` makes one turn of one actor, and `run` all turns of a schedule and then
+//! rounds until all
+//! actors are finished. Between any two turns the phase can go on (`CanGoOn`): each worker is fit
+//! for its
+//! operations, and the joint rule holds for the phase's start. Each call says so for every start
+//! that the rule
 //! holds for, and of every start from which the state is reached.
 
 ghost use Rattle.std.specs.Prelude.{◌≡◌, ℕ, ◌*◌, ◌<◌, ◌≤◌, ◌++◌, length, vec_len, replicate, slice_get, Some, IfOk, OnErr};
@@ -116,7 +120,8 @@ impl World {
     fn play(&mut self, phase: &mut Phase, actors: &[ActorOps], schedule: &[Turns])
         requires actors { (k : ℕ) (t : _) → slice_get schedule.now k ≡ Some t → t.actor < length actors.now }
         requires can { CanGoOn (playing self.old phase.old actors.now) }
-        ensures { Plays (turns_of schedule.now) (playing self.old phase.old actors.now) (playing self.new phase.new actors.now) }
+        ensures { Plays (turns_of schedule.now) (playing self.old phase.old actors.now)
+            (playing self.new phase.new actors.now) }
     {
         for turns in schedule {
             self.repeat(phase, actors, *turns);
@@ -136,7 +141,8 @@ impl World {
         }
     }
 
-    /// The schedule's turns, and then rounds of a turn for each actor, until all actors are finished.
+    /// The schedule's turns, and then rounds of a turn for each actor, until all actors are
+    /// finished.
     pub fn run(&mut self, phase: &mut Phase, actors: &[ActorOps], schedule: &[Turns])
         requires few { length actors.now ≤ MOST_ACTORS }
         requires actors { (k : ℕ) (t : _) → slice_get schedule.now k ≡ Some t → t.actor < length actors.now }

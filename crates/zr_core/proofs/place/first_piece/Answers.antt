@@ -13,9 +13,13 @@ first_page-requires c = c.requires.requests c.args.nr c.index-ops-nr.result
     (at_nr (goal.at.first_page-requires c).After-index-ops-nr)
 
 pub pages_to_do-requires : goal.pages_to_do-requires
-pages_to_do-requires c = c.requires.requests c.args.nr c.index-ops-nr.result (at_nr (goal.at.pages_to_do-requires c).After-index-ops-nr)
+pages_to_do-requires c =
+    c.requires.requests c.args.nr c.index-ops-nr.result
+    (at_nr (goal.at.pages_to_do-requires c).After-index-ops-nr)
 
 pub returns-clause-few : goal.returns-clause-few
 returns-clause-few c =
     let at = at_nr (goal.at.returns-clause-few c).After-index-ops-nr in
-    few_first c.args.size c.args.ops.now c.args.nr c.index-ops-nr.result at (first_page c.index-ops-nr.result) c.pages_to_do.result refl c.pages_to_do.ensures (c.requires.requests c.args.nr c.index-ops-nr.result at)
+    few_first c.args.size c.args.ops.now c.args.nr c.index-ops-nr.result at
+    (first_page c.index-ops-nr.result) c.pages_to_do.result refl c.pages_to_do.ensures
+    (c.requires.requests c.args.nr c.index-ops-nr.result at)

@@ -7,17 +7,25 @@ use Rattle.zr_core.proofs.prepare.count_op.Goals as goal
 use Rattle.zr_core.proofs.prepare.count_op.Goals.{After-has_event, then-has_event, else-has_event}
 
 below : (c : After-has_event) → c.loop-page.page < c.args.size
-below c = page_below c.args.size c.args.op.now c.loop-page.page c.pages_to_do-left.result c.requires.request c.pages_to_do-left.ensures
+below c = page_below c.args.size c.args.op.now c.loop-page.page c.pages_to_do-left.result
+    c.requires.request c.pages_to_do-left.ensures
     (let s = c.first_page-first.ensures in let f = c.loop-page.invariant.from in omega arith)
     (let s = c.first_page-first.ensures in let t = c.loop-page-test.true in omega arith)
 
 abbrev rest_from : (c : After-has_event) → ℕ → ℕ → ℕ
-rest_from c p page = pieces_on p (parts_from 0 c.args.op.now page (c.first_page-first.result + c.pages_to_do-left.result - page))
+rest_from c p page =
+    pieces_on p
+    (parts_from 0 c.args.op.now page (c.first_page-first.result + c.pages_to_do-left.result - page))
 
 next : (c : After-has_event) (p : ℕ) (b : Bool) → c.has_event.result ≡ b
-    → rest_from c p c.loop-page.page ≡ cond b (cond (eqb c.loop-page.page p) 1 0) 0 + rest_from c p (c.loop-page.page + 1)
-next c p b e = pieces_until 0 p c.args.op.now c.loop-page.page (c.first_page-first.result + c.pages_to_do-left.result) (let t = c.loop-page-test.true in omega arith)
-    ∙ ap (λ (x : Bool). cond x (cond (eqb c.loop-page.page p) 1 0) 0 + rest_from c p (c.loop-page.page + 1)) (sym c.has_event.ensures ∙ e)
+    → rest_from c p c.loop-page.page
+    ≡ cond b (cond (eqb c.loop-page.page p) 1 0) 0 + rest_from c p (c.loop-page.page + 1)
+next c p b e =
+    pieces_until 0 p c.args.op.now c.loop-page.page
+    (c.first_page-first.result + c.pages_to_do-left.result)
+    (let t = c.loop-page-test.true in omega arith)
+    ∙ ap (λ (x : Bool). cond x (cond (eqb c.loop-page.page p) 1 0) 0
+    + rest_from c p (c.loop-page.page + 1)) (sym c.has_event.ensures ∙ e)
 
 pub overflow_add-counts : goal.overflow_add-counts
 overflow_add-counts c =

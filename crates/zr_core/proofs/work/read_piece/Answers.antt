@@ -9,5 +9,6 @@ returns-clause-got c =
     let piece = c.requires.piece in
     c.read_sectors.ensures.items
     ∙ ap (λ (xs : List (List ℕ)). c.args.sectors.now.items ++ xs)
-    (got_read c.args.start c.args.count c.args.piece.page.0 c.args.piece.first c.args.piece.count (page_of c.args.kept.now)
+    (got_read c.args.start c.args.count c.args.piece.page.0 c.args.piece.first c.args.piece.count
+    (page_of c.args.kept.now)
     (ap (λ (p : Piece). p.first) piece) (ap (λ (p : Piece). p.count) piece))
