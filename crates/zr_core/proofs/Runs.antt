@@ -1,8 +1,8 @@
 -- No state with the joint rule is stuck, and each event leaves fewer.
-use Rattle.std.proofs.Common.{◌≡◌, ◌≢◌, ◌⊎◌, ℕ, zero, suc, ◌+◌, ◌*◌, ◌<◌, ◌≤◌, List, [], ◌∷◌, ◌++◌, map, length, Option, Some, None, slice_get, slice_set, sym, refl, ap, ◌∙◌, subst, arith, inl, inr, ⊎_elim, append_assoc, add-one}
+use Rattle.std.proofs.Common.{◌≡◌, ◌≢◌, ◌⊎◌, ℕ, zero, suc, ◌+◌, ◌-◌, ◌*◌, ◌<◌, ◌≤◌, List, [], ◌∷◌, ◌++◌, map, length, Option, Some, None, slice_get, slice_set, sym, refl, ap, ◌∙◌, subst, arith, inl, inr, ⊎_elim, append_assoc, add-one}
 use Rattle.std.specs.Prelude.{replicate, take}
 use Rattle.std.specs.List.{range_with_len}
-use Rattle.std.proofs.lemmas.List.{append-nil, replicate_more}
+use Rattle.std.proofs.lemmas.List.{append-nil, replicate_more, replicate-append-replicate}
 use Rattle.std.proofs.lemmas.Option.{slice_get_within, slice_get-map}
 use Rattle.std.specs.Prelude.{option_map}
 use mathlib.Core.Logic.{dite}
@@ -23,12 +23,13 @@ use Rattle.lock_row.specs.Laws.{SumMoves}
 use Rattle.zr_base.specs.declared.op.Turns.{Turns as By}
 use Rattle.zr_core.specs.declared.worker.Worker.{Worker}
 use Rattle.zr_core.specs.declared.worker.Turn.{Turn as WasTurn}
+use Rattle.zr_core.specs.declared.worker.Turn.TheVariants as turn
 use Rattle.zr_core.specs.Steps.{DiskHeld, Here, slot, spot, plan, plan_at, took, Works, carries}
 use Rattle.zr_core.specs.Joint.{locks_at, Joint}
 use Rattle.zr_core.specs.Machines.{OneTurn, Turns, AllFinished, rounds_of}
 use Rattle.zr_core.specs.Workers.{here, at_of}
 use Rattle.zr_core.specs.Laws.{TurnKeepsJoint}
-use Rattle.zr_core.specs.States.{heres, state, Playing, state_of, AreKept, CanGoOn, HasJoint, IsReachedFrom, TurnsOnce}
+use Rattle.zr_core.specs.States.{heres, state, Playing, state_of, AreKept, CanGoOn, HasJoint, IsReachedFrom, TurnIs, TurnsOnce}
 use Rattle.zr_core.specs.Runs.{turns_of, Plays, RunsOut, IsBusy, AllOver, left_at, left_by, all_left, left_of, IsFree, Round, RoundTo}
 use Rattle.zr_core.proofs.Joint.{joint_run}
 use Rattle.zr_core.proofs.Machines.{run_on, run_both}
@@ -356,12 +357,40 @@ turns_append [] t = append-nil (replicate t.times t.actor)
 turns_append (x ∷ xs) t = ap (λ (ys : List ℕ). replicate x.times x.actor ++ ys) (turns_append xs t)
     ∙ sym (append_assoc (replicate x.times x.actor) (turns_of xs) (replicate t.times t.actor))
 
+-- after a turn that changes nothing, more turns of that actor change nothing
+idle : (k a : ℕ) (w n : State DiskHeld) (t : WasTurn) → t ≢ turn.Went → TurnIs a w n t
+    → Turns (replicate k a) w n
+idle k a w n turn.Went not is = absurd (not refl)
+idle zero a w n (turn.Waited m) not is = is.4
+idle zero a w n turn.Finished not is = is.3
+idle (suc k) a w n (turn.Waited m) not is =
+    (w, missed is.0 m is.1 is.2 is.3 refl, idle k a w n (turn.Waited m) not is)
+idle (suc k) a w n turn.Finished not is = (w, finished is.0 is.1 is.2 refl, idle k a w n turn.Finished not is)
+
+pub plays_idle : (k a : ℕ) (x y : Playing) (t : WasTurn) → t ≢ turn.Went → y.size ≡ x.size → CanGoOn y
+    → ((dones : List (List Done)) → AreKept x.workers dones → TurnsOnce a x y t dones)
+    → Plays (replicate k a) x y
+plays_idle k a x y t not pages can once = record {
+  pages = pages;
+  can = can;
+  goes = λ dones kept. let n = once dones kept in (n.0, n.1, idle k a _ _ t not n.2);
+}
+
 module _ (x y z : Playing) where
   pub then_once : (n a : ℕ) → Plays (replicate n a) x y → Plays (a ∷ []) y z
       → Plays (replicate (n + 1) a) x z
   then_once n a before more =
       subst (λ (ts : List ℕ). Plays ts x z) (replicate_more n a)
       (plays_on (replicate n a) (a ∷ []) x y z before more)
+
+  -- all turns of an actor, where the last of those made changed nothing
+  pub then_idle : (n m a : ℕ) → n ≤ m → Plays (replicate n a) x y → ((k : ℕ) → Plays (replicate k a) y z)
+      → Plays (replicate m a) x z
+  then_idle n m a le before more =
+      subst (λ (ts : List ℕ). Plays ts x z)
+      (replicate-append-replicate n (m - n) a
+      ∙ ap (λ (j : ℕ). replicate j a) (let q : n + (m - n) ≡ m = omega arith in q))
+      (plays_on (replicate n a) (replicate (m - n) a) x y z before (more (m - n)))
 
   pub then_turn : (i : ℕ) → Plays (range_with_len 0 i) x y → Plays (i ∷ []) y z
       → Plays (range_with_len 0 (i + 1)) x z

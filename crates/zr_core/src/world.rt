@@ -104,7 +104,7 @@ impl World {
         }
     }
 
-    // So many turns of an actor.
+    // So many turns of an actor. After one that changes nothing the rest change nothing either: they cost nothing.
     fn repeat(&mut self, phase: &mut Phase, actors: &[ActorOps], turns: Turns)
         requires actor { turns.actor < length actors.now }
         requires can { CanGoOn (playing self.old phase.old actors.now) }
@@ -112,7 +112,11 @@ impl World {
             (playing self.new phase.new actors.now) }
     {
         for time in 0..turns.times {
-            let _turn = self.step(phase, actors, turns.actor);
+            match self.step(phase, actors, turns.actor) {
+                Turn::Went => {}
+                Turn::Waited(_) => return,
+                Turn::Finished => return,
+            }
         }
     }
 
