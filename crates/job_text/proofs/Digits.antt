@@ -1,7 +1,7 @@
 -- The number that digits stand for, digit by digit.
 use Rattle.std.proofs.Common.{◌≡◌, ℕ, suc, ◌+◌, ◌-◌, ◌*◌, ◌<◌, ◌≤◌, ◌^◌, ◌⊎◌, inl, inr, Bool, true, false, not, ◌&&◌, ◌==◌, cond, List, [], ◌∷◌, length, drop, get_or, nat_lt, nat_le, Result, Ok, Err, refl, ap, sym, ◌∙◌, arith, mul-le-mul_left}
 use Rattle.std.proofs.Math.Nat.{mul-one, mul-le-mul_right, mul_assoc, pow-zero, pow-succ', pow-le-pow_right}
-use Rattle.std.proofs.lemmas.Bool.{cases_lt, lt-ltb, le-ltb, le-leb, ne_eqb, ltb-true, and_parts, and_right}
+use Rattle.std.proofs.lemmas.Bool.{cases_lt, lt-ltb, le-leb, ne_eqb, ltb-true, and_parts, and_right}
 use Rattle.std.proofs.lemmas.List.{drop_more}
 use Rattle.job_text.specs.declared.fault.Cause.{Cause}
 use Rattle.job_text.specs.declared.fault.Cause.TheVariants as causes
@@ -45,11 +45,6 @@ module _ (base value i : ℕ) (word : List ℕ) (below : i < length word) where
   are_more small =
       ap (are_digits base) (drop_more word i 0 below)
       ∙ ap (λ b. b && are_digits base (drop (i + 1) word)) (lt-ltb _ _ small)
-
-  pub none_more : base ≤ digit_value (get_or word i 0) → are_digits base (drop i word) ≡ false
-  none_more large =
-      ap (are_digits base) (drop_more word i 0 below)
-      ∙ ap (λ b. b && are_digits base (drop (i + 1) word)) (le-ltb _ _ large)
 
 -- ---- words of 8 bytes
 

@@ -9,14 +9,15 @@ use Rattle.std.proofs.lemmas.List.Folds.{list_all_at}
 use Rattle.std.proofs.lemmas.List.FromFn.{length-map-range_with_len, get_or-map-range_with_len}
 use Rattle.zr_base.specs.Plain.{InBounds}
 use Rattle.zr_base.specs.declared.op.Turns.{Turns}
+use Rattle.zr_base.specs.declared.limits.TheConstants.{MOST_PAGES, MOST_SECTORS, MOST_ACTORS}
 use Rattle.job_text.specs.declared.fault.Cause.{Cause}
 use Rattle.job_text.specs.declared.fault.Cause.TheVariants as causes
-use Rattle.job_text.specs.declared.fault.Stop.{Stop}
+use Rattle.job_text.specs.declared.fault.NotTaken.{NotTaken}
 use Rattle.job_text.specs.declared.line.Line.{Line}
-use Rattle.job_text.specs.Numbers.{digit_value, is_number, pages_of, number_of, are_digits, bytes_by, turn_of}
+use Rattle.job_text.specs.Numbers.{digit_value, is_number, size_pages, number_of, are_digits, bytes_by, turn_of}
 use Rattle.job_text.specs.Lines.{Form, blank_form, size_form, actor_form, fill_form, seq_form, hex_form, read_form, discard_form, schedule_form, run_form, alone, size_in, read_in, discard_in, fill_in, seq_in, hex_in, stuff_in, write_in, schedule_in, named_in, form_of, fill_sectors, is_malformed, meaning, are_bounds, may_give, has_bad_value, line_with, line_of}
 use Rattle.job_text.specs.Jobs.{MayTurn}
-use Rattle.job_text.specs.Answers.{Answers, IsLine}
+use Rattle.job_text.specs.Answers.{Answers, IsInRange}
 
 -- a fact of what there is, if anything
 abbrev pub IfRead : {A : Type 0} → (A → Type 0) → Result A Cause → Type 0
@@ -39,26 +40,26 @@ HasWords run_form = Unit {0}
 bounds : (start count : ℕ) → not (are_bounds start count) ≡ false → InBounds start count
 bounds start count good = grind (arith, nat_tests, not-false (are_bounds start count) good)
 
-may_turn : (turns : List Turns) → list_all may_give turns ≡ true → MayTurn 64 turns
+may_turn : (turns : List Turns) → list_all may_give turns ≡ true → MayTurn MOST_ACTORS turns
 may_turn [] all = tt
 may_turn (t ∷ ts) all =
     let parts = and_parts (may_give t) (list_all may_give ts) all in
     (grind (arith, nat_tests, parts.0), grind (arith, nat_tests, parts.0), grind (arith, nat_tests, parts.0), may_turn ts parts.1)
 
 -- the bytes of a request, where its digits are as many as they must be
-filled : (digits : List ℕ) (count : ℕ) → fill_sectors (length digits) count ≡ true → 1 ≤ count → count ≤ 2048
+filled : (digits : List ℕ) (count : ℕ) → fill_sectors (length digits) count ≡ true → 1 ≤ count → count ≤ MOST_SECTORS
     → 512 * count ≤ length (bytes_by digits)
 filled digits count fill some most =
     let n : length digits ≡ 1024 * count = exact (length digits) count fill some most in
     let l : length (bytes_by digits) ≡ length digits / 2 = length-map-range_with_len (λ k. 16 * digit_value (get_or digits (2 * k) 0) + digit_value (get_or digits (2 * k + 1) 0)) 0 (length digits / 2) in
     omega arith
   where
-    exact : (digits count : ℕ) → fill_sectors digits count ≡ true → 1 ≤ count → count ≤ 2048
+    exact : (digits count : ℕ) → fill_sectors digits count ≡ true → 1 ≤ count → count ≤ MOST_SECTORS
         → digits ≡ 1024 * count
     exact digits count fill some most =
         let a : nat_le 1 count ≡ true = le-leb 1 count some in
-        let b : nat_le count 2048 ≡ true = le-leb count 2048 most in
-        let c : not (nat_le 1 count && nat_le count 2048) ≡ false = rw (a, b) refl in
+        let b : nat_le count MOST_SECTORS ≡ true = le-leb count MOST_SECTORS most in
+        let c : not (nat_le 1 count && nat_le count MOST_SECTORS) ≡ false = rw (a, b) refl in
         eqb-true digits (1024 * count) (let d = ap (λ x. x || digits == 1024 * count) c in sym d ∙ fill)
 
 -- each of them is a byte
@@ -84,13 +85,13 @@ bytes_by-small digits are k = elim (cases_lt k (length digits / 2)) [
     byte k = 16 * digit_value (get_or digits (2 * k) 0) + digit_value (get_or digits (2 * k + 1) 0)
 
 form-lawful : (form : Form) → HasWords form → is_malformed form ≡ false → has_bad_value (meaning form) ≡ false
-    → IsLine (meaning form)
+    → IsInRange (meaning form)
 unfolding is_malformed meaning
 form-lawful blank_form has well good = tt
-form-lawful (size_form size) has well good = sized (pages_of size) good
+form-lawful (size_form size) has well good = sized (size_pages size) good
   where
-    sized : (pages : ℕ) → not (nat_le 1 pages && nat_le pages 262144) ≡ false → (1 ≤ pages) × (pages ≤ 262144)
-    sized pages good = grind (arith, nat_tests, not-false (nat_le 1 pages && nat_le pages 262144) good)
+    sized : (pages : ℕ) → not (nat_le 1 pages && nat_le pages MOST_PAGES) ≡ false → (1 ≤ pages) × (pages ≤ MOST_PAGES)
+    sized pages good = grind (arith, nat_tests, not-false (nat_le 1 pages && nat_le pages MOST_PAGES) good)
 form-lawful actor_form has well good = tt
 form-lawful (fill_form start count word) has well good = (bounds (number_of start) (number_of count) good, tt, tt)
 form-lawful (seq_form start count base step) has well good = (bounds (number_of start) (number_of count) good, tt, tt)
@@ -182,21 +183,21 @@ form-words (name ∷ words) =
 
 line-lawful-by : (form : Form) → HasWords form → (m b : Bool) → is_malformed form ≡ m
     → has_bad_value (meaning form) ≡ b
-    → IfRead IsLine (cond m (Err causes.Number) (cond b (Err causes.Range) (Ok (meaning form))))
+    → IfRead IsInRange (cond m (Err causes.Number) (cond b (Err causes.Range) (Ok (meaning form))))
 line-lawful-by form has true b well good = tt
 line-lawful-by form has false true well good = tt
 line-lawful-by form has false false well good = form-lawful form has well good
 
-pub line-lawful : (words : List (List ℕ)) → IfRead IsLine (line_of words)
+pub line-lawful : (words : List (List ℕ)) → IfRead IsInRange (line_of words)
 line-lawful words = by (form_of words) (form-words words)
   where
-    by : (form : Option Form) → IfForm form → IfRead IsLine (line_with form)
+    by : (form : Option Form) → IfForm form → IfRead IsInRange (line_with form)
     by None has = tt
     by (Some form) has = line-lawful-by form has (is_malformed form) (has_bad_value (meaning form)) refl refl
 
 -- what a call that answers for words gives
-pub answered-lawful : (words : List (List ℕ)) (result : Result Line Stop) → Answers (line_of words) result
-    → IfOk result IsLine
-answered-lawful words (Ok line) is = let P : Result Line Cause → Type 0 = IfRead IsLine in
+pub answered-lawful : (words : List (List ℕ)) (result : Result Line NotTaken) → Answers (line_of words) result
+    → IfOk result IsInRange
+answered-lawful words (Ok line) is = let P : Result Line Cause → Type 0 = IfRead IsInRange in
     subst P is (line-lawful words)
 answered-lawful words (Err stop) is = tt

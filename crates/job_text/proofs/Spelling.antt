@@ -5,6 +5,8 @@ use Rattle.std.proofs.lemmas.List.{append-nil, length_push}
 use Rattle.std.proofs.lemmas.Bool.{leb-true, le-leb, lt-ltb}
 use Rattle.zr_base.specs.declared.op.Op.{Op}
 use Rattle.zr_base.specs.declared.op.Turns.{Turns}
+use Rattle.zr_base.specs.declared.limits.TheConstants.{MOST_ACTORS}
+use Rattle.job_text.specs.declared.limits.TheConstants.{MOST_TURNS}
 use Rattle.job_text.specs.declared.job.Attr.TheVariants.{DiskPages}
 use Rattle.job_text.specs.declared.job.Item.{Item}
 use Rattle.job_text.specs.declared.job.Item.TheVariants as items
@@ -53,16 +55,16 @@ more_schedule begun (ops ∷ more) = more_schedule (record begun { actors = begu
 
 spelled_actors : (u : Used) (begun : Begun) (actors : List (List Op)) (rest : List Saying)
     → is_scheduled begun ≡ false → u.disk ≡ true
-    → length begun.actors + 1 + length actors ≤ 64 → MayAct u actors
+    → length begun.actors + 1 + length actors ≤ MOST_ACTORS → MayAct u actors
     → items_from u (Some begun) (flat_map actor_sayings actors ++ rest) ≡ items_from (with_actors u actors) (Some (with_more begun actors)) rest
 spelled_actors u begun [] rest none disk few may = refl
 spelled_actors u begun (ops ∷ more) rest none disk few may =
     let next = record begun { actors = begun.actors ++ begun.last ∷ []; last = [] } in
-    let left : nat_le (length begun.actors + 1 + 1) 64 ≡ true = le-leb (length begun.actors + 1 + 1) 64 (omega arith) in
-    let fewer : length (begun.actors ++ begun.last ∷ []) + 1 + length more ≤ 64 = omega (arith, length_push begun.actors begun.last) in
+    let left : nat_le (length begun.actors + 1 + 1) MOST_ACTORS ≡ true = le-leb (length begun.actors + 1 + 1) MOST_ACTORS (omega arith) in
+    let fewer : length (begun.actors ++ begun.last ∷ []) + 1 + length more ≤ MOST_ACTORS = omega (arith, length_push begun.actors begun.last) in
     ap (λ (xs : List Saying). items_from u (Some begun) (says_actor ∷ xs)) (append_assoc (map says_operation ops) (flat_map actor_sayings more) rest)
-    ∙ ap (λ b. cond (not b && u.disk && nat_le (length begun.actors + 1 + 1) 64) (items_from u (Some next) (map says_operation ops ++ (flat_map actor_sayings more ++ rest))) None) none
-    ∙ ap (λ b. cond (b && nat_le (length begun.actors + 1 + 1) 64) (items_from u (Some next) (map says_operation ops ++ (flat_map actor_sayings more ++ rest))) None) disk
+    ∙ ap (λ b. cond (not b && u.disk && nat_le (length begun.actors + 1 + 1) MOST_ACTORS) (items_from u (Some next) (map says_operation ops ++ (flat_map actor_sayings more ++ rest))) None) none
+    ∙ ap (λ b. cond (b && nat_le (length begun.actors + 1 + 1) MOST_ACTORS) (items_from u (Some next) (map says_operation ops ++ (flat_map actor_sayings more ++ rest))) None) disk
     ∙ ap (λ b. cond b (items_from u (Some next) (map says_operation ops ++ (flat_map actor_sayings more ++ rest))) None) left
     ∙ spelled_ops u next ops (flat_map actor_sayings more ++ rest) none may.0
     ∙ spelled_actors (with_ops u ops) (record next { last = ops }) more rest none ((ops_keep u ops).0
@@ -76,7 +78,7 @@ named_all actors (t ∷ ts) may =
 
 -- a schedule and its `run`, behind a phase's actors
 spelled_end : (u : Used) (begun : Begun) (schedule : List Turns) (rest : List Saying)
-    → MayTurn (length begun.actors + 1) schedule → u.turns ≤ 16777216
+    → MayTurn (length begun.actors + 1) schedule → u.turns ≤ MOST_TURNS
     → has_turns_left u schedule ≡ true
     → items_from u (Some begun) (map says_turns schedule ++ says_run ∷ rest)
     ≡ option_map (λ later. items.Phase (record { actors = all_actors begun; schedule = begun.schedule ++ schedule }) ∷ later) (items_from (with_turns u schedule) None rest)
@@ -90,7 +92,7 @@ regroup : (a b rest : List Saying) → ((a ++ b) ++ says_run ∷ []) ++ rest ≡
 regroup a b rest = append_assoc (a ++ b) (says_run ∷ []) rest ∙ append_assoc a b (says_run ∷ rest)
 
 spelled_phase : (u : Used) (actors : List (List Op)) (schedule : List Turns) (rest : List Saying)
-    → u.turns ≤ 16777216 → MayRun u actors schedule
+    → u.turns ≤ MOST_TURNS → MayRun u actors schedule
     → items_from u None (flat_map actor_sayings actors ++ (map says_turns schedule ++ says_run ∷ rest))
     ≡ option_map (λ later. items.Phase (record { actors = actors; schedule = schedule }) ∷ later) (items_from (with_text u actors schedule) None rest)
 spelled_phase u [] [] rest fits may =
@@ -103,7 +105,7 @@ spelled_phase u (ops ∷ more) schedule rest fits may =
     let first : Begun = record { actors = []; last = ops; schedule = [] } in
     let last = map says_turns schedule ++ says_run ∷ rest in
     let v = with_actors (with_phase u) (ops ∷ more) in
-    let few : 0 + 1 + length more ≤ 64 = let n : suc (length more) ≤ 64 = may.few_actors in omega arith in
+    let few : 0 + 1 + length more ≤ MOST_ACTORS = let n : suc (length more) ≤ MOST_ACTORS = may.few_actors in omega arith in
     let disk : (with_ops (with_phase u) ops).disk ≡ true = (ops_keep (with_phase u) ops).0 ∙ may.has_disk in
     let end = with_more first more in
     let all : all_actors end ≡ ops ∷ more = more_actors first more in
@@ -111,7 +113,7 @@ spelled_phase u (ops ∷ more) schedule rest fits may =
     ∙ ap length all in
     let P : ℕ → Type 0 = λ n. MayTurn n schedule in
     let keep : v.turns ≡ u.turns = actors_keep (with_phase u) (ops ∷ more) in
-    let vfits : v.turns ≤ 16777216 = omega arith in
+    let vfits : v.turns ≤ MOST_TURNS = omega arith in
     ap (λ (xs : List Saying). items_from u None (says_actor ∷ xs)) (append_assoc (map says_operation ops) (flat_map actor_sayings more) last)
     ∙ ap (λ b. cond (b && has_phase_left u) (items_from (with_phase u) (Some fresh) (map says_operation ops ++ (flat_map actor_sayings more ++ last))) None) may.has_disk
     ∙ ap (λ b. cond b (items_from (with_phase u) (Some fresh) (map says_operation ops ++ (flat_map actor_sayings more ++ last))) None) may.phase_left
@@ -121,14 +123,14 @@ spelled_phase u (ops ∷ more) schedule rest fits may =
     ∙ ap (λ actors. option_map (λ later. items.Phase (record { actors = actors; schedule = end.schedule ++ schedule }) ∷ later) (items_from (with_turns v schedule) None rest)) all
     ∙ ap (λ turns. option_map (λ later. items.Phase (record { actors = ops ∷ more; schedule = turns ++ schedule }) ∷ later) (items_from (with_turns v schedule) None rest)) (more_schedule first more)
 
-pub spelled_read : (u : Used) (job : List Item) → u.turns ≤ 16777216 → MayFollow u job
+pub spelled_read : (u : Used) (job : List Item) → u.turns ≤ MOST_TURNS → MayFollow u job
     → items_from u None (flat_map item_sayings job) ≡ Some job
 spelled_read u [] fits may = refl
 spelled_read u (items.Attr (DiskPages pages) ∷ more) fits may =
     ap (λ b. cond b None (option_map (λ later. items.Attr (DiskPages pages) ∷ later) (items_from (with_disk u) None (flat_map item_sayings more)))) may.0
     ∙ ap (option_map (λ later. items.Attr (DiskPages pages) ∷ later)) (spelled_read (with_disk u) more fits may.3)
 spelled_read u (items.Phase text ∷ more) fits may =
-    let left : (with_text u text.actors text.schedule).turns ≤ 16777216 = leb-true _ _ may.0.turns_left in
+    let left : (with_text u text.actors text.schedule).turns ≤ MOST_TURNS = leb-true _ _ may.0.turns_left in
     ap (items_from u None) (regroup (flat_map actor_sayings text.actors) (map says_turns text.schedule) (flat_map item_sayings more))
     ∙ spelled_phase u text.actors text.schedule (flat_map item_sayings more) fits may.0
     ∙ ap (option_map (λ later. items.Phase text ∷ later)) (spelled_read (with_text u text.actors text.schedule) more left may.1)

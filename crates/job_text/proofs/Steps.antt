@@ -4,6 +4,8 @@ use Rattle.std.specs.List.{list_all}
 use Rattle.std.proofs.lemmas.List.{append-nil, length_push, length-append}
 use Rattle.std.proofs.lemmas.Bool.{leb-true, leb-false, lt-leb, le-leb, ne_eqb}
 use Rattle.zr_base.specs.declared.op.Turns.{Turns}
+use Rattle.zr_base.specs.declared.limits.TheConstants.{MOST_ACTORS}
+use Rattle.job_text.specs.declared.limits.TheConstants.{MOST_TURNS}
 use Rattle.job_text.specs.declared.fault.Cause.{Cause}
 use Rattle.job_text.specs.declared.fault.Cause.TheVariants as causes
 use Rattle.job_text.specs.declared.fault.JobFault.{JobFault}
@@ -17,7 +19,7 @@ use Rattle.job_text.specs.declared.reading.Reading.{Reading}
 use Rattle.job_text.specs.Lines.{Form, words_of, form_of, is_malformed, meaning, has_bad_value, line_with, line_of}
 use Rattle.job_text.specs.Jobs.{Saying, says_turns, said_by, said_before, sayings, Used, with_disk, with_phase, turns_in, with_turns, has_phase_left, has_left_for, has_turns_left}
 use Rattle.job_text.specs.Faults.{Phase, said_in, cause_in, cause_of, used_with, phase_with, fault_at, first_fault_from}
-use Rattle.job_text.specs.Answers.{IsLine}
+use Rattle.job_text.specs.Answers.{IsInRange}
 use Rattle.job_text.specs.Reading.{used_by, is_scheduled, phase_at, phase_of, all_actors, text_of, place_cause, begun_with, items_by, IsNext, items_from, items_with, items_behind}
 use Rattle.job_text.proofs.Lawful.{IfRead, line-lawful}
 
@@ -71,11 +73,11 @@ with_schedule begun turns = record begun { schedule = begun.schedule ++ turns }
 abbrev pub are_named : Begun → List Turns → Bool
 are_named begun turns = list_all (λ t. nat_lt t.actor (length begun.actors + 1)) turns
 
-pub turns_step : (u : Used) (begun : Begun) (turns : List Turns) (rest : List Saying) → u.turns ≤ 16777216
+pub turns_step : (u : Used) (begun : Begun) (turns : List Turns) (rest : List Saying) → u.turns ≤ MOST_TURNS
     → items_from u (Some begun) (map says_turns turns ++ rest)
     ≡ cond (are_named begun turns && has_turns_left u turns) (items_from (with_turns u turns) (Some (with_schedule begun turns)) rest) None
 turns_step u begun [] rest fits =
-    let left : has_turns_left u [] ≡ true = le-leb (u.turns + 0) 16777216 (omega arith) in
+    let left : has_turns_left u [] ≡ true = le-leb (u.turns + 0) MOST_TURNS (omega arith) in
     let none : u.turns + 0 ≡ u.turns = omega arith in
     sym (
     ap (λ b. cond b (items_from (with_turns u []) (Some (with_schedule begun [])) rest) None) left
@@ -86,15 +88,15 @@ turns_step u begun (t ∷ ts) rest fits =
     by (nat_lt t.actor (length begun.actors + 1)) (has_turns_left u (t ∷ [])) refl (λ few. turns_step (with_turns u (t ∷ [])) (with_schedule begun (t ∷ [])) ts rest few)
   where
     by : (named left : Bool) → has_turns_left u (t ∷ []) ≡ left
-        → (u.turns + (t.times + 0) ≤ 16777216
+        → (u.turns + (t.times + 0) ≤ MOST_TURNS
         → items_from (with_turns u (t ∷ [])) (Some (with_schedule begun (t ∷ []))) (map says_turns ts ++ rest)
         ≡ cond (are_named begun ts && has_turns_left (with_turns u (t ∷ [])) ts) (items_from (with_turns (with_turns u (t ∷ [])) ts) (Some (with_schedule (with_schedule begun (t ∷ [])) ts)) rest) None)
         → cond (named && left) (items_from (with_turns u (t ∷ [])) (Some (with_schedule begun (t ∷ []))) (map says_turns ts ++ rest)) None
         ≡ cond ((named && are_named begun ts) && has_turns_left u (t ∷ ts)) (items_from (with_turns u (t ∷ ts)) (Some (with_schedule begun (t ∷ ts))) rest) None
     by false left is further = refl
     by true false is further =
-        let much : 16777216 < u.turns + (t.times + 0) = leb-false _ _ is in
-        let more : has_turns_left u (t ∷ ts) ≡ false = lt-leb (u.turns + (t.times + turns_in ts)) 16777216 (omega arith) in
+        let much : MOST_TURNS < u.turns + (t.times + 0) = leb-false _ _ is in
+        let more : has_turns_left u (t ∷ ts) ≡ false = lt-leb (u.turns + (t.times + turns_in ts)) MOST_TURNS (omega arith) in
         sym (ap (λ b. cond (are_named begun ts && b) (items_from (with_turns u (t ∷ ts)) (Some (with_schedule begun (t ∷ ts))) rest) None) more ∙ off (are_named begun ts))
       where
         off : (b : Bool)
@@ -102,16 +104,16 @@ turns_step u begun (t ∷ ts) rest fits =
         off true = refl
         off false = refl
     by true true is further =
-        let few : u.turns + (t.times + 0) ≤ 16777216 = leb-true _ _ is in
+        let few : u.turns + (t.times + 0) ≤ MOST_TURNS = leb-true _ _ is in
         let sum : u.turns + (t.times + 0) + turns_in ts ≡ u.turns + (t.times + turns_in ts) = omega arith in
         further few
-        ∙ ap (λ n. cond (are_named begun ts && nat_le n 16777216) (items_from (record u { turns = n }) (Some (with_schedule (with_schedule begun (t ∷ [])) ts)) rest) None) sum
+        ∙ ap (λ n. cond (are_named begun ts && nat_le n MOST_TURNS) (items_from (record u { turns = n }) (Some (with_schedule (with_schedule begun (t ∷ [])) ts)) rest) None) sum
         ∙ ap (λ all. cond (are_named begun ts && has_turns_left u (t ∷ ts)) (items_from (with_turns u (t ∷ ts)) (Some (record begun { schedule = all })) rest) None) (append_assoc begun.schedule (t ∷ []) ts)
 
 -- ---- a line
 
-pub line_step : (u : Used) (begun : Option Begun) (first : ℕ) (line : Line) (rest : List Saying) → IsLine line
-    → u.turns ≤ 16777216
+pub line_step : (u : Used) (begun : Option Begun) (first : ℕ) (line : Line) (rest : List Saying) → IsInRange line
+    → u.turns ≤ MOST_TURNS
     → items_from u begun (said_by line ++ rest)
     ≡ unless (place_cause u (phase_at first begun) line)
     (option_map (λ later. items_by begun line ++ later) (items_from (used_with u (phase_at first begun) line) (begun_with begun line) rest))
@@ -121,7 +123,7 @@ line_step u None first (Disk pages) rest is fits =
     placed (option_map (λ later. items.Attr (DiskPages pages) ∷ later) (items_from (with_disk u) None rest)) u.disk
 line_step u (Some begun) first (Disk pages) rest is fits = refl
 line_step u None first Actor rest is fits = acted _ false u.disk (has_phase_left u)
-line_step u (Some begun) first Actor rest is fits = acted _ (is_scheduled begun) u.disk (nat_le (length begun.actors + 1 + 1) 64)
+line_step u (Some begun) first Actor rest is fits = acted _ (is_scheduled begun) u.disk (nat_le (length begun.actors + 1 + 1) MOST_ACTORS)
 line_step u None first (Operation op) rest is fits = refl
 line_step u (Some begun) first (Operation op) rest is fits = operated _ (is_scheduled begun) (has_left_for u op)
 line_step u None first (Schedule []) rest is fits = let some : 1 ≤ 0 = is.0 in absurd (omega arith)
@@ -143,7 +145,7 @@ first_with number first begun (Operation op) = first
 first_with number first begun (Schedule turns) = first
 first_with number first begun Run = first
 
-phase_step : (number first : ℕ) (begun : Option Begun) (line : Line) → IsLine line
+phase_step : (number first : ℕ) (begun : Option Begun) (line : Line) → IsInRange line
     → phase_with number (phase_at first begun) line ≡ phase_at (first_with number first begun line) (begun_with begun line)
 phase_step number first None Blank is = refl
 phase_step number first (Some begun) Blank is = refl
@@ -165,7 +167,7 @@ phase_step number first (Some begun) Run is = refl
 
 -- turns stay within the limit
 turns_fit : (u : Used) (phase : Option Phase) (line : Line) → place_cause u phase line ≡ None
-    → u.turns ≤ 16777216 → (used_with u phase line).turns ≤ 16777216
+    → u.turns ≤ MOST_TURNS → (used_with u phase line).turns ≤ MOST_TURNS
 turns_fit u None Blank free fits = fits
 turns_fit u (Some phase) Blank free fits = fits
 turns_fit u None (Disk pages) free fits = fits
@@ -180,7 +182,7 @@ turns_fit u (Some phase) (Schedule turns) free fits =
   where
     by : (named left : Bool) → has_turns_left u turns ≡ left
         → cond (not named) (Some causes.Range) (cond (not left) (Some causes.TooMany) None) ≡ None
-        → u.turns + turns_in turns ≤ 16777216
+        → u.turns + turns_in turns ≤ MOST_TURNS
     by true true is free = leb-true _ _ is
     by true false is free = cc
     by false left is free = cc
@@ -220,13 +222,13 @@ fault_step u (Some phase) number text texts = refl
 
 abbrev GivesNone : JobFault → List (List ℕ) → Option (List Saying) → Type 0
 GivesNone fault texts said =
-    (u : Used) (begun : Option Begun) (first number : ℕ) → u.turns ≤ 16777216
+    (u : Used) (begun : Option Begun) (first number : ℕ) → u.turns ≤ MOST_TURNS
     → first_fault_from u (phase_at first begun) number texts ≡ Some fault
     → option_and_then (items_from u begun) said ≡ None
 
-module _ (u : Used) (begun : Option Begun) (first number : ℕ) (text : List ℕ) (texts : List (List ℕ)) (fault : JobFault) (fits : u.turns ≤ 16777216)
+module _ (u : Used) (begun : Option Begun) (first number : ℕ) (text : List ℕ) (texts : List (List ℕ)) (fault : JobFault) (fits : u.turns ≤ MOST_TURNS)
     (e : first_fault_from u (phase_at first begun) number (text ∷ texts) ≡ Some fault) where
-  none_behind : (line : Line) (more : List Saying) → IsLine line
+  none_behind : (line : Line) (more : List Saying) → IsInRange line
       → HasCause u (phase_at first begun) (words_of text) (Ok line) → GivesNone fault texts (Some more)
       → (cause : Option Cause) → place_cause u (phase_at first begun) line ≡ cause
       → unless cause (option_map (λ later. items_by begun line ++ later) (items_from (used_with u (phase_at first begun) line) (begun_with begun line) more)) ≡ None
@@ -242,7 +244,7 @@ module _ (u : Used) (begun : Option Begun) (first number : ℕ) (text : List ℕ
       (ap (λ p. first_fault_from (used_with u phase line) p (number + 1) texts) (sym (phase_step number first begun line is)) ∙ next) in
       ap (option_map (λ later. items_by begun line ++ later)) later
 
-  none_here : (read : Result Line Cause) (said : Option (List Saying)) → IfRead IsLine read
+  none_here : (read : Result Line Cause) (said : Option (List Saying)) → IfRead IsInRange read
       → HasCause u (phase_at first begun) (words_of text) read → GivesNone fault texts said
       → option_and_then (items_from u begun) (said_before read said) ≡ None
   none_here (Err cause) said is has none = refl
@@ -261,7 +263,7 @@ no_items (text ∷ texts) fault u begun first number fits e =
 -- ---- a line that was taken
 
 module _ (r next : Reading) (number : ℕ) (text : List ℕ) (line : Line) where
-  pub goes_on : line_of (words_of text) ≡ Ok line → IsLine line → IsNext r number line next
+  pub goes_on : line_of (words_of text) ≡ Ok line → IsInRange line → IsNext r number line next
       → (rest : List (List ℕ))
       → items_behind r (text ∷ rest) ≡ items_behind next rest
   goes_on said is taken rest = ap (λ read. option_and_then (items_with r) (said_before read (sayings rest))) said ∙ by (sayings rest)

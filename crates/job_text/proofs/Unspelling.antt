@@ -7,6 +7,8 @@ use Rattle.std.proofs.lemmas.Bool.{leb-true, le-leb, ltb-true, eqb-true, and_par
 use Rattle.zr_base.specs.Plain.{IsRequest}
 use Rattle.zr_base.specs.declared.op.Op.{Op}
 use Rattle.zr_base.specs.declared.op.Turns.{Turns}
+use Rattle.zr_base.specs.declared.limits.TheConstants.{MOST_PAGES, MOST_ACTORS}
+use Rattle.job_text.specs.declared.limits.TheConstants.{MOST_TURNS}
 use Rattle.job_text.specs.declared.job.Attr.TheVariants.{DiskPages}
 use Rattle.job_text.specs.declared.job.Item.{Item}
 use Rattle.job_text.specs.declared.job.Item.TheVariants as items
@@ -16,10 +18,10 @@ use Rattle.job_text.specs.Reading.{is_scheduled, all_actors, items_from}
 
 -- a saying's values are in their range
 abbrev pub IsSaid : Saying → Type 0
-IsSaid (says_disk pages) = (1 ≤ pages) × (pages ≤ 262144)
+IsSaid (says_disk pages) = (1 ≤ pages) × (pages ≤ MOST_PAGES)
 IsSaid says_actor = Unit {0}
 IsSaid (says_operation op) = IsRequest op
-IsSaid (says_turns turns) = (1 ≤ turns.times) × (turns.times ≤ 16777216)
+IsSaid (says_turns turns) = (1 ≤ turns.times) × (turns.times ≤ MOST_TURNS)
 IsSaid says_run = Unit {0}
 
 -- ---- one more
@@ -48,7 +50,7 @@ act_push u [] ops may more = (more, tt)
 act_push u (o ∷ actors) ops may more = (may.0, act_push (with_ops u o) actors ops may.1 more)
 
 turn_push : (actors : ℕ) (turns : List Turns) (t : Turns) → MayTurn actors turns → t.actor < actors
-    → (1 ≤ t.times) × (t.times ≤ 16777216) → MayTurn actors (turns ++ t ∷ [])
+    → (1 ≤ t.times) × (t.times ≤ MOST_TURNS) → MayTurn actors (turns ++ t ∷ [])
 turn_push actors [] t may named is = (named, is.0, is.1, tt)
 turn_push actors (o ∷ more) t may named is = (may.0, may.1, may.2, turn_push actors more t may.3 named is)
 
@@ -61,15 +63,15 @@ used_in before begun = with_turns (with_ops (with_actors (with_phase before) beg
 pub record InPhase (before u : Used) (begun : Begun) : Type 0 where
   pub used : u ≡ used_in before begun
   pub phase_left : has_phase_left before ≡ true
-  pub few : length begun.actors + 1 ≤ 64
+  pub few : length begun.actors + 1 ≤ MOST_ACTORS
   pub disk : before.disk ≡ true
   pub acted : MayAct (with_phase before) begun.actors
   pub operated : MayOperate (with_actors (with_phase before) begun.actors) begun.last
   pub turned : MayTurn (length begun.actors + 1) begun.schedule
-  pub fits : u.turns ≤ 16777216
+  pub fits : u.turns ≤ MOST_TURNS
 
 abbrev IsIn : Used → Used → Option Begun → Type 0
-IsIn before u None = (u ≡ before) × (u.turns ≤ 16777216)
+IsIn before u None = (u ≡ before) × (u.turns ≤ MOST_TURNS)
 IsIn before u (Some begun) = InPhase before u begun
 
 abbrev begun_sayings : Option Begun → List Saying
@@ -87,7 +89,7 @@ disk_stays u (ops ∷ more) = disk_stays (with_ops u ops) more ∙ ops_stay u op
     ops_stay u [] = refl
     ops_stay u (op ∷ ops) = ops_stay (with_op u op) ops
 
-begin : (before u : Used) → u ≡ before → u.turns ≤ 16777216 → before.disk ≡ true → has_phase_left before ≡ true
+begin : (before u : Used) → u ≡ before → u.turns ≤ MOST_TURNS → before.disk ≡ true → has_phase_left before ≡ true
     → InPhase before (with_phase u) (record { actors = []; last = []; schedule = [] })
 begin before u at fits disk left =
     let none : before.turns ≡ before.turns + 0 = omega arith in
@@ -103,11 +105,11 @@ begin before u at fits disk left =
     }
 
 next_actor : (before u : Used) (begun : Begun) → InPhase before u begun → is_scheduled begun ≡ false
-    → nat_le (length begun.actors + 1 + 1) 64 ≡ true
+    → nat_le (length begun.actors + 1 + 1) MOST_ACTORS ≡ true
     → InPhase before u (record begun { actors = begun.actors ++ begun.last ∷ []; last = [] })
 next_actor before u begun at none few =
     let empty = no_schedule begun none in
-    let n : length begun.actors + 1 + 1 ≤ 64 = leb-true _ _ few in
+    let n : length begun.actors + 1 + 1 ≤ MOST_ACTORS = leb-true _ _ few in
     let P : List Turns → Type 0 = λ turns. MayTurn (length (begun.actors ++ begun.last ∷ []) + 1) turns in
     record {
       used = at.used
@@ -141,7 +143,7 @@ next_op before u begun op at request left =
     }
 
 next_turns : (before u : Used) (begun : Begun) (t : Turns) → InPhase before u begun
-    → (1 ≤ t.times) × (t.times ≤ 16777216)
+    → (1 ≤ t.times) × (t.times ≤ MOST_TURNS)
     → nat_lt t.actor (length begun.actors + 1) ≡ true → has_turns_left u (t ∷ []) ≡ true
     → InPhase before (with_turns u (t ∷ [])) (record begun { schedule = begun.schedule ++ t ∷ [] })
 next_turns before u begun t at is named left =
@@ -265,8 +267,8 @@ unspelled before u None (says_actor ∷ said) job at are e =
     let left : has_phase_left before ≡ true = ap has_phase_left (sym at.0) ∙ parts.1 in
     unspelled before (with_phase u) (Some (record { actors = []; last = []; schedule = [] })) said job (begin before u at.0 at.1 disk left) are.1 kept.1
 unspelled before u (Some begun) (says_actor ∷ said) job at are e =
-    let kept = kept_by (not (is_scheduled begun) && u.disk && nat_le (length begun.actors + 1 + 1) 64) _ job e in
-    let parts = and_parts (not (is_scheduled begun) && u.disk) (nat_le (length begun.actors + 1 + 1) 64) kept.0 in
+    let kept = kept_by (not (is_scheduled begun) && u.disk && nat_le (length begun.actors + 1 + 1) MOST_ACTORS) _ job e in
+    let parts = and_parts (not (is_scheduled begun) && u.disk) (nat_le (length begun.actors + 1 + 1) MOST_ACTORS) kept.0 in
     let none : is_scheduled begun ≡ false = not-true _ (and_parts (not (is_scheduled begun)) u.disk parts.0).0 in
     let rest = unspelled before u (Some (record begun { actors = begun.actors ++ begun.last ∷ []; last = [] })) said job (next_actor before u begun at none parts.1) are.1 kept.1 in
     (rest.0 ∙ actor_said begun said none, rest.1)
@@ -290,7 +292,7 @@ unspelled before u None (says_run ∷ said) job at are e =
     let P : List Item → Type 0 = λ j. Spelled u None (says_run ∷ said) j in
     let Q : Used → Type 0 = λ b. Spelled b None (says_run ∷ said) job in
     let F : ℕ → Type 0 = λ n. MayFollow (record (with_phase u) { turns = n }) more.0 in
-    let left : has_turns_left (with_phase u) [] ≡ true = le-leb (u.turns + 0) 16777216 (omega (arith, at.1)) in
+    let left : has_turns_left (with_phase u) [] ≡ true = le-leb (u.turns + 0) MOST_TURNS (omega (arith, at.1)) in
     let run : MayRun u [] [] = record { phase_left = kept.0; few_actors = omega arith; has_disk = tt; may_act = tt; may_turn = tt; turns_left = left } in
     subst Q at.0 (subst P more.2 (ap (λ (xs : List Saying). says_run ∷ xs) rest.0, (run, subst F none rest.1)))
 unspelled before u (Some begun) (says_run ∷ said) job at are e =

@@ -1,6 +1,8 @@
 -- The first faulty line of a text, and its cause.
 use Rattle.std.specs.Prelude.{ℕ, ◌+◌, Bool, true, false, not, ◌||◌, nat_lt, nat_le, List, [], ◌∷◌, length, Option, Some, None, if◌then◌else◌}
 use Rattle.std.specs.List.{list_all}
+use Rattle.zr_base.specs.declared.limits.TheConstants.{MOST_ACTORS}
+use Rattle.job_text.specs.declared.limits.TheConstants.{MOST_BYTES}
 use Rattle.job_text.specs.declared.fault.Cause.{Cause}
 use Rattle.job_text.specs.declared.fault.Cause.TheVariants as causes
 use Rattle.job_text.specs.declared.fault.JobFault.{JobFault}
@@ -55,7 +57,7 @@ abbrev pub passes_limit : Used → Option Phase → Line → Bool
 passes_limit u phase Blank = false
 passes_limit u phase (Disk pages) = false
 passes_limit u None Actor = not (has_phase_left u)
-passes_limit u (Some phase) Actor = not (nat_le (phase.actors + 1) 64)
+passes_limit u (Some phase) Actor = not (nat_le (phase.actors + 1) MOST_ACTORS)
 passes_limit u phase (Operation op) = not (has_left_for u op)
 passes_limit u phase (Schedule turns) = not (has_turns_left u turns)
 passes_limit u None Run = not (has_phase_left u)
@@ -122,5 +124,5 @@ first_fault_from u phase number (line ∷ lines) =
 -- the first fault of a text, if it has one
 abbrev pub first_fault : List ℕ → Option JobFault
 first_fault bytes =
-    if nat_lt 16777216 (length bytes) then Some (record { line = 0; cause = causes.TooMany })
+    if nat_lt MOST_BYTES (length bytes) then Some (record { line = 0; cause = causes.TooMany })
     else first_fault_from nothing_used None 1 (text_lines bytes)

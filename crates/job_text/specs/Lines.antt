@@ -6,11 +6,13 @@ use Rattle.zr_base.specs.declared.op.Op.TheVariants.{Write, Read, Discard}
 use Rattle.zr_base.specs.declared.op.Stuff.TheVariants.{Fill, Seq, Hex}
 use Rattle.zr_base.specs.declared.op.Turns.{Turns}
 use Rattle.zr_base.specs.Plain.{start_of, count_of}
+use Rattle.zr_base.specs.declared.limits.TheConstants.{MOST_PAGES, MOST_SECTORS, MOST_ACTORS}
+use Rattle.job_text.specs.declared.limits.TheConstants.{MOST_TURNS}
 use Rattle.job_text.specs.declared.line.Line.{Line}
 use Rattle.job_text.specs.declared.line.Line.TheVariants.{Blank, Disk, Actor, Operation, Schedule, Run}
 use Rattle.job_text.specs.declared.fault.Cause.{Cause}
 use Rattle.job_text.specs.declared.fault.Cause.TheVariants as causes
-use Rattle.job_text.specs.Numbers.{are_digits, is_number, number_of, is_word, word_of, bytes_by, is_size, pages_of, is_turn, turn_of}
+use Rattle.job_text.specs.Numbers.{are_digits, is_number, number_of, is_word, word_of, bytes_by, is_size, size_pages, is_turn, turn_of}
 
 -- ---- the words
 
@@ -119,7 +121,7 @@ form_of (name ∷ words) = named_in name words
 
 -- whether so many digits are those of so many sectors, where the sectors are a request's
 abbrev pub fill_sectors : ℕ → ℕ → Bool
-fill_sectors digits count = not (nat_le 1 count && nat_le count 2048) || digits == 1024 * count
+fill_sectors digits count = not (nat_le 1 count && nat_le count MOST_SECTORS) || digits == 1024 * count
 
 -- a word isn't of its form, or there are too few or too many digits
 unfoldable pub is_malformed : Form → Bool
@@ -138,7 +140,7 @@ is_malformed run_form = false
 -- what a line says whose words are of their forms
 unfoldable pub meaning : Form → Line
 meaning blank_form = Blank
-meaning (size_form size) = Disk (pages_of size)
+meaning (size_form size) = Disk (size_pages size)
 meaning actor_form = Actor
 meaning (fill_form start count word) = Operation (Write (number_of start) (number_of count) (Fill (word_of word)))
 meaning (seq_form start count base step) = Operation (Write (number_of start) (number_of count) (Seq (word_of base) (word_of step)))
@@ -150,16 +152,16 @@ meaning run_form = Run
 
 -- a request's sectors begin below 2 ^ 32, and are 1 to 2048
 abbrev pub are_bounds : ℕ → ℕ → Bool
-are_bounds start count = nat_lt start (2 ^ 32) && nat_le 1 count && nat_le count 2048
+are_bounds start count = nat_lt start (2 ^ 32) && nat_le 1 count && nat_le count MOST_SECTORS
 
 -- a phase has at most 64 actors, and a turn is given 1 to 16777216 times
 abbrev pub may_give : Turns → Bool
-may_give turns = nat_lt turns.actor 64 && nat_le 1 turns.times && nat_le turns.times 16777216
+may_give turns = nat_lt turns.actor MOST_ACTORS && nat_le 1 turns.times && nat_le turns.times MOST_TURNS
 
 -- a value that is never allowed
 abbrev pub has_bad_value : Line → Bool
 has_bad_value Blank = false
-has_bad_value (Disk pages) = not (nat_le 1 pages && nat_le pages 262144)
+has_bad_value (Disk pages) = not (nat_le 1 pages && nat_le pages MOST_PAGES)
 has_bad_value Actor = false
 has_bad_value (Operation op) = not (are_bounds (start_of op) (count_of op))
 has_bad_value (Schedule turns) = not (list_all may_give turns)

@@ -78,8 +78,8 @@ abbrev pub bytes_of : List ℕ → ℕ
 bytes_of word = bytes_with (factor_of (last_of word)) word
 
 -- a size in whole pages of 4096 bytes, rounded up
-abbrev pub pages_of : List ℕ → ℕ
-pages_of word = (bytes_of word + 4095) / 4096
+abbrev pub size_pages : List ℕ → ℕ
+size_pages word = (bytes_of word + 4095) / 4096
 
 -- ---- turns
 

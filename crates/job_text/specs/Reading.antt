@@ -2,11 +2,13 @@
 use Rattle.std.specs.Prelude.{◌≡◌, ℕ, ◌+◌, ◌==◌, Bool, false, not, ◌&&◌, nat_lt, nat_le, List, [], ◌∷◌, ◌++◌, length, Option, Some, None, if◌then◌else◌, option_map, option_and_then}
 use Rattle.std.specs.Borrow.{Bor}
 use Rattle.zr_base.specs.declared.op.Op.{Op}
+use Rattle.zr_base.specs.declared.limits.TheConstants.{MOST_ACTORS}
+use Rattle.job_text.specs.declared.limits.TheConstants.{MOST_BYTES}
 use Rattle.job_text.specs.declared.fault.Cause.{Cause}
 use Rattle.job_text.specs.declared.fault.Cause.TheVariants as causes
 use Rattle.job_text.specs.declared.fault.JobFault.{JobFault}
-use Rattle.job_text.specs.declared.fault.Stop.{Stop}
-use Rattle.job_text.specs.declared.fault.Stop.TheVariants as stops
+use Rattle.job_text.specs.declared.fault.NotTaken.{NotTaken}
+use Rattle.job_text.specs.declared.fault.NotTaken.TheVariants as untaken
 use Rattle.job_text.specs.declared.job.Attr.TheVariants.{DiskPages}
 use Rattle.job_text.specs.declared.job.Item.{Item}
 use Rattle.job_text.specs.declared.job.Item.TheVariants as items
@@ -60,9 +62,9 @@ place_cause u phase line =
     else None
 
 -- a line was refused for this cause, or memory was wanting
-abbrev pub IsStop : Option Cause → Stop → Type 0
-IsStop cause (stops.Told told) = cause ≡ Some told
-IsStop cause (stops.Memory e) = Unit {0}
+abbrev pub IsNotTaken : Option Cause → NotTaken → Type 0
+IsNotTaken cause (untaken.Faulty told) = cause ≡ Some told
+IsNotTaken cause (untaken.Memory e) = Unit {0}
 
 -- the phase that has begun, with one more line
 abbrev pub begun_with : Option Begun → Line → Option Begun
@@ -106,7 +108,7 @@ items_from u (Some begun) (says_disk pages ∷ more) = None
 items_from u None (says_actor ∷ more) =
     if u.disk && has_phase_left u then items_from (with_phase u) (Some (record { actors = []; last = []; schedule = [] })) more else None
 items_from u (Some begun) (says_actor ∷ more) =
-    if not (is_scheduled begun) && u.disk && nat_le (length begun.actors + 1 + 1) 64
+    if not (is_scheduled begun) && u.disk && nat_le (length begun.actors + 1 + 1) MOST_ACTORS
     then items_from u (Some (record begun { actors = begun.actors ++ begun.last ∷ []; last = [] })) more
     else None
 items_from u None (says_operation op ∷ more) = None
@@ -128,7 +130,7 @@ items_with r more = option_map (λ later. r.items ++ later) (items_from (used_by
 
 -- the job that a text is
 abbrev pub job_of : List ℕ → Option (List Item)
-job_of bytes = if nat_lt 16777216 (length bytes) then None else option_and_then (items_from nothing_used None) (sayings (text_lines bytes))
+job_of bytes = if nat_lt MOST_BYTES (length bytes) then None else option_and_then (items_from nothing_used None) (sayings (text_lines bytes))
 
 -- ---- what is left of a text
 

@@ -37,31 +37,31 @@ pub enum ReadFault {
 
 /// Why a line wasn't taken.
 #[derive(Clone, Copy, PartialEq, Eq, Debug)]
-pub(crate) enum Stop {
+pub(crate) enum NotTaken {
     /// It is faulty.
-    Told(Cause),
+    Faulty(Cause),
     /// Memory was wanting.
     Memory(AllocError),
 }
 
-impl From<AllocError> for Stop {
+impl From<AllocError> for NotTaken {
     ghost use Rattle.std.specs.Prelude.{◌≡◌};
-    ghost use Rattle.job_text.specs.declared.fault.Stop.TheVariants.{Memory};
+    ghost use Rattle.job_text.specs.declared.fault.NotTaken.TheVariants.{Memory};
 
-    ghost from_gives = { λ e stop. stop ≡ Memory e };
+    ghost from_gives = { λ e n. n ≡ Memory e };
 
-    fn from(e: AllocError) -> Stop {
-        Stop::Memory(e)
+    fn from(e: AllocError) -> NotTaken {
+        NotTaken::Memory(e)
     }
 }
 
-impl From<Cause> for Stop {
+impl From<Cause> for NotTaken {
     ghost use Rattle.std.specs.Prelude.{◌≡◌};
-    ghost use Rattle.job_text.specs.declared.fault.Stop.TheVariants.{Told};
+    ghost use Rattle.job_text.specs.declared.fault.NotTaken.TheVariants.{Faulty};
 
-    ghost from_gives = { λ cause stop. stop ≡ Told cause };
+    ghost from_gives = { λ cause n. n ≡ Faulty cause };
 
-    fn from(cause: Cause) -> Stop {
-        Stop::Told(cause)
+    fn from(cause: Cause) -> NotTaken {
+        NotTaken::Faulty(cause)
     }
 }

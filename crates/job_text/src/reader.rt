@@ -4,17 +4,16 @@ ghost use Rattle.std.specs.Prelude.{◌≡◌, ℕ, ◌+◌, ◌<◌, ◌≤◌,
 ghost use Rattle.job_text.specs.declared.job.Item.{Item as JobItem};
 ghost use Rattle.job_text.specs.Lines.{words_of};
 ghost use Rattle.job_text.specs.Jobs.{IsJob, text_lines};
+ghost use Rattle.job_text.specs.Totals.{IsWithinLimits};
 ghost use Rattle.job_text.specs.Faults.{cause_of, first_fault};
-ghost use Rattle.job_text.specs.Reading.{IsStop, used_by, phase_of, job_of, lines_behind, bytes_behind, items_behind, fault_behind};
+ghost use Rattle.job_text.specs.Reading.{IsNotTaken, used_by, phase_of, job_of, lines_behind, bytes_behind, items_behind, fault_behind};
 
-use crate::fault::{Cause, JobFault, ReadFault, Stop};
+use crate::fault::{Cause, JobFault, NotTaken, ReadFault};
 use crate::job::Job;
+use crate::limits::MOST_BYTES;
 use crate::line::{line_by_words, words};
 use crate::reading::Reading;
 use std::alloc::Global;
-
-/// The greatest text of a job, in bytes.
-pub const MOST_BYTES: usize = 16_777_216;
 
 // Where the first line of a text ends, if another follows.
 fn line_end(text: &[u8]) -> Option<usize>
@@ -35,8 +34,8 @@ fn first_line(text: &[u8]) -> (&[u8], Option<&[u8]>)
 }
 
 // The line of this number is taken.
-fn take_line(reading: &mut Reading, alloc: Global, number: u32, line: &[u8]) -> Result<(), Stop>
-    ensures fault { IfErr result (IsStop (cause_of (used_by reading.old) (phase_of reading.old) (words_of line.now))) }
+fn take_line(reading: &mut Reading, alloc: Global, number: u32, line: &[u8]) -> Result<(), NotTaken>
+    ensures fault { IfErr result (IsNotTaken (cause_of (used_by reading.old) (phase_of reading.old) (words_of line.now))) }
     ensures faultless { OnOk result ((rest : List (List ℕ)) → fault_behind reading.old number (line.now ∷ rest) ≡ fault_behind reading.new (number + 1) rest) }
     ensures goes_on { OnOk result ((rest : List (List ℕ)) → items_behind reading.old (line.now ∷ rest) ≡ items_behind reading.new rest) }
 {
@@ -53,11 +52,11 @@ fn numbered(reading: &mut Reading, alloc: Global, number: u32, line: &[u8]) -> R
 {
     match take_line(reading, alloc, number, line) {
         Ok(()) => Ok(()),
-        Err(Stop::Told(cause)) => Err(ReadFault::Bad(JobFault {
+        Err(NotTaken::Faulty(cause)) => Err(ReadFault::Bad(JobFault {
             line: number,
             cause,
         })),
-        Err(Stop::Memory(e)) => Err(ReadFault::Memory(e)),
+        Err(NotTaken::Memory(e)) => Err(ReadFault::Memory(e)),
     }
 }
 
@@ -91,6 +90,7 @@ fn read_exact(alloc: Global, bytes: &[u8]) -> Result<Job, ReadFault>
 pub fn read_job(alloc: Global, bytes: &[u8]) -> Result<Job, ReadFault>
     ensures found { IfOk result (λ job. IsJob bytes.now job) }
     ensures only { IfOk result (λ job. (other : List JobItem) → IsJob bytes.now other → other ≡ job) }
+    ensures within { IfOk result IsWithinLimits }
     ensures bad { (fault : JobFault) → result ≡ Err (ReadFault.Bad fault) → first_fault bytes.now ≡ Some fault }
     ensures no_job { (fault : JobFault) → result ≡ Err (ReadFault.Bad fault) → (job : List JobItem) → IsJob bytes.now job → ⊥ }
 {

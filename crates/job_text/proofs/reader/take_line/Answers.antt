@@ -1,10 +1,10 @@
 use Rattle.std.proofs.Common.{map, Result, Ok, Err, OnOk, sym, ap, ◌∙◌}
-use Rattle.job_text.specs.declared.fault.Stop.{Stop}
+use Rattle.job_text.specs.declared.fault.NotTaken.{NotTaken}
 use Rattle.job_text.specs.Lines.{line_of}
 use Rattle.job_text.proofs.Steps.{goes_on}
 use Rattle.job_text.proofs.reader.take_line.Goals as goal
 
-on_ok : (P Q : Type 0) (r : Result (Unit {0}) Stop) → (P → Q) → OnOk r P → OnOk r Q
+on_ok : (P Q : Type 0) (r : Result (Unit {0}) NotTaken) → (P → Q) → OnOk r P → OnOk r Q
 on_ok P Q (Ok x) f h = f h
 on_ok P Q (Err stop) f h = tt
 
