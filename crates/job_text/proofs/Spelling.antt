@@ -12,8 +12,8 @@ use Rattle.job_text.specs.declared.job.Item.{Item}
 use Rattle.job_text.specs.declared.job.Item.TheVariants as items
 use Rattle.job_text.specs.declared.begun.Begun.{Begun}
 use Rattle.job_text.specs.Jobs.{Saying, says_actor, says_operation, says_turns, says_run, actor_sayings, item_sayings, Used, with_disk, with_phase, with_op, with_ops, with_actors, with_turns, with_text, has_phase_left, has_left_for, has_turns_left, MayOperate, MayAct, MayTurn, MayRun, MayFollow}
-use Rattle.job_text.specs.Reading.{is_scheduled, all_actors, items_from}
-use Rattle.job_text.proofs.Steps.{with_schedule, turns_step}
+use Rattle.job_text.specs.Reading.{is_scheduled, all_actors, text_of, fresh, with_actor, with_operation, with_schedule, items_from}
+use Rattle.job_text.proofs.Steps.{turns_step}
 
 -- ---- what operations leave as it was
 
@@ -32,9 +32,9 @@ spelled_ops : (u : Used) (begun : Begun) (ops : List Op) (rest : List Saying) �
     → items_from u (Some begun) (map says_operation ops ++ rest) ≡ items_from (with_ops u ops) (Some (record begun { last = begun.last ++ ops })) rest
 spelled_ops u begun [] rest none may = ap (λ ops. items_from u (Some (record begun { last = ops })) rest) (sym (append-nil begun.last))
 spelled_ops u begun (op ∷ ops) rest none may =
-    ap (λ b. cond (not b && has_left_for u op) (items_from (with_op u op) (Some (record begun { last = begun.last ++ op ∷ [] })) (map says_operation ops ++ rest)) None) none
-    ∙ ap (λ b. cond b (items_from (with_op u op) (Some (record begun { last = begun.last ++ op ∷ [] })) (map says_operation ops ++ rest)) None) may.1
-    ∙ spelled_ops (with_op u op) (record begun { last = begun.last ++ op ∷ [] }) ops rest none may.2
+    ap (λ b. cond (not b && has_left_for u op) (items_from (with_op u op) (Some (with_operation begun op)) (map says_operation ops ++ rest)) None) none
+    ∙ ap (λ b. cond b (items_from (with_op u op) (Some (with_operation begun op)) (map says_operation ops ++ rest)) None) may.1
+    ∙ spelled_ops (with_op u op) (with_operation begun op) ops rest none may.2
     ∙ ap (λ all. items_from (with_ops (with_op u op) ops) (Some (record begun { last = all })) rest) (append_assoc begun.last (op ∷ []) ops)
 
 -- a phase with more actors
@@ -59,7 +59,7 @@ spelled_actors : (u : Used) (begun : Begun) (actors : List (List Op)) (rest : Li
     → items_from u (Some begun) (flat_map actor_sayings actors ++ rest) ≡ items_from (with_actors u actors) (Some (with_more begun actors)) rest
 spelled_actors u begun [] rest none disk few may = refl
 spelled_actors u begun (ops ∷ more) rest none disk few may =
-    let next = record begun { actors = begun.actors ++ begun.last ∷ []; last = [] } in
+    let next = with_actor begun in
     let left : nat_le (length begun.actors + 1 + 1) MOST_ACTORS ≡ true = le-leb (length begun.actors + 1 + 1) MOST_ACTORS (omega arith) in
     let fewer : length (begun.actors ++ begun.last ∷ []) + 1 + length more ≤ MOST_ACTORS = omega (arith, length_push begun.actors begun.last) in
     ap (λ (xs : List Saying). items_from u (Some begun) (says_actor ∷ xs)) (append_assoc (map says_operation ops) (flat_map actor_sayings more) rest)
@@ -97,11 +97,10 @@ spelled_phase : (u : Used) (actors : List (List Op)) (schedule : List Turns) (re
     ≡ option_map (λ later. items.Phase (record { actors = actors; schedule = schedule }) ∷ later) (items_from (with_text u actors schedule) None rest)
 spelled_phase u [] [] rest fits may =
     let none : u.turns ≡ u.turns + 0 = omega arith in
-    ap (λ b. cond b (option_map (λ later. items.Phase (record { actors = []; schedule = [] }) ∷ later) (items_from (with_phase u) None rest)) None) may.phase_left
-    ∙ ap (λ n. option_map (λ later. items.Phase (record { actors = []; schedule = [] }) ∷ later) (items_from (record (with_phase u) { turns = n }) None rest)) none
+    ap (λ b. cond b (option_map (λ later. items.Phase (text_of None) ∷ later) (items_from (with_phase u) None rest)) None) may.phase_left
+    ∙ ap (λ n. option_map (λ later. items.Phase (text_of None) ∷ later) (items_from (record (with_phase u) { turns = n }) None rest)) none
 spelled_phase u [] (t ∷ ts) rest fits may = let n : t.actor < 0 = may.may_turn.0 in absurd (omega arith)
 spelled_phase u (ops ∷ more) schedule rest fits may =
-    let fresh : Begun = record { actors = []; last = []; schedule = [] } in
     let first : Begun = record { actors = []; last = ops; schedule = [] } in
     let last = map says_turns schedule ++ says_run ∷ rest in
     let v = with_actors (with_phase u) (ops ∷ more) in

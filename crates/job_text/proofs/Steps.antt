@@ -20,7 +20,7 @@ use Rattle.job_text.specs.Lines.{Form, words_of, form_of, is_malformed, meaning,
 use Rattle.job_text.specs.Jobs.{Saying, says_turns, said_by, said_before, sayings, Used, with_disk, with_phase, turns_in, with_turns, has_phase_left, has_left_for, has_turns_left}
 use Rattle.job_text.specs.Faults.{Phase, said_in, cause_in, cause_of, used_with, phase_with, fault_at, first_fault_from}
 use Rattle.job_text.specs.Answers.{IsInRange}
-use Rattle.job_text.specs.Reading.{used_by, is_scheduled, phase_at, phase_of, all_actors, text_of, place_cause, begun_with, items_by, IsNext, items_from, items_with, items_behind}
+use Rattle.job_text.specs.Reading.{used_by, is_scheduled, phase_at, phase_of, all_actors, text_of, with_schedule, place_cause, begun_with, items_by, IsNext, items_from, items_with, items_behind}
 use Rattle.job_text.proofs.Lawful.{IfRead, line-lawful}
 
 -- what stands behind a line that has no cause
@@ -66,9 +66,6 @@ module _ (x : Option (List Item)) where
   scheduled false left = refl
 
 -- ---- a schedule, turn by turn
-
-abbrev pub with_schedule : Begun → List Turns → Begun
-with_schedule begun turns = record begun { schedule = begun.schedule ++ turns }
 
 abbrev pub are_named : Begun → List Turns → Bool
 are_named begun turns = list_all (λ t. nat_lt t.actor (length begun.actors + 1)) turns

@@ -14,7 +14,7 @@ use Rattle.job_text.specs.declared.job.Item.{Item}
 use Rattle.job_text.specs.declared.job.Item.TheVariants as items
 use Rattle.job_text.specs.declared.begun.Begun.{Begun}
 use Rattle.job_text.specs.Jobs.{Saying, says_disk, says_actor, says_operation, says_turns, says_run, actor_sayings, item_sayings, Used, with_disk, with_phase, with_op, with_ops, with_actors, turns_in, with_turns, with_text, has_phase_left, has_left_for, has_turns_left, MayOperate, MayAct, MayTurn, HasDisk, MayRun, MayFollow}
-use Rattle.job_text.specs.Reading.{is_scheduled, all_actors, items_from}
+use Rattle.job_text.specs.Reading.{is_scheduled, all_actors, text_of, fresh, with_actor, with_operation, with_schedule, items_from}
 
 -- a saying's values are in their range
 abbrev pub IsSaid : Saying → Type 0
@@ -90,7 +90,7 @@ disk_stays u (ops ∷ more) = disk_stays (with_ops u ops) more ∙ ops_stay u op
     ops_stay u (op ∷ ops) = ops_stay (with_op u op) ops
 
 begin : (before u : Used) → u ≡ before → u.turns ≤ MOST_TURNS → before.disk ≡ true → has_phase_left before ≡ true
-    → InPhase before (with_phase u) (record { actors = []; last = []; schedule = [] })
+    → InPhase before (with_phase u) fresh
 begin before u at fits disk left =
     let none : before.turns ≡ before.turns + 0 = omega arith in
     record {
@@ -106,7 +106,7 @@ begin before u at fits disk left =
 
 next_actor : (before u : Used) (begun : Begun) → InPhase before u begun → is_scheduled begun ≡ false
     → nat_le (length begun.actors + 1 + 1) MOST_ACTORS ≡ true
-    → InPhase before u (record begun { actors = begun.actors ++ begun.last ∷ []; last = [] })
+    → InPhase before u (with_actor begun)
 next_actor before u begun at none few =
     let empty = no_schedule begun none in
     let n : length begun.actors + 1 + 1 ≤ MOST_ACTORS = leb-true _ _ few in
@@ -125,7 +125,7 @@ next_actor before u begun at none few =
 
 next_op : (before u : Used) (begun : Begun) (op : Op) → InPhase before u begun → IsRequest op
     → has_left_for u op ≡ true
-    → InPhase before (with_op u op) (record begun { last = begun.last ++ op ∷ [] })
+    → InPhase before (with_op u op) (with_operation begun op)
 next_op before u begun op at request left =
     let v = with_actors (with_phase before) begun.actors in
     let same : has_left_for (with_ops v begun.last) op ≡ true = ap (λ x. has_left_for x op) (sym at.used)
@@ -145,7 +145,7 @@ next_op before u begun op at request left =
 next_turns : (before u : Used) (begun : Begun) (t : Turns) → InPhase before u begun
     → (1 ≤ t.times) × (t.times ≤ MOST_TURNS)
     → nat_lt t.actor (length begun.actors + 1) ≡ true → has_turns_left u (t ∷ []) ≡ true
-    → InPhase before (with_turns u (t ∷ [])) (record begun { schedule = begun.schedule ++ t ∷ [] })
+    → InPhase before (with_turns u (t ∷ [])) (with_schedule begun (t ∷ []))
 next_turns before u begun t at is named left =
     let v = with_ops (with_actors (with_phase before) begun.actors) begun.last in
     let sum : v.turns + turns_in begun.schedule + (t.times + 0) ≡ v.turns + turns_in (begun.schedule ++ t ∷ []) = omega (arith, turns_push begun.schedule t) in
@@ -185,7 +185,7 @@ end_phase before u begun at =
 -- ---- the sayings so far, with one more
 
 actor_said : (begun : Begun) (rest : List Saying) → is_scheduled begun ≡ false
-    → begun_sayings (Some (record begun { actors = begun.actors ++ begun.last ∷ []; last = [] })) ++ rest ≡ begun_sayings (Some begun) ++ says_actor ∷ rest
+    → begun_sayings (Some (with_actor begun)) ++ rest ≡ begun_sayings (Some begun) ++ says_actor ∷ rest
 actor_said begun rest none =
     let empty = no_schedule begun none in
     let all = flat_map actor_sayings (all_actors begun) in
@@ -197,7 +197,7 @@ actor_said begun rest none =
     ∙ ap (λ turns. (all ++ map says_turns turns) ++ says_actor ∷ rest) (sym empty)
 
 op_said : (begun : Begun) (op : Op) (rest : List Saying) → is_scheduled begun ≡ false
-    → begun_sayings (Some (record begun { last = begun.last ++ op ∷ [] })) ++ rest ≡ begun_sayings (Some begun) ++ says_operation op ∷ rest
+    → begun_sayings (Some (with_operation begun op)) ++ rest ≡ begun_sayings (Some begun) ++ says_operation op ∷ rest
 op_said begun op rest none =
     let empty = no_schedule begun none in
     let before = flat_map actor_sayings begun.actors in
@@ -219,7 +219,7 @@ op_said begun op rest none =
     ∙ ap (λ turns. (all ++ map says_turns turns) ++ says_operation op ∷ rest) (sym empty)
 
 turns_said : (begun : Begun) (t : Turns) (rest : List Saying)
-    → begun_sayings (Some (record begun { schedule = begun.schedule ++ t ∷ [] })) ++ rest ≡ begun_sayings (Some begun) ++ says_turns t ∷ rest
+    → begun_sayings (Some (with_schedule begun (t ∷ []))) ++ rest ≡ begun_sayings (Some begun) ++ says_turns t ∷ rest
 turns_said begun t rest =
     let all = flat_map actor_sayings (all_actors begun) in
     ap (λ (xs : List Saying). (all ++ xs) ++ rest) (map-append says_turns begun.schedule (t ∷ []))
@@ -265,28 +265,28 @@ unspelled before u None (says_actor ∷ said) job at are e =
     let parts = and_parts u.disk (has_phase_left u) kept.0 in
     let disk : before.disk ≡ true = ap (λ (x : Used). x.disk) (sym at.0) ∙ parts.0 in
     let left : has_phase_left before ≡ true = ap has_phase_left (sym at.0) ∙ parts.1 in
-    unspelled before (with_phase u) (Some (record { actors = []; last = []; schedule = [] })) said job (begin before u at.0 at.1 disk left) are.1 kept.1
+    unspelled before (with_phase u) (Some fresh) said job (begin before u at.0 at.1 disk left) are.1 kept.1
 unspelled before u (Some begun) (says_actor ∷ said) job at are e =
     let kept = kept_by (not (is_scheduled begun) && u.disk && nat_le (length begun.actors + 1 + 1) MOST_ACTORS) _ job e in
     let parts = and_parts (not (is_scheduled begun) && u.disk) (nat_le (length begun.actors + 1 + 1) MOST_ACTORS) kept.0 in
     let none : is_scheduled begun ≡ false = not-true _ (and_parts (not (is_scheduled begun)) u.disk parts.0).0 in
-    let rest = unspelled before u (Some (record begun { actors = begun.actors ++ begun.last ∷ []; last = [] })) said job (next_actor before u begun at none parts.1) are.1 kept.1 in
+    let rest = unspelled before u (Some (with_actor begun)) said job (next_actor before u begun at none parts.1) are.1 kept.1 in
     (rest.0 ∙ actor_said begun said none, rest.1)
 unspelled before u None (says_operation op ∷ said) job at are e = cc
 unspelled before u (Some begun) (says_operation op ∷ said) job at are e =
     let kept = kept_by (not (is_scheduled begun) && has_left_for u op) _ job e in
     let parts = and_parts (not (is_scheduled begun)) (has_left_for u op) kept.0 in
-    let rest = unspelled before (with_op u op) (Some (record begun { last = begun.last ++ op ∷ [] })) said job (next_op before u begun op at are.0 parts.1) are.1 kept.1 in
+    let rest = unspelled before (with_op u op) (Some (with_operation begun op)) said job (next_op before u begun op at are.0 parts.1) are.1 kept.1 in
     (rest.0 ∙ op_said begun op said (not-true _ parts.0), rest.1)
 unspelled before u None (says_turns t ∷ said) job at are e = cc
 unspelled before u (Some begun) (says_turns t ∷ said) job at are e =
     let kept = kept_by (nat_lt t.actor (length begun.actors + 1) && has_turns_left u (t ∷ [])) _ job e in
     let parts = and_parts (nat_lt t.actor (length begun.actors + 1)) (has_turns_left u (t ∷ [])) kept.0 in
-    let rest = unspelled before (with_turns u (t ∷ [])) (Some (record begun { schedule = begun.schedule ++ t ∷ [] })) said job (next_turns before u begun t at are.0 parts.0 parts.1) are.1 kept.1 in
+    let rest = unspelled before (with_turns u (t ∷ [])) (Some (with_schedule begun (t ∷ []))) said job (next_turns before u begun t at are.0 parts.0 parts.1) are.1 kept.1 in
     (rest.0 ∙ turns_said begun t said, rest.1)
 unspelled before u None (says_run ∷ said) job at are e =
     let kept = kept_by (has_phase_left u) _ job e in
-    let more = mapped (λ later. items.Phase (record { actors = []; schedule = [] }) ∷ later) (items_from (with_phase u) None said) job kept.1 in
+    let more = mapped (λ later. items.Phase (text_of None) ∷ later) (items_from (with_phase u) None said) job kept.1 in
     let rest = unspelled (with_phase u) (with_phase u) None said more.0 (refl, at.1) are.1 more.1 in
     let none : u.turns ≡ u.turns + 0 = omega arith in
     let P : List Item → Type 0 = λ j. Spelled u None (says_run ∷ said) j in
@@ -296,7 +296,7 @@ unspelled before u None (says_run ∷ said) job at are e =
     let run : MayRun u [] [] = record { phase_left = kept.0; few_actors = omega arith; has_disk = tt; may_act = tt; may_turn = tt; turns_left = left } in
     subst Q at.0 (subst P more.2 (ap (λ (xs : List Saying). says_run ∷ xs) rest.0, (run, subst F none rest.1)))
 unspelled before u (Some begun) (says_run ∷ said) job at are e =
-    let more = mapped (λ later. items.Phase (record { actors = all_actors begun; schedule = begun.schedule }) ∷ later) (items_from u None said) job e in
+    let more = mapped (λ later. items.Phase (text_of (Some begun)) ∷ later) (items_from u None said) job e in
     let end = end_phase before u begun at in
     let rest = unspelled u u None said more.0 (refl, at.fits) are.1 more.1 in
     let P : List Item → Type 0 = λ j. Spelled before (Some begun) (says_run ∷ said) j in

@@ -40,7 +40,9 @@ Answers told (Err (untaken.Memory e)) = Unit {0}
 
 -- the turns that words give, where all may be given
 abbrev pub turns_with : List (List ℕ) → Result (List Turns) Cause
-turns_with words = if list_all may_give (map turn_of words) then Ok (map turn_of words) else Err causes.Range
+turns_with words =
+    if list_all may_give (map turn_of words) then Ok (map turn_of words)
+    else Err causes.Range
 
 -- what a line says is in its range
 abbrev pub IsInRange : Line → Type 0

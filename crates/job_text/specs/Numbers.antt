@@ -43,11 +43,13 @@ word_of word = value_from 16 0 word
 -- the bytes that hexadecimal digits stand for, two for each
 abbrev pub bytes_by : List ℕ → List ℕ
 bytes_by digits =
-    map (λ k. 16 * digit_value (get_or digits (2 * k) 0) + digit_value (get_or digits (2 * k + 1) 0)) (range_with_len 0 (length digits / 2))
+    map (λ k. 16 * digit_value (get_or digits (2 * k) 0) + digit_value (get_or digits (2 * k + 1) 0))
+    (range_with_len 0 (length digits / 2))
 
 -- ---- sizes
 
--- what the last letter of a size, K, M or G of either case, multiplies by, where there is such a letter
+-- what the last letter of a size, K, M or G of either case, multiplies by, where there is such a
+-- letter
 abbrev pub factor_of : ℕ → Option ℕ
 factor_of letter =
     if letter == 75 || letter == 107 then Some (2 ^ 10)
@@ -99,7 +101,8 @@ is_turn word = is_turn_at (star_in word) word
 -- the turns that a word gives whose star stands there, or nowhere
 abbrev pub turn_at : Option ℕ → List ℕ → Turns
 turn_at None word = record { actor = number_of word; times = 1 }
-turn_at (Some star) word = record { actor = number_of (take star word); times = number_of (drop (star + 1) word) }
+turn_at (Some star) word =
+    record { actor = number_of (take star word); times = number_of (drop (star + 1) word) }
 
 -- the turns that a word gives: one, where no number of them is written
 abbrev pub turn_of : List ℕ → Turns

@@ -65,7 +65,7 @@ pub(crate) fn empty_phase(alloc: Global) -> PhaseText
 
 impl Begun {
     ghost use Rattle.std.specs.Prelude.{◌≡◌, ℕ, ◌+◌, [], length, not, ◌==◌, Some, IfOk};
-    ghost use Rattle.job_text.specs.Reading.{is_scheduled, all_actors, text_of};
+    ghost use Rattle.job_text.specs.Reading.{is_scheduled, fresh, with_actor, text_of};
 
     pub(crate) fn is_scheduled(&self) -> bool
         ensures { result ≡ is_scheduled self.now }
@@ -82,7 +82,7 @@ impl Begun {
 
     /// A phase of one actor.
     pub(crate) fn new(alloc: Global) -> Begun
-        ensures { result ≡ record { actors = []; last = []; schedule = [] } }
+        ensures { result ≡ fresh }
     {
         Begun {
             actors: ActorList::new(alloc),
@@ -93,7 +93,7 @@ impl Begun {
 
     /// The same with one more actor.
     pub(crate) fn next_actor(self, alloc: Global) -> Result<Begun, AllocError>
-        ensures { IfOk result (λ begun. begun ≡ record self { actors = all_actors self; last = [] }) }
+        ensures { IfOk result (λ begun. begun ≡ with_actor self) }
     {
         let mut actors = self.actors;
         push(&mut actors, self.last)?;

@@ -19,7 +19,8 @@ pub enum Cause {
     Order,
 }
 
-/// The first faulty line, counted from 1, and its cause. A text that is too long is `TooMany` at line 0.
+/// The first faulty line, counted from 1, and its cause. A text that is too long is `TooMany` at
+/// line 0.
 #[derive(Clone, Copy, PartialEq, Eq, Debug)]
 pub struct JobFault {
     pub line: u32,

@@ -12,7 +12,8 @@ pub enum Attr {
     DiskPages(u32),
 }
 
-/// The operations of a phase, and the turns that its schedule gives, those of all its `schedule` lines joined.
+/// The operations of a phase, and the turns that its schedule gives, those of all its `schedule`
+/// lines joined.
 #[derive(Drop)]
 pub struct PhaseText {
     pub actors: ActorList,

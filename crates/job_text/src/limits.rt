@@ -1,4 +1,5 @@
-//! The limits of a job that the reader alone counts; those that lower layers rest on too are `zr_base`'s.
+//! The limits of a job that the reader alone counts; those that lower layers rest on too are
+//! `zr_base`'s.
 
 /// The most bytes of a job's text.
 pub const MOST_BYTES: usize = 16_777_216;

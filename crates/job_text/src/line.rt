@@ -147,7 +147,8 @@ fn seq(start: &[u8], count: &[u8], base: &[u8], step: &[u8]) -> Result<Line, Cau
 
 #[tactic(auto, unfolding(crate::specs::Lines::is_malformed, crate::specs::Lines::meaning))]
 fn hex(alloc: Global, start: &[u8], count: &[u8], words: &[&[u8]]) -> Result<Line, NotTaken>
-    ensures { Answers (line_by (hex_form start.now count.now (map (λ word. word.now) words.now))) result }
+    ensures { Answers (line_by (hex_form start.now count.now
+        (map (λ word. word.now) words.now))) result }
 {
     let start = number(start)?;
     let count = number(count)?;
@@ -222,7 +223,8 @@ fn discard_line(words: &[&[u8]]) -> Result<Line, NotTaken>
 }
 
 fn fill_line(start: &[u8], count: &[u8], words: &[&[u8]]) -> Result<Line, NotTaken>
-    ensures { Answers (line_with (fill_in start.now count.now (map (λ word. word.now) words.now))) result }
+    ensures { Answers (line_with (fill_in start.now count.now
+        (map (λ word. word.now) words.now))) result }
 {
     match words {
         [word] => Ok(fill(start, count, word)?),
@@ -231,7 +233,8 @@ fn fill_line(start: &[u8], count: &[u8], words: &[&[u8]]) -> Result<Line, NotTak
 }
 
 fn seq_line(start: &[u8], count: &[u8], words: &[&[u8]]) -> Result<Line, NotTaken>
-    ensures { Answers (line_with (seq_in start.now count.now (map (λ word. word.now) words.now))) result }
+    ensures { Answers (line_with (seq_in start.now count.now
+        (map (λ word. word.now) words.now))) result }
 {
     match words {
         [base, step] => Ok(seq(start, count, base, step)?),
@@ -240,7 +243,8 @@ fn seq_line(start: &[u8], count: &[u8], words: &[&[u8]]) -> Result<Line, NotTake
 }
 
 fn hex_line(alloc: Global, start: &[u8], count: &[u8], words: &[&[u8]]) -> Result<Line, NotTaken>
-    ensures { Answers (line_with (hex_in start.now count.now (map (λ word. word.now) words.now))) result }
+    ensures { Answers (line_with (hex_in start.now count.now
+        (map (λ word. word.now) words.now))) result }
 {
     match words {
         [] => Err(NotTaken::Faulty(Cause::Word)),
@@ -256,7 +260,8 @@ fn stuff_line(
     kind: &[u8],
     words: &[&[u8]],
 ) -> Result<Line, NotTaken>
-    ensures { Answers (line_with (stuff_in start.now count.now kind.now (map (λ word. word.now) words.now))) result }
+    ensures { Answers (line_with (stuff_in start.now count.now kind.now
+        (map (λ word. word.now) words.now))) result }
 {
     if kind == b"fill".as_slice() {
         fill_line(start, count, words)

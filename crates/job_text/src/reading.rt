@@ -13,7 +13,8 @@ use crate::line::Line;
 use std::alloc::Global;
 use zr_base::{MOST_ACTORS, MOST_OPERATIONS, Op};
 
-/// The items so far, the phase that has begun and the line of its first actor, and what of the job's limits was used.
+/// The items so far, the phase that has begun and the line of its first actor, and what of the
+/// job's limits was used.
 #[derive(Drop)]
 pub(crate) struct Reading {
     items: Job,
@@ -49,7 +50,7 @@ impl Reading {
     ghost use Rattle.job_text.specs.Jobs.{MayTurn, nothing_used};
     ghost use Rattle.job_text.specs.Faults.{used_with, phase_with};
     ghost use Rattle.job_text.specs.Answers.{IsInRange};
-    ghost use Rattle.job_text.specs.Reading.{used_by, phase_of, phase_at, is_scheduled_in, place_cause, IsNotTaken, IsNext, fault_behind, begun_with, items_by};
+    ghost use Rattle.job_text.specs.Reading.{used_by, phase_of, phase_at, is_scheduled_in, place_cause, IsNotTaken, IsRefusedAt, IsNext, fault_behind, begun_with, items_by};
 
     pub(crate) fn new(alloc: Global) -> Reading
         ensures used { used_by result ≡ nothing_used }
@@ -79,7 +80,7 @@ impl Reading {
     }
 
     fn disk(&mut self, pages: u32) -> Result<(), NotTaken>
-        ensures fault { IfErr result (IsNotTaken (place_cause (used_by self.old) (phase_of self.old) (said.Disk pages))) }
+        ensures fault { IfErr result (IsRefusedAt self.old (said.Disk pages)) }
         ensures taken { OnOk result (IsNext self.old 0 (said.Disk pages) self.new) }
     {
         if self.begun.is_some() || self.has_disk {
@@ -91,7 +92,7 @@ impl Reading {
     }
 
     fn actor(&mut self, alloc: Global, number: u32) -> Result<(), NotTaken>
-        ensures fault { IfErr result (IsNotTaken (place_cause (used_by self.old) (phase_of self.old) said.Actor)) }
+        ensures fault { IfErr result (IsRefusedAt self.old said.Actor) }
         ensures taken { OnOk result (IsNext self.old number said.Actor self.new) }
     {
         if self.is_scheduled() {
@@ -122,7 +123,7 @@ impl Reading {
 
     fn operation(&mut self, op: Op) -> Result<(), NotTaken>
         requires { IsRequest op }
-        ensures fault { IfErr result (IsNotTaken (place_cause (used_by self.old) (phase_of self.old) (said.Operation op))) }
+        ensures fault { IfErr result (IsRefusedAt self.old (said.Operation op)) }
         ensures taken { OnOk result (IsNext self.old 0 (said.Operation op) self.new) }
     {
         let Some(mut begun) = self.begun.take() else {
@@ -148,7 +149,7 @@ impl Reading {
     fn schedule(&mut self, turns: TurnList) -> Result<(), NotTaken>
         requires some { 1 ≤ length turns }
         requires each { MayTurn MOST_ACTORS turns }
-        ensures fault { IfErr result (IsNotTaken (place_cause (used_by self.old) (phase_of self.old) (said.Schedule turns))) }
+        ensures fault { IfErr result (IsRefusedAt self.old (said.Schedule turns)) }
         ensures taken { OnOk result (IsNext self.old 0 (said.Schedule turns) self.new) }
     {
         let Some(mut begun) = self.begun.take() else {
@@ -167,7 +168,7 @@ impl Reading {
     }
 
     fn run(&mut self, alloc: Global) -> Result<(), NotTaken>
-        ensures fault { IfErr result (IsNotTaken (place_cause (used_by self.old) (phase_of self.old) said.Run)) }
+        ensures fault { IfErr result (IsRefusedAt self.old said.Run) }
         ensures taken { OnOk result (IsNext self.old 0 said.Run self.new) }
     {
         match self.begun.take() {
@@ -189,7 +190,7 @@ impl Reading {
     /// Takes the line of this number.
     pub(crate) fn take(&mut self, alloc: Global, number: u32, line: Line) -> Result<(), NotTaken>
         requires { IsInRange line }
-        ensures fault { IfErr result (IsNotTaken (place_cause (used_by self.old) (phase_of self.old) line)) }
+        ensures fault { IfErr result (IsRefusedAt self.old line) }
         ensures taken { OnOk result (IsNext self.old number line self.new) }
     {
         match line {
@@ -205,7 +206,8 @@ impl Reading {
     /// The items, where no phase was left without a `run`.
     pub(crate) fn finish(self) -> Result<Job, JobFault>
         ensures done { IfOk result (λ job. (self.begun ≡ None) × (job ≡ self.items)) }
-        ensures left { IfErr result (λ fault. (number : ℕ) → fault_behind self number [] ≡ Some fault) }
+        ensures left { IfErr result (λ fault. (number : ℕ)
+            → fault_behind self number [] ≡ Some fault) }
     {
         match self.begun {
             None => Ok(self.items),

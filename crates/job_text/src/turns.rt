@@ -29,7 +29,8 @@ pub(crate) fn are_turns(words: &[&[u8]]) -> bool
 fn allowed(word: &[u8]) -> Result<Turns, Cause>
     requires { is_turn word.now ≡ true }
     ensures given { IfOk result (λ turns. (turns ≡ turn_of word.now) × (may_give turns ≡ true)) }
-    ensures range { IfErr result (λ cause. (cause ≡ Cause.Range) × (may_give (turn_of word.now) ≡ false)) }
+    ensures range { IfErr result (λ cause. (cause ≡ Cause.Range)
+        × (may_give (turn_of word.now) ≡ false)) }
 {
     let (actor, times) = turn(word)?;
     if actor < MOST_ACTORS as u64 && 1 <= times && times <= MOST_TURNS as u64 {
