@@ -43,9 +43,11 @@ IfSaid (Some said) = AllByRecursion IsSaid said
 
 sayings_said : (texts : List (List ℕ)) → IfSaid (sayings texts)
 sayings_said [] = tt
-sayings_said (text ∷ texts) = by (line_of (words_of text)) (line-lawful (words_of text)) (sayings texts) (sayings_said texts)
+sayings_said (text ∷ texts) =
+    by (line_of (words_of text)) (line-lawful (words_of text)) (sayings texts) (sayings_said texts)
   where
-    by : (read : Result Line Cause) → IfRead IsInRange read → (more : Option (List Saying)) → IfSaid more
+    by : (read : Result Line Cause) → IfRead IsInRange read → (more : Option (List Saying))
+        → IfSaid more
         → IfSaid (said_before read more)
     by (Err cause) is more rest = tt
     by (Ok line) is None rest = tt
@@ -56,7 +58,8 @@ sayings_said (text ∷ texts) = by (line_of (words_of text)) (line-lawful (words
 pub is_job : (bytes : List ℕ) (job : List Item) → job_of bytes ≡ Some job → IsJob bytes job
 is_job bytes job e =
     let small = free_of (nat_lt MOST_BYTES (length bytes)) _ job e in
-    by (sayings (text_lines bytes)) refl (sayings_said (text_lines bytes)) small.1 (ltb-false _ _ small.0)
+    by (sayings (text_lines bytes)) refl (sayings_said (text_lines bytes)) small.1
+    (ltb-false _ _ small.0)
   where
     by : (said : Option (List Saying)) → sayings (text_lines bytes) ≡ said → IfSaid said
         → option_and_then (items_from nothing_used None) said ≡ Some job → length bytes ≤ MOST_BYTES
@@ -70,7 +73,8 @@ is_job bytes job e =
 pub job_is : (bytes : List ℕ) (job : List Item) → IsJob bytes job → job_of bytes ≡ Some job
 job_is bytes job is =
     let none : nothing_used.turns ≤ MOST_TURNS = omega arith in
-    ap (λ b. cond b None (option_and_then (items_from nothing_used None) (sayings (text_lines bytes)))) (le-ltb _ _ is.size)
+    ap (λ b. cond b None (option_and_then (items_from nothing_used None)
+    (sayings (text_lines bytes)))) (le-ltb _ _ is.size)
     ∙ ap (option_and_then (items_from nothing_used None)) is.lines
     ∙ spelled_read nothing_used job none is.lawful
 
@@ -80,7 +84,8 @@ pub no_job : (bytes : List ℕ) (fault : JobFault) (job : List Item) → first_f
 no_job bytes fault job first is =
     let none : nothing_used.turns ≤ MOST_TURNS = omega arith in
     let small : nat_lt MOST_BYTES (length bytes) ≡ false = le-ltb _ _ is.size in
-    let later = sym (ap (λ b. cond b (Some (record { line = 0; cause = causes.TooMany })) (first_fault_from nothing_used None 1 (text_lines bytes))) small) ∙ first in
+    let later = sym (ap (λ b. cond b (Some (record { line = 0; cause = causes.TooMany }))
+    (first_fault_from nothing_used None 1 (text_lines bytes))) small) ∙ first in
     let nothing = no_items (text_lines bytes) fault nothing_used None 0 1 none later in
     let read = ap (option_and_then (items_from nothing_used None)) (sym is.lines) ∙ nothing in
     let job_read = spelled_read nothing_used job none is.lawful in

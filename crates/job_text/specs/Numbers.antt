@@ -40,11 +40,14 @@ is_word word = not (length word == 0) && nat_le (length word) 16 && are_digits 1
 abbrev pub word_of : List ℕ → ℕ
 word_of word = value_from 16 0 word
 
+-- the byte of the k-th two hexadecimal digits
+abbrev pub byte_at : List ℕ → ℕ → ℕ
+byte_at digits k =
+    16 * digit_value (get_or digits (2 * k) 0) + digit_value (get_or digits (2 * k + 1) 0)
+
 -- the bytes that hexadecimal digits stand for, two for each
 abbrev pub bytes_by : List ℕ → List ℕ
-bytes_by digits =
-    map (λ k. 16 * digit_value (get_or digits (2 * k) 0) + digit_value (get_or digits (2 * k + 1) 0))
-    (range_with_len 0 (length digits / 2))
+bytes_by digits = map (byte_at digits) (range_with_len 0 (length digits / 2))
 
 -- ---- sizes
 

@@ -164,7 +164,8 @@ items_from u (Some begun) (says_turns turns ∷ more) =
     else None
 items_from u None (says_run ∷ more) =
     if has_phase_left u
-    then option_map (λ later. items.Phase (text_of None) ∷ later) (items_from (with_phase u) None more)
+    then option_map (λ later. items.Phase (text_of None) ∷ later)
+    (items_from (with_phase u) None more)
     else None
 items_from u (Some begun) (says_run ∷ more) =
     option_map (λ later. items.Phase (text_of (Some begun)) ∷ later) (items_from u None more)

@@ -24,7 +24,8 @@ fn tells_jobs(rt: HostRuntime) -> Result<(), Fail> {
         "disksize 1G\nactor\nread 0 2048\nrun\n",
         "disksize 1g\nactor\nwrite 4294967295 1 fill ABCDEFabcdef0123\nrun\n",
         "disksize 4096 # one page\r\n# none\r\nactor#0\r\nrun\r",
-        "disksize 1\nactor\nactor\ndiscard 00 01\nschedule 1 0*2\nschedule 1*16777212\nschedule\t0\nrun",
+        "disksize 1\nactor\nactor\ndiscard 00 01\nschedule 1 0*2\nschedule 1*16777212\nrun",
+        "disksize 1\nactor\nschedule\t0\nrun",
     ];
     for text in table {
         assert_eq!(rt; fault_in(rt.alloc(), text)?, None, "at {text}");

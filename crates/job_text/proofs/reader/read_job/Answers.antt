@@ -33,4 +33,5 @@ returns-clause-within c = by c.read_exact.result c.read_exact.ensures.found
     by (Err fault) e = tt
 
 pub returns-clause-no_job : goal.returns-clause-no_job
-returns-clause-no_job c fault is job at = no_job c.args.bytes.now fault job (c.read_exact.ensures.bad fault is) at
+returns-clause-no_job c fault is job at =
+    no_job c.args.bytes.now fault job (c.read_exact.ensures.bad fault is) at

@@ -12,5 +12,6 @@ pub returns-clause-goes_on : goal.returns-clause-goes_on
 returns-clause-goes_on c =
     let words = ap (map (λ word. word.now)) c.deref.ensures.value ∙ c.in_ok-words.ensures in
     on_ok _ _ c.take.result
-    (goes_on c.args.reading.now c.take.new.self c.args.number c.args.line.now c.in_ok-line.line (ap line_of (sym words) ∙ c.in_ok-line.ensures.said) c.in_ok-line.ensures.lawful)
+    (goes_on c.args.reading.now c.take.new.self c.args.number c.args.line.now c.in_ok-line.line
+    (ap line_of (sym words) ∙ c.in_ok-line.ensures.said) c.in_ok-line.ensures.lawful)
     c.take.ensures.taken
