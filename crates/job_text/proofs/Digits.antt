@@ -68,7 +68,9 @@ bounded base value (c ∷ cs) are =
     (value * base + digit_value c) cs + 1 ≤ (value * base + digit_value c + 1) * base ^ length cs =
     bounded base (value * base + digit_value c) cs parts.1 in
     let first : value * base + digit_value c + 1 ≤ (value + 1) * base = omega arith in
-    let grown : (value * base + digit_value c + 1) * base ^ length cs ≤ (value + 1) * base * base ^ length cs = mul-le-mul_right (base ^ length cs) first in
+    let grown : (value * base + digit_value c + 1) * base ^ length cs
+    ≤ (value + 1) * base * base ^ length cs =
+    mul-le-mul_right (base ^ length cs) first in
     let joined : (value + 1) * base * base ^ length cs ≡ (value + 1) * base ^ suc (length cs) =
     mul_assoc (value + 1) base (base ^ length cs)
     ∙ ap (λ p. (value + 1) * p) (sym (pow-succ' base (length cs))) in

@@ -2,7 +2,7 @@
 use Rattle.std.proofs.Common.{◌≡◌, ℕ, suc, ◌+◌, ◌<◌, ◌≤◌, true, false, not, ◌&&◌, nat_lt, nat_le, cond, List, [], ◌∷◌, ◌++◌, length, map, Some, None, option_map, refl, sym, ap, ◌∙◌, subst, append_assoc, arith}
 use Rattle.std.specs.List.{flat_map, list_all}
 use Rattle.std.proofs.lemmas.List.{append-nil, length_push}
-use Rattle.std.proofs.lemmas.Bool.{leb-true, le-leb, lt-ltb}
+use Rattle.std.proofs.lemmas.Bool.{and_from, cond-true, leb-true, le-leb, lt-ltb}
 use Rattle.zr_base.specs.declared.op.Op.{Op}
 use Rattle.zr_base.specs.declared.op.Turns.{Turns}
 use Rattle.zr_base.specs.declared.limits.TheConstants.{MOST_ACTORS}
@@ -11,8 +11,8 @@ use Rattle.job_text.specs.declared.job.Attr.TheVariants.{DiskPages}
 use Rattle.job_text.specs.declared.job.Item.{Item}
 use Rattle.job_text.specs.declared.job.Item.TheVariants as items
 use Rattle.job_text.specs.declared.begun.Begun.{Begun}
-use Rattle.job_text.specs.Jobs.{Saying, says_actor, says_operation, says_turns, says_run, actor_sayings, item_sayings, Used, with_disk, with_phase, with_op, with_ops, with_actors, with_turns, with_text, has_phase_left, has_left_for, has_turns_left, MayOperate, MayAct, MayTurn, MayRun, MayFollow}
-use Rattle.job_text.specs.Reading.{is_scheduled, all_actors, text_of, fresh, with_actor, with_operation, with_schedule, items_from}
+use Rattle.job_text.specs.Jobs.{Saying, says_actor, says_operation, says_turns, says_run, actor_sayings, item_sayings, Used, with_disk, with_phase, with_op, with_ops, with_actors, with_turns, with_text, has_turns_left, MayOperate, MayAct, MayTurn, MayRun, MayFollow}
+use Rattle.job_text.specs.Reading.{is_scheduled, all_actors, text_of, fresh, with_actor, with_operation, items_from}
 use Rattle.job_text.proofs.Steps.{turns_step}
 
 -- ---- what operations leave as it was
@@ -36,11 +36,7 @@ spelled_ops : (u : Used) (begun : Begun) (ops : List Op) (rest : List Saying)
 spelled_ops u begun [] rest none may =
     ap (λ ops. items_from u (Some (record begun { last = ops })) rest) (sym (append-nil begun.last))
 spelled_ops u begun (op ∷ ops) rest none may =
-    ap (λ b. cond (not b && has_left_for u op)
-    (items_from (with_op u op) (Some (with_operation begun op)) (map says_operation ops ++ rest))
-    None) none
-    ∙ ap (λ b. cond b (items_from (with_op u op) (Some (with_operation begun op))
-    (map says_operation ops ++ rest)) None) may.1
+    cond-true _ _ _ (and_from _ _ (ap not none) may.1)
     ∙ spelled_ops (with_op u op) (with_operation begun op) ops rest none may.2
     ∙ ap (λ all. items_from (with_ops (with_op u op) ops) (Some (record begun { last = all })) rest)
     (append_assoc begun.last (op ∷ []) ops)
@@ -78,18 +74,10 @@ spelled_actors u begun (ops ∷ more) rest none disk few may =
     omega (arith, length_push begun.actors begun.last) in
     ap (λ (xs : List Saying). items_from u (Some begun) (says_actor ∷ xs))
     (append_assoc (map says_operation ops) (flat_map actor_sayings more) rest)
-    ∙ ap (λ b. cond (not b && u.disk && nat_le (length begun.actors + 1 + 1) MOST_ACTORS)
-    (items_from u (Some next) (map says_operation ops ++ (flat_map actor_sayings more ++ rest)))
-    None) none
-    ∙ ap (λ b. cond (b && nat_le (length begun.actors + 1 + 1) MOST_ACTORS)
-    (items_from u (Some next) (map says_operation ops ++ (flat_map actor_sayings more ++ rest)))
-    None) disk
-    ∙ ap (λ b. cond b (items_from u (Some next)
-    (map says_operation ops ++ (flat_map actor_sayings more ++ rest))) None) left
+    ∙ cond-true _ _ _ (and_from _ _ (and_from _ _ (ap not none) disk) left)
     ∙ spelled_ops u next ops (flat_map actor_sayings more ++ rest) none may.0
     ∙ spelled_actors (with_ops u ops) (record next { last = ops }) more rest none
-    ((ops_keep u ops).0
-    ∙ disk) fewer may.1
+    ((ops_keep u ops).0 ∙ disk) fewer may.1
 
 named_all : (actors : ℕ) (turns : List Turns) → MayTurn actors turns
     → list_all (λ t. nat_lt t.actor actors) turns ≡ true
@@ -108,12 +96,7 @@ spelled_end : (u : Used) (begun : Begun) (schedule : List Turns) (rest : List Sa
     (items_from (with_turns u schedule) None rest)
 spelled_end u begun schedule rest may fits left =
     turns_step u begun schedule (says_run ∷ rest) fits
-    ∙ ap (λ b. cond (b && has_turns_left u schedule)
-    (items_from (with_turns u schedule) (Some (with_schedule begun schedule))
-    (says_run ∷ rest)) None)
-    (named_all (length begun.actors + 1) schedule may)
-    ∙ ap (λ b. cond b (items_from (with_turns u schedule) (Some (with_schedule begun schedule))
-    (says_run ∷ rest)) None) left
+    ∙ cond-true _ _ _ (and_from _ _ (named_all (length begun.actors + 1) schedule may) left)
 
 regroup : (a b rest : List Saying)
     → ((a ++ b) ++ says_run ∷ []) ++ rest ≡ a ++ (b ++ says_run ∷ rest)
@@ -127,34 +110,29 @@ spelled_phase : (u : Used) (actors : List (List Op)) (schedule : List Turns) (re
     (items_from (with_text u actors schedule) None rest)
 spelled_phase u [] [] rest fits may =
     let none : u.turns ≡ u.turns + 0 = omega arith in
-    ap (λ b. cond b (option_map (λ later. items.Phase (text_of None) ∷ later)
-    (items_from (with_phase u) None rest)) None) may.phase_left
+    cond-true _ _ _ may.phase_left
     ∙ ap (λ n. option_map (λ later. items.Phase (text_of None) ∷ later)
     (items_from (record (with_phase u) { turns = n }) None rest)) none
-spelled_phase u [] (t ∷ ts) rest fits may = let n : t.actor < 0 = may.may_turn.0 in
-    absurd (omega arith)
+spelled_phase u [] (t ∷ ts) rest fits may =
+    let n : t.actor < 0 = may.may_turn.0 in absurd (omega arith)
 spelled_phase u (ops ∷ more) schedule rest fits may =
     let first : Begun = record { actors = []; last = ops; schedule = [] } in
     let last = map says_turns schedule ++ says_run ∷ rest in
     let v = with_actors (with_phase u) (ops ∷ more) in
-    let few : 0 + 1 + length more ≤ MOST_ACTORS = let n : suc (length more) ≤ MOST_ACTORS =
-    may.few_actors in omega arith in
-    let disk : (with_ops (with_phase u) ops).disk ≡ true = (ops_keep (with_phase u) ops).0
-    ∙ may.has_disk in
+    let n : suc (length more) ≤ MOST_ACTORS = may.few_actors in
+    let few : 0 + 1 + length more ≤ MOST_ACTORS = omega arith in
+    let disk : (with_ops (with_phase u) ops).disk ≡ true =
+    (ops_keep (with_phase u) ops).0 ∙ may.has_disk in
     let end = with_more first more in
     let all : all_actors end ≡ ops ∷ more = more_actors first more in
-    let number : length end.actors + 1 ≡ length (ops ∷ more) = sym (length_push end.actors end.last)
-    ∙ ap length all in
+    let number : length end.actors + 1 ≡ length (ops ∷ more) =
+    sym (length_push end.actors end.last) ∙ ap length all in
     let P : ℕ → Type 0 = λ n. MayTurn n schedule in
     let keep : v.turns ≡ u.turns = actors_keep (with_phase u) (ops ∷ more) in
     let vfits : v.turns ≤ MOST_TURNS = omega arith in
     ap (λ (xs : List Saying). items_from u None (says_actor ∷ xs))
     (append_assoc (map says_operation ops) (flat_map actor_sayings more) last)
-    ∙ ap (λ b. cond (b && has_phase_left u)
-    (items_from (with_phase u) (Some fresh)
-    (map says_operation ops ++ (flat_map actor_sayings more ++ last))) None) may.has_disk
-    ∙ ap (λ b. cond b (items_from (with_phase u) (Some fresh)
-    (map says_operation ops ++ (flat_map actor_sayings more ++ last))) None) may.phase_left
+    ∙ cond-true _ _ _ (and_from _ _ may.has_disk may.phase_left)
     ∙ spelled_ops (with_phase u) fresh ops (flat_map actor_sayings more ++ last) refl may.may_act.0
     ∙ spelled_actors (with_ops (with_phase u) ops) first more last refl disk few may.may_act.1
     ∙ spelled_end v end schedule rest (subst P (sym number) may.may_turn) vfits may.turns_left

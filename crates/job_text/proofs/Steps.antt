@@ -188,8 +188,8 @@ phase_step number first None (Operation op) is = refl
 phase_step number first (Some begun) (Operation op) is = refl
 phase_step number first None (Schedule turns) is = refl
 phase_step number first (Some begun) (Schedule turns) is =
-    let some : length (begun.schedule ++ turns) ≡ 0
-    → ⊥ = λ e. omega (arith, length-append begun.schedule turns, is.0) in
+    let some : length (begun.schedule ++ turns) ≡ 0 → ⊥ =
+    λ e. omega (arith, length-append begun.schedule turns, is.0) in
     ap (λ b. Some (record { first = first; actors = length begun.actors + 1; scheduled = not b }))
     (sym (ne_eqb _ _ some))
 phase_step number first None Run is = refl
@@ -224,8 +224,8 @@ turns_fit u (Some phase) Run free fits = fits
 -- a line that is faulty by its words has that cause; another has the cause of its place
 abbrev HasCause : Used → Option Phase → List (List ℕ) → Result Line Cause → Type 0
 HasCause u phase words (Err cause) = cause_of u phase words ≡ Some cause
-HasCause u phase words (Ok line) = (cause_of u phase words ≡ place_cause u phase line)
-    × (said_in (form_of words) ≡ line)
+HasCause u phase words (Ok line) =
+    (cause_of u phase words ≡ place_cause u phase line) × (said_in (form_of words) ≡ line)
 
 causes_agree : (u : Used) (phase : Option Phase) (words : List (List ℕ))
     → HasCause u phase words (line_of words)
@@ -272,14 +272,12 @@ module _ (u : Used) (begun : Option Begun) (first number : ℕ) (text : List ℕ
   none_behind line more is has none (Some cause) free = refl
   none_behind line more is has none None free =
       let phase = phase_at first begun in
-      let next : first_fault_from (used_with u phase line) (phase_with number phase line)
-      (number + 1) texts ≡ Some fault =
-      ap (λ l. first_fault_from (used_with u phase l) (phase_with number phase l)
-      (number + 1) texts) (sym has.1)
-      ∙ ap (λ c. fault_at number c
-      (first_fault_from (used_with u phase (said_in (form_of (words_of text))))
-      (phase_with number phase (said_in (form_of (words_of text)))) (number + 1) texts))
-      (sym (has.0 ∙ free))
+      let said = said_in (form_of (words_of text)) in
+      let after : Line → Option JobFault =
+      λ l. first_fault_from (used_with u phase l) (phase_with number phase l) (number + 1) texts in
+      let next : after line ≡ Some fault =
+      ap after (sym has.1)
+      ∙ ap (λ c. fault_at number c (after said)) (sym (has.0 ∙ free))
       ∙ sym (fault_step u phase number text texts)
       ∙ e in
       let later = none (used_with u phase line) (begun_with begun line)
