@@ -24,7 +24,7 @@ abbrev pub IfRead : {A : Type 0} → (A → Type 0) → Result A Cause → Type 
 IfRead P (Err cause) = Unit {0}
 IfRead P (Ok x) = P x
 
--- a `schedule` has some words behind it
+-- a `schedule` has some words after it
 abbrev HasWords : Form → Type 0
 HasWords blank_form = Unit {0}
 HasWords (size_form size) = Unit {0}

@@ -86,7 +86,7 @@ named_all actors (t ∷ ts) may =
     ap (λ b. b && list_all (λ t. nat_lt t.actor actors) ts) (lt-ltb _ _ may.0)
     ∙ named_all actors ts may.3
 
--- a schedule and its `run`, behind a phase's actors
+-- a schedule and its `run`, after a phase's actors
 spelled_end : (u : Used) (begun : Begun) (schedule : List Turns) (rest : List Saying)
     → MayTurn (length begun.actors + 1) schedule → u.turns ≤ MOST_TURNS
     → has_turns_left u schedule ≡ true

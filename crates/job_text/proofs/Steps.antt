@@ -20,10 +20,10 @@ use Rattle.job_text.specs.Lines.{Form, words_of, form_of, is_malformed, meaning,
 use Rattle.job_text.specs.Jobs.{Saying, says_turns, said_by, said_before, sayings, Used, with_disk, with_phase, turns_in, with_turns, has_phase_left, has_left_for, has_turns_left}
 use Rattle.job_text.specs.Faults.{Phase, said_in, cause_in, cause_of, used_with, phase_with, fault_at, first_fault_from}
 use Rattle.job_text.specs.Answers.{IsInRange}
-use Rattle.job_text.specs.Reading.{used_by, is_scheduled, phase_at, phase_of, all_actors, text_of, with_schedule, place_cause, begun_with, items_by, IsNext, items_from, items_with, items_behind}
+use Rattle.job_text.specs.Reading.{used_by, is_scheduled, phase_at, phase_of, all_actors, text_of, with_schedule, place_cause, begun_with, items_by, IsNext, items_from, items_with, items_after}
 use Rattle.job_text.proofs.Lawful.{IfRead, line-lawful}
 
--- what stands behind a line that has no cause
+-- what stands after a line that has no cause
 abbrev pub unless : {A : Type 0} → Option Cause → Option A → Option A
 unless None x = x
 unless (Some cause) x = None
@@ -162,7 +162,7 @@ line_step u None first Run rest is fits =
     (items_from (with_phase u) None rest)) (has_phase_left u)
 line_step u (Some begun) first Run rest is fits = refl
 
--- the line of the first actor of the phase behind a line
+-- the line of the first actor of the phase after a line
 abbrev first_with : ℕ → ℕ → Option Begun → Line → ℕ
 first_with number first begun Blank = first
 first_with number first begun (Disk pages) = first
@@ -263,14 +263,14 @@ GivesNone fault texts said =
 module _ (u : Used) (begun : Option Begun) (first number : ℕ) (text : List ℕ)
     (texts : List (List ℕ)) (fault : JobFault) (fits : u.turns ≤ MOST_TURNS)
     (e : first_fault_from u (phase_at first begun) number (text ∷ texts) ≡ Some fault) where
-  none_behind : (line : Line) (more : List Saying) → IsInRange line
+  none_after : (line : Line) (more : List Saying) → IsInRange line
       → HasCause u (phase_at first begun) (words_of text) (Ok line)
       → GivesNone fault texts (Some more)
       → (cause : Option Cause) → place_cause u (phase_at first begun) line ≡ cause
       → unless cause (option_map (λ later. items_by begun line ++ later)
       (items_from (used_with u (phase_at first begun) line) (begun_with begun line) more)) ≡ None
-  none_behind line more is has none (Some cause) free = refl
-  none_behind line more is has none None free =
+  none_after line more is has none (Some cause) free = refl
+  none_after line more is has none None free =
       let phase = phase_at first begun in
       let said = said_in (form_of (words_of text)) in
       let after : Line → Option JobFault =
@@ -293,7 +293,7 @@ module _ (u : Used) (begun : Option Begun) (first number : ℕ) (text : List ℕ
   none_here (Ok line) None is has none = refl
   none_here (Ok line) (Some more) is has none =
       line_step u begun first line more is fits
-      ∙ none_behind line more is has none (place_cause u (phase_at first begun) line) refl
+      ∙ none_after line more is has none (place_cause u (phase_at first begun) line) refl
 
 pub no_items : (lines : List (List ℕ)) (fault : JobFault) → GivesNone fault lines (sayings lines)
 no_items [] fault u None first number fits e = cc
@@ -308,7 +308,7 @@ no_items (text ∷ texts) fault u begun first number fits e =
 module _ (r next : Reading) (number : ℕ) (text : List ℕ) (line : Line) where
   pub goes_on : line_of (words_of text) ≡ Ok line → IsInRange line → IsNext r number line next
       → (rest : List (List ℕ))
-      → items_behind r (text ∷ rest) ≡ items_behind next rest
+      → items_after r (text ∷ rest) ≡ items_after next rest
   goes_on said is taken rest =
       ap (λ read. option_and_then (items_with r) (said_before read (sayings rest))) said
       ∙ by (sayings rest)

@@ -32,7 +32,7 @@ hash_in line = position (λ c. c == 35) line
 
 -- ---- answers
 
--- a call has answered what there was to answer, or memory was wanting
+-- a call has answered what there was to answer, or memory was refused
 abbrev pub Answers : {A : Type 0} → Result A Cause → Result A NotTaken → Type 0
 Answers told (Ok value) = told ≡ Ok value
 Answers told (Err (untaken.Faulty cause)) = told ≡ Err cause

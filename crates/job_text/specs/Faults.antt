@@ -32,8 +32,7 @@ names_no_actor (Some phase) (Schedule turns) =
 names_no_actor phase Run = false
 
 -- The disk's size is given once, outside a phase. Operations and turns belong to a phase that has
--- begun, and behind a
--- `schedule` come only more of it and the `run`.
+-- begun, and after a `schedule` come only more of it and the `run`.
 abbrev pub is_misplaced : Used → Option Phase → Line → Bool
 is_misplaced u phase Blank = false
 is_misplaced u None (Disk pages) = u.disk
@@ -85,7 +84,7 @@ cause_in u phase (Some form) =
     else if passes_limit u phase (meaning form) then Some causes.TooMany
     else None
 
--- the first of the causes that a line of these words has, behind what was counted and in this
+-- the first of the causes that a line of these words has, after what was counted and in this
 -- phase, if it has one
 abbrev pub cause_of : Used → Option Phase → List (List ℕ) → Option Cause
 cause_of u phase words = cause_in u phase (form_of words)
@@ -103,7 +102,7 @@ used_with u phase (Schedule turns) = with_turns u turns
 used_with u None Run = with_phase u
 used_with u (Some phase) Run = u
 
--- the phase behind the line of this number, if it has no cause
+-- the phase after the line of this number, if it has no cause
 abbrev pub phase_with : ℕ → Option Phase → Line → Option Phase
 phase_with number phase Blank = phase
 phase_with number phase (Disk pages) = phase

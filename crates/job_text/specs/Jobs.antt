@@ -63,8 +63,7 @@ item_sayings (items.Phase text) =
 -- ---- the limits
 
 -- What of a job's limits is used: whether the disk's size was given, how many phases have begun,
--- and how many operations,
--- pieces of requests, sectors to read and turns there were.
+-- and how many operations, pieces of requests, sectors to read and turns there were.
 pub record Used : Type 0 where
   pub disk : Bool
   pub phases : ℕ
@@ -95,7 +94,7 @@ abbrev pub turns_in : List Turns → ℕ
 turns_in [] = 0
 turns_in (turns ∷ more) = turns.times + turns_in more
 
--- behind the disk's size
+-- after the disk's size
 abbrev pub with_disk : Used → Used
 with_disk u = record u { disk = true }
 
@@ -142,7 +141,7 @@ has_turns_left u turns = nat_le (u.turns + turns_in turns) MOST_TURNS
 
 -- ---- the order of items
 
--- operations behind those that were counted
+-- operations after those that were counted
 abbrev pub MayOperate : Used → List Op → Type 0
 MayOperate u [] = ⊤
 MayOperate u (op ∷ ops) = IsRequest op × (has_left_for u op ≡ true) × MayOperate (with_op u op) ops
@@ -158,7 +157,7 @@ MayTurn actors [] = ⊤
 MayTurn actors (turns ∷ more) =
     (turns.actor < actors) × (1 ≤ turns.times) × (turns.times ≤ MOST_TURNS) × MayTurn actors more
 
--- a phase's actors stand behind a disk's size
+-- a phase's actors stand after a disk's size
 abbrev pub HasDisk : Used → List (List Op) → Type 0
 HasDisk u [] = ⊤
 HasDisk u (ops ∷ more) = u.disk ≡ true

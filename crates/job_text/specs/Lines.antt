@@ -50,42 +50,42 @@ pub data Form : Type 0 where
   schedule_form : (turns : List (List ℕ)) → Form
   run_form : Form
 
--- a form with no word behind the first
+-- a form with no word after the first
 abbrev pub alone : Form → List (List ℕ) → Option Form
 alone form [] = Some form
 alone form (word ∷ words) = None
 
--- what stands behind `disksize`
+-- what stands after `disksize`
 abbrev pub size_in : List (List ℕ) → Option Form
 size_in (size ∷ []) = Some (size_form size)
 size_in words = None
 
--- what stands behind `read`
+-- what stands after `read`
 abbrev pub read_in : List (List ℕ) → Option Form
 read_in (start ∷ count ∷ []) = Some (read_form start count)
 read_in words = None
 
--- what stands behind `discard`
+-- what stands after `discard`
 abbrev pub discard_in : List (List ℕ) → Option Form
 discard_in (start ∷ count ∷ []) = Some (discard_form start count)
 discard_in words = None
 
--- what stands behind `write START COUNT fill`
+-- what stands after `write START COUNT fill`
 abbrev pub fill_in : List ℕ → List ℕ → List (List ℕ) → Option Form
 fill_in start count (word ∷ []) = Some (fill_form start count word)
 fill_in start count words = None
 
--- what stands behind `write START COUNT seq`
+-- what stands after `write START COUNT seq`
 abbrev pub seq_in : List ℕ → List ℕ → List (List ℕ) → Option Form
 seq_in start count (base ∷ step ∷ []) = Some (seq_form start count base step)
 seq_in start count words = None
 
--- what stands behind `write START COUNT hex`, at least one word
+-- what stands after `write START COUNT hex`, at least one word
 abbrev pub hex_in : List ℕ → List ℕ → List (List ℕ) → Option Form
 hex_in start count [] = None
 hex_in start count (digits ∷ more) = Some (hex_form start count (digits ∷ more))
 
--- what stands behind `write START COUNT`
+-- what stands after `write START COUNT`
 unfoldable pub stuff_in : List ℕ → List ℕ → List ℕ → List (List ℕ) → Option Form
 stuff_in start count kind words =
     if bytes_eq kind (codes "fill") then fill_in start count words
@@ -93,17 +93,17 @@ stuff_in start count kind words =
     else if bytes_eq kind (codes "hex") then hex_in start count words
     else None
 
--- what stands behind `write`
+-- what stands after `write`
 abbrev pub write_in : List (List ℕ) → Option Form
 write_in (start ∷ count ∷ kind ∷ words) = stuff_in start count kind words
 write_in words = None
 
--- what stands behind `schedule`, at least one word
+-- what stands after `schedule`, at least one word
 abbrev pub schedule_in : List (List ℕ) → Option Form
 schedule_in [] = None
 schedule_in (turn ∷ more) = Some (schedule_form (turn ∷ more))
 
--- what stands behind a line's first word
+-- what stands after a line's first word
 unfoldable pub named_in : List ℕ → List (List ℕ) → Option Form
 named_in name words =
     if bytes_eq name (codes "disksize") then size_in words

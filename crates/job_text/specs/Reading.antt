@@ -124,7 +124,7 @@ items_by begun (Operation op) = []
 items_by begun (Schedule turns) = []
 items_by begun Run = items.Phase (text_of begun) ∷ []
 
--- A line that has no cause was taken: what is used, the phase and the items are those behind the
+-- A line that has no cause was taken: what is used, the phase and the items are those after the
 -- line of this number.
 abbrev pub IsNext : Reading → ℕ → Line → Reading → Type 0
 IsNext r number line next =
@@ -183,35 +183,35 @@ job_of bytes =
 -- ---- what is left of a text
 
 -- the lines of the text that is left, if any
-abbrev pub lines_behind : Option (Bor (List ℕ)) → List (List ℕ)
-lines_behind None = []
-lines_behind (Some text) = text_lines text.now
+abbrev pub lines_left : Option (Bor (List ℕ)) → List (List ℕ)
+lines_left None = []
+lines_left (Some text) = text_lines text.now
 
 -- one more than its bytes
-abbrev pub bytes_behind : Option (Bor (List ℕ)) → ℕ
-bytes_behind None = 0
-bytes_behind (Some text) = length text.now + 1
+abbrev pub bytes_left : Option (Bor (List ℕ)) → ℕ
+bytes_left None = 0
+bytes_left (Some text) = length text.now + 1
 
 -- the items that more text gives
-abbrev pub items_behind : Reading → List (List ℕ) → Option (List Item)
-items_behind r lines = option_and_then (items_with r) (sayings lines)
+abbrev pub items_after : Reading → List (List ℕ) → Option (List Item)
+items_after r lines = option_and_then (items_with r) (sayings lines)
 
 -- the first fault in more text, counted from a number on
-abbrev pub fault_behind : Reading → ℕ → List (List ℕ) → Option JobFault
-fault_behind r number lines = first_fault_from (used_by r) (phase_of r) number lines
+abbrev pub fault_after : Reading → ℕ → List (List ℕ) → Option JobFault
+fault_after r number lines = first_fault_from (used_by r) (phase_of r) number lines
 
 -- whatever comes after a line, its first fault is that after the state which the line leads to
 abbrev pub KeepsFault : Reading → ℕ → List ℕ → Reading → Type 0
 KeepsFault r number line next =
     (rest : List (List ℕ))
-    → fault_behind r number (line ∷ rest) ≡ fault_behind next (number + 1) rest
+    → fault_after r number (line ∷ rest) ≡ fault_after next (number + 1) rest
 
 -- whatever comes after a line, its items are those after the state which the line leads to
 abbrev pub KeepsItems : Reading → List ℕ → Reading → Type 0
 KeepsItems r line next =
-    (rest : List (List ℕ)) → items_behind r (line ∷ rest) ≡ items_behind next rest
+    (rest : List (List ℕ)) → items_after r (line ∷ rest) ≡ items_after next rest
 
 -- whatever comes after a line, this is the first fault
 abbrev pub HasFault : Reading → ℕ → List ℕ → JobFault → Type 0
 HasFault r number line fault =
-    (rest : List (List ℕ)) → fault_behind r number (line ∷ rest) ≡ Some fault
+    (rest : List (List ℕ)) → fault_after r number (line ∷ rest) ≡ Some fault

@@ -20,7 +20,7 @@ pub(crate) struct Begun {
     pub(crate) schedule: TurnList,
 }
 
-/// Puts turns behind those of a schedule.
+/// Puts turns after those of a schedule.
 pub(crate) fn push_all(schedule: &mut TurnList, turns: &[Turns]) -> Result<(), AllocError>
     ensures { OnOk result (schedule.new ≡ schedule.old ++ turns.now) }
 {

@@ -7,7 +7,7 @@ use std::alloc::AllocError;
 pub enum Cause {
     /// Its first word names no line, it has too few or too many words, or a fixed word isn't there.
     Word,
-    /// A word isn't of its form, or there are too few or too many digits behind `hex`.
+    /// A word isn't of its form, or there are too few or too many digits after `hex`.
     Number,
     /// A value isn't allowed.
     Range,
@@ -32,7 +32,7 @@ pub struct JobFault {
 pub enum ReadFault {
     /// The bytes are no job.
     Bad(JobFault),
-    /// Memory was wanting.
+    /// Memory was refused.
     Memory(AllocError),
 }
 
@@ -41,7 +41,7 @@ pub enum ReadFault {
 pub(crate) enum NotTaken {
     /// It is faulty.
     Faulty(Cause),
-    /// Memory was wanting.
+    /// Memory was refused.
     Memory(AllocError),
 }
 

@@ -1,4 +1,4 @@
-//! The digits behind `hex`, of several words joined.
+//! The digits after `hex`, of several words joined.
 
 ghost use Rattle.std.specs.Prelude.{◌≡◌, ℕ, ◌+◌, ◌*◌, ◌<◌, map, IfOk, true, OnOk, ◌++◌, [], ◌∷◌};
 ghost use Rattle.std.specs.List.{concat};

@@ -5,7 +5,7 @@ ghost use Rattle.job_text.specs.declared.job.Item.{Item as JobItem};
 ghost use Rattle.job_text.specs.Jobs.{IsJob, text_lines};
 ghost use Rattle.job_text.specs.Totals.{IsWithinLimits};
 ghost use Rattle.job_text.specs.Faults.{first_fault};
-ghost use Rattle.job_text.specs.Reading.{IsNotTaken, cause_at, KeepsFault, KeepsItems, HasFault, job_of, lines_behind, bytes_behind};
+ghost use Rattle.job_text.specs.Reading.{IsNotTaken, cause_at, KeepsFault, KeepsItems, HasFault, job_of, lines_left, bytes_left};
 
 use crate::fault::{Cause, JobFault, NotTaken, ReadFault};
 use crate::job::Job;
@@ -21,10 +21,10 @@ fn line_end(text: &[u8]) -> Option<usize>
     text.iter().position(|byte| *byte == b'\n')
 }
 
-// The first line of a text, and the text behind it.
+// The first line of a text, and the text after it.
 fn first_line(text: &[u8]) -> (&[u8], Option<&[u8]>)
-    ensures lines { text_lines text.now ≡ result.0.now ∷ lines_behind result.1 }
-    ensures shorter { bytes_behind result.1 < length text.now + 1 }
+    ensures lines { text_lines text.now ≡ result.0.now ∷ lines_left result.1 }
+    ensures shorter { bytes_left result.1 < length text.now + 1 }
 {
     match line_end(text) {
         Some(at) => (&text[..at], Some(&text[at + 1..])),

@@ -50,7 +50,7 @@ impl Reading {
     ghost use Rattle.job_text.specs.Jobs.{MayTurn, nothing_used};
     ghost use Rattle.job_text.specs.Faults.{used_with, phase_with};
     ghost use Rattle.job_text.specs.Answers.{IsInRange};
-    ghost use Rattle.job_text.specs.Reading.{used_by, phase_of, phase_at, is_scheduled_in, place_cause, IsNotTaken, IsRefusedAt, IsNext, fault_behind, begun_with, items_by};
+    ghost use Rattle.job_text.specs.Reading.{used_by, phase_of, phase_at, is_scheduled_in, place_cause, IsNotTaken, IsRefusedAt, IsNext, fault_after, begun_with, items_by};
 
     pub(crate) fn new(alloc: Global) -> Reading
         ensures used { used_by result ≡ nothing_used }
@@ -207,7 +207,7 @@ impl Reading {
     pub(crate) fn finish(self) -> Result<Job, JobFault>
         ensures done { IfOk result (λ job. (self.begun ≡ None) × (job ≡ self.items)) }
         ensures left { IfErr result (λ fault. (number : ℕ)
-            → fault_behind self number [] ≡ Some fault) }
+            → fault_after self number [] ≡ Some fault) }
     {
         match self.begun {
             None => Ok(self.items),

@@ -33,7 +33,7 @@ fn tells_jobs(rt: HostRuntime) -> Result<(), Fail> {
     Ok(())
 }
 
-// Texts with their first faulty line and its cause: by their words alone, and by what stands before.
+// Texts with their first faulty line and its cause: by their words alone, then by their places.
 const FAULTY: [(&str, u32, Cause); 39] = [
     ("stop", 1, Cause::Word),
     ("RUN", 1, Cause::Word),
@@ -101,7 +101,7 @@ fn push_repeated(text: &mut String, line: &str, times: u32) -> Result<(), AllocE
 
 #[test]
 fn tells_limits(rt: HostRuntime) -> Result<(), Fail> {
-    // before, a line so many times, behind it; and the line at which a limit is passed
+    // before, a line so many times, after it; and the line at which a limit is passed
     let table = [
         ("", "run\n", 1000, "", None),
         ("", "run\n", 1000, "run\n", Some(1001)),
@@ -125,11 +125,11 @@ fn tells_limits(rt: HostRuntime) -> Result<(), Fail> {
         ("", COMMENT, 262_144, "", None),
         ("stop\n", COMMENT, 262_144, "", Some(0)),
     ];
-    for (before, line, times, behind, wanted) in table {
+    for (before, line, times, after, wanted) in table {
         let mut text = String::new(rt.alloc());
         text.push_str(before)?;
         push_repeated(&mut text, line, times)?;
-        text.push_str(behind)?;
+        text.push_str(after)?;
         let wanted = wanted.map(|line| JobFault {
             line,
             cause: Cause::TooMany,

@@ -1,4 +1,4 @@
-//! The words behind `schedule`.
+//! The words after `schedule`.
 
 ghost use Rattle.std.specs.Prelude.{◌≡◌, ℕ, map, true, false, IfOk, IfErr, OnOk, ◌++◌, [], ◌∷◌};
 ghost use Rattle.std.specs.List.{list_all};

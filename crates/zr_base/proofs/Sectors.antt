@@ -6,7 +6,7 @@ use Rattle.std.proofs.lemmas.Slice.{take-put_mid, take-put_mid_below, drop-put_m
 use borrow.Rule.Slice.PartMut.{put_mid}
 use Rattle.zr_base.specs.Sectors.{page_sector}
 
--- what stands behind the front of a list
+-- what stands after the front of a list
 drop-front : (a : ℕ) (xs ys : List ℕ) → a ≤ length xs → drop a (take a xs ++ ys) ≡ ys
 drop-front a xs ys fits =
     let n : length (take a xs) ≡ a = length-take-le a xs fits in

@@ -7,7 +7,7 @@ use Rattle.zr_base.specs.Plain.{words_from}
 use Rattle.zr_base.proofs.Ranges.{flat_map-range_push}
 use mathlib.Core.Path.{fun_ext}
 
--- word i was put behind those before it, into a sector
+-- word i was put after those before it, into a sector
 module _ (f : ℕ → ℕ) (from i : ℕ) (out bytes : List ℕ) (size : length out ≡ 512) (below : i < 64)
     (here : bytes ≡ to_le_bytes w64 (f (from + i))) where
   width : length bytes ≡ 8

@@ -67,7 +67,7 @@ impl Model for MemSink {
 impl MemSink {
     /// A sink that takes `room` bytes in all; the calls with the numbers in `failing`, from 1,
     /// fail.
-    /// It takes the memory of all bytes here. Err is want of memory.
+    /// It takes the memory of all bytes here. Err is refused memory.
     pub fn new(alloc: Global, room: usize, failing: &[u64]) -> Result<MemSink, AllocError>
         ensures { IfOk result (λ s. s ≡ record {
           written = [];
