@@ -27,7 +27,7 @@ mod words;
 
 pub use codes::Code;
 pub use pack::pack_line;
-pub use read::unpack_line;
+pub use read::{decode_line, unpack_line};
 
 #[cfg(test)]
 mod tests;
