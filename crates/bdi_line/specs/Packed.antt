@@ -1,7 +1,8 @@
 -- The code and the payload of a line as functions of it.
-use Rattle.std.specs.Prelude.{ℕ, ◌/◌, ◌==◌, Bool, true, List, [], ◌∷◌, ◌++◌, map, cond, not, take, slice_index}
+use Rattle.std.specs.Prelude.{ℕ, ◌/◌, ◌==◌, ◌≡◌, Bool, true, List, [], ◌∷◌, ◌++◌, map, cond, not, take, slice_index}
 use Rattle.std.specs.Simd.Lanes.{digits_l, mask_l}
 use Rattle.bdi_line.specs.Line.{values, is_large, base_of, difference, low_bytes, Shape, bound_of, modulus_of, b8d1, b8d2, b8d4, b4d1, b4d2, b2d1}
+use Rattle.bdi_line.specs.Coded.{IsCoded}
 use Rattle.bdi_line.specs.declared.codes.Code.{Code}
 use Rattle.bdi_line.specs.declared.codes.Code.TheVariants.{Zeros, Repeated, B8D1, B8D2, B8D4, B4D1, B4D2, B2D1, Raw}
 
@@ -76,3 +77,9 @@ payload_under Raw line = line
 -- the payload of a line
 abbrev pub payload_of : List ℕ → List ℕ
 payload_of line = payload_under (code_of line) line
+
+-- the line has its code and payload, and no others
+pub record HasOneCoding (line : List ℕ) : Type 0 where
+  pub coded : IsCoded line (code_of line) (payload_of line)
+  pub one : (code : Code) (payload : List ℕ) → IsCoded line code payload
+      → (code ≡ code_of line) × (payload ≡ payload_of line)
