@@ -17,7 +17,7 @@ use arrayvec::ArrayVec;
 use std::simd::prelude::*;
 
 /// Appends the line's payload, and answers its code. `out` needs 64 free bytes.
-#[inline]
+#[inline(always)]
 pub fn pack_line(line: &[u8; 64], out: &mut ArrayVec<u8, 4128>) -> Code
     requires { array_vec_len out.old + 64 ≤ 4128 }
     ensures code { result ≡ code_of line.now }
@@ -34,7 +34,7 @@ pub fn pack_line(line: &[u8; 64], out: &mut ArrayVec<u8, 4128>) -> Code
 }
 
 /// Appends the line's payload, and answers its code.
-#[inline]
+#[inline(always)]
 #[tactic(auto, unfolding(crate::specs::Packed::code_of))]
 pub(crate) fn pack_into<const N: usize>(line: &[u8; 64], out: &mut ArrayVec<u8, N>) -> Code
     requires { array_vec_len out.old + 64 ≤ N }

@@ -59,7 +59,7 @@ fn same_bytes(a: &[u8], b: &[u8]) -> bool
 
 /// The line whose packing is known to be this code and payload. Nothing is checked: where no line
 /// has this packing, any line may come.
-#[inline]
+#[inline(always)]
 pub fn decode_line(code: Code, payload: &[u8]) -> [u8; 64]
     requires size { length payload.now ≡ size_of code }
     ensures only { (line : List ℕ) → IsByteLine line → IsCoded line code payload.now
@@ -68,7 +68,7 @@ pub fn decode_line(code: Code, payload: &[u8]) -> [u8; 64]
     decoded(code, payload).to_array()
 }
 
-#[inline]
+#[inline(always)]
 fn decoded(code: Code, payload: &[u8]) -> u8x64
     requires { length payload.now ≡ size_of code }
     ensures { (line : List ℕ) → IsByteLine line → IsCoded line code payload.now → line ≡ result }

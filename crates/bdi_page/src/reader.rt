@@ -99,7 +99,7 @@ pub fn decode(bytes: &[u8], page: &mut Page)
 }
 
 // Decodes the lines 2j and 2j + 1, whose payloads are at `at`, and answers where these end.
-#[inline]
+#[inline(always)]
 fn decode_pair(bytes: &[u8], j: usize, at: usize, read: &mut [u8]) -> usize
     requires codes { j < length bytes.now }
     requires pair { j < 32 }
@@ -118,7 +118,7 @@ fn decode_pair(bytes: &[u8], j: usize, at: usize, read: &mut [u8]) -> usize
 }
 
 // Decodes line i, whose code has this number and whose payload is at `at`.
-#[inline]
+#[inline(always)]
 fn decode_at(bytes: &[u8], number: u8, at: usize, i: usize, read: &mut [u8]) -> usize
     requires line { i < 64 }
     requires size { length read.old ≡ 4096 }
