@@ -31,9 +31,11 @@ one_home-out u out = ap (λ b. cond (not b) 1 0) out
 
 -- ---- a spot and its cell
 
-pub entry-uses : (spots : List SpotState) (i : ℕ) (s : SpotState) → i < length spots → s ≡ get_or spots i s
+pub entry-uses : (spots : List SpotState) (i : ℕ) (s : SpotState) → i < length spots
+    → s ≡ get_or spots i s
     → entry (uses spots) i ≡ s.use_of
-entry-uses spots i s low at = get_or-map (λ x. x.use_of) spots i s None low ∙ ap (λ x. x.use_of) (sym at)
+entry-uses spots i s low at = get_or-map (λ x. x.use_of) spots i s None low
+    ∙ ap (λ x. x.use_of) (sym at)
 
 pub used_within : (spots : List SpotState) (i : ℕ) (u : UsedCell) → entry (uses spots) i ≡ Some u
     → i < length spots
@@ -53,7 +55,8 @@ sum_by-uses : (f : Option UsedCell → ℕ) (spots : List SpotState) (i : ℕ) (
     → i < length spots → s ≡ get_or spots i s
     → sum_by f (uses (set spots i new)) + f s.use_of ≡ sum_by f (uses spots) + f new.use_of
 sum_by-uses f spots i s new low at =
-    let cells : uses (set spots i new) ≡ set (uses spots) i new.use_of = map-set (λ x. x.use_of) spots i new in
+    let cells : uses (set spots i new) ≡ set (uses spots) i new.use_of =
+    map-set (λ x. x.use_of) spots i new in
     let sum = sum_by-set f (uses spots) i new.use_of None (rw length-map low) in
     omega (arith, sum, ap (sum_by f) cells, ap f (entry-uses spots i s low at))
 
@@ -61,7 +64,11 @@ sum_by-uses f spots i s new low at =
 pub counted : (f : Option UsedCell → ℕ) (spots : List SpotState) (i : ℕ) (s : SpotState)
     → i < length spots → s ≡ get_or spots i s → f s.use_of ≤ sum_by f (uses spots)
 counted f spots i s low at =
-    omega (arith, get_or-le-sum_by f (uses spots) i None (rw length-map low), ap f (entry-uses spots i s low at))
+    omega (
+      arith,
+      get_or-le-sum_by f (uses spots) i None (rw length-map low),
+      ap f (entry-uses spots i s low at),
+    )
 
 pub spot_at : (size used home : ℕ) (spots : List SpotState) (free : List ℕ) (i : ℕ) (s : SpotState)
     → IsZspage size used home spots free → i < length spots → s ≡ get_or spots i s
@@ -70,8 +77,10 @@ spot_at size used home spots free i s z low at =
     subst (λ x. IsSpot i size (slice_index free i) x) (sym at) (z.each i s low)
 
 -- where some cell is not at home, those at home are fewer than the cells
-pub home_less : (size used home : ℕ) (spots : List SpotState) (free : List ℕ) (i : ℕ) (s : SpotState)
-    → IsZspage size used home spots free → i < length spots → s ≡ get_or spots i s → one_home s.use_of ≡ 0
+pub home_less : (size used home : ℕ) (spots : List SpotState) (free : List ℕ) (i : ℕ)
+    (s : SpotState)
+    → IsZspage size used home spots free → i < length spots → s ≡ get_or spots i s
+    → one_home s.use_of ≡ 0
     → home + 1 ≤ length spots
 home_less size used home spots free i s z low at none =
     let v : UsedCell = record {
@@ -95,12 +104,14 @@ home_less size used home spots free i s z low at none =
 -- ---- one cell is used otherwise
 
 -- what a call leaves of the spots
-pub record Leaves (size used home : ℕ) (spots spots' : List SpotState) (free : List ℕ) (i : ℕ) (o : Option UsedCell) : Type 0 where
+pub record Leaves (size used home : ℕ) (spots spots' : List SpotState) (free : List ℕ) (i : ℕ)
+    (o : Option UsedCell) : Type 0 where
   pub state : IsZspage size used home spots' free
   pub cells : uses spots' ≡ set (uses spots) i o
 
 pub changed : (size used used' home home' : ℕ) (spots : List SpotState) (free : List ℕ) (i : ℕ)
-    (s new : SpotState) (o : Option UsedCell) → IsZspage size used home spots free → i < length spots
+    (s new : SpotState) (o : Option UsedCell) → IsZspage size used home spots free
+    → i < length spots
     → s ≡ get_or spots i s → new ≡ record s { use_of = o }
     → used' + one_of s.use_of ≡ used + one_of o → home' + one_home s.use_of ≡ home + one_home o
     → Leaves size used' home' spots (set spots i new) (set free i (rank_of o)) i o
@@ -109,8 +120,20 @@ changed size used used' home home' spots free i s new o z low at is count home_i
     let here = spot_at size used home spots free i s z low at in
     record {
       state = record {
-        count = omega (arith, z.count, count, sum_by-uses one_of spots i s new low at, ap one_of now);
-        home_is = omega (arith, z.home_is, home_is, sum_by-uses one_home spots i s new low at, ap one_home now);
+        count = omega (
+          arith,
+          z.count,
+          count,
+          sum_by-uses one_of spots i s new low at,
+          ap one_of now,
+        );
+        home_is = omega (
+          arith,
+          z.home_is,
+          home_is,
+          sum_by-uses one_home spots i s new low at,
+          ap one_home now,
+        );
         few = rw length-set z.few;
         ranked = rw (length-set, length-set) z.ranked;
         each = λ k d small.
@@ -122,14 +145,16 @@ changed size used used' home home' spots free i s new o z low at is count home_i
                     sized = ap (λ x. x.size) is ∙ here.sized;
                     ranked = ap rank_of (sym now);
                   }))
-              | inr other ↦ rw (get_or-set_other, get_or-set_other) (z.each k d (rw length-set at small))
+              | inr other ↦ rw (get_or-set_other, get_or-set_other)
+                  (z.each k d (rw length-set at small))
             ];
       };
       cells = map-set (λ x. x.use_of) spots i new ∙ ap (set (uses spots) i) now;
     }
 
 -- where a used cell stays used the ranks stay
-pub kept : (size used home home' : ℕ) (spots : List SpotState) (free : List ℕ) (i : ℕ) (s new : SpotState)
+pub kept : (size used home home' : ℕ) (spots : List SpotState) (free : List ℕ) (i : ℕ)
+    (s new : SpotState)
     (u v : UsedCell) → IsZspage size used home spots free → i < length spots → s ≡ get_or spots i s
     → s.use_of ≡ Some u → new ≡ record s { use_of = Some v }
     → home' + one_home (Some u) ≡ home + one_home (Some v)
@@ -168,7 +193,8 @@ nowhere : SpotState
 nowhere = record { number = 0; size = 0; use_of = None }
 
 -- the rank of a cell, where its use is known
-rank_at : (size used home : ℕ) (spots : List SpotState) (free : List ℕ) (k : ℕ) (o : Option UsedCell)
+rank_at : (size used home : ℕ) (spots : List SpotState) (free : List ℕ) (k : ℕ)
+    (o : Option UsedCell)
     → IsZspage size used home spots free → k < length spots → entry (uses spots) k ≡ o
     → slice_index free k ≡ rank_of o
 rank_at size used home spots free k o z low is =
@@ -176,8 +202,10 @@ rank_at size used home spots free k o z low is =
     ∙ ap rank_of (sym (get_or-map (λ x. x.use_of) spots k nowhere None low) ∙ is)
 
 -- the winner of the ranks is the lowest free cell
-pub winner_free : (size used home : ℕ) (spots : List SpotState) (free : List ℕ) (i : ℕ) (s : SpotState)
-    → IsZspage size used home spots free → used_of (uses spots) < length (uses spots) → IsWinner free i
+pub winner_free : (size used home : ℕ) (spots : List SpotState) (free : List ℕ) (i : ℕ)
+    (s : SpotState)
+    → IsZspage size used home spots free → used_of (uses spots) < length (uses spots)
+    → IsWinner free i
     → s ≡ get_or spots i s → s.use_of ≡ None
 winner_free size used home spots free i s z room wins at =
     let low : i < length spots = omega (arith, wins.within, z.ranked) in
@@ -190,22 +218,27 @@ winner_free size used home spots free i s z room wins at =
       rank_at size used home spots free i s.use_of z low (entry-uses spots i s low at),
     ))
 
-pub lowest_free : (size used home : ℕ) (spots : List SpotState) (free : List ℕ) (i : ℕ) (s : SpotState)
-    → IsZspage size used home spots free → used_of (uses spots) < length (uses spots) → IsWinner free i
+pub lowest_free : (size used home : ℕ) (spots : List SpotState) (free : List ℕ) (i : ℕ)
+    (s : SpotState)
+    → IsZspage size used home spots free → used_of (uses spots) < length (uses spots)
+    → IsWinner free i
     → s ≡ get_or spots i s → IsLowestFree (uses spots) i
 lowest_free size used home spots free i s z room wins at =
     let low : i < length spots = omega (arith, wins.within, z.ranked) in
     let here : entry (uses spots) i ≡ s.use_of = entry-uses spots i s low at in
     let gone : s.use_of ≡ None = winner_free size used home spots free i s z room wins at in
     record {
-      free = slice_get-get_or (uses spots) i None (rw length-map low) ∙ ap (λ o. Some o) (here ∙ gone);
+      free = slice_get-get_or (uses spots) i None (rw length-map low)
+          ∙ ap (λ o. Some o) (here ∙ gone);
       lowest = λ k below is.
-          let small : k < length spots = rw length-map at (slice_get_within (uses spots) k None is) in
+          let small : k < length spots = rw length-map at
+          (slice_get_within (uses spots) k None is) in
           omega (
             arith,
             wins.first k below,
             rank_small s.use_of,
-            rank_at size used home spots free k None z small (get_or_from_slice_get (uses spots) k None None is),
+            rank_at size used home spots free k None z small
+                (get_or_from_slice_get (uses spots) k None None is),
             rank_at size used home spots free i s.use_of z low here,
           );
     }
@@ -218,7 +251,8 @@ AreFree size spots = (k : ℕ) (d : SpotState) → k < length spots
     → get_or spots k d ≡ record { number = k; size = size; use_of = None }
 
 -- one more free cell
-pub free_more : (size n : ℕ) (spots : List SpotState) (s : SpotState) → AreFree size spots → n ≡ length spots
+pub free_more : (size n : ℕ) (spots : List SpotState) (s : SpotState) → AreFree size spots
+    → n ≡ length spots
     → s ≡ record { number = n; size = size; use_of = None } → AreFree size (spots ++ s ∷ [])
 free_more size n spots s are long is k d low =
     elim (cases_lt k (length spots)) [
@@ -237,7 +271,8 @@ uses_free size spots are =
     (λ k d low.
     let small : k < length spots = rw length-map at low in
     get_or-map (λ x. x.use_of) spots k nowhere d small
-    ∙ ap (λ x. x.use_of) (are k nowhere small) ∙ sym (get_or-replicate (length spots) k None d small))
+    ∙ ap (λ x. x.use_of) (are k nowhere small)
+    ∙ sym (get_or-replicate (length spots) k None d small))
 
 pub fresh : (size : ℕ) (spots : List SpotState) (free : List ℕ) → AreFree size spots
     → free ≡ replicate (length spots) 1 → length spots < 2 ^ 32 → IsZspage size 0 0 spots free

@@ -21,18 +21,22 @@ away c =
     let u : UsedCell = c.back.ensures.0 in
     let both : Some u ≡ Some large.0 =
     sym c.back.ensures.1
-    ∙ used_at c.self.inside.spots.items c.args.ix _ large.0 c.index_mut-spot.ensures.value large.1 in
+    ∙ used_at c.self.inside.spots.items c.args.ix _ large.0
+    c.index_mut-spot.ensures.value large.1 in
     let same : u ≡ large.0 = cc in
     one_home-out u (ap (λ v. v.out) same ∙ large.2)
 
 left : (c : After-back)
-    → Leaves c.self.inside.size c.self.inside.used (c.self.inside.home + 1) c.self.inside.spots.items
+    → Leaves c.self.inside.size c.self.inside.used (c.self.inside.home + 1)
+    c.self.inside.spots.items
     (set c.self.inside.spots.items c.args.ix c.back.new.self) c.self.inside.free c.args.ix
     (Some (record c.back.ensures.0 { out = false }))
 left c =
     let u : UsedCell = c.back.ensures.0 in
-    kept _ _ _ _ _ _ _ _ _ u (record u { out = false }) c.self.invariant (low c) c.index_mut-spot.ensures.value
-    c.back.ensures.1 c.back.ensures.2 (omega (arith, away c, one_home-in (record u { out = false }) refl))
+    kept _ _ _ _ _ _ _ _ _ u (record u { out = false }) c.self.invariant (low c)
+    c.index_mut-spot.ensures.value
+    c.back.ensures.1 c.back.ensures.2 (omega
+    (arith, away c, one_home-in (record u { out = false }) refl))
 
 pub invariant_of-self : goal.invariant_of-self
 invariant_of-self c = (left (goal.at.invariant_of-self c).After-back).state

@@ -14,7 +14,8 @@ low c =
     used_within c.self.inside.spots.items c.args.ix home.0 home.1
 
 left : (c : After-lend-cell)
-    → Leaves c.self.inside.size c.self.inside.used (c.self.inside.home - 1) c.self.inside.spots.items
+    → Leaves c.self.inside.size c.self.inside.used (c.self.inside.home - 1)
+    c.self.inside.spots.items
     (set c.self.inside.spots.items c.args.ix c.lend-cell.new.self) c.self.inside.free c.args.ix
     (Some (record c.lend-cell.ensures.0 { out = true }))
 left c =
@@ -28,8 +29,16 @@ left c =
     let same : u ≡ home.0 = cc in
     let one : one_home (Some u) ≡ 1 = one_home-in u (ap (λ v. v.out) same ∙ home.2) in
     let some = counted one_home _ _ _ (low c) at in
-    kept _ _ _ _ _ _ _ _ _ u (record u { out = true }) c.self.invariant (low c) at is c.lend-cell.ensures.5
-    (omega (arith, c.self.invariant.home_is, one, some, ap one_home is, one_home-out (record u { out = true }) refl))
+    kept _ _ _ _ _ _ _ _ _ u (record u { out = true }) c.self.invariant (low c)
+    at is c.lend-cell.ensures.5
+    (omega (
+      arith,
+      c.self.invariant.home_is,
+      one,
+      some,
+      ap one_home is,
+      one_home-out (record u { out = true }) refl,
+    ))
 
 pub invariant_of-self : goal.invariant_of-self
 invariant_of-self c = (left (goal.at.invariant_of-self c).After-lend-cell).state

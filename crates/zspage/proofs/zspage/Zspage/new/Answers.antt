@@ -12,7 +12,12 @@ loop-number-preserved c =
     let had = c.loop-number.invariant in
     let items = c.in_ok-push.ensures.items in
     record {
-      long = omega (arith, had.long, ap length items, length-append c.loop-number.spots.items (c.new.result ∷ []));
+      long = omega (
+        arith,
+        had.long,
+        ap length items,
+        length-append c.loop-number.spots.items (c.new.result ∷ []),
+      );
       free = rw items (free_more _ _ _ _ had.free had.long (search rules));
       ranks = c.in_ok-push-2.ensures.ok ∙ ap (λ xs. xs ++ 1 ∷ []) had.ranks
           ∙ replicate-append-replicate c.loop-number.number 1 1;
@@ -22,7 +27,13 @@ pub invariant_of-result : goal.invariant_of-result
 invariant_of-result c =
     let had = c.loop-number.invariant in
     fresh c.args.size _ _ had.free (had.ranks ∙ ap (λ n. replicate n 1) had.long)
-    (omega (arith, had.long, c.loop-number.auto.number-end, c.requires.few, div-le_self (c.args.chain * 4096) c.args.size))
+    (omega (
+      arith,
+      had.long,
+      c.loop-number.auto.number-end,
+      c.requires.few,
+      div-le_self (c.args.chain * 4096) c.args.size,
+    ))
 
 pub returns : goal.returns
 returns c =

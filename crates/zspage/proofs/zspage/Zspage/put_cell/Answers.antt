@@ -9,15 +9,19 @@ use Rattle.zspage.proofs.zspage.Zspage.put_cell.Goals.{After-index_mut-spot, Aft
 
 -- the cell is counted
 there : (c : After-index_mut-spot)
-    → (c.args.ix < length c.self.inside.spots.items) × (one_of c.index_mut-spot.result.now.use_of ≡ 1)
-    × (one_home c.index_mut-spot.result.now.use_of ≡ 1) × (1 ≤ c.self.inside.used) × (1 ≤ c.self.inside.home)
+    → (c.args.ix < length c.self.inside.spots.items)
+    × (one_of c.index_mut-spot.result.now.use_of ≡ 1)
+    × (one_home c.index_mut-spot.result.now.use_of ≡ 1) × (1 ≤ c.self.inside.used)
+    × (1 ≤ c.self.inside.home)
 there c =
     let home : IsHome (uses c.self.inside.spots.items) c.args.ix =
     subst (λ z. IsHome z.cells c.args.ix) (sym c.self.view_is) c.requires in
     let at = c.index_mut-spot.ensures.value in
     let low = used_within c.self.inside.spots.items c.args.ix home.0 home.1 in
-    let is = used_at c.self.inside.spots.items c.args.ix c.index_mut-spot.result.now home.0 at home.1 in
-    let here : one_home c.index_mut-spot.result.now.use_of ≡ 1 = omega (arith, ap one_home is, one_home-in home.0 home.2) in (
+    let is = used_at c.self.inside.spots.items c.args.ix
+    c.index_mut-spot.result.now home.0 at home.1 in
+    let here : one_home c.index_mut-spot.result.now.use_of ≡ 1 =
+    omega (arith, ap one_home is, one_home-in home.0 home.2) in (
       low,
       ap one_of is,
       here,
@@ -26,12 +30,14 @@ there c =
     )
 
 left : (c : After-set)
-    → Leaves c.self.inside.size (c.self.inside.used - 1) (c.self.inside.home - 1) c.self.inside.spots.items
+    → Leaves c.self.inside.size (c.self.inside.used - 1) (c.self.inside.home - 1)
+    c.self.inside.spots.items
     (set c.self.inside.spots.items c.args.ix c.clear.new.self) c.set.new.self c.args.ix None
 left c =
     let h = there (goal.at.After-set c).After-index_mut-spot in
     rw c.set.ensures
-    (changed _ _ _ _ _ _ _ _ _ _ None c.self.invariant h.0 c.index_mut-spot.ensures.value c.clear.ensures
+    (changed _ _ _ _ _ _ _ _ _ _ None c.self.invariant h.0 c.index_mut-spot.ensures.value
+    c.clear.ensures
     (omega (arith, h.1, h.3)) (omega (arith, h.2, h.4)))
 
 pub invariant_of-self : goal.invariant_of-self

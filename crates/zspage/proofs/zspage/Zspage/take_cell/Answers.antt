@@ -9,7 +9,8 @@ use Rattle.zspage.proofs.zspage.Zspage.take_cell.Goals.{After-index_mut-spot, Af
 
 -- the cell is free
 there : (c : After-index_mut-spot)
-    → (c.winner-ix.result < length c.self.inside.spots.items) × (c.index_mut-spot.result.now.use_of ≡ None)
+    → (c.winner-ix.result < length c.self.inside.spots.items)
+    × (c.index_mut-spot.result.now.use_of ≡ None)
     × IsLowestFree (uses c.self.inside.spots.items) c.winner-ix.result
 there c =
     let room : used_of (uses c.self.inside.spots.items) < length (uses c.self.inside.spots.items) =
@@ -21,16 +22,25 @@ there c =
     )
 
 abbrev used : After-set → UsedCell
-used c = record { handle = c.args.handle.0; bytes = c.args.bytes.now; cell = c.fill.ensures.0; out = false }
+used c = record {
+  handle = c.args.handle.0;
+  bytes = c.args.bytes.now;
+  cell =
+      c.fill.ensures.0;
+  out = false;
+}
 
 left : (c : After-set)
-    → Leaves c.self.inside.size (c.self.inside.used + 1) (c.self.inside.home + 1) c.self.inside.spots.items
-    (set c.self.inside.spots.items c.winner-ix.result c.fill.new.self) c.set.new.self c.winner-ix.result
+    → Leaves c.self.inside.size (c.self.inside.used + 1) (c.self.inside.home + 1)
+    c.self.inside.spots.items
+    (set c.self.inside.spots.items c.winner-ix.result c.fill.new.self)
+    c.set.new.self c.winner-ix.result
     (Some (used c))
 left c =
     let h = there (goal.at.After-set c).After-index_mut-spot in
     rw c.set.ensures
-    (changed _ _ _ _ _ _ _ _ _ _ (Some (used c)) c.self.invariant h.0 c.index_mut-spot.ensures.value c.fill.ensures.3
+    (changed _ _ _ _ _ _ _ _ _ _ (Some (used c))
+    c.self.invariant h.0 c.index_mut-spot.ensures.value c.fill.ensures.3
     (omega (arith, ap one_of h.1)) (omega (arith, ap one_home h.1, one_home-in (used c) refl)))
 
 pub fill-requires-clause-free : goal.fill-requires-clause-free
@@ -40,7 +50,8 @@ pub fill-requires-clause-fits : goal.fill-requires-clause-fits
 fill-requires-clause-fits c =
     let low = (there (goal.at.fill-requires-clause-fits c).After-index_mut-spot).0 in
     let spot = spot_at _ _ _ _ _ _ _ c.self.invariant low c.index_mut-spot.ensures.value in
-    subst (Fits (length c.args.bytes.now)) (sym (spot.sized ∙ ap (λ z. z.size) c.self.view_is)) c.requires.fits
+    subst (Fits (length c.args.bytes.now)) (sym (spot.sized ∙ ap (λ z. z.size) c.self.view_is))
+    c.requires.fits
 
 pub invariant_of-self : goal.invariant_of-self
 invariant_of-self c = (left (goal.at.invariant_of-self c).After-set).state
@@ -69,7 +80,8 @@ returns-clause-after c =
         whole = cell.whole;
       },
       rw (← c.self.view_is)
-          (ap (made c.self.inside.id c.self.inside.size c.self.inside.frames) (left here.After-set).cells),
+          (ap (made c.self.inside.id c.self.inside.size c.self.inside.frames)
+          (left here.After-set).cells),
     )
 
 pub overflow_add-self-2 : goal.overflow_add-self-2
