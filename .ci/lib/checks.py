@@ -21,6 +21,8 @@ PLACE = re.compile(r"crates/[a-z0-9_]+/(src|specs|proofs)/")
 NAMED = re.compile(r"`((?:\.ci|bench|bin|crates|docs|examples|tools|man|editors)/[\w./-]+)")
 HEADINGS = ["What it is", "What a contract sees", "What is proved", "What is only tested", "What is trusted", "Limits"]
 IMPORT = re.compile(r"\s*(?:pub )?(?:ghost )?use ")
+# The laws of a trait's impl may cite lemmas of specs alone.
+LEMMAS_OF_SPECS = {"crates/lock_row/specs/HandLaws.antt"}
 LANES = ("words", "halves", "quarters")
 
 
@@ -283,6 +285,8 @@ def short_lines() -> Iterator[Breach]:
 def specs_have_no_lemmas() -> Iterator[Breach]:
     """Files of specs hold definitions (`abbrev`, `unfoldable`, `record`, `data`) and no lemmas, which are plain `NAME :`."""
     for path in spec_files():
+        if path in LEMMAS_OF_SPECS:
+            continue
         for _, line, _, name in lemmas_in(path):
             yield path, line, f"{name} has a body that nobody unfolds, as a lemma: move it into proofs"
         for number, line in enumerate(files.text(path).splitlines(), 1):
