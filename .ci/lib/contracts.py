@@ -90,16 +90,33 @@ def functions_in(crate: str, path: str) -> list[Function]:
     return found
 
 
-def clause_words(text: str) -> set[str]:
-    """The names in the clauses of a function's head."""
+def clause_words(text: str, only: tuple[str, ...] = ()) -> set[str]:
+    """The names in the clauses of a function's head, or in those of some names."""
     found: set[str] = set()
     for match in CLAUSE.finditer(text):
+        if only and match["name"] not in only:
+            continue
         depth, end = 1, match.end()
         while depth and end < len(text):
             depth += {"{": 1, "}": -1}.get(text[end], 0)
             end += 1
         found |= set(WORD.findall(text[match.end():end - 1]))
     return found
+
+
+def known_names(path: str) -> dict[str, tuple[str, str]]:
+    """For each name that a source file imports for its clauses: the path and the name there."""
+    return imports([line.strip() for line in files.text(path).splitlines()])
+
+
+def cited_by(crate: str, name: str, *clauses: str) -> list[Definition]:
+    """The definitions that some clauses of a function name."""
+    for each in functions(crate):
+        if each.called == name:
+            known = known_names(each.path)
+            found = [found_at(*known[word]) for word in sorted(clause_words(each.text, clauses) & known.keys())]
+            return [definition for definition in found if definition is not None and not definition.is_type]
+    return []
 
 
 def cited(crate: str) -> list[Definition]:
@@ -109,7 +126,7 @@ def cited(crate: str) -> list[Definition]:
         if path.endswith("tests.rt"):
             continue
         text = files.text(path)
-        known = imports([line.strip() for line in text.splitlines()])
+        known = known_names(path)
         names: set[str] = set()
         for each in functions_in(crate, path):
             if each.is_public:

@@ -259,7 +259,3 @@ def spec_files() -> list[str]:
             visit(path)
     return order
 
-
-def by_name(name: str) -> list[Definition]:
-    """The definitions of this name in all specs."""
-    return [sheet(path).definitions[name] for path in spec_files() if name in sheet(path).definitions]
