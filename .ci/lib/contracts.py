@@ -8,6 +8,7 @@ from definitions import WORD, Definition, found_at, imports
 
 OPENS = re.compile(r"^(?P<unsafe>unsafe )?(?:pub )?(?P<kind>impl|trait|struct|enum)\b(?P<rest>.*)")
 FUNCTION = re.compile(r"^(?P<indent> *)(?P<pub>pub )?(?:const |unsafe )*fn (?P<name>\w+)")
+MODEL = re.compile(r"^impl(?:<[^>]*>)? Model for (\w+).*?ghost Value = \{(.*?)\};", re.MULTILINE | re.DOTALL)
 CLAUSE = re.compile(r"\b(?:requires|ensures)\b *(?P<name>[a-z_0-9]*) *\{")
 
 
@@ -114,7 +115,8 @@ def cited_by(crate: str, name: str, *clauses: str) -> list[Definition]:
     for each in functions(crate):
         if each.called == name:
             known = known_names(each.path)
-            found = [found_at(*known[word]) for word in sorted(clause_words(each.text, clauses) & known.keys())]
+            names = sorted(clause_words(each.text, clauses) & known.keys())
+            found = [found_at(*known[word]) for word in names]
             return [definition for definition in found if definition is not None and not definition.is_type]
     return []
 
@@ -131,7 +133,7 @@ def cited(crate: str) -> list[Definition]:
         for each in functions_in(crate, path):
             if each.is_public:
                 names |= clause_words(each.text)
-        for model, value in re.findall(r"^impl(?:<[^>]*>)? Model for (\w+).*?ghost Value = \{(.*?)\};", text, re.MULTILINE | re.DOTALL):
+        for model, value in MODEL.findall(text):
             if model in public_names(crate):
                 names |= set(WORD.findall(value))
         for name in sorted(names & known.keys()):

@@ -36,8 +36,8 @@ class Lost(Exception):
 
 
 def table(head: list[str], rows: list[list[str]]) -> str:
-    lines = [head, ["---"] * len(head), *rows]
-    return "\n".join("| " + " | ".join(line) + " |" if line[0] != "---" else "|" + "---|" * len(line) for line in lines)
+    first, *others = ["| " + " | ".join(cells) + " |" for cells in [head, *rows]]
+    return "\n".join([first, "|" + "---|" * len(head), *others])
 
 
 # ---- a job beside its output
@@ -57,7 +57,8 @@ def same_lines(noted: list[tuple[str, str]], path: str) -> None:
     stored = [line for line in files.text(path).splitlines() if not line.startswith("#")]
     for line, note in itertools.zip_longest(stored, noted):
         if line is None or note is None or note[0] != f"`{line}`" or not note[1]:
-            raise Lost(f"{EXAMPLE}.notes: {note[0] if note else 'the end'} stands where {path} has {line}: write `{line} | half a sentence`")
+            here = note[0] if note else "the end"
+            raise Lost(f"{EXAMPLE}.notes: {here} stands where {path} has {line}: write `{line} | half a sentence`")
 
 
 def beside() -> str:
@@ -83,12 +84,18 @@ def roots(names: list[str]) -> list[Definition]:
     whole = closure(contracts.cited_by(*TOP_CALL)).values()
     found = [each for each in whole if each.name in names and not each.is_type]
     if len(found) != len(names):
-        raise Lost(f".ci/lib/pages.py: the clauses of {TOP_CALL[1]} don't rest on {', '.join(names)}: mend TOP_CALL or PARTS")
+        raise Lost(f".ci/lib/pages.py: {TOP_CALL[1]} doesn't rest on {' and '.join(names)}: mend TOP_CALL or PARTS")
     return found
 
 
 def lines_of(definitions: list[Definition]) -> str:
     return f"{len(definitions)} definitions, {sum(each.size for each in definitions)} lines"
+
+
+def row_of(path: str, here: list[Definition]) -> list[str]:
+    """A file with its definitions and their lines, and the sum."""
+    names = ", ".join(f"`{each.name}` {each.size}" for each in here)
+    return [f"`{path}`", names, str(sum(each.size for each in here))]
 
 
 def by_file(definitions: list[Definition]) -> list[list[str]]:
@@ -97,9 +104,7 @@ def by_file(definitions: list[Definition]) -> list[list[str]]:
     mine = sorted(definitions, key=lambda each: (order[each.path], each.line))
     rows = []
     for path, group in itertools.groupby(mine, key=lambda each: each.path):
-        here = list(group)
-        names = ", ".join(f"`{each.name}` {each.size}" for each in here)
-        rows.append([f"`{path}`", names, str(sum(each.size for each in here))])
+        rows.append(row_of(path, list(group)))
     return rows
 
 
@@ -112,7 +117,8 @@ def part(heading: str, begins: list[Definition], seen: set[tuple[str, str]]) -> 
     if len(new) < len(specs):
         count += f"; {len(new)} of them, {sum(each.size for each in new)} lines, stand in no table above"
     words = " and ".join(f"`{each.name}`" for each in sorted(begins, key=lambda each: each.line))
-    return f"## {heading}\n\n{words}: {count}.\n\n" + table(["File", "Definitions, each with its lines", "Lines"], by_file(new))
+    head = ["File", "Definitions, each with its lines", "Lines"]
+    return f"## {heading}\n\n{words}: {count}.\n\n" + table(head, by_file(new))
 
 
 def headline() -> str:
@@ -137,8 +143,7 @@ def types_by_file(types: list[Definition]) -> str:
     mine = sorted(types, key=lambda each: (order[each.crate], each.path, each.line))
     rows = []
     for path, group in itertools.groupby(mine, key=lambda each: each.path):
-        here = list(group)
-        rows.append([f"`{path}`", ", ".join(f"`{each.name}` {each.size}" for each in here), str(sum(each.size for each in here))])
+        rows.append(row_of(path, list(group)))
     return table(["File", "Types, each with its lines", "Lines"], rows)
 
 
@@ -207,7 +212,9 @@ MADE: dict[str, Callable[[], str]] = {
     "proved": proved,
     "definitions": definitions,
 }
-MARK = re.compile(r"^<!-- made by \.ci/made: (?P<name>.*) -->\n(?P<old>.*?)^<!-- end of (?P=name) -->$", re.MULTILINE | re.DOTALL)
+MARK = re.compile(
+    r"^<!-- made by \.ci/made: (?P<name>.*) -->\n.*?^<!-- end of (?P=name) -->$", re.MULTILINE | re.DOTALL
+)
 
 
 def renewed(page: str) -> str:
