@@ -1,4 +1,5 @@
 """The repository's own rules. Each is a function that yields its breaches: path, line and remedy."""
+import functools
 import os
 import re
 from collections.abc import Iterator
@@ -199,18 +200,34 @@ def own_proofs_alone() -> Iterator[Breach]:
 
 
 def lemmas_are_cited() -> Iterator[Breach]:
-    """Each lemma is named outside its own text and the imports of it."""
+    """Each lemma is cited: in its file outside its own text, or in a file of its crate that imports it."""
     for crate in files.crates():
-        lemmas = list(lemmas_of(crate.name))
-        used: dict[str, list[tuple[str, int]]] = {name: [] for _, _, _, name in lemmas}
-        for path in files.sources(crate.name):
-            for number, line in enumerate(joined(path), 1):
-                if not IMPORT.match(line):
-                    for word in set(re.findall(r"[A-Za-z_][\w'-]*", line.split("-- ")[0])) & used.keys():
-                        used[word].append((path, number))
-        for path, first, last, name in lemmas:
-            if all(place == path and first <= number < last for place, number in used[name]):
+        paths = files.sources(crate.name)
+        elsewhere = set().union(*(cited_elsewhere(crate.name, path) for path in paths))
+        for path, first, last, name in lemmas_of(crate.name):
+            own = words_of(path).get(name, [])
+            if (path, name) not in elsewhere and all(first <= number < last for number in own):
                 yield path, first, f"nothing cites the lemma {name}: delete it"
+
+
+@functools.cache
+def words_of(path: str) -> dict[str, list[int]]:
+    """The words of a file outside its imports and comments, each with its lines."""
+    found: dict[str, list[int]] = {}
+    for number, line in enumerate(joined(path), 1):
+        if not IMPORT.match(line):
+            for word in re.findall(r"[A-Za-z_][\w'-]*", line.split("-- ")[0]):
+                found.setdefault(word, []).append(number)
+    return found
+
+
+def cited_elsewhere(crate: str, path: str) -> set[tuple[str, str]]:
+    """The lemmas of other files that a file cites, by an import or by their whole path, as (path, name)."""
+    known = contracts.known_names(path)
+    found = {known[word] for word in words_of(path).keys() & known.keys()}
+    for place, name in re.findall(r"\bcrate::(proofs(?:::\w+)*)::([\w'-]+)", files.text(path)):
+        found.add((crate + "." + place.replace("::", "."), name))
+    return {("crates/" + place.replace(".", "/") + ".antt", name) for place, name in found}
 
 
 def joined(path: str) -> list[str]:
