@@ -1,4 +1,5 @@
-//! The pieces of an actor's operations, what is over of them, and what a finished history says of the
+//! The pieces of an actor's operations, what is over of them, and what a finished history says of
+//! the
 //! operations: how they ended, which stand in the order of a page, and what they read.
 #![tactic(auto)]
 

@@ -8,7 +8,8 @@ module _ {A : Type 0} where
   get_here (x ∷ xs) zero a b e = refl
   get_here (x ∷ xs) (suc i) a b e = get_here xs i a b e
 
-  pub get_else : (l : List A) (i j : ℕ) (a : A) → j ≢ i → slice_get (slice_set l i a) j ≡ slice_get l j
+  pub get_else : (l : List A) (i j : ℕ) (a : A) → j ≢ i
+      → slice_get (slice_set l i a) j ≡ slice_get l j
   get_else [] i j a n = refl
   get_else (x ∷ xs) zero zero a n = absurd (n refl)
   get_else (x ∷ xs) zero (suc j) a n = refl

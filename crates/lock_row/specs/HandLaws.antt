@@ -1,4 +1,5 @@
--- Why the hand over the row of one thread has the laws of hands. A law's proof cites no lemma outside of specs/.
+-- Why the hand over the row of one thread has the laws of hands. A law's proof cites no lemma
+-- outside of specs/.
 use Rattle.std.proofs.Common.{◌≡◌, ℕ, zero, suc, List, [], ◌∷◌, Option, Some, None, slice_get, slice_set, refl, sym, ap, ◌∙◌}
 use Rattle.lock_row.specs.declared.names.LockNo.{LockNo}
 use Rattle.lock_row.specs.Rows.{Row, place_in, cell}
@@ -25,5 +26,6 @@ module _ {V : Type 0} (before after : Row V) (k : LockNo) where
       ∙ set_here before.cells (place_in before.names k) None (Some v) t.home
 
   -- a miss leaves each place as it was
-  pub missed_out : (m : LockNo) → IsMissed before after k → cell before m ≡ Some None → cell after m ≡ Some None
+  pub missed_out : (m : LockNo) → IsMissed before after k → cell before m ≡ Some None
+      → cell after m ≡ Some None
   missed_out m t out = ap (λ (r : Row V). cell r m) t.same ∙ out

@@ -1,9 +1,13 @@
 //! Hands: how an actor takes and gives locks, one at a step.
 //!
-//! A hand is what an actor's steps know of the row: the steps are written once, for any hand, so the same code
-//! runs on one thread by turns and on threads that run freely. What is at a lock's place when a step comes is
-//! not the hand's to choose: `may_find` says what it may be, for a row of one thread the one thing that is
-//! there, for a row of several threads what the others may have left. A take that gives nothing has found the
+//! A hand is what an actor's steps know of the row: the steps are written once, for any hand, so
+//! the same code
+//! runs on one thread by turns and on threads that run freely. What is at a lock's place when a
+//! step comes is
+//! not the hand's to choose: `may_find` says what it may be, for a row of one thread the one thing
+//! that is
+//! there, for a row of several threads what the others may have left. A take that gives nothing has
+//! found the
 //! lock held, and a value that is given was there.
 
 ghost use Rattle.std.specs.Prelude.{◌≡◌, Option, Some, None, MatchOption};
@@ -30,7 +34,8 @@ pub trait Hand {
     // Its actor's local, where it tells one.
     ghost local: { Self → Option (Local Self.Value) };
 
-    // What may stand at a lock's place at its next step: the value at home, or nothing where the lock is held.
+    // What may stand at a lock's place at its next step: the value at home, or nothing where the
+    // lock is held.
     ghost may_find: { Self → LockNo → Option Self.Value → Type 0 };
 
     // ---- the events that it allows, by the local after them, and what its steps leave
@@ -50,7 +55,8 @@ pub trait Hand {
     /// Takes the lock with its value. None comes only where the lock is held at this step.
     fn try_take<N: NextLocal<Self::Value>>(&mut self, lock: LockNo) -> Option<Self::Value>
         requires { can_take self.old lock N.next }
-        ensures outcome { MatchOption result (misses self.old lock self.new) (λ v. takes self.old lock N.next v self.new) }
+        ensures outcome { MatchOption result (misses self.old lock self.new)
+            (λ v. takes self.old lock N.next v self.new) }
         ensures found { may_find self.old lock result };
 
     /// Gives the lock back with a value. Locks are given last in, first out.

@@ -1,4 +1,5 @@
-//! What a turn of the machine keeps, whatever its user's events are. Each law is a function with an empty
+//! What a turn of the machine keeps, whatever its user's events are. Each law is a function with an
+//! empty
 //! body: who wants it calls it, and has its clauses.
 
 ghost use Rattle.lock_row.specs.Laws.{TakingStaysApart, GivingStaysApart, TakingKeepsTotal, GivingMovesTotal, SumMoves, IsPartOfSum};
@@ -9,7 +10,8 @@ pub fn values_stay_apart<V>()
     ensures given { GivingStaysApart V }
 {}
 
-/// A sum over each value wherever it is and over all actors: a taking leaves it, and a giving changes it by
+/// A sum over each value wherever it is and over all actors: a taking leaves it, and a giving
+/// changes it by
 /// what it changes in the actor and in the value.
 pub fn totals_move<V>()
     ensures taken { TakingKeepsTotal V }

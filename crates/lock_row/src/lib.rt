@@ -1,4 +1,5 @@
-//! The names of locks, hands that take and give them, a row of locks for one thread, and the machine of
+//! The names of locks, hands that take and give them, a row of locks for one thread, and the
+//! machine of
 //! a row and its actors: events, turns and the states that they lead to.
 #![tactic(auto)]
 

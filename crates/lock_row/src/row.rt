@@ -10,8 +10,9 @@ use std::alloc::Global;
 use std::marker::Model;
 use zr_base::PageIx;
 
-/// A row of locks with their values. A lock is found at once where the row begins with the slots in
-/// rising order, from page 0 on; else it is searched.
+/// A row of locks with their values. A lock is found at once where the row has the slots first, from page 0 on,
+/// in rising order, and ends with the classes 0 to 254, the account, the blocks and the device, or has slots
+/// alone; else it is searched.
 #[derive(Drop)]
 pub struct SimRow<V: Drop> {
     names: Vec<LockNo>,
@@ -28,15 +29,27 @@ impl<V: Drop> Model for SimRow<V> {
     ghost invariant = { λ r. IsWhole r.names.items r.cells.items };
 }
 
-// A lock is looked for at its page's number first.
+// Where a lock stands in a row of so many that has the slots first, from page 0 on, then the classes 0 to 254,
+// and then the account, the blocks and the device.
+fn guess(count: usize, lock: LockNo) -> usize {
+    let classes = count.saturating_sub(258);
+    match lock {
+        LockNo::Slot(PageIx(page)) => page as usize,
+        LockNo::Class(class) => classes + class as usize,
+        LockNo::Account => classes + 255,
+        LockNo::Blocks => classes + 256,
+        LockNo::Device => classes + 257,
+    }
+}
+
+// A lock is looked for at its guess first.
 fn find(names: &[LockNo], lock: LockNo) -> Option<usize>
     ensures found { IfSome result (λ i. slice_get names.now i ≡ Some lock) }
     ensures none { IfNone result ((i : ℕ) → slice_get names.now i ≢ Some lock) }
 {
-    if let LockNo::Slot(PageIx(page)) = lock
-        && names.get(page as usize) == Some(&lock)
-    {
-        return Some(page as usize);
+    let at = guess(names.len(), lock);
+    if names.get(at) == Some(&lock) {
+        return Some(at);
     }
     names.iter().position(|name| *name == lock)
 }
@@ -44,7 +57,8 @@ fn find(names: &[LockNo], lock: LockNo) -> Option<usize>
 // The place of a lock among the names.
 fn place(names: &[LockNo], lock: LockNo) -> Option<usize>
     requires { IsDistinct names.now }
-    ensures { MatchOption result (length names.now ≤ place_in names.now lock) (λ i. (i ≡ place_in names.now lock) × (i < length names.now)) }
+    ensures { MatchOption result (length names.now ≤ place_in names.now lock)
+        (λ i. (i ≡ place_in names.now lock) × (i < length names.now)) }
 {
     find(names, lock)
 }
@@ -92,7 +106,9 @@ impl<V: Drop> SimRow<V> {
 
     fn take_at(&mut self, lock: LockNo) -> Option<V>
         requires { IsIn self.old lock }
-        ensures { MatchOption result ((cell self.old lock ≡ Some None) × (self.new ≡ self.old)) (λ v. (cell self.old lock ≡ Some (Some v)) × (self.new ≡ with_cell self.old lock None)) }
+        ensures { MatchOption result ((cell self.old lock ≡ Some None) × (self.new ≡ self.old))
+            (λ v. (cell self.old lock ≡ Some (Some v))
+            × (self.new ≡ with_cell self.old lock None)) }
     {
         let Some(at) = place(&self.names, lock) else {
             unreachable!()
@@ -115,7 +131,8 @@ impl<V: Drop> SimRow<V> {
     }
 }
 
-/// The hand of an actor over a row of its own thread: it finds the row's own value alone, and allows every
+/// The hand of an actor over a row of its own thread: it finds the row's own value alone, and
+/// allows every
 /// event. It can't tell its actors apart, so it holds what is out.
 #[derive(Drop)]
 pub struct SimHand<'a, V: Drop> {

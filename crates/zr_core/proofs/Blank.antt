@@ -9,7 +9,7 @@ use Rattle.slot_entry.specs.declared.entry.Kept.TheVariants.{Empty}
 use Rattle.slot_entry.specs.Entries.{EntryState}
 use Rattle.zr_core.specs.Steps.{DiskHeld, slot}
 use Rattle.zr_core.specs.States.{slots_of, IsBlank, IsAtRest}
-use Rattle.zr_core.proofs.Sectors.{map_range_push}
+use Rattle.std.proofs.lemmas.List.FromFn.{map-range_with_len_more}
 use Rattle.zr_core.proofs.States.{slot_place}
 
 get_below : {A : Type 0} (xs : List A) (x : A) (i : ℕ) → i < length xs
@@ -23,16 +23,24 @@ get_end [] x = refl
 get_end (y ∷ ys) x = get_end ys x
 
 -- one more page
-pub more_names : (names : List LockNo) (n : ℕ) → names ≡ slots_of n → names ++ slot n ∷ [] ≡ slots_of (n + 1)
-more_names names n e = ap (λ (ks : List LockNo). ks ++ slot n ∷ []) e ∙ sym (map_range_push slot 0 n n (omega arith))
+pub more_names : (names : List LockNo) (n : ℕ) → names ≡ slots_of n
+    → names ++ slot n ∷ [] ≡ slots_of (n + 1)
+more_names names n e = ap (λ (ks : List LockNo). ks ++ slot n ∷ []) e
+    ∙ sym (map-range_with_len_more slot 0 n n (omega arith))
 
-pub more_blank : (cells : List (Option DiskHeld)) (n : ℕ) (e : EntryState) → e.kept ≡ Empty → e.order ≡ []
+pub more_blank : (cells : List (Option DiskHeld)) (n : ℕ) (e : EntryState) → e.kept ≡ Empty
+    → e.order ≡ []
     → IsBlank n cells → IsBlank (n + 1) (cells ++ Some (holds.Slot e) ∷ [])
 more_blank cells n e kept order b = record {
   size = (let q = length_push cells (Some (holds.Slot e)) in let r = b.size in omega arith);
   each = λ p lt. ⊎_elim
-      (λ below. let x = b.each p below in
-      (x.0, get_below cells (Some (holds.Slot e)) p (let r = b.size in omega arith) ∙ x.1, x.2, x.3))
+      (λ below. let x = b.each p below in (
+        x.0,
+        get_below cells (Some (holds.Slot e)) p (let r = b.size in omega arith)
+            ∙ x.1,
+        x.2,
+        x.3,
+      ))
       (λ last. (
         e,
         ap (λ (i : ℕ). slice_get (cells ++ Some (holds.Slot e) ∷ []) i)
@@ -47,7 +55,8 @@ more_blank cells n e kept order b = record {
 -- the value of a page's slot
 pub value_at : (r : Row DiskHeld) (size page : ℕ) → r.names ≡ slots_of size → page < size
     → (c : Option DiskHeld) → slice_get r.cells page ≡ Some c → at_home (cell r (slot page)) ≡ c
-value_at r size page names lt c e = ap at_home (ap (slice_get r.cells) (ap (λ ks. place_in ks (slot page)) names
+value_at r size page names lt c e =
+    ap at_home (ap (slice_get r.cells) (ap (λ ks. place_in ks (slot page)) names
     ∙ slot_place size page lt) ∙ e)
 
 pub blank_rest : (n : ℕ) (cells : List (Option DiskHeld)) → IsBlank n cells → IsAtRest n cells

@@ -12,7 +12,8 @@ use Rattle.zr_core.proofs.Cited.{Cited}
 use Rattle.zr_core.proofs.Told.{gift, told_take, told_give}
 use Rattle.zr_core.proofs.Room.{room_take, room_give}
 
-pub joint_keeps : Cited → (g : Given) (a : ℕ) (w n : State DiskHeld) → Joint g w → OneTurn a w n → Joint g n
+pub joint_keeps : Cited → (g : Given) (a : ℕ) (w n : State DiskHeld) → Joint g w → OneTurn a w n
+    → Joint g n
 joint_keeps cited g a w n j (finished l who what same) = subst (Joint g) (sym same) j
 joint_keeps cited g a w n j (missed l k who what there same) = subst (Joint g) (sym same) j
 joint_keeps cited g a w n j (taken l k v e) =
@@ -28,7 +29,8 @@ joint_keeps cited g a w n j (given l k v m e) = let x = gift l k v m e.what e.wo
       room = room_give cited.moves w j.room a l k e.who j.apart v m e.there x;
     }
 
-pub joint_run : TurnKeepsJoint → (g : Given) (turns : List ℕ) (w n : State DiskHeld) → Joint g w → Turns turns w n
+pub joint_run : TurnKeepsJoint → (g : Given) (turns : List ℕ) (w n : State DiskHeld) → Joint g w
+    → Turns turns w n
     → Joint g n
 joint_run keeps g [] w n j r = subst (Joint g) (sym r) j
 joint_run keeps g (a ∷ rest) w n j r = joint_run keeps g rest r.0 n (keeps g a w r.0 j r.1) r.2

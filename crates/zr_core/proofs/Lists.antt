@@ -10,7 +10,8 @@ module _ {A : Type 0} where
   get_here (x ∷ xs) zero a b e = refl
   get_here (x ∷ xs) (suc i) a b e = get_here xs i a b e
 
-  pub get_else : (l : List A) (i j : ℕ) (a : A) → j ≢ i → slice_get (slice_set l i a) j ≡ slice_get l j
+  pub get_else : (l : List A) (i j : ℕ) (a : A) → j ≢ i
+      → slice_get (slice_set l i a) j ≡ slice_get l j
   get_else [] i j a n = refl
   get_else (x ∷ xs) zero zero a n = absurd (n refl)
   get_else (x ∷ xs) zero (suc j) a n = refl
@@ -19,7 +20,8 @@ module _ {A : Type 0} where
 
 -- what stands at a place after a write of it
 pub get_set : {A : Type 0} (l : List A) (i j : ℕ) (a b c : A) → slice_get l i ≡ Some c
-    → slice_get (slice_set l i a) j ≡ Some b → ((j ≡ i) × (a ≡ b)) ⊎ ((j ≢ i) × (slice_get l j ≡ Some b))
+    → slice_get (slice_set l i a) j ≡ Some b
+    → ((j ≡ i) × (a ≡ b)) ⊎ ((j ≢ i) × (slice_get l j ≡ Some b))
 get_set l i j a b c here e =
     dite (ℕ_discrete j i)
     (λ same. inl (

@@ -9,6 +9,7 @@ pub run_on : (turns : List ℕ) (a : ℕ) (u v w : State DiskHeld) → Turns tur
 run_on [] a u v w r t = (w, subst (λ (x : State DiskHeld). OneTurn a x w) r t, refl)
 run_on (b ∷ rest) a u v w r t = (r.0, r.1, run_on rest a r.0 v w r.2 t)
 
-pub run_both : (xs ys : List ℕ) (u v w : State DiskHeld) → Turns xs u v → Turns ys v w → Turns (xs ++ ys) u w
+pub run_both : (xs ys : List ℕ) (u v w : State DiskHeld) → Turns xs u v → Turns ys v w
+    → Turns (xs ++ ys) u w
 run_both [] ys u v w r s = subst (λ (x : State DiskHeld). Turns ys x w) r s
 run_both (a ∷ xs) ys u v w r s = (r.0, r.1, run_both xs ys r.0 v w r.2 s)

@@ -14,23 +14,29 @@ use Rattle.zr_core.specs.Values.{Everywhere}
 use Rattle.zr_core.proofs.Values.{take_everywhere, give_everywhere}
 use Rattle.zr_core.proofs.Told.{Gift}
 
-less_room : (ls ms : List Here) (i : ℕ) (u : DiskHeld) → owed ms i ≤ owed ls i → HasRoom ls i u → HasRoom ms i u
+less_room : (ls ms : List Here) (i : ℕ) (u : DiskHeld) → owed ms i ≤ owed ls i → HasRoom ls i u
+    → HasRoom ms i u
 less_room ls ms i (holds.Slot e) le h = omega arith
 less_room ls ms i (holds.Class x) le h = tt
 less_room ls ms i (holds.Account x) le h = tt
 less_room ls ms i (holds.Blocks x) le h = tt
 less_room ls ms i (holds.Device x) le h = tt
 
-module _ (sums : SumMoves DiskHeld) (w : State DiskHeld) (room : Everywhere spot (HasRoom w.locals) w)
+module _ (sums : SumMoves DiskHeld) (w : State DiskHeld)
+    (room : Everywhere spot (HasRoom w.locals) w)
     (a : ℕ) (l : Here) (k : LockNo) (who : slice_get w.locals a ≡ Some l) where
   pub room_take : (v : DiskHeld) → plan l ≡ Take k → slice_get w.row (spot k) ≡ Some (Some v)
-      → let ls : List Here = slice_set w.locals a (took l v) in Everywhere spot (HasRoom ls) (record { row = slice_set w.row (spot k) None; locals = ls })
+      → let ls : List Here = slice_set w.locals a (took l v) in
+      Everywhere spot (HasRoom ls) (record { row = slice_set w.row (spot k) None; locals = ls })
   room_take v what there =
-      take_everywhere spot w a l k who (HasRoom w.locals) (HasRoom (slice_set w.locals a (took l v))) room
-      (λ i u. less_room w.locals (slice_set w.locals a (took l v)) i u (let q = sums (owed_by i) w.locals a l (took l v) who in omega arith))
+      take_everywhere spot w a l k who (HasRoom w.locals)
+      (HasRoom (slice_set w.locals a (took l v))) room
+      (λ i u. less_room w.locals (slice_set w.locals a (took l v)) i u
+      (let q = sums (owed_by i) w.locals a l (took l v) who in omega arith))
       v (took l v) there (ap (λ p. (lock_of p, v) ∷ l.held) what)
 
-  module _ (ex : Exclusive spot w) (v : DiskHeld) (m : Here) (there : slice_get w.row (spot k) ≡ Some None) (x : Gift l k v m) where
+  module _ (ex : Exclusive spot w) (v : DiskHeld) (m : Here)
+      (there : slice_get w.row (spot k) ≡ Some None) (x : Gift l k v m) where
     abbrev now : List Here
     now = slice_set w.locals a m
 
@@ -51,12 +57,15 @@ module _ (sums : SumMoves DiskHeld) (w : State DiskHeld) (room : Everywhere spot
 
     old : owed w.locals x.p.page ≤ x.e.room
     old = subst (λ (c : LockNo). HasRoom w.locals (spot c) (holds.Slot x.e)) x.lock
-        (room.in_hand a 0 l (k, holds.Slot x.e) who (ap (λ (ys : List (LockNo × DiskHeld)). slice_get ys 0) x.held))
+        (room.in_hand a 0 l (k, holds.Slot x.e) who
+        (ap (λ (ys : List (LockNo × DiskHeld)). slice_get ys 0) x.held))
 
-    pub room_give : Everywhere spot (HasRoom now) (record { row = slice_set w.row (spot k) (Some v); locals = now })
+    pub room_give : Everywhere spot (HasRoom now)
+        (record { row = slice_set w.row (spot k) (Some v); locals = now })
     room_give = give_everywhere spot w a l k who (HasRoom w.locals) (HasRoom now) room ex
         (λ i u ne. less_room w.locals now i u (fewer i))
         v (holds.Slot x.e) m there x.held
-        (subst (λ (c : LockNo × DiskHeld). HasRoom now (spot c.0) c.1) (λ i. (sym x.lock i, sym x.value i))
+        (subst (λ (c : LockNo × DiskHeld). HasRoom now (spot c.0) c.1)
+        (λ i. (sym x.lock i, sym x.value i))
         (let q = one_less in let r = old in let s = x.work.room in
         let h : owed now x.p.page ≤ x.f.room = omega arith in h))

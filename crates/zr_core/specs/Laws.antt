@@ -1,4 +1,5 @@
--- What the machine of a disk and its actors keeps, whatever the turns are: statements that the laws claim.
+-- What the machine of a disk and its actors keeps, whatever the turns are: statements that the laws
+-- claim.
 use Rattle.std.specs.Prelude.{ℕ, List, Option}
 use Rattle.plain_disk.specs.Output.{OutLine}
 use Rattle.plain_disk.specs.Phases.{Given, IsPhase}
@@ -18,7 +19,8 @@ TurnKeepsJoint = (g : Given) (a : ℕ) (w n : State DiskHeld) → Joint g w → 
 
 -- each state that is reached has it
 abbrev pub ReachedHasJoint : Type 0
-ReachedHasJoint = (g : Given) (start w : State DiskHeld) → Joint g start → IsReached start w → Joint g w
+ReachedHasJoint = (g : Given) (start w : State DiskHeld) → Joint g start → IsReached start w
+    → Joint g w
 
 -- a state that has it, and in which all actors are finished, prints what the plain disk allows
 abbrev pub PrintsPhase : Type 0

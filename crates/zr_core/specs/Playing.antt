@@ -7,6 +7,7 @@ use Rattle.zr_core.specs.declared.phase.Phase.{Phase}
 use Rattle.zr_core.specs.Machines.{orders_of}
 use Rattle.zr_core.specs.States.{Playing, ends_shown, sectors_shown}
 
+-- a world and its phase, between two turns
 abbrev pub playing : World → Phase → List (List Op) → Playing
 playing world phase actors = record {
   size = world.pages;

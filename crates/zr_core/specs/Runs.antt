@@ -48,7 +48,8 @@ pub record IsBusy (actors : List (List Op)) (ws : List Worker) : Type 0 where
 
 -- all are finished
 abbrev pub AllOver : List (List Op) → List Worker → Type 0
-AllOver actors ws = (a : ℕ) (ops : List Op) (w : Worker) → slice_get actors a ≡ Some ops → slice_get ws a ≡ Some w → length ops ≤ w.place.nr
+AllOver actors ws = (a : ℕ) (ops : List Op) (w : Worker) → slice_get actors a ≡ Some ops
+    → slice_get ws a ≡ Some w → length ops ≤ w.place.nr
 
 -- the events that are left: two for each piece, and one less where its slot is taken
 abbrev pub left_at : List Part → At → ℕ
@@ -56,25 +57,32 @@ left_at [] at = 0
 left_at (p ∷ ps) Start = 2 + 2 * length ps
 left_at (p ∷ ps) Entered = 1 + 2 * length ps
 
+-- the events that an actor has left
 abbrev pub left_by : Here → ℕ
 left_by l = left_at l.todo l.at
 
+-- those that all actors have left
 abbrev pub all_left : State DiskHeld → ℕ
 all_left w = locals_sum left_by w.locals
 
+-- before the first turn no piece is over
 abbrev pub nothing_over : List Worker → List (List Done)
 nothing_over ws = map (λ w. []) ws
 
+-- the events that workers have left, whatever is over
 abbrev pub left_of : ℕ → List (List Op) → List Worker → ℕ
 left_of size actors ws = locals_sum left_by (heres size actors ws (nothing_over ws))
 
 -- the next turn of this actor is an event
 abbrev pub IsFree : State DiskHeld → ℕ → Type 0
-IsFree w a = (l : Here) × (slice_get w.locals a ≡ Some l) × (plan l ≢ Finished) × ((k : LockNo) → plan l ≡ Take k → (v : DiskHeld) × (slice_get w.row (spot k) ≡ Some (Some v)))
+IsFree w a = (l : Here) × (slice_get w.locals a ≡ Some l) × (plan l ≢ Finished)
+    × ((k : LockNo) → plan l ≡ Take k → (v : DiskHeld) × (slice_get w.row (spot k) ≡ Some (Some v)))
 
--- in a round so far, up to the actor i: fewer events are left, or nothing happened and no actor below i was free
+-- in a round so far, up to the actor i: fewer events are left, or nothing happened and no actor
+-- below i was free
 abbrev pub Round : State DiskHeld → State DiskHeld → ℕ → Type 0
-Round start now i = (all_left now < all_left start) ⊎ ((now ≡ start) × ((f : ℕ) → IsFree start f → i ≤ f))
+Round start now i = (all_left now < all_left start)
+    ⊎ ((now ≡ start) × ((f : ℕ) → IsFree start f → i ≤ f))
 
 -- a round has come to the actor i
 abbrev pub RoundTo : State DiskHeld → Playing → ℕ → Type 0

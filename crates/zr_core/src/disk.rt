@@ -1,6 +1,7 @@
 //! A disk: its row of entries, one for each page.
 
 ghost use Rattle.std.specs.Prelude.{◌≡◌, ◌<◌, ◌≤◌, [], slice_get, Some, OnOk, OnErr};
+ghost use Rattle.zr_base.specs.declared.limits.TheConstants.{MOST_PAGES};
 ghost use Rattle.lock_row.specs.declared.names.Held.TheVariants as holds;
 ghost use Rattle.zr_core.specs.States.{slots_of, IsAtRest, IsBlank};
 
@@ -33,11 +34,11 @@ impl World {
         }
     }
 
-    /// Gives the disk so many pages of zeros, from 1 to 262,144. On Err nothing changed.
+    /// Gives the disk so many pages of zeros, from 1 to `MOST_PAGES`. On Err nothing changed.
     pub fn set_disk(&mut self, pages: u32) -> Result<(), AllocError>
         requires none { self.old.pages ≡ 0 }
         requires some { 1 ≤ pages }
-        requires most { pages ≤ 262144 }
+        requires most { pages ≤ MOST_PAGES }
         ensures pages { OnOk result (self.new.pages ≡ pages) }
         ensures blank { OnOk result (IsBlank pages self.new.row.cells) }
         ensures rest { OnOk result (IsAtRest self.new.pages self.new.row.cells) }

@@ -1,4 +1,5 @@
-//! What the machine of a disk and its actors keeps, whatever the turns are. Each law is a function whose body
+//! What the machine of a disk and its actors keeps, whatever the turns are. Each law is a function
+//! whose body
 //! calls the laws that it rests on: who wants it calls it, and has its clauses.
 
 ghost use Rattle.zr_core.specs.Laws.{StartHasJoint, TurnKeepsJoint, ReachedHasJoint, PrintsPhase, StepsPrintPhase};
@@ -7,7 +8,8 @@ use crate::worker::DiskHeld;
 use call_history::{histories_go_on, histories_tell, pieces_keep};
 use lock_row::{sums_move, values_stay_apart};
 
-/// The state before the first turn has the joint rule, each turn keeps it, and so each state has it that is
+/// The state before the first turn has the joint rule, each turn keeps it, and so each state has it
+/// that is
 /// reached from one that does.
 pub fn turns_keep()
     ensures start { StartHasJoint }

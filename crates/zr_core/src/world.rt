@@ -1,14 +1,19 @@
 //! The world of a disk: its row of entries, which the actors of a phase work on by turns.
 //!
-//! `prepare` sets a phase up; its workers then stand before their first turns, and the row and they are the
-//! phase's start. `step` makes one turn of one actor, and `run` all turns of a schedule and then rounds until all
-//! actors are finished. Between any two turns the phase can go on (`CanGoOn`): each worker is fit for its
-//! operations, and the joint rule holds for the phase's start. Each call says so for every start that the rule
+//! `prepare` sets a phase up; its workers then stand before their first turns, and the row and they
+//! are the
+//! phase's start. `step` makes one turn of one actor, and `run` all turns of a schedule and then
+//! rounds until all
+//! actors are finished. Between any two turns the phase can go on (`CanGoOn`): each worker is fit
+//! for its
+//! operations, and the joint rule holds for the phase's start. Each call says so for every start
+//! that the rule
 //! holds for, and of every start from which the state is reached.
 
 ghost use Rattle.std.specs.Prelude.{◌≡◌, ℕ, ◌*◌, ◌<◌, ◌≤◌, ◌++◌, length, vec_len, replicate, slice_get, Some, IfOk, OnErr};
 ghost use Rattle.std.specs.Bool.{OnTrue, OnFalse};
 ghost use Rattle.std.specs.List.{range_with_len};
+ghost use Rattle.zr_base.specs.declared.limits.TheConstants.{MOST_ACTORS};
 ghost use Rattle.plain_disk.specs.Phases.{IsPhase};
 ghost use Rattle.zr_core.specs.Machines.{rounds_of, sector_in, PhaseSteps};
 ghost use Rattle.zr_core.specs.Places.{IsWork};
@@ -85,7 +90,7 @@ impl World {
 
     // One turn of each actor.
     fn round(&mut self, phase: &mut Phase, actors: &[ActorOps])
-        requires few { length actors.now ≤ 64 }
+        requires few { length actors.now ≤ MOST_ACTORS }
         requires can { CanGoOn (playing self.old phase.old actors.now) }
         ensures plays { Plays (range_with_len 0 (length actors.now)) (playing self.old phase.old actors.now)
             (playing self.new phase.new actors.now) }
@@ -99,7 +104,7 @@ impl World {
         }
     }
 
-    // So many turns of an actor.
+    // So many turns of an actor. After one that changes nothing the rest change nothing either: they cost nothing.
     fn repeat(&mut self, phase: &mut Phase, actors: &[ActorOps], turns: Turns)
         requires actor { turns.actor < length actors.now }
         requires can { CanGoOn (playing self.old phase.old actors.now) }
@@ -107,7 +112,11 @@ impl World {
             (playing self.new phase.new actors.now) }
     {
         for time in 0..turns.times {
-            let _turn = self.step(phase, actors, turns.actor);
+            match self.step(phase, actors, turns.actor) {
+                Turn::Went => {}
+                Turn::Waited(_) => return,
+                Turn::Finished => return,
+            }
         }
     }
 
@@ -115,7 +124,8 @@ impl World {
     fn play(&mut self, phase: &mut Phase, actors: &[ActorOps], schedule: &[Turns])
         requires actors { (k : ℕ) (t : _) → slice_get schedule.now k ≡ Some t → t.actor < length actors.now }
         requires can { CanGoOn (playing self.old phase.old actors.now) }
-        ensures { Plays (turns_of schedule.now) (playing self.old phase.old actors.now) (playing self.new phase.new actors.now) }
+        ensures { Plays (turns_of schedule.now) (playing self.old phase.old actors.now)
+            (playing self.new phase.new actors.now) }
     {
         for turns in schedule {
             self.repeat(phase, actors, *turns);
@@ -124,7 +134,7 @@ impl World {
 
     // Rounds, until all actors are finished.
     fn finish(&mut self, phase: &mut Phase, actors: &[ActorOps])
-        requires few { length actors.now ≤ 64 }
+        requires few { length actors.now ≤ MOST_ACTORS }
         requires can { CanGoOn (playing self.old phase.old actors.now) }
         ensures plays { (rounds : ℕ) × Plays (rounds_of (length actors.now) rounds) (playing self.old phase.old actors.now)
             (playing self.new phase.new actors.now) }
@@ -135,9 +145,10 @@ impl World {
         }
     }
 
-    /// The schedule's turns, and then rounds of a turn for each actor, until all actors are finished.
+    /// The schedule's turns, and then rounds of a turn for each actor, until all actors are
+    /// finished.
     pub fn run(&mut self, phase: &mut Phase, actors: &[ActorOps], schedule: &[Turns])
-        requires few { length actors.now ≤ 64 }
+        requires few { length actors.now ≤ MOST_ACTORS }
         requires actors { (k : ℕ) (t : _) → slice_get schedule.now k ≡ Some t → t.actor < length actors.now }
         requires can { CanGoOn (playing self.old phase.old actors.now) }
         ensures pages { self.new.pages ≡ self.old.pages }

@@ -15,24 +15,30 @@ worker_at c = at_index c.args.phase.now.workers.items c.loop-actor.actor c.index
     (let q = below c in let n = c.requires in let k = c.args.phase.now.workers.ok in
     omega (arith, q, n, k.0)) c.index.ensures
 
-ops_at : (c : After-as_slice) → slice_get c.args.actors.now c.loop-actor.actor ≡ Some c.as_slice.result.now
-ops_at c = at_index c.args.actors.now c.loop-actor.actor c.index-actors-actor.result (below c) c.index-actors-actor.is
+ops_at : (c : After-as_slice)
+    → slice_get c.args.actors.now c.loop-actor.actor ≡ Some c.as_slice.result.now
+ops_at c = at_index c.args.actors.now c.loop-actor.actor c.index-actors-actor.result
+    (below c) c.index-actors-actor.is
     ∙ ap Some (sym c.as_slice.ensures)
 
 pub returns-then-not-is_done-clause-busy : goal.returns-then-not-is_done-clause-busy
-returns-then-not-is_done-clause-busy c = let a = (goal.at.returns-then-not-is_done-clause-busy c).After-as_slice in record {
-  actor = c.loop-actor.actor;
-  ops = c.as_slice.result.now;
-  worker = c.index.result.now;
-  named = ops_at a;
-  there = worker_at a;
-  more = leb-false (length c.as_slice.result.now) c.index.result.now.place.nr (sym c.if-not-is_done.ensures);
-}
+returns-then-not-is_done-clause-busy c = let a =
+    (goal.at.returns-then-not-is_done-clause-busy c).After-as_slice in record {
+      actor = c.loop-actor.actor;
+      ops = c.as_slice.result.now;
+      worker = c.index.result.now;
+      named = ops_at a;
+      there = worker_at a;
+      more = leb-false (length c.as_slice.result.now) c.index.result.now.place.nr
+          (sym c.if-not-is_done.ensures);
+    }
 
 pub loop-actor-preserved : goal.loop-actor-preserved
 loop-actor-preserved c = let a = (goal.at.loop-actor-preserved c).After-as_slice in
-    more_over c.args.actors.now c.args.phase.now.workers.items c.loop-actor.actor c.as_slice.result.now c.index.result.now (ops_at a) (worker_at a)
-    (leb-true (length c.as_slice.result.now) c.index.result.now.place.nr (sym c.if-not-is_done.ensures)) c.loop-actor.invariant
+    more_over c.args.actors.now c.args.phase.now.workers.items c.loop-actor.actor
+    c.as_slice.result.now c.index.result.now (ops_at a) (worker_at a)
+    (leb-true (length c.as_slice.result.now) c.index.result.now.place.nr
+    (sym c.if-not-is_done.ensures)) c.loop-actor.invariant
 
 pub returns-clause-over : goal.returns-clause-over
 returns-clause-over c a ops w named there =

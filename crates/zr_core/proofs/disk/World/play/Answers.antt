@@ -9,5 +9,6 @@ loop-turns-init c = plays_none _ c.requires.can
 pub loop-turns-preserved : goal.loop-turns-preserved
 loop-turns-preserved c =
     then_schedule _ _ _ c.args.schedule.now c.loop-turns.turns-index _
-    (slice_get-get_or c.args.schedule.now c.loop-turns.turns-index _ (let q = c.loop-turns-test.true in omega arith))
+    (slice_get-get_or c.args.schedule.now c.loop-turns.turns-index _
+    (let q = c.loop-turns-test.true in omega arith))
     c.loop-turns.invariant c.repeat.ensures

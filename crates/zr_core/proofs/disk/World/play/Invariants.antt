@@ -5,5 +5,6 @@ use Rattle.zr_core.proofs.disk.World.play.Given as goal
 
 abbrev pub invariant-loop-turns : goal.invariant-loop-turns
 invariant-loop-turns l =
-    Plays (turns_of (take l.turns-index l.schedule)) (playing l.initial.self l.initial.phase l.actors)
+    Plays (turns_of (take l.turns-index l.schedule))
+    (playing l.initial.self l.initial.phase l.actors)
     (playing l.self l.phase l.actors)

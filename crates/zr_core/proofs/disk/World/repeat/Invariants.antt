@@ -5,4 +5,5 @@ use Rattle.zr_core.proofs.disk.World.repeat.Given as goal
 
 abbrev pub invariant-loop-time : goal.invariant-loop-time
 invariant-loop-time l =
-    Plays (replicate l.time l.turns.actor) (playing l.initial.self l.initial.phase l.actors) (playing l.self l.phase l.actors)
+    Plays (replicate l.time l.turns.actor) (playing l.initial.self l.initial.phase l.actors)
+    (playing l.self l.phase l.actors)

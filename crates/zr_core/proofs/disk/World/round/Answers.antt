@@ -17,7 +17,8 @@ loop-actor-preserved c =
     let t = c.step-turn.ensures in record {
       plays = then_turn _ _ _ c.loop-actor.actor i.plays
           (plays_once c.loop-actor.actor _ _ c.step-turn.result t.pages t.can t.turn);
-      falls = λ dones kept. turn_more c.sums_move.ensures.moves _ _ _ c.loop-actor.actor c.step-turn.result
+      falls = λ dones kept. turn_more c.sums_move.ensures.moves _ _ _ c.loop-actor.actor
+          c.step-turn.result
           (i.falls dones kept) t.turn;
     }
 
@@ -25,12 +26,15 @@ pub returns-clause-plays : goal.returns-clause-plays
 returns-clause-plays c =
     let all : c.loop-actor.actor ≡ length c.args.actors.now = (let t = c.loop-actor-test.false in
     let le = c.loop-actor.auto in omega arith) in
-    subst (λ (n : ℕ). Plays (range_with_len 0 n) (playing c.args.self.now c.args.phase.now c.args.actors.now)
-    (playing c.loop-actor.self c.loop-actor.phase c.args.actors.now)) all c.loop-actor.invariant.plays
+    subst (λ (n : ℕ). Plays (range_with_len 0 n)
+    (playing c.args.self.now c.args.phase.now c.args.actors.now)
+    (playing c.loop-actor.self c.loop-actor.phase c.args.actors.now)) all
+    c.loop-actor.invariant.plays
 
 pub returns-clause-falls : goal.returns-clause-falls
 returns-clause-falls c busy =
     let i = c.loop-actor.invariant in
     let j = c.requires.can.joint in
-    round_left _ c.requires.can busy c.sums_move.ensures.moves _ i.plays.pages refl c.loop-actor.actor
+    round_left _ c.requires.can busy c.sums_move.ensures.moves _ i.plays.pages refl
+    c.loop-actor.actor
     (let t = c.loop-actor-test.false in omega arith) (i.falls j.dones j.kept)

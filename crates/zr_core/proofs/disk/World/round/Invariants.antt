@@ -11,5 +11,6 @@ invariant-loop-actor l = record {
   plays : Plays (range_with_len 0 l.actor) (playing l.initial.self l.initial.phase l.actors)
       (playing l.self l.phase l.actors);
   falls : (dones : List (List Done)) → AreKept l.initial.phase.workers.items dones
-      → RoundTo (state_of (playing l.initial.self l.initial.phase l.actors) dones) (playing l.self l.phase l.actors) l.actor;
+      → RoundTo (state_of (playing l.initial.self l.initial.phase l.actors) dones)
+      (playing l.self l.phase l.actors) l.actor;
 }

@@ -11,9 +11,14 @@ use Rattle.zr_core.proofs.disk.World.run.Goals as goal
 use Rattle.zr_core.proofs.disk.World.run.Goals.{After-finish}
 
 -- the schedule's turns and the rounds
-all_turns : (c : After-finish) → Plays (turns_of c.args.schedule.now ++ rounds_of (length c.args.actors.now) c.finish.ensures.plays.0)
-    (playing c.args.self.now c.args.phase.now c.args.actors.now) (playing c.finish.new.self c.finish.new.phase c.args.actors.now)
-all_turns c = plays_on (turns_of c.args.schedule.now) (rounds_of (length c.args.actors.now) c.finish.ensures.plays.0)
+all_turns : (c : After-finish)
+    → Plays (turns_of c.args.schedule.now
+    ++ rounds_of (length c.args.actors.now) c.finish.ensures.plays.0)
+    (playing c.args.self.now c.args.phase.now c.args.actors.now)
+    (playing c.finish.new.self c.finish.new.phase c.args.actors.now)
+all_turns c =
+    plays_on (turns_of c.args.schedule.now)
+    (rounds_of (length c.args.actors.now) c.finish.ensures.plays.0)
     _ _ _ c.play.ensures c.finish.ensures.plays.1
 
 pub returns-clause-pages : goal.returns-clause-pages
@@ -24,7 +29,8 @@ returns-clause-can c = c.finish.ensures.plays.1.can
 
 pub returns-clause-runs : goal.returns-clause-runs
 returns-clause-runs c dones kept = let a = (goal.at.returns-clause-runs c).After-finish in
-    runs_out _ _ (turns_of c.args.schedule.now) c.finish.ensures.plays.0 (all_turns a) c.finish.ensures.over dones kept
+    runs_out _ _ (turns_of c.args.schedule.now) c.finish.ensures.plays.0
+    (all_turns a) c.finish.ensures.over dones kept
 
 pub returns-clause-reached : goal.returns-clause-reached
 returns-clause-reached c start r = let a = (goal.at.returns-clause-reached c).After-finish in
@@ -34,7 +40,8 @@ returns-clause-reached c start r = let a = (goal.at.returns-clause-reached c).Af
 abbrev last : After-finish → Playing
 last c = playing c.finish.new.self c.finish.new.phase c.args.actors.now
 
-joint_now : (c : After-finish) (g : Given) → HasJoint g (playing c.args.self.now c.args.phase.now c.args.actors.now)
+joint_now : (c : After-finish) (g : Given)
+    → HasJoint g (playing c.args.self.now c.args.phase.now c.args.actors.now)
     → HasJoint g (last c)
 joint_now c g j = plays_joint _ _ _ refl (all_turns c) c.turns_keep.ensures.turn g j
 
@@ -47,14 +54,16 @@ returns-clause-rest c =
     let a = (goal.at.returns-clause-rest c).After-finish in
     let x = last a in
     let j = joint_now a c.requires.can.given c.requires.can.joint in
-    shows_rest x.size x.actors x.cells x.workers j.dones c.requires.can.given j.pages j.ops j.joint (finished a j.dones)
+    shows_rest x.size x.actors x.cells x.workers j.dones c.requires.can.given j.pages j.ops j.joint
+    (finished a j.dones)
 
 pub returns-clause-legal : goal.returns-clause-legal
 returns-clause-legal c g old =
     let a = (goal.at.returns-clause-legal c).After-finish in
     let x = last a in
     let j = joint_now a g old in
-    shows_phase x.size x.actors x.cells x.workers j.dones g j.pages j.ops c.phases_are_legal.ensures.state
+    shows_phase x.size x.actors x.cells x.workers j.dones g j.pages j.ops
+    c.phases_are_legal.ensures.state
     c.finish.ensures.plays.1.can.fit j.kept j.joint (finished a j.dones)
 
 pub returns-clause-steps : goal.returns-clause-steps
@@ -65,8 +74,11 @@ returns-clause-steps c g pages named p =
     let n = all.goes p.dones p.kept in (
       c.finish.ensures.plays.0,
       shows_steps x.size x.actors x.cells x.workers n.0 g (pages ∙ sym all.pages) named
-          c.finish.ensures.plays.1.can.fit n.1 _ c.args.self.now.row.cells c.args.phase.now.workers.items p
-          (subst (λ (k : ℕ). Turns (turns_of c.args.schedule.now ++ rounds_of (length c.args.actors.now) c.finish.ensures.plays.0)
+          c.finish.ensures.plays.1.can.fit n.1 _ c.args.self.now.row.cells
+          c.args.phase.now.workers.items p
+          (subst (λ (k : ℕ). Turns
+          (turns_of c.args.schedule.now
+          ++ rounds_of (length c.args.actors.now) c.finish.ensures.plays.0)
           (state k x.actors c.args.self.now.row.cells c.args.phase.now.workers.items p.dones)
           (state_of x n.0)) (sym all.pages) n.2) (finished a n.0),
     )
