@@ -1,4 +1,5 @@
-//! The words that every layer speaks: pages and their sectors, operations with their pieces and ends,
+//! The words that every layer speaks: pages and their sectors, operations with their pieces and
+//! ends,
 //! and the errors of whatever is handed in.
 #![tactic(auto)]
 
