@@ -4,7 +4,8 @@
     tools/model.py [JOB]
 
 prints what `zramsim run < JOB` prints, and ends with its status. It is a second reading of those pages, to be read
-beside them, and nothing in it is proved. Its parts stand in the order of the pages:
+beside them, and nothing in it is proved. Words on the command line, streams that fail and lack of memory are left out.
+Its parts stand in the order of the pages:
 
   1. the text of a job: values, forms of lines, limits, faults
   2. requests: sectors, pieces
@@ -292,7 +293,7 @@ class Reader:
         self.want(self.phase is not None, "order", "an operation stands after an `actor`")
         assert self.phase is not None
         self.want(not self.phase.schedule, "order", AFTER_SCHEDULE)
-        text = " ".join(words if len(words[-1]) <= 40 else words[:4] + [".."])
+        text = " ".join(words[:4] + [".."] if words[3:4] == ["hex"] else words)
         op = Op(words[0], values["START"][0], values["COUNT"][0], stuff_of(values), text)
         self.use("operations", 1)
         self.use("pieces", len(op.pages()))
@@ -440,12 +441,12 @@ OVER = "over"
 class Stage(NamedTuple):
     """A row of a table of steps: the event of an actor in a stage, its lock, its work, and the stage after it."""
     event: str
-    lock: Callable[[Piece], Lock]
+    lock: Callable[[Local, Piece], Lock]
     work: Callable[[Local, Piece, Entry], None]
     after: Callable[[Local, Piece, Entry], str]
 
 
-def slot(piece: Piece) -> Lock:
+def slot(local: Local, piece: Piece) -> Lock:
     """The slot of a piece's page."""
     return Lock("slot", piece.page)
 
@@ -502,7 +503,7 @@ class Machine:
         if piece is None:
             return Turn(actor, NOTHING)
         stage = self.stages[local.stage]
-        lock = stage.lock(piece)
+        lock = stage.lock(local, piece)
         if stage.event == TAKE:
             if lock in self.holder:
                 return Turn(actor, MISS, piece, stage, lock, self.holder[lock])
@@ -662,8 +663,14 @@ def outcome(text: bytes) -> tuple[int, str]:
 
 def main() -> int:
     parser = argparse.ArgumentParser(description="Prints what `zramsim run` prints on a job, by the documents alone.")
-    parser.add_argument("job", nargs="?", type=argparse.FileType("rb"), default=sys.stdin.buffer, metavar="JOB")
-    status, output = outcome(parser.parse_args().job.read(MOST_BYTES + 1))
+    parser.add_argument("job", nargs="?", metavar="JOB", help="a file with a job; else it is the standard input")
+    path = parser.parse_args().job
+    try:
+        with open(path, "rb") if path else sys.stdin.buffer as file:
+            text = file.read(MOST_BYTES + 1)
+    except OSError as error:
+        parser.error(f"{path}: {error.strerror}")
+    status, output = outcome(text)
     sys.stdout.write(output)
     return status
 

@@ -18,7 +18,7 @@ from itertools import groupby
 from typing import Hashable, Iterable, Iterator, Optional
 
 from model import EVENT, STAGES, Entry, Item, Lock, Machine, Phase, Row, Stage, breaches, lines_of, phases_of
-from trace import count, schedule_text, shortest
+from trace import count, joined, schedule_text
 
 
 class TooMany(Exception):
@@ -262,7 +262,7 @@ def lines_at(output: Output, labels: Iterable[str]) -> Iterator[str]:
 
 def example_of(output: Output) -> str:
     """The `schedule` line of a list of turns that gives an output."""
-    return "schedule " + schedule_text(shortest(output.example)) if output.example else "no schedule line"
+    return "schedule " + schedule_text(joined(output.example)) if output.example else "no schedule line"
 
 
 def phase_to_explore(items: list[Item]) -> int:

@@ -40,8 +40,8 @@ def schedule_text(turns: Iterable[Turns]) -> str:
     return " ".join(f"{turn.actor}*{turn.times}" if turn.times > 1 else str(turn.actor) for turn in turns)
 
 
-def shortest(actors: Iterable[int]) -> list[Turns]:
-    """A list of turns with those of one actor in a row joined."""
+def joined(actors: Iterable[int]) -> list[Turns]:
+    """Turns, one after the other, with those of one actor in a row as one word."""
     return [Turns(actor, len(list(those))) for actor, those in groupby(actors)]
 
 
@@ -78,7 +78,7 @@ def unlocked_text(turn: Turn) -> str:
     assert turn.piece is not None
     piece, is_first = turn.piece, turn.stage is UNLOCKED["Start"]
     if piece.op.word == "write" and not piece.is_whole():
-        return "copies the page" if is_first else f"{work_text(piece)} into its copy, and puts that back"
+        return "copies the page" if is_first else f"puts back its copy with {span(piece.first, piece.first + piece.count - 1)}"
     return work_text(piece, 0, HALF) if is_first else work_text(piece, HALF)
 
 
