@@ -1,9 +1,15 @@
 """Files of the repository that a script makes from others: written, or compared with what is stored."""
 from __future__ import annotations
 
+import glob
 import os
 
 TOP = os.path.dirname(os.path.dirname(os.path.realpath(__file__)))
+
+
+def paths(pattern: str) -> list[str]:
+    """The files of the repository whose paths from the top are like this, in order."""
+    return sorted(os.path.relpath(path, TOP) for path in glob.glob(os.path.join(TOP, pattern)))
 
 
 def read(path: str) -> str:

@@ -24,7 +24,7 @@ import sys
 from dataclasses import dataclass, field
 from functools import lru_cache
 from itertools import groupby
-from typing import Any, Callable, Iterable, Iterator, NamedTuple, Optional, Union
+from typing import Any, Callable, Dict, Iterable, Iterator, NamedTuple, Optional, Tuple, Union
 
 SECTOR = 512
 SECTORS = 8  # of a page
@@ -159,7 +159,7 @@ def values_of(words: list[str], form: list[str]) -> dict[str, list[Any]]:
     """What the words of a form stand for, by their names there. A value that is not allowed is one all the same."""
     values: dict[str, list[Any]] = {}
     for place, word in enumerate(words):
-        name = form[min(place, len(form) - 1)].removesuffix("..")
+        name = form[min(place, len(form) - 1)].rstrip(".")
         if name in VALUES:
             values.setdefault(name, []).append(VALUES[name].read(word))
     if "DIGITS" in values:
@@ -353,7 +353,7 @@ class Lock(NamedTuple):
         return f"{self.kind} {self.number}"
 
 
-Page = tuple[bytes, ...]
+Page = Tuple[bytes, ...]
 ZERO_PAGE: Page = (ZEROS,) * SECTORS
 
 
@@ -364,7 +364,7 @@ class Entry:
     order: list[Tag] = field(default_factory=list)
 
 
-Row = dict[Lock, Entry]  # what each lock guards; one that isn't there guards a page of zeros
+Row = Dict[Lock, Entry]  # what each lock guards; one that isn't there guards a page of zeros
 
 
 class Piece(NamedTuple):

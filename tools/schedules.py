@@ -212,7 +212,7 @@ class Explorer:
         schedules = sum(output.schedules for output in self.outputs())
         orders = sum(output.orders for output in self.outputs())
         return (f"{count(schedules, 'schedule')} ({self.turns_text()}), {count(orders, 'order')} of events, "
-                f"{count(len(self.graph.outputs), 'output')}, {count(len(self.graph.moves), 'state')} visited")
+                f"{count(len(self.graph.outputs), 'output')}, {count(len(self.graph.moves), 'state')}")
 
     def turns_text(self) -> str:
         """How many turns a schedule has for each actor."""
