@@ -320,6 +320,19 @@ def specs_have_no_lemmas() -> Iterator[Breach]:
                 yield path, number, "a file of specs imports proofs: move what needs them into proofs"
 
 
+def tables_are_whole() -> Iterator[Breach]:
+    """A row of a table in a comment stands on one line."""
+    for _, path, lines in every_source():
+        inside = False
+        for number, line in enumerate(lines, 1):
+            said = re.match(r"\s*(?://[/!]?|--) (.*)", line)
+            begins = bool(said) and said.group(1).startswith("|")
+            ends = bool(said) and said.group(1).endswith("|")
+            if begins != ends and (begins or inside):
+                yield path, number, "a row of a table is broken: keep it on one line, however long"
+            inside = begins
+
+
 def definitions_have_sentences() -> Iterator[Breach]:
     """Above each definition of specs stands a sentence with its meaning."""
     for path in spec_files():
@@ -421,4 +434,5 @@ WAITING = [
     definitions_have_sentences,
     few_edits,
     plain_words,
+    tables_are_whole,
 ]
