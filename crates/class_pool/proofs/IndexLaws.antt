@@ -7,13 +7,13 @@ use Rattle.class_pool.specs.declared.places.Place.{Place}
 use Rattle.class_pool.specs.Zspages.{Cells, IsLeastAbsent, put_at, use_at}
 use Rattle.class_pool.specs.Index.{IsIndex}
 use Rattle.class_pool.proofs.Ranks.{entry_within}
-use Rattle.class_pool.proofs.UseLaws.{Changes, entry-set_same, entry-set_other, use_at-put}
+use Rattle.class_pool.proofs.UseLaws.{Changes, entry-set_same, entry-set_other, entry-free, use_at-put}
 
 abbrev pub place : ℕ → ℕ → Place
 place i j = record { zspage = i; cell = j }
 
 -- a place is this one or another
-same_place : (i j k l : ℕ) → ((k ≡ i) × (l ≡ j)) ⊎ (k ≡ i → l ≢ j)
+pub same_place : (i j k l : ℕ) → ((k ≡ i) × (l ≡ j)) ⊎ (k ≡ i → l ≢ j)
 same_place i j k l =
     elim (cases_eq k i) [
       | inl e ↦ elim (cases_eq l j) [ inl f ↦ inl (e, f) | inr other ↦ inr (λ p. other) ]
@@ -21,7 +21,7 @@ same_place i j k l =
     ]
 
 -- the use at a place that is this one
-moved : (zs : List (Option Cells)) (i j k l : ℕ) → k ≡ i → l ≡ j → use_at zs k l ≡ use_at zs i j
+pub moved : (zs : List (Option Cells)) (i j k l : ℕ) → k ≡ i → l ≡ j → use_at zs k l ≡ use_at zs i j
 moved zs i j k l e f = ap (λ n. use_at zs n l) e ∙ ap (λ n. use_at zs i n) f
 
 -- an object goes into a free cell, under a free handle
@@ -142,15 +142,10 @@ index_put zs places i n least index = record {
   listed = λ k l u at. index.listed k l u (sym (use_at-put zs i n k l least) ∙ at);
 }
 
-entry-none : (n j : ℕ) → entry (replicate {A = Option Place} n None) j ≡ None
-entry-none zero j = refl
-entry-none (suc n) zero = refl
-entry-none (suc n) (suc j) = entry-none n j
-
 -- free numbers behind the others
-pub entry-grown : (places : List (Option Place)) (n j : ℕ)
+entry-grown : (places : List (Option Place)) (n j : ℕ)
     → entry (places ++ replicate n None) j ≡ entry places j
-entry-grown [] n j = entry-none n j
+entry-grown [] n j = entry-free n j
 entry-grown (p ∷ places) n zero = refl
 entry-grown (p ∷ places) n (suc j) = entry-grown places n j
 

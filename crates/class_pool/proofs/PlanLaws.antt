@@ -1,17 +1,18 @@
 -- The rows of a pool's zspages, and the best of them by the winners of the ranks.
 use Rattle.std.proofs.Common.{◌≡◌, ◌≢◌, ℕ, zero, suc, ◌+◌, ◌-◌, ◌<◌, ◌≤◌, List, [], ◌∷◌, Option, None, Some, Bool, true, false, cond, not, length, map, slice_index, slice_index_or, refl, sym, ◌∙◌, ap, subst, inl, inr, arith, Contains}
+use Rattle.std.specs.Prelude.{is_some}
 use Rattle.std.proofs.lemmas.Bool.{cases_lt, lt-ltb, ltb-true}
 use Rattle.std.proofs.lemmas.Bool.Decides.{nat_tests}
 use Rattle.std.proofs.lemmas.List.{get_or_default}
 use Rattle.std.proofs.lemmas.List.Kept.{AllPairs-cons}
-use Rattle.std.proofs.lemmas.List.Sums.{sum_by-cons}
+use Rattle.std.proofs.lemmas.List.Sums.{sum_by-cons, count_by-le-length}
 use Rattle.tournament.specs.Winner.{IsWinner, IsLastWinner}
 use Rattle.zspage.specs.Cells.{ZspageState, used_of, is_home, home_of, entry}
 use Rattle.zs_plan.specs.declared.Row.{Row}
 use Rattle.zs_plan.specs.Plan.{IsPartial, IsFuller, IsEmptier, HasMovable, IsFirst, IsBest, HaveOwnIds}
 use Rattle.class_pool.specs.Zspages.{Cells, cells_of, rank_of, source_rank, AreZspages}
 use Rattle.class_pool.specs.Rows.{row_of, row_at, rows_from, rows}
-use Rattle.class_pool.proofs.Ranks.{entry_of, id_within, whole_is, used_most}
+use Rattle.class_pool.proofs.Ranks.{entry_of, id_within, whole_is}
 use Rattle.class_pool.proofs.UseLaws.{contains_cons}
 
 -- ---- which rows there are
@@ -81,7 +82,13 @@ pub home_used : (cells : Cells) → home_of cells ≤ used_of cells
 home_used [] = omega arith
 home_used (None ∷ cells) = omega (arith, home_used cells, sum_by-cons (λ c. cond (is_home c) 1 0) None cells)
 home_used (Some u ∷ cells) =
-    omega (arith, home_used cells, sum_by-cons (λ c. cond (is_home c) 1 0) (Some u) cells, one_small (not u.out))
+    omega (
+      arith,
+      home_used cells,
+      sum_by-cons (λ c. cond (is_home c) 1 0) (Some u) cells,
+      sum_by-cons (λ c. cond (is_some c) 1 0) (Some u) cells,
+      one_small (not u.out),
+    )
 
 -- ---- ranks of sources
 
@@ -182,7 +189,7 @@ room_high per k cells whole fits = grind (arith, nat_tests)
 room_fits : (per k : ℕ) (cells : Cells) → length cells ≡ per → 2 < rank_of (Some cells)
     → IsPartial per (row_of k cells) × (rank_of (Some cells) ≡ used_of cells + 2)
 room_fits per k cells whole high =
-    let most : used_of cells ≤ length cells = used_most cells in
+    let most : used_of cells ≤ length cells = count_by-le-length is_some cells in
     let is : rank_of (Some cells) ≡ used_of cells + 2 = grind (arith, nat_tests) in
     let less : used_of cells < length cells = grind (arith, nat_tests) in
     ((omega arith, omega arith), is)

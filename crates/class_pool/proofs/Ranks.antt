@@ -1,5 +1,7 @@
 -- The ranks of zspages, and what a change of one zspage leaves.
 use Rattle.std.proofs.Common.{◌≡◌, ℕ, zero, suc, ◌+◌, ◌-◌, ◌*◌, ◌/◌, ◌==◌, if◌then◌else◌, cond, ◌<◌, ◌≤◌, ◌≢◌, ◌^◌, List, [], ◌∷◌, ◌++◌, Option, None, Some, length, map, replicate, get_or, slice_index, refl, sym, ◌∙◌, ap, subst, inl, inr, arith, get_or-set_same, get_or-set_other}
+use Rattle.std.specs.Prelude.{is_some}
+use Rattle.std.proofs.lemmas.List.Sums.{count_by-le-length}
 use Rattle.std.proofs.Math.ListN.{set, length-set, get_or-eq_default, get_or-map}
 use Rattle.std.proofs.Math.Seq.{get_or-append_seam}
 use Rattle.std.proofs.lemmas.List.{map-set, length-map, length-append, get_or_append_left, length-replicate, get_or_default, set-set}
@@ -27,18 +29,13 @@ entry_within xs k x is =
 
 -- ---- ranks
 
-pub used_most : (cells : Cells) → used_of cells ≤ length cells
-used_most [] = omega arith
-used_most (None ∷ cells) = omega (arith, used_most cells)
-used_most (Some u ∷ cells) = omega (arith, used_most cells)
-
 room_rank : (o : Option Cells) → HasRoom o → rank_of o ≡ used_in o + 2
 room_rank None room = absurd room
 room_rank (Some cells) room = grind (arith, nat_tests)
 
 rank_room : (o : Option Cells) → 2 ≤ rank_of o → HasRoom o
 rank_room None high = absurd (omega arith)
-rank_room (Some cells) high = let most : used_of cells ≤ length cells = used_most cells in grind (arith, nat_tests)
+rank_room (Some cells) high = let most : used_of cells ≤ length cells = count_by-le-length is_some cells in grind (arith, nat_tests)
 
 rank_absent : (o : Option Cells) → rank_of o ≡ 1 → o ≡ None
 rank_absent None is = refl
@@ -153,20 +150,6 @@ ranked_set rank items ranks id r new are low is = record {
       elim (cases_eq k id) [
         | inl e ↦ let there : id < length ranks = omega (arith, are.long) in rw e (rw (get_or-set_same, get_or-set_same) is)
         | inr other ↦ rw (get_or-set_other, get_or-set_other) (are.each k (rw length-set at within))
-      ];
-}
-
--- it keeps its rank
-pub ranked_same : (rank : Option Cells
-    → ℕ) (items : List (Option ZspageState)) (ranks : List ℕ) (id : ℕ) (new : Option ZspageState)
-    → AreRanked rank items ranks → id < length items → rank (cells_of (entry items id)) ≡ rank (cells_of new)
-    → AreRanked rank (set items id new) ranks
-ranked_same rank items ranks id new are low is = record {
-  long = rw length-set are.long;
-  each = λ k within.
-      elim (cases_eq k id) [
-        | inl e ↦ rw e (rw get_or-set_same (are.each id low ∙ is))
-        | inr other ↦ rw get_or-set_other (are.each k (rw length-set at within))
       ];
 }
 
@@ -304,6 +287,14 @@ slot_is size chain per items ranks sources id slot z are low at is =
       id_is = fits.3;
       seen = entry_of items id ∙ ap cells_of there;
     }
+
+-- its cells are those that contracts see at its id
+pub slot_cells : (size chain per : ℕ) (items : List (Option ZspageState)) (seen : List (Option Cells)) (id : ℕ)
+    (z : ZspageState) (cells : Cells) → map cells_of items ≡ seen → IsSlot size chain per items id z
+    → entry seen id ≡ Some cells → z.cells ≡ cells
+slot_cells size chain per items seen id z cells view slot at =
+    let both : Some z.cells ≡ Some cells = sym slot.seen ∙ ap (λ xs. entry xs id) view ∙ at in
+    cc
 
 -- what is left where the zspage in the slot has other cells
 pub slot_changes : (items : List (Option ZspageState)) (id : ℕ) (new : ZspageState) (cells : Cells)

@@ -1,14 +1,14 @@
 -- Weights of used cells, added up over the zspages of a pool.
-use Rattle.std.proofs.Common.{◌≡◌, ℕ, zero, suc, ◌+◌, ◌*◌, ◌<◌, ◌≤◌, List, [], ◌∷◌, ◌++◌, Option, None, Some, length, map, replicate, sum_by, refl, sym, ◌∙◌, ap, arith}
+use Rattle.std.proofs.Common.{◌≡◌, ℕ, zero, suc, ◌+◌, ◌*◌, ◌<◌, ◌≤◌, List, [], ◌∷◌, ◌++◌, Option, None, Some, cond, length, map, replicate, sum_by, refl, sym, ◌∙◌, ap, arith}
+use Rattle.std.specs.Prelude.{is_some}
 use Rattle.std.proofs.Math.ListN.{set}
 use Rattle.std.proofs.lemmas.List.{map-append}
-use Rattle.std.proofs.lemmas.List.Sums.{sum_by-set, sum_by-append, sum_by-cons}
+use Rattle.std.proofs.lemmas.List.Sums.{sum_by-set, sum_by-append, sum_by-cons, count_by-le-length}
 use Rattle.std.proofs.Math.Nat.{mul-suc}
 use Rattle.zspage.specs.Cells.{UsedCell, used_of, entry}
 use Rattle.class_pool.specs.Zspages.{Cells, HasRoom, IsLeastAbsent, put_at}
 use Rattle.class_pool.specs.Pool.{Object, object_of, used_cells_in, used_cells, HasOneMore}
-use Rattle.class_pool.proofs.Ranks.{entry_within, used_most}
-use Rattle.class_pool.proofs.UseLaws.{used_of-free}
+use Rattle.class_pool.proofs.Ranks.{entry_within}
 
 -- ---- one zspage
 
@@ -22,8 +22,7 @@ in_zspage f (Some cells) = sum_by (at_use f) cells
 
 -- a weight of 1 for each entry that is there
 abbrev pub one_of : {A : Type 0} → Option A → ℕ
-one_of None = 0
-one_of (Some x) = 1
+one_of o = cond (is_some o) 1 0
 
 sum_in : (f : UsedCell → ℕ) (cells : Cells) → sum_by f (used_cells_in cells) ≡ sum_by (at_use f) cells
 sum_in f [] = refl
@@ -34,22 +33,13 @@ sum_in f (Some u ∷ cells) =
 sum_none : (f : UsedCell → ℕ) (cells : Cells) → used_of cells ≡ 0 → sum_by (at_use f) cells ≡ 0
 sum_none f [] none = refl
 sum_none f (None ∷ cells) none = let r = sum_none f cells none in omega arith
-sum_none f (Some u ∷ cells) none = absurd (omega arith)
-
-pub used_of-set : {A : Type 0} (xs : List (Option A)) (i : ℕ) (y : Option A) → i < length xs
-    → used_of (set xs i y) + one_of (entry xs i) ≡ used_of xs + one_of y
-used_of-set [] i y low = absurd (omega arith)
-used_of-set (None ∷ xs) zero None low = omega arith
-used_of-set (None ∷ xs) zero (Some y) low = omega arith
-used_of-set (Some x ∷ xs) zero None low = omega arith
-used_of-set (Some x ∷ xs) zero (Some y) low = omega arith
-used_of-set (None ∷ xs) (suc i) y low = used_of-set xs i y (omega arith)
-used_of-set (Some x ∷ xs) (suc i) y low = let r = used_of-set xs i y (omega arith) in omega arith
+sum_none f (Some u ∷ cells) none = absurd (omega (arith, none, sum_by-cons one_of (Some u) cells))
 
 sum_ones : (cells : Cells) → sum_by (at_use (λ u. 1)) cells ≡ used_of cells
 sum_ones [] = refl
 sum_ones (None ∷ cells) = let r = sum_ones cells in omega arith
-sum_ones (Some u ∷ cells) = omega (arith, sum_ones cells, sum_by-cons (at_use (λ x. 1)) (Some u) cells)
+sum_ones (Some u ∷ cells) =
+    omega (arith, sum_ones cells, sum_by-cons (at_use (λ x. 1)) (Some u) cells, sum_by-cons one_of (Some u) cells)
 
 -- the one used cell has the whole weight
 sum_alone : (f : UsedCell → ℕ) (cells : Cells) (j : ℕ) (u : UsedCell) → entry cells j ≡ Some u
@@ -57,7 +47,7 @@ sum_alone : (f : UsedCell → ℕ) (cells : Cells) (j : ℕ) (u : UsedCell) → 
     → sum_by (at_use f) cells ≡ f u
 sum_alone f cells j u at one =
     let low : j < length cells = entry_within cells j u at in
-    let left : used_of (set cells j None) + one_of (entry cells j) ≡ used_of cells + one_of {A = UsedCell} None = used_of-set cells j None low in
+    let left = sum_by-set one_of cells j None None low in
     let was : one_of (entry cells j) ≡ 1 = ap one_of at in
     let nothing : sum_by (at_use f) (set cells j None) ≡ 0 = sum_none f (set cells j None) (omega (arith, left, was, one)) in
     let both : sum_by (at_use f) (set cells j None) + at_use f (entry cells j) ≡ sum_by (at_use f) cells + at_use f None =
@@ -104,27 +94,20 @@ sum_gone f zs i j cells u at here one =
     let after = sum_all f (set zs i None) in
     omega arith
 
-sum_put_at : (g : Option Cells → ℕ) (zs : List (Option Cells)) (i : ℕ) (y : Option Cells) → g None ≡ 0
-    → i ≤ length zs
-    → sum_by g (put_at zs i y) + g (entry zs i) ≡ sum_by g zs + g y
-sum_put_at g [] zero y none low = omega (arith, none, sum_by-cons g y [])
-sum_put_at g [] (suc i) y none low = absurd (omega arith)
-sum_put_at g (x ∷ zs) zero y none low = omega (arith, sum_by-cons g x zs, sum_by-cons g y zs)
-sum_put_at g (x ∷ zs) (suc i) y none low =
-    omega (arith, sum_put_at g zs i y none (omega arith), sum_by-cons g x zs, sum_by-cons g x (put_at zs i y))
+-- a new zspage uses no cell
+used_cells_in-free : (n : ℕ) → used_cells_in (replicate n None) ≡ []
+used_cells_in-free zero = refl
+used_cells_in-free (suc n) = used_cells_in-free n
 
--- a new zspage weighs nothing
-pub sum_put : (f : UsedCell → ℕ) (zs : List (Option Cells)) (i n : ℕ) → IsLeastAbsent zs i
-    → sum_by f (used_cells (put_at zs i (Some (replicate n None)))) ≡ sum_by f (used_cells zs)
-sum_put f zs i n least =
-    let free : used_of (replicate {A = Option UsedCell} n None) ≡ 0 = used_of-free n in
-    let nothing : sum_by (at_use f) (replicate n None) ≡ 0 = sum_none f (replicate n None) free in
-    let outer : sum_by (in_zspage f) (put_at zs i (Some (replicate n None))) + in_zspage f (entry zs i) ≡ sum_by (in_zspage f) zs + sum_by (at_use f) (replicate n None) =
-    sum_put_at (in_zspage f) zs i (Some (replicate n None)) refl least.within in
-    let was : in_zspage f (entry zs i) ≡ 0 = ap (in_zspage f) least.absent in
-    let before = sum_all f zs in
-    let after = sum_all f (put_at zs i (Some (replicate n None))) in
-    omega arith
+pub used_cells-put : (zs : List (Option Cells)) (i n : ℕ) → i ≤ length zs → entry zs i ≡ None
+    → used_cells (put_at zs i (Some (replicate n None))) ≡ used_cells zs
+used_cells-put [] zero n low none = ap (λ us. us ++ []) (used_cells_in-free n)
+used_cells-put [] (suc i) n low none = absurd (omega arith)
+used_cells-put (None ∷ zs) zero n low none = ap (λ us. us ++ used_cells zs) (used_cells_in-free n)
+used_cells-put (Some cells ∷ zs) zero n low none = absurd (cc)
+used_cells-put (None ∷ zs) (suc i) n low none = used_cells-put zs i n (omega arith) none
+used_cells-put (Some cells ∷ zs) (suc i) n low none =
+    ap (λ us. used_cells_in cells ++ us) (used_cells-put zs i n (omega arith) none)
 
 -- ---- counts
 
@@ -187,7 +170,7 @@ objects_keep zs i j cells u v at here same = keep_zspage zs i cells (set cells j
 most_in : (per : ℕ) (o : Option Cells) → ((cells : Cells) → o ≡ Some cells → length cells ≡ per)
     → in_zspage (λ u. 1) o ≤ per
 most_in per None whole = omega arith
-most_in per (Some cells) whole = omega (arith, sum_ones cells, used_most cells, whole cells refl)
+most_in per (Some cells) whole = omega (arith, sum_ones cells, count_by-le-length is_some cells, whole cells refl)
 
 less_in : (per : ℕ) (o : Option Cells) → ((cells : Cells) → o ≡ Some cells → length cells ≡ per) → HasRoom o
     → in_zspage (λ u. 1) o < per

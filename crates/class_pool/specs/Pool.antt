@@ -3,8 +3,8 @@
 use Rattle.std.specs.Prelude.{ℕ, ◌≡◌, ◌≢◌, ◌+◌, ◌*◌, ◌/◌, ◌<◌, ◌≤◌, ◌⊎◌, List, [], ◌∷◌, ◌++◌, Option, None, Some, true, false, length, map, replicate, sum_by, count_by, Contains, slice_set, slice_index, Bool, ◌==◌}
 use Rattle.size_class.specs.Groups.{group_of}
 use Rattle.size_class.specs.Classes.{class_size, IsChain, stands_of}
-use Rattle.zspage.specs.Cells.{UsedCell, used_of, entry, IsStored, IsLowestFree}
-use Rattle.class_pool.specs.Zspages.{Cells, HasRoom, IsFullest, IsLeastAbsent, put_at, use_at}
+use Rattle.zspage.specs.Cells.{CellState, UsedCell, used_of, entry, IsStored, IsCellAt, IsLowestFree}
+use Rattle.class_pool.specs.Zspages.{Cells, AreFilled, AreWhole, HasRoom, IsFullest, IsLeastAbsent, put_at, use_at}
 
 -- a pool: its class, the bytes of a cell, the frames of a chain, the cells of a chain, and the zspage of each id
 pub record PoolState : Type 0 where
@@ -53,8 +53,8 @@ IsFresh p handle = (u : UsedCell) → Contains (used_cells p.zspages) u → u.ha
 abbrev pub IsAtHome : PoolState → ℕ → Type 0
 IsAtHome p handle = (u : UsedCell) × Contains (used_cells p.zspages) u × (u.handle ≡ handle) × (u.out ≡ false)
 
--- a live object has the handle, and its cell is out and was this when it was lent
-abbrev pub IsLent : PoolState → ℕ → List ℕ → Type 0
+-- a live object has the handle, and its cell is out, and this is it, as it was when it was lent
+abbrev pub IsLent : PoolState → ℕ → CellState → Type 0
 IsLent p handle cell =
     (u : UsedCell) × Contains (used_cells p.zspages) u × (u.handle ≡ handle) × (u.out ≡ true) × (u.cell ≡ cell)
 
@@ -69,21 +69,23 @@ abbrev pub with_cells : PoolState → ℕ → Cells → PoolState
 with_cells p id cells = record p { zspages = slice_set p.zspages id (Some cells) }
 
 -- the use of a cell that gets an object
-abbrev pub new_use : ℕ → List ℕ → List ℕ → UsedCell
+abbrev pub new_use : ℕ → List ℕ → CellState → UsedCell
 new_use handle bytes cell = record { handle = handle; bytes = bytes; cell = cell; out = false }
 
 -- the object went into the lowest free cell of the fullest zspage with room
-pub record Stores (old new : PoolState) (handle : ℕ) (bytes : List ℕ) (id ix : ℕ) (cells : Cells) (cell : List ℕ) : Type 0 where
+pub record Stores (old new : PoolState) (handle : ℕ) (bytes : List ℕ) (id ix : ℕ) (cells : Cells) (cell : CellState) : Type 0 where
   pub fullest : IsFullest old.zspages id
   pub zspage : entry old.zspages id ≡ Some cells
   pub lowest : IsLowestFree cells ix
   pub stored : IsStored handle bytes cell
+  pub at : IsCellAt old.size ix cell
   pub after : new ≡ with_cells old id (slice_set cells ix (Some (new_use handle bytes cell)))
 
 -- a new zspage under the least free id has the object in its first cell
-pub record Makes (old new : PoolState) (handle : ℕ) (bytes : List ℕ) (id : ℕ) (cell : List ℕ) : Type 0 where
+pub record Makes (old new : PoolState) (handle : ℕ) (bytes : List ℕ) (id : ℕ) (cell : CellState) : Type 0 where
   pub least : IsLeastAbsent old.zspages id
   pub stored : IsStored handle bytes cell
+  pub at : IsCellAt old.size 0 cell
   pub after : new ≡ record old {
     zspages = put_at old.zspages id
         (Some (slice_set (replicate old.per None) 0 (Some (new_use handle bytes cell))));
@@ -98,8 +100,8 @@ Frees old new id cells ix frames =
 -- what holds of each pool: every zspage has a used cell and as many cells as the class says, and no two used cells have
 -- one handle
 pub record IsPool (p : PoolState) : Type 0 where
-  pub filled : (k : ℕ) (cells : Cells) → entry p.zspages k ≡ Some cells → 1 ≤ used_of cells
-  pub whole : (k : ℕ) (cells : Cells) → entry p.zspages k ≡ Some cells → length cells ≡ p.per
+  pub filled : AreFilled p.zspages
+  pub whole : AreWhole p.per p.zspages
   pub distinct : (i j k l : ℕ) (u v : UsedCell) → use_at p.zspages i j ≡ Some u → use_at p.zspages k l ≡ Some v
       → u.handle ≡ v.handle → (i ≡ k) × (j ≡ l)
 

@@ -18,6 +18,14 @@ abbrev pub used_in : Option Cells → ℕ
 used_in None = 0
 used_in (Some cells) = used_of cells
 
+-- every zspage has a used cell
+abbrev pub AreFilled : List (Option Cells) → Type 0
+AreFilled zspages = (k : ℕ) (cells : Cells) → entry zspages k ≡ Some cells → 1 ≤ used_of cells
+
+-- every zspage has so many cells
+abbrev pub AreWhole : ℕ → List (Option Cells) → Type 0
+AreWhole per zspages = (k : ℕ) (cells : Cells) → entry zspages k ≡ Some cells → length cells ≡ per
+
 -- a zspage has a free cell
 abbrev pub HasRoom : Option Cells → Type 0
 HasRoom None = ⊥
