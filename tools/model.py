@@ -490,30 +490,42 @@ class Machine:
         self.row, self.pages, self.phase, self.stages = row, pages, phase, stages
         self.locals = [new_local(actor, ops, pages) for actor, ops in enumerate(phase.actors)]
         self.holder: dict[Lock, int] = {}  # who has a lock that is out
-        touched = {piece.page for local in self.locals for piece in local.todo}
-        self.entries = {page: row.setdefault(Lock("slot", page), Entry()) for page in sorted(touched)}
-        self.before = {page: entry.page for page, entry in self.entries.items()}
-        for entry in self.entries.values():
+        self.touched = sorted({piece.page for local in self.locals for piece in local.todo})
+        self.before: dict[int, Page] = {}  # the touched pages before the phase
+        for page in self.touched:
+            entry = row.setdefault(Lock("slot", page), Entry())
             entry.order = []
+            self.before[page] = entry.page
 
-    def turn(self, actor: int) -> Turn:
-        """One turn of an actor: its next event, a miss, or nothing."""
+    def entry(self, page: int) -> Entry:
+        """The entry of a touched page, wherever it is."""
+        return self.row[Lock("slot", page)]
+
+    def next_turn(self, actor: int) -> Turn:
+        """What the next turn of an actor is: its next event, a miss, or nothing."""
         local = self.locals[actor]
         piece = local.piece()
         if piece is None:
             return Turn(actor, NOTHING)
         stage = self.stages[local.stage]
         lock = stage.lock(local, piece)
-        if stage.event == TAKE:
-            if lock in self.holder:
-                return Turn(actor, MISS, piece, stage, lock, self.holder[lock])
-            self.holder[lock] = actor
-        entry = self.row[lock]
-        stage.work(local, piece, entry)
-        local.enter(stage.after(local, piece, entry))
-        if stage.event == GIVE:
-            del self.holder[lock]
+        if stage.event == TAKE and lock in self.holder:
+            return Turn(actor, MISS, piece, stage, lock, self.holder[lock])
         return Turn(actor, EVENT, piece, stage, lock)
+
+    def turn(self, actor: int) -> Turn:
+        """Makes one turn of an actor. An event changes its lock and its actor's local, and nothing else."""
+        turn = self.next_turn(actor)
+        if turn.kind == EVENT:
+            assert turn.piece and turn.stage and turn.lock
+            local, entry = self.locals[actor], self.row[turn.lock]
+            turn.stage.work(local, turn.piece, entry)
+            local.enter(turn.stage.after(local, turn.piece, entry))
+            if turn.stage.event == TAKE:
+                self.holder[turn.lock] = actor
+            elif turn.stage.event == GIVE:
+                del self.holder[turn.lock]
+        return turn
 
     def unfinished(self) -> list[int]:
         """The actors that have an event to come, rising."""
@@ -573,12 +585,13 @@ def printed_by(machine: Machine) -> dict[tuple[int, Tag], list[bytes]]:
 def breaches(machine: Machine) -> Iterator[str]:
     """Where a phase that has been run breaks what an output promises: each order lists the page's calls, each actor's
     in turn; each read prints what the calls before it left; and the page holds what all of them leave."""
-    pieces: dict[int, dict[Tag, Piece]] = {page: {} for page in machine.entries}
+    pieces: dict[int, dict[Tag, Piece]] = {page: {} for page in machine.touched}
     for local in machine.locals:
         for piece in local.todo:
             pieces[piece.page][piece.tag] = piece
     prints = printed_by(machine)
-    for page, entry in machine.entries.items():
+    for page in machine.touched:
+        entry = machine.entry(page)
         yield from order_breaches(page, entry.order, list(pieces[page]))
         left, wanted = replayed(entry.order, machine.before[page], pieces[page])
         for tag, sectors in wanted.items():
@@ -629,9 +642,9 @@ def lines_of(machine: Machine) -> Iterator[str]:
         for nr, end in enumerate(local.ends):
             yield f"op {actor} {nr} {end}"
             yield from map(sector_text, local.reads[nr])
-    for page, entry in machine.entries.items():
-        if entry.order:
-            yield f"order {page} " + " ".join(map(str, entry.order))
+    for page in machine.touched:
+        if machine.entry(page).order:
+            yield f"order {page} " + " ".join(map(str, machine.entry(page).order))
 
 
 def phases_of(items: Iterable[Item], stages: dict[str, Stage] = STAGES) -> Iterator[Machine]:

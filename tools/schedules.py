@@ -20,19 +20,27 @@ from typing import Hashable, Iterable, Iterator, Optional
 from model import EVENT, STAGES, Entry, Item, Lock, Machine, Phase, Row, Stage, breaches, lines_of, phases_of
 from trace import count, joined, schedule_text
 
+TURNS_LEFT = 10  # times as many states as --limit may be visited with the turns that are left in them
+
 
 class TooMany(Exception):
     """A job has more states or schedules than may be visited."""
 
 
-def fork(machine: Machine) -> Machine:
-    """A machine in the same state, that shares nothing that changes."""
+def after_event(machine: Machine, actor: int) -> Optional[Machine]:
+    """The machine after the next turn of an actor; none where that turn is no event. The machine itself stays as it is.
+    An event changes one lock and one local, so all else is shared."""
+    turn = machine.next_turn(actor)
+    lock = turn.lock
+    if turn.kind != EVENT or lock is None:
+        return None
     twin = copy(machine)
-    twin.row = {lock: Entry(entry.page, entry.order[:]) for lock, entry in machine.row.items()}
-    twin.entries = {page: twin.row[Lock("slot", page)] for page in machine.entries}
+    entry, local = machine.row[lock], machine.locals[actor]
+    twin.row = {**machine.row, lock: Entry(entry.page, entry.order[:])}
     twin.holder = dict(machine.holder)
-    twin.locals = [replace(local, ends=local.ends[:], reads=[read[:] for read in local.reads])
-                   for local in machine.locals]
+    twin.locals = machine.locals[:]
+    twin.locals[actor] = replace(local, ends=local.ends[:], reads=[read[:] for read in local.reads])
+    twin.turn(actor)
     return twin
 
 
@@ -109,7 +117,7 @@ class Explorer:
         for nr, machine in enumerate(phases_of(self.items, self.stages), 1):
             if nr == self.number:
                 self.rest: Row = machine.row
-                machine.row = {lock: entry for lock, entry in machine.row.items() if lock.number in machine.entries}
+                machine.row = {Lock("slot", page): machine.entry(page) for page in machine.touched}
                 self.start = machine
                 return
             machine.run()
@@ -132,8 +140,8 @@ class Explorer:
         """Where a turn of each actor leads from a state. States that are new are put into `found`."""
         moves = []
         for actor in range(len(machine.locals)):
-            twin = fork(machine)
-            if twin.turn(actor).kind != EVENT:
+            twin = after_event(machine, actor)
+            if twin is None:
                 moves.append(state)
                 continue
             key = key_of(twin)
@@ -160,7 +168,7 @@ class Explorer:
 
     def later(self, machine: Machine) -> Iterator[tuple[int, Machine]]:
         """The phases after the explored one, on what it left."""
-        left = {lock: Entry(entry.page) for lock, entry in {**self.rest, **fork(machine).row}.items()}
+        left = {lock: Entry(entry.page) for lock, entry in {**self.rest, **machine.row}.items()}
         phases = [item for item in self.items if isinstance(item, Phase)]
         for nr, phase in enumerate(phases[self.number:], self.number + 1):
             yield nr, Machine(left, machine.pages, phase, self.stages)
@@ -187,8 +195,8 @@ class Explorer:
                         rest = left[:actor] + (turns - 1,) + left[actor + 1:]
                         following[self.graph.moves[state][actor], rest] += ways
             visited += len(following)
-            if visited > self.limit:
-                raise TooMany(f"more than {self.limit:,} states with the turns that are left")
+            if visited > TURNS_LEFT * self.limit:
+                raise TooMany(f"more than {TURNS_LEFT * self.limit:,} states with the turns that are left")
             layer = following
         for (state, _), ways in layer.items():
             self.graph.outputs[self.graph.ends[self.graph.end_from(state)]].schedules += ways

@@ -3,7 +3,7 @@ from __future__ import annotations
 
 import sys
 from itertools import groupby
-from typing import Iterable, Iterator, NoReturn, Optional, Sequence
+from typing import Iterable, Iterator, NoReturn, Sequence
 
 from model import EVENT, MISS, STAGES, Fault, Item, Machine, Page, Piece, Phase, Tag, Turn, Turns, read_job, short
 from unlocked import HALF, UNLOCKED
@@ -78,7 +78,8 @@ def unlocked_text(turn: Turn) -> str:
     assert turn.piece is not None
     piece, is_first = turn.piece, turn.stage is UNLOCKED["Start"]
     if piece.op.word == "write" and not piece.is_whole():
-        return "copies the page" if is_first else f"puts back its copy with {span(piece.first, piece.first + piece.count - 1)}"
+        put = span(piece.first, piece.first + piece.count - 1)
+        return "copies the page" if is_first else f"puts back its copy with {put}"
     return work_text(piece, 0, HALF) if is_first else work_text(piece, HALF)
 
 
