@@ -258,7 +258,7 @@ module _ (x : Playing) (can : CanGoOn x) (busy : IsBusy x.actors x.workers) wher
       let a = left_same x.size x.actors x.workers j.dones j.kept.count in
       let b = left_same y.size y.actors y.workers r.0 r.1.count in omega arith
 
--- where all workers are behind their operations, all actors are finished
+-- where all workers are past their operations, all actors are finished
 pub all_finished : (size : ℕ) (actors : List (List Op)) (cells : List (Option DiskHeld))
     (ws : List Worker) (dones : List (List Done)) → AllOver actors ws
     → AllFinished (state size actors cells ws dones)
