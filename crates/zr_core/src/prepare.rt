@@ -12,11 +12,11 @@ ghost use Rattle.zr_core.specs.Places.{AreRequests, IsWork};
 ghost use Rattle.zr_core.specs.States.{slots_of, IsAtRest};
 ghost use Rattle.zr_core.specs.Preparing.{count_at, pieces_each, IsReserved, AreReserved, IsNewReply, AreNewReplies, IsNewWorker, AreNewWorkers};
 
-use crate::place::{bounds, first_piece, has_work, pages_to_do, settled};
+use crate::place::{bounds, first_piece, settled};
 use crate::worker::{DiskHeld, Reply, Worker, entry_in, entry_of};
 use lock_row::{Hand, Held, LockNo, SimRow, Still};
 use std::alloc::{AllocError, Global};
-use zr_base::{ActorOps, Op, OpEnd, PageIx};
+use zr_base::{ActorOps, Op, OpEnd, PageIx, pieces};
 
 // Counts the pieces with events of an operation.
 fn count_op(size: u32, op: &Op, counts: &mut [u32])
@@ -26,10 +26,12 @@ fn count_op(size: u32, op: &Op, counts: &mut [u32])
     ensures size { length counts.new ≡ length counts.old }
     ensures counted { (p : ℕ) → p < size → count_at counts.new p ≡ count_at counts.old p + pieces_on p (parts size 0 op.now) }
 {
-    let first = (bounds(op).0 / 8) as u32;
-    let left = pages_to_do(size, op);
-    for page in first..first + left {
-        if has_work(op, page) {
+    if op.is_beyond(size) {
+        return;
+    }
+    for piece in pieces(op.start(), op.count()) {
+        let page = piece.page.0;
+        if op.has_event(page) {
             counts[page as usize] += 1;
         }
     }
