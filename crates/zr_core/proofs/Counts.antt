@@ -1,19 +1,20 @@
 -- The pieces of a page, counted.
-use Rattle.std.proofs.Common.{◌≡◌, ℕ, zero, suc, ◌+◌, ◌-◌, ◌*◌, ◌<◌, ◌≤◌, Bool, cond, eqb, List, [], ◌∷◌, ◌++◌, length, drop, get_or, Some, slice_get, slice_set, refl, sym, ap, ◌∙◌, arith, inl, inr}
+use Rattle.std.proofs.Common.{◌≡◌, ℕ, zero, suc, ◌+◌, ◌*◌, ◌<◌, ◌≤◌, Bool, false, cond, eqb, List, [], ◌∷◌, ◌++◌, length, drop, get_or, Some, slice_get, slice_set, refl, sym, ap, ◌∙◌, arith, inl, inr}
 use mathlib.Core.Logic.{dite}
 use native.Mathlib.Decide.{ℕ_discrete}
-use Rattle.std.proofs.lemmas.Bool.{cases_Bool, eq-eqb, ne_eqb}
+use Rattle.std.proofs.lemmas.Bool.{cases_Bool, eq-eqb, ne_eqb, ltb-false}
 use Rattle.std.proofs.lemmas.List.{get_or-set_same, get_or-set_other}
 use Rattle.zr_base.specs.declared.op.Op.{Op}
-use Rattle.zr_base.specs.Plain.{is_beyond, has_event, IsRequest}
+use Rattle.zr_base.specs.declared.op.Piece.{Piece}
+use Rattle.zr_base.specs.Plain.{start_of, count_of, is_beyond, has_event, IsRequest}
 use Rattle.call_history.specs.declared.part.Part.{Part}
-use Rattle.zr_base.specs.Pieces.{first_page, pages_of}
+use Rattle.zr_base.specs.Pieces.{first_page, pages_of, pieces_from, pieces_of}
+use Rattle.std.specs.List.{AllByRecursion}
 use Rattle.call_history.specs.Parts.{parts_from, parts, program}
 use Rattle.zr_core.specs.Joint.{pieces_on}
 use Rattle.zr_core.specs.Places.{AreRequests, IsWork, operations}
 use Rattle.zr_core.specs.Preparing.{count_at, pieces_each}
-use Rattle.zr_core.proofs.Places.{drop_cons, few_pages}
-use Rattle.zr_core.proofs.States.{below_size}
+use Rattle.zr_core.proofs.Places.{drop_cons, few_pages, pages_some, in_bounds}
 
 -- the piece of one page
 abbrev one : Op → ℕ → ℕ → ℕ
@@ -26,20 +27,32 @@ pieces_append p (x ∷ xs) ys = let q = pieces_append p xs ys in omega arith
 
 pub pieces_next : (nr p : ℕ) (op : Op) (page n : ℕ)
     → pieces_on p (parts_from nr op page (suc n))
-    ≡ one op page p + pieces_on p (parts_from nr op (page + 1) n)
+        ≡ one op page p + pieces_on p (parts_from nr op (page + 1) n)
 pieces_next nr p op page n = elim (cases_Bool (has_event op page)) [
   | inl on ↦ rw on (omega arith)
   | inr off ↦ rw off (omega arith)
 ]
 
--- of some pages up to one
-pub pieces_until : (nr p : ℕ) (op : Op) (page to : ℕ) → page < to
-    → pieces_on p (parts_from nr op page (to - page))
-    ≡ one op page p + pieces_on p (parts_from nr op (page + 1) (to - (page + 1)))
-pieces_until nr p op page to lt =
-    ap (λ (n : ℕ). pieces_on p (parts_from nr op page n))
-    (let q : to - page ≡ suc (to - (page + 1)) = omega arith in q)
-    ∙ pieces_next nr p op page (to - (page + 1))
+-- the pieces with events on a page, among those of a walk
+abbrev pub carried_on : Op → ℕ → List Piece → ℕ
+carried_on op p [] = 0
+carried_on op p (piece ∷ more) = one op piece.page.0 p + carried_on op p more
+
+-- the first piece, and then the others
+pub carried_first : (op : Op) (p : ℕ) (piece : Piece) (pieces more : List Piece) (b : Bool)
+    → pieces ≡ piece ∷ more → has_event op piece.page.0 ≡ b
+    → carried_on op p pieces ≡ cond b (cond (eqb piece.page.0 p) 1 0) 0 + carried_on op p more
+carried_first op p piece pieces more b is e =
+    ap (carried_on op p) is
+    ∙ ap (λ (x : Bool). cond x (cond (eqb piece.page.0 p) 1 0) 0 + carried_on op p more) e
+
+carried_from : (p : ℕ) (op : Op) (page n : ℕ)
+    → carried_on op p (pieces_from (start_of op) (count_of op) page n)
+    ≡ pieces_on p (parts_from 0 op page n)
+carried_from p op page zero = refl
+carried_from p op page (suc n) =
+    let q = pieces_next 0 p op page n in
+    let r = carried_from p op (page + 1) n in omega arith
 
 -- the number of the operation does not matter
 nr_from : (nr m p : ℕ) (op : Op) (page n : ℕ)
@@ -47,7 +60,7 @@ nr_from : (nr m p : ℕ) (op : Op) (page n : ℕ)
 nr_from nr m p op page zero = refl
 nr_from nr m p op page (suc n) = pieces_next nr p op page n
     ∙ ap (λ (k : ℕ). one op page p + k) (nr_from nr m p op (page + 1) n)
-    ∙ sym (pieces_next m p op page n)
+        ∙ sym (pieces_next m p op page n)
 
 nr_parts : (size nr m p : ℕ) (op : Op)
     → pieces_on p (parts size nr op) ≡ pieces_on p (parts size m op)
@@ -67,7 +80,7 @@ nr_program size nr m p (op ∷ ops) =
 -- the first operation, and then the later ones
 pub program_next : (size p i : ℕ) (ops : List Op) (op : Op) → slice_get ops i ≡ Some op
     → pieces_on p (program size 0 (drop i ops))
-    ≡ pieces_on p (parts size 0 op) + pieces_on p (program size 0 (drop (i + 1) ops))
+        ≡ pieces_on p (parts size 0 op) + pieces_on p (program size 0 (drop (i + 1) ops))
 program_next size p i ops op at =
     ap (λ (os : List Op). pieces_on p (program size 0 os)) (drop_cons ops i op at
     ∙ ap (λ (j : ℕ). op ∷ drop j ops) (let q : suc i ≡ i + 1 = omega arith in q))
@@ -77,24 +90,35 @@ program_next size p i ops op at =
 pub each_next : (size p i : ℕ) (actors : List (List Op)) (ops : List Op)
     → slice_get actors i ≡ Some ops
     → pieces_each size (drop i actors) p
-    ≡ pieces_on p (program size 0 ops) + pieces_each size (drop (i + 1) actors) p
+        ≡ pieces_on p (program size 0 ops) + pieces_each size (drop (i + 1) actors) p
 each_next size p i actors ops at =
     ap (λ (os : List (List Op)). pieces_each size os p)
     (drop_cons actors i ops at
     ∙ ap (λ (j : ℕ). ops ∷ drop j actors) (let q : suc i ≡ i + 1 = omega arith in q))
 
--- the pieces of an operation that is on the disk are on pages of it
-pub page_below : (size : ℕ) (op : Op) (page left : ℕ) → IsRequest op
-    → left ≡ cond (is_beyond size op) 0 (pages_of op) → first_page op ≤ page
-    → page < first_page op + left
-    → page < size
-page_below size op page left r e ge lt = elim (cases_Bool (is_beyond size op)) [
-  | inl on ↦ absurd (let q : left ≡ 0 = e ∙ ap (λ (b : Bool). cond b 0 (pages_of op)) on in
-      let none : ⊥ = omega arith in none)
-  | inr off ↦ let q : left ≡ pages_of op = e ∙ ap (λ (b : Bool). cond b 0 (pages_of op)) off in
-      below_size size op page (first_page op + left - page) r
-      (record { inside = λ some. off; first = ge; last = omega arith }) (omega arith)
-]
+-- the walk over an operation on the disk: its pieces are on pages of the disk, and are all counted
+module _ (size : ℕ) (op : Op) (inside : is_beyond size op ≡ false) where
+  pub carried_of : (p : ℕ)
+      → carried_on op p (pieces_of (start_of op) (count_of op)) ≡ pieces_on p (parts size 0 op)
+  carried_of p =
+      carried_from p op (first_page op) (pages_of op)
+      ∙ sym (ap (λ (b : Bool). pieces_on p
+      (cond b [] (parts_from 0 op (first_page op) (pages_of op)))) inside)
+
+  pub pages_below : IsRequest op
+      → AllByRecursion (λ (piece : Piece). piece.page.0 < size)
+      (pieces_of (start_of op) (count_of op))
+  pages_below r =
+      let end = ltb-false (8 * size) (start_of op + count_of op) inside in
+      let n = pages_some op r in
+      let some = (in_bounds op r).1 in
+      below_from (first_page op) (pages_of op) (omega arith)
+    where
+      below_from : (page n : ℕ) → page + n ≤ size
+          → AllByRecursion (λ (piece : Piece). piece.page.0 < size)
+          (pieces_from (start_of op) (count_of op) page n)
+      below_from page zero fits = tt
+      below_from page (suc n) fits = (omega arith, below_from (page + 1) n (omega arith))
 
 pub counts_itself : (page : ℕ) → let n : ℕ = cond (eqb page page) 1 0 in n ≡ 1
 counts_itself page = ap (λ (b : Bool). cond b 1 0) (eq-eqb page page refl)
@@ -102,7 +126,7 @@ counts_itself page = ap (λ (b : Bool). cond b 1 0) (eq-eqb page page refl)
 -- one page more is counted
 pub count_more : (counts : List ℕ) (page p : ℕ) → page < length counts
     → count_at (slice_set counts page (get_or counts page 0 + 1)) p
-    ≡ count_at counts p + cond (eqb page p) 1 0
+        ≡ count_at counts p + cond (eqb page p) 1 0
 count_more counts page p lt = dite (ℕ_discrete p page)
     (λ s. ap (λ (q : ℕ). count_at (slice_set counts page (get_or counts page 0 + 1)) q) s
     ∙ get_or-set_same counts page (get_or counts page 0 + 1) 0 lt
@@ -122,11 +146,8 @@ few_from nr p op page (suc n) = let q = pieces_next nr p op page n in
       few_one : (op : Op) (page p : ℕ) → one op page p ≤ 1
       few_one op page p = elim (cases_Bool (has_event op page)) [
         | inl on ↦ rw on
-            (elim (cases_Bool (eqb page p)) [
-              | inl same ↦ rw same (omega arith)
-              | inr other ↦
-                  rw other (omega arith)
-            ])
+            (elim (cases_Bool (eqb page p)) [ inl same ↦ rw same (omega arith) | inr other ↦
+            rw other (omega arith) ])
         | inr off ↦ rw off (omega arith)
       ]
 
