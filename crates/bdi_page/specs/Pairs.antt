@@ -9,6 +9,7 @@ use Rattle.bdi_line.specs.Packed.{code_of, payload_of}
 abbrev pub first_line : List ℕ → ℕ → List ℕ
 first_line page j = chunk (128 * j) 64 page
 
+-- the second line of a pair
 abbrev pub second_line : List ℕ → ℕ → List ℕ
 second_line page j = chunk (128 * j + 64) 64 page
 

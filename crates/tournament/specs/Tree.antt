@@ -35,6 +35,7 @@ pub record IsBetter (a left right : Node) : Type 0 where
 abbrev pub blank : Node
 blank = record { rank = 0; first = 0; last = 0 }
 
+-- a node of the tree, by its index
 abbrev pub node : List Node → ℕ → Node
 node nodes p = slice_index_or nodes p blank
 
