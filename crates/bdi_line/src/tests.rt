@@ -4,7 +4,7 @@ use arrayvec::ArrayVec;
 use std::process::Abort;
 use std::simd::prelude::*;
 
-// How a line goes on behind its first three words: words with deltas of one, two and four bytes at
+// How a line goes on after its first three words: words with deltas of one, two and four bytes at
 // their edges, small halves, small quarters, and the rest of a tie of B4D2 and B2D1.
 const BYTES: [u64; 5] = [0x7f, 0xffffffffffffff80, 0x0, 0x0, 0x1];
 

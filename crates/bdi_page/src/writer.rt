@@ -1,4 +1,4 @@
-//! A page is read once, two lines at a time, and its packing is written behind room for the codes.
+//! A page is read once, two lines at a time, and its packing is written after room for the codes.
 
 ghost use Rattle.std.specs.Prelude.{◌≡◌, ◌+◌, ◌*◌, ◌<◌, ◌≤◌, ℕ, List, [], ◌++◌, length, drop};
 ghost use Rattle.std.specs.Simd.Lanes.{chunk};

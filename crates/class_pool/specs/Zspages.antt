@@ -46,7 +46,7 @@ pub record IsLeastAbsent (zspages : List (Option Cells)) (id : ℕ) : Type 0 whe
   pub absent : entry zspages id ≡ None
   pub least : (k : ℕ) → k < id → (cells : Cells) × (entry zspages k ≡ Some cells)
 
--- an entry put at a place of a list, or behind it
+-- an entry put at a place of a list, or after it
 abbrev pub put_at : {A : Type 0} → List A → ℕ → A → List A
 put_at [] place x = x ∷ []
 put_at (y ∷ ys) zero x = x ∷ ys

@@ -27,7 +27,7 @@ pieces_append p (x ∷ xs) ys = let q = pieces_append p xs ys in omega arith
 
 pub pieces_next : (nr p : ℕ) (op : Op) (page n : ℕ)
     → pieces_on p (parts_from nr op page (suc n))
-        ≡ one op page p + pieces_on p (parts_from nr op (page + 1) n)
+    ≡ one op page p + pieces_on p (parts_from nr op (page + 1) n)
 pieces_next nr p op page n = elim (cases_Bool (has_event op page)) [
   | inl on ↦ rw on (omega arith)
   | inr off ↦ rw off (omega arith)
@@ -60,7 +60,7 @@ nr_from : (nr m p : ℕ) (op : Op) (page n : ℕ)
 nr_from nr m p op page zero = refl
 nr_from nr m p op page (suc n) = pieces_next nr p op page n
     ∙ ap (λ (k : ℕ). one op page p + k) (nr_from nr m p op (page + 1) n)
-        ∙ sym (pieces_next m p op page n)
+    ∙ sym (pieces_next m p op page n)
 
 nr_parts : (size nr m p : ℕ) (op : Op)
     → pieces_on p (parts size nr op) ≡ pieces_on p (parts size m op)
@@ -80,7 +80,7 @@ nr_program size nr m p (op ∷ ops) =
 -- the first operation, and then the later ones
 pub program_next : (size p i : ℕ) (ops : List Op) (op : Op) → slice_get ops i ≡ Some op
     → pieces_on p (program size 0 (drop i ops))
-        ≡ pieces_on p (parts size 0 op) + pieces_on p (program size 0 (drop (i + 1) ops))
+    ≡ pieces_on p (parts size 0 op) + pieces_on p (program size 0 (drop (i + 1) ops))
 program_next size p i ops op at =
     ap (λ (os : List Op). pieces_on p (program size 0 os)) (drop_cons ops i op at
     ∙ ap (λ (j : ℕ). op ∷ drop j ops) (let q : suc i ≡ i + 1 = omega arith in q))
@@ -90,7 +90,7 @@ program_next size p i ops op at =
 pub each_next : (size p i : ℕ) (actors : List (List Op)) (ops : List Op)
     → slice_get actors i ≡ Some ops
     → pieces_each size (drop i actors) p
-        ≡ pieces_on p (program size 0 ops) + pieces_each size (drop (i + 1) actors) p
+    ≡ pieces_on p (program size 0 ops) + pieces_each size (drop (i + 1) actors) p
 each_next size p i actors ops at =
     ap (λ (os : List (List Op)). pieces_each size os p)
     (drop_cons actors i ops at
@@ -126,7 +126,7 @@ counts_itself page = ap (λ (b : Bool). cond b 1 0) (eq-eqb page page refl)
 -- one page more is counted
 pub count_more : (counts : List ℕ) (page p : ℕ) → page < length counts
     → count_at (slice_set counts page (get_or counts page 0 + 1)) p
-        ≡ count_at counts p + cond (eqb page p) 1 0
+    ≡ count_at counts p + cond (eqb page p) 1 0
 count_more counts page p lt = dite (ℕ_discrete p page)
     (λ s. ap (λ (q : ℕ). count_at (slice_set counts page (get_or counts page 0 + 1)) q) s
     ∙ get_or-set_same counts page (get_or counts page 0 + 1) 0 lt
@@ -146,8 +146,11 @@ few_from nr p op page (suc n) = let q = pieces_next nr p op page n in
       few_one : (op : Op) (page p : ℕ) → one op page p ≤ 1
       few_one op page p = elim (cases_Bool (has_event op page)) [
         | inl on ↦ rw on
-            (elim (cases_Bool (eqb page p)) [ inl same ↦ rw same (omega arith) | inr other ↦
-            rw other (omega arith) ])
+            (elim (cases_Bool (eqb page p)) [
+              | inl same ↦ rw same (omega arith)
+              | inr other ↦
+                  rw other (omega arith)
+            ])
         | inr off ↦ rw off (omega arith)
       ]
 
