@@ -1,5 +1,6 @@
+pub mod Filled
 pub mod Jobs
 pub mod Lawful
 pub mod Lines
 pub mod Shown
-pub mod Telling
+pub mod Sending
