@@ -87,7 +87,27 @@ items_stop d m job o stop cause = record {
   whole = tt;
 }
 
--- items, and then one more with its own
+-- where nothing went wrong, all items were run, up to the disk that is there
+module _ (xs : List Item) (d m : Disk) (o p : OutputState) (t : ItemsTold d xs m o p (Ok tt)) where
+  all_items : t.front ≡ xs
+  all_items = sym (t.parts ∙ ap (λ (x : List Item). t.front ++ x) t.whole.0 ∙ append-nil t.front)
+
+  pub all_stepped : Stepped d xs t.turns t.lines m
+  all_stepped = subst (λ (x : List Item × Disk). Stepped d x.0 t.turns t.lines x.1)
+      (λ i. (all_items i, t.whole.1 i)) t.stepped
+
+  pub all_own : AreOwn xs t.turns
+  all_own = subst (λ (x : List Item). AreOwn x t.turns) all_items t.own
+
+-- a phase keeps the disk's pages
+pub phase_size : (d m : Disk) (item : Item) (o p : OutputState) → ItemsTold d (item ∷ []) m o p (Ok tt)
+    → (text : PhaseText) → item ≡ items.Phase text → m.size ≡ d.size
+phase_size d m item o p t text is = by (subst (λ (x : Item). Stepped d (x ∷ []) t.turns t.lines m) is (all_stepped (item ∷ []) d m o p t))
+  where
+    by : Stepped d (items.Phase text ∷ []) t.turns t.lines m → m.size ≡ d.size
+    by s = ap (λ (x : Disk). x.size) s.7.2 ∙ s.5
+
+-- some items, and then others
 pub items_more : (xs ys : List Item) (d m n : Disk) (o p q : OutputState) (r : Result (Unit {0}) Stop)
     → ItemsTold d xs m o p (Ok tt) → ItemsTold m ys n p q r → ItemsTold d (xs ++ ys) n o q r
 items_more xs ys d m n o p q r s t = record {
@@ -97,16 +117,11 @@ items_more xs ys d m n o p q r s t = record {
   turns = s.turns ++ t.turns;
   lines = s.lines ++ t.lines;
   last = t.last;
-  stepped = stepped_append xs t.front d m t.last s.turns t.turns s.lines t.lines
-      (subst (λ (x : Disk). Stepped d xs s.turns s.lines x) s.whole.1 (subst (λ (x : List Item). Stepped d x s.turns s.lines s.last) front s.stepped))
-      t.stepped;
-  own = own_append xs t.front s.turns t.turns (subst (λ (x : List Item). AreOwn x s.turns) front s.own) t.own;
+  stepped = stepped_append xs t.front d m t.last s.turns t.turns s.lines t.lines (all_stepped xs d m o p s) t.stepped;
+  own = own_append xs t.front s.turns t.turns (all_own xs d m o p s) t.own;
   told = Tells-more o p q r s.lines t.lines s.told t.told;
   whole = t.whole;
 }
-  where
-    front : s.front ≡ xs
-    front = sym (s.parts ∙ ap (λ (x : List Item). s.front ++ x) s.whole.0 ∙ append-nil s.front)
 
 -- what was given up among some items was given up among more
 pub items_cut : (xs ys : List Item) (d m n : Disk) (o p : OutputState) (stop : Stop)

@@ -72,6 +72,17 @@ Tells-stop o stop cause = record {
   cause = cause;
 }
 
+-- all that waited was sent
+pub Tells-sent : (o m : OutputState) (bytes : List ℕ) → Appends o.sent m.sent bytes → bytes ≡ o.waits → m.waits ≡ []
+    → m.refused ≡ o.refused → m.loan ≡ o.loan → o.faults ≤ m.faults → Tells o m (Ok tt) []
+Tells-sent o m bytes sent is none refused loan later = record {
+  sends = record { sent = bytes; rest = []; parts = append-nil o.waits ∙ sym is ∙ sym (append-nil bytes); appended = sent };
+  whole = (sym none, refused ∙ sym (or_false o.refused));
+  loan = loan;
+  later = later;
+  cause = tt;
+}
+
 -- some lines, and then others
 pub Tells-more : (o m n : OutputState) (r : Result (Unit {0}) Stop) (xs ys : List OutLine) → Tells o m (Ok tt) xs
     → Tells m n r ys → Tells o n r (xs ++ ys)
@@ -90,6 +101,27 @@ Tells-more o m n r xs ys s t = record {
     refusals = ap (λ (b : Bool). b || any_refusal ys) s.whole.1
         ∙ or_assoc o.refused (any_refusal xs) (any_refusal ys)
         ∙ ap (λ (b : Bool). o.refused || b) (sym (any_refusal-append xs ys))
+
+-- lines were put into the buffer, and some of it was sent
+pub Tells-put : (o m n : OutputState) (r : Result (Unit {0}) Stop) (lines : List OutLine) → m.sent ≡ o.sent
+    → m.waits ≡ o.waits ++ text lines → m.refused ≡ (o.refused || any_refusal lines) → m.faults ≡ o.faults → m.loan ≡ o.loan
+    → Tells m n r [] → Tells o n r lines
+Tells-put o m n r lines sent waits refused faults loan t =
+    subst (Tells o n r) (append-nil lines) (Tells-more o m n r lines [] put t)
+  where
+    put : Tells o m (Ok tt) lines
+    put = record {
+      sends = record {
+        sent = [];
+        rest = o.waits ++ text lines;
+        parts = refl;
+        appended = subst (λ (x : Option (List ℕ)). Appends o.sent x []) (sym sent) (Appends-nil o.sent);
+      };
+      whole = (sym waits, refused);
+      loan = loan;
+      later = omega (arith, faults);
+      cause = tt;
+    }
 
 -- what was given up among some lines was given up among more
 pub Tells-cut : (o m : OutputState) (stop : Stop) (xs ys : List OutLine) → Tells o m (Err stop) xs
@@ -113,22 +145,27 @@ pub record SoFar (o m : OutputState) (left all : List OutLine) : Type 0 where
 pub SoFar-start : (o : OutputState) (all : List OutLine) → SoFar o o all all
 SoFar-start o all = record { front = []; told = Tells-none o; joined = refl }
 
+-- all were
+pub SoFar-all : (o m : OutputState) (left all : List OutLine) → SoFar o m left all → left ≡ [] → Tells o m (Ok tt) all
+SoFar-all o m left all s none =
+    subst (Tells o m (Ok tt))
+        (sym (append-nil s.front) ∙ ap (λ (y : List OutLine). s.front ++ y) (sym none) ∙ s.joined) s.told
+
 module _ (o m n : OutputState) (left all : List OutLine) (s : SoFar o m left all) where
+  joins : (x rest : List OutLine) → left ≡ x ++ rest → s.front ++ x ++ rest ≡ all
+  joins x rest is = append_assoc s.front x rest ∙ ap (λ (y : List OutLine). s.front ++ y) (sym is) ∙ s.joined
+
+  -- some more of what is left
   pub SoFar-more : (x rest : List OutLine) → left ≡ x ++ rest → Tells m n (Ok tt) x → SoFar o n rest all
   SoFar-more x rest is t = record {
     front = s.front ++ x;
     told = Tells-more o m n (Ok tt) s.front x s.told t;
-    joined = append_assoc s.front x rest ∙ ap (λ (y : List OutLine). s.front ++ y) (sym is) ∙ s.joined;
+    joined = joins x rest is;
   }
 
+  -- a call that was given up among what is left
   pub SoFar-cut : (stop : Stop) (x rest : List OutLine) → left ≡ x ++ rest → Tells m n (Err stop) x
       → Tells o n (Err stop) all
   SoFar-cut stop x rest is t =
-      subst (Tells o n (Err stop))
-          (append_assoc s.front x rest ∙ ap (λ (y : List OutLine). s.front ++ y) (sym is) ∙ s.joined)
+      subst (Tells o n (Err stop)) (joins x rest is)
           (Tells-cut o n stop (s.front ++ x) rest (Tells-more o m n (Err stop) s.front x s.told t))
-
-  pub SoFar-all : left ≡ [] → Tells o m (Ok tt) all
-  SoFar-all none =
-      subst (Tells o m (Ok tt))
-          (sym (append-nil s.front) ∙ ap (λ (y : List OutLine). s.front ++ y) (sym none) ∙ s.joined) s.told

@@ -82,7 +82,7 @@ impl<'a, K: Sink> Output<'a, K> {
         ensures { Tells self.old self.new result (op_lines tag end sectors.now) }
     {
         put_op(&mut self.buffer, self.alloc, tag, end, sectors)?;
-        self.refused = self.refused || is_refused(end);
+        self.refused = self.refused | is_refused(end);
         self.spill()
     }
 
