@@ -102,3 +102,10 @@ stand_first pages (items.Attr (DiskPages n)) more may = record {
   may = (may.may.0, may.may.1, may.may.2, tt);
 }
 stand_first pages (items.Phase text) more may = record { used = may.used; bare = may.bare; may = (may.may.0, tt) }
+
+-- the front of a job
+pub front_may : (u : Used) (front later : List Item) → MayFollow u (front ++ later) → MayFollow u front
+front_may u [] later may = tt
+front_may u (items.Attr (DiskPages n) ∷ front) later may = (may.0, may.1, may.2, front_may (with_disk u) front later may.3)
+front_may u (items.Phase text ∷ front) later may =
+    (may.0, front_may (with_text u text.actors text.schedule) front later may.1)

@@ -4,3 +4,4 @@ pub mod Lawful
 pub mod Lines
 pub mod Shown
 pub mod Sending
+pub mod Written
