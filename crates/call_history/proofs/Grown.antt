@@ -20,12 +20,14 @@ module _ (g : Given) (D D' : ℕ → List Done) (a : ℕ) (d : Done) (grown : Gr
   turns_still : (p b : ℕ) (order : List Tag) → is_on p d ≡ false → ops_of b order ≡ noted_on p (D b)
       → ops_of b order ≡ noted_on p (D' b)
   turns_still p b order off h = h ∙ sym (dite (ℕ_discrete b a)
-      (λ s. subst (λ (c : ℕ). noted_on p (D' c) ≡ noted_on p (D c)) (sym s) (ap (noted_on p) grown.here
+      (λ s. subst (λ (c : ℕ). noted_on p (D' c) ≡ noted_on p (D c)) (sym s)
+      (ap (noted_on p) grown.here
       ∙ noted_push p (D a) d ∙ rw off (append-nil (noted_on p (D a)))))
       (λ ne. ap (noted_on p) (grown.others b ne)))
 
   -- a piece that is over now was so before, or it is the new one
-  was : (b i : ℕ) (x : Done) → slice_get (D' b) i ≡ Some x → (slice_get (D b) i ≡ Some x) ⊎ ((b ≡ a) × (d ≡ x))
+  was : (b i : ℕ) (x : Done) → slice_get (D' b) i ≡ Some x
+      → (slice_get (D b) i ≡ Some x) ⊎ ((b ≡ a) × (d ≡ x))
   was b i x e = dite (ℕ_discrete b a)
       (λ s. ⊎_elim
       (λ old. inl (ap (λ (c : ℕ). slice_get (D c) i) s ∙ old))
@@ -34,7 +36,8 @@ module _ (g : Given) (D D' : ℕ → List Done) (a : ℕ) (d : Done) (grown : Gr
       ∙ (ap (λ (c : ℕ). slice_get (D' c) i) (sym s) ∙ e))))
       (λ ne. inl (ap (λ (ds : List Done). slice_get ds i) (sym (grown.others b ne)) ∙ e))
 
-  pub page_still : (p : ℕ) (page : List ℕ) (order : List Tag) → is_on p d ≡ false → ShowsPage g D p page order
+  pub page_still : (p : ℕ) (page : List ℕ) (order : List Tag) → is_on p d ≡ false
+      → ShowsPage g D p page order
       → ShowsPage g D' p page order
   page_still p page order off sh = record {
     holds = sh.holds;
@@ -46,23 +49,32 @@ module _ (g : Given) (D D' : ℕ → List Done) (a : ℕ) (d : Done) (grown : Gr
   }
 
   -- what stands in an order stands in a longer one, at its place
-  told_still : (b : ℕ) (x : Done) (order more : List Tag) → IsTold g b x order → IsTold g b x (order ++ more)
+  told_still : (b : ℕ) (x : Done) (order more : List Tag) → IsTold g b x order
+      → IsTold g b x (order ++ more)
   told_still b x order more (at, here, got) = (
     at,
     get_old order more at (tag_by b x.part) here,
-    got ∙ ap (λ (ts : List Tag). cond (is_carried x.end) (got_by x.part.op x.part.page (held_after g ts)) []) (sym (take_old order more at (tag_by b x.part) here)),
+    got ∙ ap (λ (ts : List Tag). cond (is_carried x.end)
+        (got_by x.part.op x.part.page (held_after g ts)) [])
+        (sym (take_old order more at (tag_by b x.part) here)),
   )
 
-  module _ (p : Part) (page : List ℕ) (order : List Tag) (page' : List ℕ) (order' : List Tag) (is : d.part ≡ p) (stands : stands_so p.op d.end ≡ true)
-      (work : Carries a p page order page' order') (named_p : named g.actors (tag_by a p) ≡ Some p.op)
-      (got : d.got ≡ cond (is_carried d.end) (got_from page p) []) (sh : ShowsPage g D p.page page order) where
+  module _ (p : Part) (page : List ℕ) (order : List Tag) (page' : List ℕ) (order' : List Tag)
+      (is : d.part ≡ p) (stands : stands_so p.op d.end ≡ true)
+      (work : Carries a p page order page' order')
+      (named_p : named g.actors (tag_by a p) ≡ Some p.op)
+      (got : d.got ≡ cond (is_carried d.end) (got_from page p) [])
+      (sh : ShowsPage g D p.page page order) where
     on_here : is_on p.page d ≡ true
-    on_here = and_from (eqb d.part.page p.page) (stands_so d.part.op d.end) (eq-eqb d.part.page p.page (ap (λ (q : Part). q.page) is)) (ap (λ (q : Part). stands_so q.op d.end) is ∙ stands)
+    on_here = and_from (eqb d.part.page p.page) (stands_so d.part.op d.end)
+        (eq-eqb d.part.page p.page (ap (λ (q : Part). q.page) is))
+        (ap (λ (q : Part). stands_so q.op d.end) is ∙ stands)
 
     -- what the order before the tag makes of the page is the page
     got_is : d.got ≡ cond (is_carried d.end) (got_by d.part.op d.part.page (held_after g order)) []
     got_is = got
-        ∙ ap (λ (xs : List (List ℕ)). cond (is_carried d.end) xs []) (same_got p.op p.page (λ s. page_sector page (s - 8 * p.page)) (held_after g order)
+        ∙ ap (λ (xs : List (List ℕ)). cond (is_carried d.end) xs [])
+        (same_got p.op p.page (λ s. page_sector page (s - 8 * p.page)) (held_after g order)
         (λ k lt. ap (page_sector page) (let q : 8 * p.page + k - 8 * p.page ≡ k = omega arith in q)
         ∙ sh.holds k lt)
         ∙ ap (λ (q : Part). got_by q.op q.page (held_after g order)) (sym is))
@@ -71,12 +83,15 @@ module _ (g : Given) (D D' : ℕ → List Done) (a : ℕ) (d : Done) (grown : Gr
     new_told = (
       length order,
       get_last order (tag_by a p) ∙ ap (λ (q : Part). Some (tag_by a q)) (sym is),
-      got_is ∙ ap (λ (ts : List Tag). cond (is_carried d.end) (got_by d.part.op d.part.page (held_after g ts)) []) (sym (take_front order (tag_by a p ∷ []))),
+      got_is ∙ ap (λ (ts : List Tag). cond (is_carried d.end)
+          (got_by d.part.op d.part.page (held_after g ts)) [])
+          (sym (take_front order (tag_by a p ∷ []))),
     )
 
     turns_here : (b : ℕ) → ops_of b (order ++ tag_by a p ∷ []) ≡ noted_on p.page (D' b)
     turns_here b = ops_of_push b order (tag_by a p) ∙ dite (ℕ_discrete b a)
-        (λ s. subst (λ (c : ℕ). ops_of c order ++ cond (eqb a c) (p.nr ∷ []) [] ≡ noted_on p.page (D' c)) (sym s)
+        (λ s. subst (λ (c : ℕ). ops_of c order ++ cond (eqb a c) (p.nr ∷ []) []
+        ≡ noted_on p.page (D' c)) (sym s)
         (rw (eq-eqb a a refl) (ap (λ (xs : List ℕ). xs ++ p.nr ∷ []) (sh.turns a)
         ∙ sym (ap (noted_on p.page) grown.here ∙ noted_push p.page (D a) d
         ∙ rw on_here (ap (λ (q : Part). noted_on p.page (D a) ++ q.nr ∷ []) is)))))
@@ -88,11 +103,14 @@ module _ (g : Given) (D D' : ℕ → List Done) (a : ℕ) (d : Done) (grown : Gr
       holds = λ k lt.
           work.holds k lt ∙ ap (sector_after p.op (8 * p.page + k)) (sh.holds k lt)
           ∙ sym (ap (λ (ts : List Tag). held_after g ts (8 * p.page + k)) work.notes
-          ∙ content-append g.actors (8 * p.page + k) (g.before (8 * p.page + k)) order (tag_by a p ∷ [])
-          ∙ ap (λ (o : Option Op). sector_after_named o (8 * p.page + k) (held_after g order (8 * p.page + k))) named_p);
+          ∙ content-append g.actors (8 * p.page + k) (g.before (8 * p.page + k)) order
+          (tag_by a p ∷ [])
+          ∙ ap (λ (o : Option Op). sector_after_named o (8 * p.page + k)
+          (held_after g order (8 * p.page + k))) named_p);
       turns = λ b. ap (ops_of b) work.notes ∙ turns_here b;
       reads = λ b i x at on. subst (IsTold g b x) (sym work.notes) (⊎_elim
           (λ old. told_still b x order (tag_by a p ∷ []) (sh.reads b i x old on))
-          (λ new. subst (λ (c : ℕ × Done). IsTold g c.0 c.1 (order ++ tag_by a p ∷ [])) (λ j. (sym new.0 j, new.1 j)) new_told)
+          (λ new. subst (λ (c : ℕ × Done). IsTold g c.0 c.1 (order ++ tag_by a p ∷ []))
+          (λ j. (sym new.0 j, new.1 j)) new_told)
           (was b i x at));
     }

@@ -24,23 +24,34 @@ count_is a k (t ∷ ts) = sum_by-cons (λ u. cond (same_tag (tag_at a k) u) 1 0)
     ∙ elim (cases_Bool (eqb t.actor a)) [
       | inl on ↦ rw on (sym (sum_by-cons (λ n. cond (eqb k n) 1 0) t.op (ops_of a ts)
           ∙ ap (λ (n : ℕ). cond (eqb k t.op) 1 0 + n) (sym (count_is a k ts))
-          ∙ ap (λ (b : Bool). cond (b && eqb k t.op) 1 0 + count_by (same_tag (tag_at a k)) ts) (sym (eq-eqb a t.actor (sym (eqb-true t.actor a on))))))
-      | inr off ↦ rw (off, and_left (eqb a t.actor) (eqb k t.op) (ne_eqb a t.actor (λ s. eqb-false t.actor a off (sym s)))) (zero-add (count_by (same_tag (tag_at a k)) ts) ∙ count_is a k ts)
+          ∙ ap (λ (b : Bool). cond (b && eqb k t.op) 1 0 + count_by (same_tag (tag_at a k)) ts)
+          (sym (eq-eqb a t.actor (sym (eqb-true t.actor a on))))))
+      | inr off ↦ rw (
+        off,
+        and_left (eqb a t.actor) (eqb k t.op)
+            (ne_eqb a t.actor (λ s. eqb-false t.actor a off (sym s))),
+      )
+          (zero-add (count_by (same_tag (tag_at a k)) ts) ∙ count_is a k ts)
     ]
 
 rises_later : (a k : ℕ) (ts : List Tag) → AllByRecursion (λ later. k < later) (ops_of a ts)
     → AllByRecursion (λ later. a ≡ later.actor → k < later.op) ts
 rises_later a k [] all = tt
 rises_later a k (t ∷ ts) all = elim (cases_Bool (eqb t.actor a)) [
-  | inl on ↦ let both : AllByRecursion (λ later. k < later) (t.op ∷ ops_of a ts) = subst (λ (b : Bool). AllByRecursion (λ later. k < later) (cond b (t.op ∷ ops_of a ts) (ops_of a ts))) on all in
+  | inl on ↦ let both : AllByRecursion (λ later. k < later) (t.op ∷ ops_of a ts) =
+      subst (λ (b : Bool). AllByRecursion (λ later. k < later)
+      (cond b (t.op ∷ ops_of a ts) (ops_of a ts))) on all in
       ((λ same. both.0), rises_later a k ts both.1)
-  | inr off ↦ let rest : AllByRecursion (λ later. k < later) (ops_of a ts) = subst (λ (b : Bool). AllByRecursion (λ later. k < later) (cond b (t.op ∷ ops_of a ts) (ops_of a ts))) off all in
+  | inr off ↦ let rest : AllByRecursion (λ later. k < later) (ops_of a ts) =
+      subst (λ (b : Bool). AllByRecursion (λ later. k < later)
+      (cond b (t.op ∷ ops_of a ts) (ops_of a ts))) off all in
       ((λ same. absurd (eqb-false t.actor a off (sym same))), rises_later a k ts rest)
 ]
 
 rising_tail : (a : ℕ) (t : Tag) (ts : List Tag) → Rising (ops_of a (t ∷ ts)) → Rising (ops_of a ts)
 rising_tail a t ts r = elim (cases_Bool (eqb t.actor a)) [
-  | inl on ↦ let both : Rising (t.op ∷ ops_of a ts) = subst (λ (b : Bool). Rising (cond b (t.op ∷ ops_of a ts) (ops_of a ts))) on r in both.1
+  | inl on ↦ let both : Rising (t.op ∷ ops_of a ts) =
+      subst (λ (b : Bool). Rising (cond b (t.op ∷ ops_of a ts) (ops_of a ts))) on r in both.1
   | inr off ↦ subst (λ (b : Bool). Rising (cond b (t.op ∷ ops_of a ts) (ops_of a ts))) off r
 ]
 
@@ -48,13 +59,16 @@ rising_tail a t ts r = elim (cases_Bool (eqb t.actor a)) [
 pub rises_is : (order : List Tag) → ((a : ℕ) → Rising (ops_of a order)) → Rises order
 rises_is [] r = tt
 rises_is (t ∷ ts) r =
-    let first : Rising (t.op ∷ ops_of t.actor ts) = subst (λ (b : Bool). Rising (cond b (t.op ∷ ops_of t.actor ts) (ops_of t.actor ts))) (eq-eqb t.actor t.actor refl) (r t.actor) in
+    let first : Rising (t.op ∷ ops_of t.actor ts) =
+    subst (λ (b : Bool). Rising (cond b (t.op ∷ ops_of t.actor ts) (ops_of t.actor ts)))
+    (eq-eqb t.actor t.actor refl) (r t.actor) in
     (rises_later t.actor t.op ts first.0, rises_is ts (λ a. rising_tail a t ts (r a)))
 
 all_at : {A : Type 0} (P : A → Type 0) (xs : List A) (i : ℕ) (x : A) → AllByRecursion P xs
     → slice_get xs i ≡ Some x → P x
 all_at P [] i x all e = absurd (cc)
-all_at P (y ∷ ys) zero x all e = let q : y ≡ x = (let h : Some y ≡ Some x = e in cc) in subst P q all.0
+all_at P (y ∷ ys) zero x all e = let q : y ≡ x = (let h : Some y ≡ Some x = e in cc) in
+    subst P q all.0
 all_at P (y ∷ ys) (suc i) x all e = all_at P ys i x all.1 e
 
 -- the part before a tag is the part before its place
@@ -63,7 +77,10 @@ pub before_is : (order : List Tag) (t : Tag) (at : ℕ) → Rises order → slic
 before_is [] t at r e = absurd (cc)
 before_is (x ∷ xs) t zero r e =
     let q : x ≡ t = (let h : Some x ≡ Some t = e in cc) in
-    let on : same_tag t x ≡ true = and_from (eqb t.actor x.actor) (eqb t.op x.op) (eq-eqb t.actor x.actor (ap (λ (y : Tag). y.actor) (sym q))) (eq-eqb t.op x.op (ap (λ (y : Tag). y.op) (sym q))) in
+    let on : same_tag t x ≡ true =
+    and_from (eqb t.actor x.actor) (eqb t.op x.op)
+    (eq-eqb t.actor x.actor (ap (λ (y : Tag). y.actor) (sym q)))
+    (eq-eqb t.op x.op (ap (λ (y : Tag). y.op) (sym q))) in
     rw on refl
 before_is (x ∷ xs) t (suc at) r e = elim (cases_Bool (same_tag t x)) [
   | inl on ↦

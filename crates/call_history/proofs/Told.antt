@@ -9,12 +9,14 @@ use Rattle.call_history.specs.declared.part.Part.{Part}
 use Rattle.call_history.specs.declared.part.PartEnd.{PartEnd}
 use Rattle.call_history.specs.declared.part.Done.{Done}
 use Rattle.zr_base.specs.Plain.{named, sector_after_named, content, is_beyond, has_event}
-use Rattle.call_history.specs.Parts.{first_page, pages_of, parts_from, parts, program, without, left_by, is_carried, EndsSo, Follows, is_on, noted_on, ops_of, got_by}
+use Rattle.zr_base.specs.Pieces.{first_page, pages_of}
+use Rattle.call_history.specs.Parts.{parts_from, parts, program, without, left_by, is_carried, EndsSo, Follows, is_on, noted_on, ops_of, got_by}
 
 pub content-append : (actors : List (List Op)) (s : ℕ) (old : List ℕ) (xs ys : List Tag)
     → content actors s old (xs ++ ys) ≡ content actors s (content actors s old xs) ys
 content-append actors s old [] ys = refl
-content-append actors s old (x ∷ xs) ys = content-append actors s (sector_after_named (named actors x) s old) xs ys
+content-append actors s old (x ∷ xs) ys =
+    content-append actors s (sector_after_named (named actors x) s old) xs ys
 
 pub ops_of_push : (a : ℕ) (xs : List Tag) (t : Tag)
     → ops_of a (xs ++ t ∷ []) ≡ ops_of a xs ++ cond (eqb t.actor a) (t.op ∷ []) []
@@ -40,7 +42,8 @@ module _ {A : Type 0} where
   get_push (z ∷ zs) x zero y e = inl e
   get_push (z ∷ zs) x (suc i) y e = get_push zs x i y e
 
-  pub get_old : (xs ys : List A) (i : ℕ) (y : A) → slice_get xs i ≡ Some y → slice_get (xs ++ ys) i ≡ Some y
+  pub get_old : (xs ys : List A) (i : ℕ) (y : A) → slice_get xs i ≡ Some y
+      → slice_get (xs ++ ys) i ≡ Some y
   get_old [] ys i y e = absurd (cc)
   get_old (z ∷ zs) ys zero y e = e
   get_old (z ∷ zs) ys (suc i) y e = get_old zs ys i y e
@@ -49,7 +52,8 @@ module _ {A : Type 0} where
   get_last [] x = refl
   get_last (z ∷ zs) x = get_last zs x
 
-  pub take_old : (xs ys : List A) (i : ℕ) (y : A) → slice_get xs i ≡ Some y → take i (xs ++ ys) ≡ take i xs
+  pub take_old : (xs ys : List A) (i : ℕ) (y : A) → slice_get xs i ≡ Some y
+      → take i (xs ++ ys) ≡ take i xs
   take_old [] ys i y e = absurd (cc)
   take_old (z ∷ zs) ys zero y e = refl
   take_old (z ∷ zs) ys (suc i) y e = ap (λ (xs : List A). z ∷ xs) (take_old zs ys i y e)
@@ -69,7 +73,8 @@ follows_on (x ∷ xs) [] p rest d f e so =
     let s : rest ≡ xs = cc in
     (e ∙ r, subst (λ (y : Part). EndsSo y.op d.end) r so, λ i. left_by d.end (r i).nr (s i))
 follows_on [] (x ∷ ds) p rest d f e so = absurd f
-follows_on (y ∷ ys) (x ∷ ds) p rest d f e so = (f.0, f.1, follows_on (left_by x.end y.nr ys) ds p rest d f.2 e so)
+follows_on (y ∷ ys) (x ∷ ds) p rest d f e so =
+    (f.0, f.1, follows_on (left_by x.end y.nr ys) ds p rest d f.2 e so)
 
 -- what each piece of a program has, each that is left has
 module _ (P : Part → Type 0) where
@@ -84,19 +89,27 @@ module _ (P : Part → Type 0) where
   ]
 
   every_left : (end : PartEnd) (nr : ℕ) (ps : List Part) → Every ps → Every (left_by end nr ps)
-  every_left end nr ps all = elim (cases_Bool (is_carried end)) [ inl on ↦ rw on all | inr off ↦ rw off (every_without nr ps all) ]
+  every_left end nr ps all =
+      elim (cases_Bool (is_carried end)) [
+        | inl on ↦ rw on all
+        | inr off ↦
+            rw off (every_without nr ps all)
+      ]
 
-  pub every_todo : (ps : List Part) (ds : List Done) (todo : List Part) → Follows ps ds todo → Every ps
+  pub every_todo : (ps : List Part) (ds : List Done) (todo : List Part) → Follows ps ds todo
+      → Every ps
       → Every todo
   every_todo ps [] todo f all = subst Every (sym f) all
   every_todo [] (d ∷ ds) todo f all = absurd f
-  every_todo (p ∷ ps) (d ∷ ds) todo f all = every_todo (left_by d.end p.nr ps) ds todo f.2 (every_left d.end p.nr ps all.1)
+  every_todo (p ∷ ps) (d ∷ ds) todo f all =
+      every_todo (left_by d.end p.nr ps) ds todo f.2 (every_left d.end p.nr ps all.1)
 
   pub every_append : (ps qs : List Part) → Every ps → Every qs → Every (ps ++ qs)
   every_append [] qs a b = b
   every_append (p ∷ ps) qs a b = (a.0, every_append ps qs a.1 b)
 
-  pub every_parts_from : (nr : ℕ) (op : Op) (page n : ℕ) → ((q : ℕ) → P (record { nr = nr; op = op; page = q }))
+  pub every_parts_from : (nr : ℕ) (op : Op) (page n : ℕ)
+      → ((q : ℕ) → P (record { nr = nr; op = op; page = q }))
       → Every (parts_from nr op page n)
   every_parts_from nr op page zero all = tt
   every_parts_from nr op page (suc n) all = elim (cases_Bool (has_event op page)) [
@@ -115,12 +128,15 @@ module _ (P : Part → Type 0) where
 abbrev pub Named : List Op → Part → Type 0
 Named ops p = slice_get ops p.nr ≡ Some p.op
 
-pub every_named : (pages nr : ℕ) (all ops : List Op) → ((j : ℕ) → slice_get ops j ≡ slice_get all (nr + j))
+pub every_named : (pages nr : ℕ) (all ops : List Op)
+    → ((j : ℕ) → slice_get ops j ≡ slice_get all (nr + j))
     → AllByRecursion (Named all) (program pages nr ops)
 every_named pages nr all [] same = tt
 every_named pages nr all (op ∷ ops) same =
     every_append (Named all) (parts pages nr op) (program pages (nr + 1) ops)
-    (every_parts (Named all) pages nr op (λ q. ap (λ (k : ℕ). slice_get all k) (let e : nr ≡ nr + 0 = omega arith in e) ∙ sym (same 0)))
+    (every_parts (Named all) pages nr op
+    (λ q. ap (λ (k : ℕ). slice_get all k) (let e : nr ≡ nr + 0 = omega arith in e)
+    ∙ sym (same 0)))
     (every_named pages (nr + 1) all ops (λ j. same (suc j)
     ∙ ap (λ (k : ℕ). slice_get all k) (let e : nr + suc j ≡ nr + 1 + j = omega arith in e)))
 
@@ -128,7 +144,8 @@ every_named pages nr all (op ∷ ops) same =
 pub next_named : (pages : ℕ) (ops : List Op) (ds : List Done) (p : Part) (rest : List Part)
     → Follows (program pages 0 ops) ds (p ∷ rest) → slice_get ops p.nr ≡ Some p.op
 next_named pages ops ds p rest f =
-    let all = every_todo (Named ops) (program pages 0 ops) ds (p ∷ rest) f (every_named pages 0 ops ops (λ j. ap (λ (k : ℕ). slice_get ops k) (sym (zero-add j)))) in
+    let all = every_todo (Named ops) (program pages 0 ops) ds (p ∷ rest) f
+    (every_named pages 0 ops ops (λ j. ap (λ (k : ℕ). slice_get ops k) (sym (zero-add j)))) in
     all.0
 
 -- what a piece reads depends on the sectors of its page alone
@@ -140,10 +157,13 @@ same_range f g a (suc n) same =
     ap (λ (x : List ℕ). x ∷ map f (range_with_len (a + 1) n)) (same a (omega arith) (omega arith))
     ∙ ap (λ (xs : List (List ℕ)). g a ∷ xs) others
 
-pub same_got : (op : Op) (page : ℕ) (f g : ℕ → List ℕ) → ((k : ℕ) → k < 8 → f (8 * page + k) ≡ g (8 * page + k))
+pub same_got : (op : Op) (page : ℕ) (f g : ℕ → List ℕ)
+    → ((k : ℕ) → k < 8 → f (8 * page + k) ≡ g (8 * page + k))
     → got_by op page f ≡ got_by op page g
 same_got (Write start count stuff) page f g same = refl
-same_got (Read start count) page f g same = same_range f g (max start (8 * page)) (min (start + count) (8 * page + 8) - max start (8 * page))
+same_got (Read start count) page f g same =
+    same_range f g (max start (8 * page))
+    (min (start + count) (8 * page + 8) - max start (8 * page))
     (λ s low high. let e : 8 * page + (s - 8 * page) ≡ s = omega arith in
     subst (λ (x : ℕ). f x ≡ g x) e (same (s - 8 * page) (omega arith)))
 same_got (Discard start count) page f g same = refl

@@ -1,4 +1,5 @@
--- What the histories of all actors of a phase say, and when they agree with the orders of the pages.
+-- What the histories of all actors of a phase say, and when they agree with the orders of the
+-- pages.
 use Rattle.std.specs.Prelude.{◌≡◌, ℕ, ◌<◌, ◌≤◌, true, List, [], ◌∷◌, length, get_or, Some, slice_get}
 use Rattle.std.specs.List.{AllByRecursion}
 use Rattle.zr_base.specs.declared.op.Tag.{Tag}
@@ -14,13 +15,15 @@ use Rattle.call_history.specs.Shows.{IsTold}
 abbrev pub ends_each : ℕ → List (List Op) → List (List Done) → List (List OpEnd)
 ends_each pages [] dones = []
 ends_each pages (ops ∷ more) [] = []
-ends_each pages (ops ∷ more) (done ∷ dones) = ends_from pages 0 ops done ∷ ends_each pages more dones
+ends_each pages (ops ∷ more) (done ∷ dones) =
+    ends_from pages 0 ops done ∷ ends_each pages more dones
 
 -- the sectors that they tell
 abbrev pub told_each : ℕ → List (List Op) → List (List Done) → List (List (List (List ℕ)))
 told_each pages [] dones = []
 told_each pages (ops ∷ more) [] = []
-told_each pages (ops ∷ more) (done ∷ dones) = told_from pages 0 ops done ∷ told_each pages more dones
+told_each pages (ops ∷ more) (done ∷ dones) =
+    told_from pages 0 ops done ∷ told_each pages more dones
 
 -- the pieces of an actor that are over
 abbrev pub history : List (List Done) → ℕ → List Done
@@ -30,13 +33,15 @@ history dones a = get_or dones a []
 abbrev pub SomeEach : List Op → Type 0
 SomeEach ops = AllByRecursion (λ op. 1 ≤ count_of op) ops
 
+-- each request of each actor has a sector at least
 abbrev pub HasSomeEach : List (List Op) → Type 0
 HasSomeEach actors = (a : ℕ) (ops : List Op) → slice_get actors a ≡ Some ops → SomeEach ops
 
 -- All actors are finished, and their histories agree with the orders of the pages.
 pub record Agree (g : Given) (dones : List (List Done)) (orders : List (List Tag)) : Type 0 where
   pub count : length dones ≡ length g.actors
-  pub follows : (a : ℕ) (ops : List Op) (done : List Done) → slice_get g.actors a ≡ Some ops → slice_get dones a ≡ Some done
+  pub follows : (a : ℕ) (ops : List Op) (done : List Done) → slice_get g.actors a ≡ Some ops
+      → slice_get dones a ≡ Some done
       → Follows (program g.size 0 ops) done []
   pub every_page : length orders ≡ g.size
   pub turns : (p a : ℕ) → p < g.size → ops_of a (nth_order orders p) ≡ noted_on p (history dones a)

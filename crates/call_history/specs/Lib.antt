@@ -1,3 +1,4 @@
 pub mod Parts
 pub mod Shows
 pub mod Histories
+pub mod Laws

@@ -1,5 +1,5 @@
 -- The pieces of operations that have events, and what is over of them.
-use Rattle.std.specs.Prelude.{◌≡◌, ℕ, zero, suc, ◌+◌, ◌-◌, ◌*◌, ◌/◌, ◌==◌, Bool, true, ◌&&◌, min, max, List, [], ◌∷◌, ◌++◌, map, if◌then◌else◌, ⊤}
+use Rattle.std.specs.Prelude.{◌≡◌, ℕ, zero, suc, ◌+◌, ◌-◌, ◌*◌, ◌==◌, Bool, true, ◌&&◌, min, max, List, [], ◌∷◌, ◌++◌, map, if◌then◌else◌, ⊤}
 use Rattle.std.specs.List.{range_with_len}
 use Rattle.zr_base.specs.declared.op.Tag.{Tag}
 use Rattle.zr_base.specs.declared.op.Op.{Op}
@@ -10,26 +10,20 @@ use Rattle.call_history.specs.declared.part.Part.{Part}
 use Rattle.call_history.specs.declared.part.PartEnd.{PartEnd}
 use Rattle.call_history.specs.declared.part.PartEnd.TheVariants.{Carried}
 use Rattle.call_history.specs.declared.part.Done.{Done}
-use Rattle.zr_base.specs.Pieces.{pages_touched}
+use Rattle.zr_base.specs.Pieces.{first_page, pages_of}
 use Rattle.zr_base.specs.Plain.{start_of, count_of, is_beyond, has_event}
 
--- the first page of a request
-abbrev pub first_page : Op → ℕ
-first_page op = start_of op / 8
-
--- how many pages it touches
-abbrev pub pages_of : Op → ℕ
-pages_of op = pages_touched (start_of op) (count_of op)
-
 -- the pieces with events of an operation on so many pages, from a page on
-
 abbrev pub parts_from : ℕ → Op → ℕ → ℕ → List Part
 parts_from nr op page zero = []
-parts_from nr op page (suc n) = (if has_event op page then record { nr = nr; op = op; page = page } ∷ [] else []) ++ parts_from nr op (page + 1) n
+parts_from nr op page (suc n) =
+    (if has_event op page then record { nr = nr; op = op; page = page } ∷ [] else [])
+    ++ parts_from nr op (page + 1) n
 
 -- the pieces with events of an operation on a disk of so many pages
 abbrev pub parts : ℕ → ℕ → Op → List Part
-parts pages nr op = if is_beyond pages op then [] else parts_from nr op (first_page op) (pages_of op)
+parts pages nr op =
+    if is_beyond pages op then [] else parts_from nr op (first_page op) (pages_of op)
 
 -- those of all operations of an actor from the nr-th on
 abbrev pub program : ℕ → ℕ → List Op → List Part
@@ -61,13 +55,15 @@ EndsSo op Carried = ⊤
 abbrev pub Follows : List Part → List Done → List Part → Type 0
 Follows ps [] todo = todo ≡ ps
 Follows [] (d ∷ ds) todo = ⊥
-Follows (p ∷ ps) (d ∷ ds) todo = (d.part ≡ p) × EndsSo p.op d.end × Follows (left_by d.end p.nr ps) ds todo
+Follows (p ∷ ps) (d ∷ ds) todo = (d.part ≡ p) × EndsSo p.op d.end
+    × Follows (left_by d.end p.nr ps) ds todo
 
 -- whether a piece that is over stands in the order of a page
 abbrev pub is_on : ℕ → Done → Bool
 is_on page d = d.part.page == page && stands_so d.part.op d.end
 
--- the operations of an actor that stand in the order of a page, in turn, by the pieces that are over
+-- the operations of an actor that stand in the order of a page, in turn, by the pieces that are
+-- over
 abbrev pub noted_on : ℕ → List Done → List ℕ
 noted_on page [] = []
 noted_on page (d ∷ ds) = if is_on page d then d.part.nr ∷ noted_on page ds else noted_on page ds
@@ -79,7 +75,9 @@ ops_of a (t ∷ ts) = if t.actor == a then t.op ∷ ops_of a ts else ops_of a ts
 
 -- the sectors of a request on a page
 abbrev pub sectors_on : Op → ℕ → List ℕ
-sectors_on op page = range_with_len (max (start_of op) (8 * page)) (min (start_of op + count_of op) (8 * page + 8) - max (start_of op) (8 * page))
+sectors_on op page =
+    range_with_len (max (start_of op) (8 * page))
+    (min (start_of op + count_of op) (8 * page + 8) - max (start_of op) (8 * page))
 
 -- what a piece reads, where the sectors have these bytes
 abbrev pub got_by : Op → ℕ → (ℕ → List ℕ) → List (List ℕ)
@@ -92,21 +90,26 @@ abbrev pub got_of : ℕ → List Done → List (List ℕ)
 got_of nr [] = []
 got_of nr (d ∷ ds) = if d.part.nr == nr then d.got ++ got_of nr ds else got_of nr ds
 
--- what the end of a piece makes of its operation's end, where so many pieces were carried out before it
+-- what the end of a piece makes of its operation's end, where so many pieces were carried out
+-- before it
 abbrev pub op_end : PartEnd → ℕ → OpEnd
 op_end Carried n = ends.Ok
 
+-- how an operation ends by one of its pieces and the end by the later ones
 abbrev pub end_step : PartEnd → ℕ → OpEnd → OpEnd
 end_step end n later = if is_carried end then later else op_end end n
 
+-- how an operation ends by its pieces that are over
 abbrev pub end_by : ℕ → ℕ → List Done → OpEnd
 end_by nr n [] = ends.Ok
-end_by nr n (d ∷ ds) = if d.part.nr == nr then end_step d.end n (end_by nr (n + 1) ds) else end_by nr n ds
+end_by nr n (d ∷ ds) =
+    if d.part.nr == nr then end_step d.end n (end_by nr (n + 1) ds) else end_by nr n ds
 
 -- how an operation has ended, by its pieces that are over
 abbrev pub end_of : ℕ → ℕ → Op → List Done → OpEnd
 end_of pages nr op done = if is_beyond pages op then ends.Range else end_by nr 0 done
 
+-- how an actor's operations end, from the nr-th on
 abbrev pub ends_from : ℕ → ℕ → List Op → List Done → List OpEnd
 ends_from pages nr [] done = []
 ends_from pages nr (op ∷ ops) done = end_of pages nr op done ∷ ends_from pages (nr + 1) ops done
@@ -121,4 +124,5 @@ shown (Discard start count) end got = []
 -- what an actor's operations from the nr-th on tell, by their pieces
 abbrev pub told_from : ℕ → ℕ → List Op → List Done → List (List (List ℕ))
 told_from pages nr [] done = []
-told_from pages nr (op ∷ ops) done = shown op (end_of pages nr op done) (got_of nr done) ∷ told_from pages (nr + 1) ops done
+told_from pages nr (op ∷ ops) done =
+    shown op (end_of pages nr op done) (got_of nr done) ∷ told_from pages (nr + 1) ops done

@@ -8,6 +8,7 @@ use Rattle.call_history.specs.declared.part.Part.{Part}
 use Rattle.call_history.specs.declared.part.Done.{Done}
 use Rattle.call_history.specs.Parts.{is_carried, is_on, noted_on, ops_of, got_by}
 
+-- the tag of an actor's piece
 abbrev pub tag_by : ℕ → Part → Tag
 tag_by actor p = record { actor = actor; op = p.nr }
 
@@ -15,19 +16,25 @@ tag_by actor p = record { actor = actor; op = p.nr }
 abbrev pub IsTold : Given → ℕ → Done → List Tag → Type 0
 IsTold g a d order =
     (at : ℕ) × (slice_get order at ≡ Some (tag_by a d.part))
-    × (d.got ≡ (if is_carried d.end then got_by d.part.op d.part.page (held_after g (take at order)) else []))
+    × (d.got ≡ (if is_carried d.end then got_by d.part.op d.part.page
+    (held_after g (take at order)) else []))
 
--- The page is what the calls of its order leave, the order has each actor's noted pieces in turn, and each
+-- The page is what the calls of its order leave, the order has each actor's noted pieces in turn,
+-- and each
 -- of them that is over has read what the calls before it left.
-pub record ShowsPage (g : Given) (done : ℕ → List Done) (p : ℕ) (page : List ℕ) (order : List Tag) : Type 0 where
+pub record ShowsPage (g : Given) (done : ℕ → List Done) (p : ℕ) (page : List ℕ)
+    (order : List Tag) : Type 0 where
   pub holds : (k : ℕ) → k < 8 → page_sector page k ≡ held_after g order (8 * p + k)
   pub turns : (a : ℕ) → ops_of a order ≡ noted_on p (done a)
-  pub reads : (a i : ℕ) (d : Done) → slice_get (done a) i ≡ Some d → is_on p d ≡ true → IsTold g a d order
+  pub reads : (a i : ℕ) (d : Done) → slice_get (done a) i ≡ Some d → is_on p d ≡ true
+      → IsTold g a d order
 
 -- The piece of the actor is carried out on a page with its order.
-pub record Carries (actor : ℕ) (p : Part) (page : List ℕ) (order : List Tag) (page' : List ℕ) (order' : List Tag) : Type 0 where
+pub record Carries (actor : ℕ) (p : Part) (page : List ℕ) (order : List Tag) (page' : List ℕ)
+    (order' : List Tag) : Type 0 where
   pub notes : order' ≡ order ++ tag_by actor p ∷ []
-  pub holds : (k : ℕ) → k < 8 → page_sector page' k ≡ sector_after p.op (8 * p.page + k) (page_sector page k)
+  pub holds : (k : ℕ) → k < 8
+      → page_sector page' k ≡ sector_after p.op (8 * p.page + k) (page_sector page k)
 
 -- what a piece reads from its page
 abbrev pub got_from : List ℕ → Part → List (List ℕ)

@@ -3,7 +3,8 @@
 use std::collections::LinkedList;
 use zr_base::Op;
 
-/// A piece that has events: the operation's number among the actor's, counted from 0, the operation,
+/// A piece that has events: the operation's number among the actor's, counted from 0, the
+/// operation,
 /// and the page. No running code makes one.
 pub struct Part {
     pub nr: u32,

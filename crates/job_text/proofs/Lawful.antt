@@ -1,11 +1,12 @@
 -- What a line says is in its range.
-use Rattle.std.proofs.Common.{◌≡◌, ℕ, suc, ◌+◌, ◌*◌, ◌/◌, ◌≤◌, Bool, true, false, not, ◌&&◌, ◌||◌, ◌==◌, nat_le, cond, List, [], ◌∷◌, length, map, get_or, IfOk, Option, Some, None, Result, Ok, Err, refl, sym, ap, ◌∙◌, subst, arith, codes}
+use Rattle.std.proofs.Common.{◌≡◌, ℕ, suc, ◌+◌, ◌*◌, ◌/◌, ◌<◌, ◌≤◌, Bool, true, false, not, ◌&&◌, ◌||◌, ◌==◌, nat_le, nat_lt, cond, List, [], ◌∷◌, length, map, get_or, IfOk, Option, Some, None, Result, Ok, Err, refl, sym, ap, ◌∙◌, subst, arith, codes, inl, inr}
 use Rattle.std.specs.List.{list_all, concat}
 use Rattle.std.specs.Str.{bytes_eq}
-use Rattle.std.proofs.lemmas.Bool.{and_parts, not-false, eqb-true, le-leb}
+use Rattle.std.proofs.lemmas.Bool.{and_parts, not-false, eqb-true, le-leb, ltb-true, true_from_ne_false, both_ways, cases_lt}
 use Rattle.std.proofs.lemmas.Bool.Decides.{nat_tests}
-use Rattle.std.proofs.lemmas.List.{length-map}
-use Rattle.std.proofs.lemmas.List.FromFn.{length-map-range_with_len}
+use Rattle.std.proofs.lemmas.List.{length-map, get_or_past}
+use Rattle.std.proofs.lemmas.List.Folds.{list_all_at}
+use Rattle.std.proofs.lemmas.List.FromFn.{length-map-range_with_len, get_or-map-range_with_len}
 use Rattle.zr_base.specs.Plain.{InBounds}
 use Rattle.zr_base.specs.declared.op.Turns.{Turns}
 use Rattle.job_text.specs.declared.fault.Cause.{Cause}
@@ -60,6 +61,28 @@ filled digits count fill some most =
         let c : not (nat_le 1 count && nat_le count 2048) ≡ false = rw (a, b) refl in
         eqb-true digits (1024 * count) (let d = ap (λ x. x || digits == 1024 * count) c in sym d ∙ fill)
 
+-- each of them is a byte
+digit_small : (digits : List ℕ) (i : ℕ) → are_digits 16 digits ≡ true → i < length digits
+    → digit_value (get_or digits i 0) < 16
+digit_small digits i are below = ltb-true (digit_value (get_or digits i 0)) 16 (true_from_ne_false _ (λ no.
+    both_ways _ (list_all_at (λ c. nat_lt (digit_value c) 16) digits i 0 below no) are))
+
+bytes_by-small : (digits : List ℕ) → are_digits 16 digits ≡ true → (k : ℕ) → get_or (bytes_by digits) k 0 < 256
+bytes_by-small digits are k = elim (cases_lt k (length digits / 2)) [
+  | inl below ↦
+      let high = digit_small digits (2 * k) are (omega arith) in
+      let low = digit_small digits (2 * k + 1) are (omega arith) in
+      let e : get_or (bytes_by digits) k 0 ≡ byte k = get_or-map-range_with_len byte 0 (length digits / 2) k k 0 below (omega arith) in
+      omega arith
+  | inr past ↦
+      let n : length (bytes_by digits) ≡ length digits / 2 = length-map-range_with_len byte 0 (length digits / 2) in
+      let e : get_or (bytes_by digits) k 0 ≡ 0 = get_or_past (bytes_by digits) k 0 (omega arith) in
+      omega arith
+]
+  where
+    byte : ℕ → ℕ
+    byte k = 16 * digit_value (get_or digits (2 * k) 0) + digit_value (get_or digits (2 * k + 1) 0)
+
 form-lawful : (form : Form) → HasWords form → is_malformed form ≡ false → has_bad_value (meaning form) ≡ false
     → IsLine (meaning form)
 unfolding is_malformed meaning
@@ -69,12 +92,16 @@ form-lawful (size_form size) has well good = sized (pages_of size) good
     sized : (pages : ℕ) → not (nat_le 1 pages && nat_le pages 262144) ≡ false → (1 ≤ pages) × (pages ≤ 262144)
     sized pages good = grind (arith, nat_tests, not-false (nat_le 1 pages && nat_le pages 262144) good)
 form-lawful actor_form has well good = tt
-form-lawful (fill_form start count word) has well good = (bounds (number_of start) (number_of count) good, tt)
-form-lawful (seq_form start count base step) has well good = (bounds (number_of start) (number_of count) good, tt)
+form-lawful (fill_form start count word) has well good = (bounds (number_of start) (number_of count) good, tt, tt)
+form-lawful (seq_form start count base step) has well good = (bounds (number_of start) (number_of count) good, tt, tt)
 form-lawful (hex_form start count digits) has well good =
     let in_bounds = bounds (number_of start) (number_of count) good in
     let fill = and_parts (is_number start && is_number count && are_digits 16 (concat digits)) (fill_sectors (length (concat digits)) (number_of count)) (not-false _ well) in
-    (in_bounds, filled (concat digits) (number_of count) fill.1 in_bounds.1 in_bounds.2)
+    let are = and_parts (is_number start && is_number count) (are_digits 16 (concat digits)) fill.0 in (
+      in_bounds,
+      filled (concat digits) (number_of count) fill.1 in_bounds.1 in_bounds.2,
+      bytes_by-small (concat digits) are.1,
+    )
 form-lawful (read_form start count) has well good = bounds (number_of start) (number_of count) good
 form-lawful (discard_form start count) has well good = bounds (number_of start) (number_of count) good
 form-lawful (schedule_form turns) has well good =

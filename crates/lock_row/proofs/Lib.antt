@@ -1,4 +1,4 @@
-pub mod Runs
+pub mod Lists
 pub mod Values
 pub mod Places
 pub mod Totals

@@ -11,7 +11,8 @@ use Rattle.lock_row.specs.Rows.{Row, same_lock, place_in, IsDistinct, cell, with
 -- ---- names
 
 same_is : (k m : LockNo) → same_lock k m ≡ true → k ≡ m
-same_is (Slot p) (Slot q) e = let s : p.0 ≡ q.0 = eqb-true p.0 q.0 e in λ i. Slot (record { 0 = s i })
+same_is (Slot p) (Slot q) e = let s : p.0 ≡ q.0 = eqb-true p.0 q.0 e in
+    λ i. Slot (record { 0 = s i })
 same_is (Class c) (Class d) e = ap Class (eqb-true c d e)
 same_is Account Account e = refl
 same_is Blocks Blocks e = refl
@@ -45,15 +46,18 @@ is_same Blocks = refl
 is_same Device = refl
 
 tail_distinct : (x : LockNo) (xs : List LockNo) → IsDistinct (x ∷ xs) → IsDistinct xs
-tail_distinct x xs d = record { once = λ i j k e f. let q = d.once (suc i) (suc j) k e f in omega arith }
+tail_distinct x xs d =
+    record { once = λ i j k e f. let q = d.once (suc i) (suc j) k e f in omega arith }
 
 -- the place of a name that stands there
-pub place_of : (names : List LockNo) (i : ℕ) (k : LockNo) → IsDistinct names → slice_get names i ≡ Some k
+pub place_of : (names : List LockNo) (i : ℕ) (k : LockNo) → IsDistinct names
+    → slice_get names i ≡ Some k
     → place_in names k ≡ i
 place_of [] i k d e = absurd (cc)
 place_of (x ∷ xs) zero k d e =
     let q : x ≡ k = (let h : Some x ≡ Some k = e in cc) in
-    ap (λ (b : Bool). cond b 0 (suc (place_in xs k))) (ap (λ (y : LockNo). same_lock y k) q ∙ is_same k)
+    ap (λ (b : Bool). cond b 0 (suc (place_in xs k)))
+    (ap (λ (y : LockNo). same_lock y k) q ∙ is_same k)
 place_of (x ∷ xs) (suc i) k d e = elim (cases_Bool (same_lock x k)) [
   | inl on ↦ absurd (let q = d.once 0 (suc i) k (ap Some (same_is x k on)) e in
       let none : ⊥ = omega arith in none)
@@ -73,36 +77,42 @@ place_none (x ∷ xs) k not = elim (cases_Bool (same_lock x k)) [
 
 pub placed : (names : List LockNo) (k : LockNo) (o : Option ℕ) → IsDistinct names
     → IfSome o (λ i. slice_get names i ≡ Some k) → IfNone o ((i : ℕ) → slice_get names i ≢ Some k)
-    → MatchOption o (length names ≤ place_in names k) (λ i. (i ≡ place_in names k) × (i < length names))
+    → MatchOption o (length names ≤ place_in names k)
+    (λ i. (i ≡ place_in names k) × (i < length names))
 placed names k None d found none = place_none names k none
-placed names k (Some i) d found none = (sym (place_of names i k d found), slice_get_within names i k found)
+placed names k (Some i) d found none =
+    (sym (place_of names i k d found), slice_get_within names i k found)
 
 -- ---- cells
 
-module _ {X : Type 0} where
-  pub get_none : (xs : List X) (i : ℕ) → length xs ≤ i → slice_get xs i ≡ None
-  get_none [] i h = refl
-  get_none (x ∷ xs) zero h = absurd (omega arith)
-  get_none (x ∷ xs) (suc i) h = get_none xs i (omega arith)
-
 module _ {V : Type 0} (r : Row V) (names : List LockNo) (cells : List (Option V)) (k : LockNo)
-    (view : (let row : Row V = record { names = names; cells = cells } in row) ≡ r) (size : length cells ≡ length names) where
+    (view : (let row : Row V = record { names = names; cells = cells } in row) ≡ r)
+    (size : length cells ≡ length names) where
   module _ (i : ℕ) (is : i ≡ place_in names k) (below : i < length names) where
     cell_is : (x : Option V) → x ≡ get_or cells i x → cell r k ≡ Some x
     cell_is x e = ap (λ (s : Row V). cell s k) (sym view) ∙ ap (slice_get cells) (sym is)
         ∙ slice_get-get_or cells i x (omega arith) ∙ ap Some (sym e)
 
     set_is : (x : Option V)
-        → (let row : Row V = record { names = names; cells = set cells i x } in row) ≡ with_cell r k x
+        → (let row : Row V = record { names = names; cells = set cells i x } in row)
+        ≡ with_cell r k x
     set_is x = (λ j. record { names = names; cells = set cells (is j) x })
         ∙ ap (λ (s : Row V). with_cell s k x) view
 
     pub taken : (old new result : Option V) → old ≡ get_or cells i old → result ≡ old → new ≡ None
-        → MatchOption result ((cell r k ≡ Some None) × ((let row : Row V = record { names = names; cells = set cells i new } in row) ≡ r))
-        (λ v. (cell r k ≡ Some (Some v)) × ((let row : Row V = record { names = names; cells = set cells i new } in row) ≡ with_cell r k None))
+        → MatchOption result
+        ((cell r k ≡ Some None)
+        × ((let row : Row V = record { names = names; cells = set cells i new } in row) ≡ r))
+        (λ v. (cell r k ≡ Some (Some v))
+        × ((let row : Row V = record { names = names; cells = set cells i new } in row)
+        ≡ with_cell r k None))
     taken old new None e is_old none = (
       cell_is old e ∙ ap Some (sym is_old),
-      (λ j. record { names = names; cells = (ap (set cells i) (none ∙ is_old ∙ e) ∙ set-get_or cells i old) j })
+      (λ j. record {
+        names = names;
+        cells =
+            (ap (set cells i) (none ∙ is_old ∙ e) ∙ set-get_or cells i old) j;
+      })
           ∙ view,
     )
     taken old new (Some v) e is_old none = (

@@ -1,4 +1,5 @@
--- A row of locks: their names, and at each place the value that is at home, or none where the lock is held.
+-- A row of locks: their names, and at each place the value that is at home, or none where the lock
+-- is held.
 use Rattle.std.specs.Prelude.{◌≡◌, ◌≤◌, ℕ, suc, Bool, true, false, ◌==◌, List, [], ◌∷◌, length, map, Option, Some, None, slice_get, slice_set, if◌then◌else◌}
 use Rattle.lock_row.specs.declared.names.LockNo.{LockNo}
 use Rattle.lock_row.specs.declared.names.LockNo.TheVariants.{Slot, Class, Account, Blocks, Device}
@@ -17,19 +18,23 @@ abbrev pub place_in : List LockNo → LockNo → ℕ
 place_in [] k = 0
 place_in (name ∷ names) k = if same_lock name k then 0 else suc (place_in names k)
 
+-- A row of locks: their names, and for each its value at home or none.
 pub record Row (V : Type 0) : Type 0 where
   pub names : List LockNo
   pub cells : List (Option V)
 
 -- no name stands twice
 pub record IsDistinct (names : List LockNo) : Type 0 where
-  pub once : (i j : ℕ) (k : LockNo) → slice_get names i ≡ Some k → slice_get names j ≡ Some k → i ≡ j
+  pub once : (i j : ℕ) (k : LockNo) → slice_get names i ≡ Some k → slice_get names j ≡ Some k
+      → i ≡ j
 
 module _ {V : Type 0} where
-  -- the cell of a lock: the value that is at home, or none where it is held; there is no cell where the lock isn't of the row
+  -- the cell of a lock: the value that is at home, or none where it is held; there is no cell where
+  -- the lock isn't of the row
   abbrev pub cell : Row V → LockNo → Option (Option V)
   cell r k = slice_get r.cells (place_in r.names k)
 
+  -- the row with another value, or none, at a lock's place
   abbrev pub with_cell : Row V → LockNo → Option V → Row V
   with_cell r k x = record { names = r.names; cells = slice_set r.cells (place_in r.names k) x }
 
@@ -42,15 +47,7 @@ module _ {V : Type 0} where
   at_home None = None
   at_home (Some x) = x
 
-  abbrev pub names_of : List (LockNo × V) → List LockNo
-  names_of values = map (λ x. x.0) values
-
-  -- all values at home
-  abbrev pub cells_of : List (LockNo × V) → List (Option V)
-  cells_of values = map (λ x. Some x.1) values
-
-  pub record IsWhole (names : List LockNo) (cells : List (Option V)) (spare : List (LockNo × V)) (room : ℕ) : Type 0 where
+  -- each name has its cell, and no name stands twice
+  pub record IsWhole (names : List LockNo) (cells : List (Option V)) : Type 0 where
     pub size : length cells ≡ length names
     pub distinct : IsDistinct names
-    pub empty : spare ≡ []
-    pub has_room : length names ≤ room

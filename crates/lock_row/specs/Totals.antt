@@ -4,6 +4,7 @@ use Rattle.lock_row.specs.declared.names.LockNo.{LockNo}
 use Rattle.lock_row.specs.declared.names.Local.{Local}
 use Rattle.lock_row.specs.declared.names.State.{State}
 
+-- the weight of what there may be
 abbrev pub by_option : {X : Type 0} → (X → ℕ) → Option X → ℕ
 by_option f None = 0
 by_option f (Some x) = f x
@@ -14,11 +15,13 @@ module _ {V : Type 0} where
   row_sum f [] = 0
   row_sum f (x ∷ xs) = by_option (f 0) x + row_sum (λ j. f (suc j)) xs
 
+  -- of all actors
   abbrev pub locals_sum : (Local V → ℕ) → List (Local V) → ℕ
   locals_sum g [] = 0
   locals_sum g (l ∷ ls) = g l + locals_sum g ls
 
 module _ {V : Type 0} (spot : LockNo → ℕ) where
+  -- of the values that an actor holds
   abbrev pub held_sum : (ℕ → V → ℕ) → List (LockNo × V) → ℕ
   held_sum f [] = 0
   held_sum f (x ∷ xs) = f (spot x.0) x.1 + held_sum f xs

@@ -1,4 +1,5 @@
-//! The names of locks, hands that take and give them, a row of locks for one thread, and the machine of
+//! The names of locks, hands that take and give them, a row of locks for one thread, and the
+//! machine of
 //! a row and its actors: events, turns and the states that they lead to.
 #![tactic(auto)]
 
@@ -8,6 +9,6 @@ mod names;
 mod row;
 
 pub use hand::{Hand, NextLocal, Still};
-pub use laws::{totals_move, values_stay_apart};
+pub use laws::{sums_move, totals_move, values_stay_apart};
 pub use names::{At, Held, Local, LockNo, Plan, State};
 pub use row::{SimHand, SimRow};

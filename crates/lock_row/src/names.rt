@@ -44,7 +44,8 @@ pub enum At {
     Entered,
 }
 
-/// What an actor is at: its number, the stage, the pieces to do with the one in work first, the locks
+/// What an actor is at: its number, the stage, the pieces to do with the one in work first, the
+/// locks
 /// that it holds with their values, the last taken first, and the pieces that are over.
 /// No running code makes one.
 pub struct Local<V> {

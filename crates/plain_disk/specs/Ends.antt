@@ -7,7 +7,8 @@ use Rattle.zr_base.specs.declared.op.OpEnd.{OpEnd}
 use Rattle.zr_base.specs.declared.op.OpEnd.TheVariants as ends
 use Rattle.zr_base.specs.Plain.{is_beyond}
 
--- the ends that an operation may have on a disk of so many pages: `range` exactly where it lies beyond the disk
+-- the ends that an operation may have on a disk of so many pages: `range` exactly where it lies
+-- beyond the disk
 abbrev pub MayEnd : ℕ → Op → OpEnd → Type 0
 MayEnd pages op ends.Ok = is_beyond pages op ≡ false
 MayEnd pages op ends.Range = is_beyond pages op ≡ true

@@ -4,6 +4,7 @@ use Rattle.zr_base.specs.declared.op.Tag.{Tag}
 use Rattle.zr_base.specs.declared.op.OpEnd.{OpEnd}
 use Rattle.zr_base.specs.declared.op.OpEnd.TheVariants as ends
 
+-- A line of an output.
 pub data OutLine : Type 0 where
   -- how an operation ended
   ended : Tag → OpEnd → OutLine
@@ -18,13 +19,15 @@ op_lines tag end got = ended tag end ∷ map sector got
 
 -- the lines of actor a's operations from the k-th on
 abbrev pub actor_lines : ℕ → ℕ → List OpEnd → List (List (List ℕ)) → List OutLine
-actor_lines a k (end ∷ es) (got ∷ gots) = op_lines (record { actor = a; op = k }) end got ++ actor_lines a (k + 1) es gots
+actor_lines a k (end ∷ es) (got ∷ gots) =
+    op_lines (record { actor = a; op = k }) end got ++ actor_lines a (k + 1) es gots
 actor_lines a k [] gots = []
 actor_lines a k (end ∷ es) [] = []
 
 -- the lines of the actors from the a-th on
 abbrev pub actors_lines : ℕ → List (List OpEnd) → List (List (List (List ℕ))) → List OutLine
-actors_lines a (es ∷ more) (gots ∷ others) = actor_lines a 0 es gots ++ actors_lines (a + 1) more others
+actors_lines a (es ∷ more) (gots ∷ others) =
+    actor_lines a 0 es gots ++ actors_lines (a + 1) more others
 actors_lines a [] gots = []
 actors_lines a (es ∷ more) [] = []
 
@@ -39,16 +42,19 @@ order_lines p [] = []
 order_lines p (order ∷ orders) = order_line p order ++ order_lines (p + 1) orders
 
 -- the lines of a phase with these ends, sectors read and orders
-abbrev pub phase_lines : List (List OpEnd) → List (List (List (List ℕ))) → List (List Tag) → List OutLine
+abbrev pub phase_lines : List (List OpEnd) → List (List (List (List ℕ))) → List (List Tag)
+    → List OutLine
 phase_lines es gots orders = actors_lines 0 es gots ++ order_lines 0 orders
 
--- whether a line says that something was refused; the status is 1 where some line of the output does
+-- whether a line says that something was refused; the status is 1 where some line of the output
+-- does
 abbrev pub is_refusal : OutLine → Bool
 is_refusal (ended tag ends.Ok) = false
 is_refusal (ended tag ends.Range) = true
 is_refusal (sector bytes) = false
 is_refusal (ordered page tags) = false
 
+-- whether some line says that something was refused
 abbrev pub any_refusal : List OutLine → Bool
 any_refusal [] = false
 any_refusal (line ∷ lines) = is_refusal line || any_refusal lines

@@ -16,7 +16,8 @@ pub enum Kept {
     Plain(Page),
 }
 
-/// What a page's slot has: the form in which the page is kept, and the order of the phase's calls on it.
+/// What a page's slot has: the form in which the page is kept, and the order of the phase's calls
+/// on it.
 #[derive(Drop)]
 pub struct Entry {
     kept: Kept,

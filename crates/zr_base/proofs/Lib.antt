@@ -2,3 +2,4 @@ pub mod Sectors
 pub mod Words
 pub mod Supplies
 pub mod Requests
+pub mod Ranges

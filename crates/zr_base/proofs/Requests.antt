@@ -1,5 +1,6 @@
 -- The pieces of a request: the first, and then those of what is left.
 use Rattle.std.proofs.Common.{◌≡◌, ◌⊎◌, ℕ, zero, suc, ◌+◌, ◌-◌, ◌*◌, ◌/◌, ◌%◌, ◌<◌, ◌≤◌, min, max, IsTrue, List, [], ◌∷◌, refl, sym, ap, ◌∙◌, inl, inr, arith}
+use Rattle.std.specs.List.{AllByRecursion}
 use Rattle.std.proofs.lemmas.Bool.Decides.{nat_tests}
 use Rattle.zr_base.specs.declared.op.Piece.{Piece}
 use Rattle.zr_base.specs.Plain.{touches}
@@ -65,22 +66,58 @@ module _ (a c k : ℕ) (some : 1 ≤ c) (k_is : k ≡ min c (8 - a % 8)) where
 
 -- ---- what the pieces have
 
-module _ (start count page : ℕ) (some : 1 ≤ count) (touched : IsTrue (touches start count page)) where
-  begins : start < 8 * page + 8
-  begins = grind arith
+-- a page on which a request has a sector
+pub touched : (start count page : ℕ) → IsTrue (touches start count page) → IsTouched start count page
+touched start count page on =
+    let t : (0 < count) × (start < 8 * page + 8) × (8 * page < start + count) = parts start count page on in
+    let n : pages_touched start count ≡ (start + count - 1) / 8 + 1 - start / 8 = pages_some start count t.0 in
+    record { from_first = omega arith; to_last = omega arith }
+  where
+    parts : (start count page : ℕ) → IsTrue (touches start count page)
+        → (0 < count) × (start < 8 * page + 8) × (8 * page < start + count)
+    parts start count page on = (grind (arith, nat_tests), grind (arith, nat_tests), grind (arith, nat_tests))
 
-  ends_after : 8 * page < start + count
-  ends_after = grind arith
+-- the pages from the first one on are touched
+module _ (start count page : ℕ) (at : IsTouched start count page) where
+  counted : 1 ≤ count
+  counted = elim (count_or count) [
+    | inl none ↦ absurd (let n : pages_touched start count ≡ 0 = ap (pages_touched start) none in
+        let f = at.from_first in let l = at.to_last in omega arith)
+    | inr some ↦ some
+  ]
+    where
+      count_or : (n : ℕ) → (n ≡ 0) ⊎ (1 ≤ n)
+      count_or n = grind arith
 
-  pub is_touched : IsTouched start count page
-  is_touched =
-      let n : pages_touched start count ≡ (start + count - 1) / 8 + 1 - start / 8 = pages_some start count some in
-      let b : start < 8 * page + 8 = begins in
-      let e : 8 * page < start + count = ends_after in
-      record { from_first = omega arith; to_last = omega arith }
+  bounds : (start < 8 * page + 8) × (8 * page < start + count)
+  bounds =
+      let s : 1 ≤ count = counted in
+      let n : pages_touched start count ≡ (start + count - 1) / 8 + 1 - start / 8 = pages_some start count s in
+      let f = at.from_first in let l = at.to_last in (omega arith, omega arith)
+
+  pub touched-back : IsTrue (touches start count page)
+  touched-back = let s = counted in let b = bounds in grind (arith, nat_tests)
 
   pub is_piece_of : IsPieceOf start count page (piece_on start count page)
   is_piece_of =
-      let b : start < 8 * page + 8 = begins in
-      let e : 8 * page < start + count = ends_after in
-      record { page_is = refl; some_sector = omega arith; within = omega arith; sectors = λ k below. grind (arith, nat_tests) }
+      let s : 1 ≤ count = counted in
+      let b : (start < 8 * page + 8) × (8 * page < start + count) = bounds in
+      record {
+        page_is = refl;
+        some_sector = omega (arith, b.0, b.1);
+        within = omega (arith, b.0, b.1);
+        sectors = λ k below. grind (arith, nat_tests);
+      }
+
+-- each piece is that of its page
+pieces_are : (start count page n : ℕ) → start / 8 ≤ page → page + n ≤ start / 8 + pages_touched start count
+    → AllByRecursion (λ (p : Piece). IsPieceOf start count p.page.0 p) (pieces_from start count page n)
+pieces_are start count page zero first last = tt
+pieces_are start count page (suc n) first last = (
+  is_piece_of start count page (record { from_first = first; to_last = omega arith }),
+  pieces_are start count (page + 1) n (omega arith) (omega arith),
+)
+
+pub pieces_of-each : (start count : ℕ)
+    → AllByRecursion (λ (p : Piece). IsPieceOf start count p.page.0 p) (pieces_of start count)
+pieces_of-each start count = pieces_are start count (start / 8) (pages_touched start count) (omega arith) (omega arith)

@@ -4,7 +4,7 @@ use Rattle.std.specs.Int.{w64, to_le_bytes}
 use Rattle.std.proofs.lemmas.Slice.{take-put_mid}
 use borrow.Rule.Slice.PartMut.{put_mid, mid_len, same_len_mid}
 use Rattle.zr_base.specs.Plain.{words_from}
-use Rattle.zr_base.specs.Ranges.{flat_map-range_push}
+use Rattle.zr_base.proofs.Ranges.{flat_map-range_push}
 use mathlib.Core.Path.{fun_ext}
 
 -- word i was put behind those before it, into a sector

@@ -2,5 +2,4 @@ pub mod Faults
 pub mod Memory
 pub mod Pieces
 pub mod Plain
-pub mod Ranges
 pub mod Sectors

@@ -2,11 +2,20 @@
 use Rattle.std.specs.Prelude.{◌≡◌, ℕ, ◌+◌, ◌-◌, ◌*◌, ◌/◌, ◌<◌, ◌≤◌, ◌==◌, ◌&&◌, nat_le, nat_lt, min, max, List, map, if◌then◌else◌}
 use Rattle.std.specs.List.{range_with_len}
 use Rattle.zr_base.specs.declared.op.Piece.{Piece}
-use Rattle.zr_base.specs.Plain.{covers}
+use Rattle.zr_base.specs.declared.op.Op.{Op}
+use Rattle.zr_base.specs.Plain.{covers, start_of, count_of}
 
 -- how many pages a request touches
 abbrev pub pages_touched : ℕ → ℕ → ℕ
 pages_touched start count = if count == 0 then 0 else (start + count - 1) / 8 + 1 - start / 8
+
+-- the first page of an operation's request
+abbrev pub first_page : Op → ℕ
+first_page op = start_of op / 8
+
+-- how many pages it touches
+abbrev pub pages_of : Op → ℕ
+pages_of op = pages_touched (start_of op) (count_of op)
 
 -- the sectors of a request on a page that it touches: from the later beginning to the earlier end
 abbrev pub piece_on : ℕ → ℕ → ℕ → Piece

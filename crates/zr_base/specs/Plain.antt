@@ -1,7 +1,8 @@
 -- What a job's calls do to a plain disk: a list of sectors, and for each page the order of the calls on it.
-use Rattle.std.specs.Prelude.{◌≡◌, ℕ, ◌+◌, ◌-◌, ◌*◌, ◌<◌, ◌≤◌, ◌^◌, ◌/◌, ◌%◌, Bool, true, false, ◌&&◌, nat_lt, nat_le, ◌==◌, List, [], ◌∷◌, length, take, drop, replicate, count_by, Option, Some, None, option_and_then, slice_get, if◌then◌else◌}
+use Rattle.std.specs.Prelude.{◌≡◌, ℕ, ◌+◌, ◌-◌, ◌*◌, ◌<◌, ◌≤◌, ◌^◌, ◌/◌, ◌%◌, Bool, true, false, ◌&&◌, nat_lt, nat_le, ◌==◌, List, [], ◌∷◌, length, take, drop, get_or, replicate, count_by, Option, Some, None, option_and_then, slice_get, if◌then◌else◌}
 use Rattle.std.specs.List.{flat_map, range_with_len, AllByRecursion}
 use Rattle.std.specs.Int.{w64, to_le_bytes}
+use Rattle.zr_base.specs.declared.limits.TheConstants.{MOST_SECTORS}
 use Rattle.zr_base.specs.declared.op.Tag.{Tag}
 use Rattle.zr_base.specs.declared.op.Stuff.{Stuff}
 use Rattle.zr_base.specs.declared.op.Stuff.TheVariants.{Fill, Seq, Hex}
@@ -28,6 +29,12 @@ HasSectors (Fill word) count = Unit {0}
 HasSectors (Seq base step) count = Unit {0}
 HasSectors (Hex bytes) count = 512 * count ≤ length bytes
 
+-- each of the bytes given is one
+abbrev pub HasBytes : Stuff → Type 0
+HasBytes (Fill word) = Unit {0}
+HasBytes (Seq base step) = Unit {0}
+HasBytes (Hex bytes) = (k : ℕ) → get_or bytes k 0 < 256
+
 -- a sector of zeros
 unfoldable pub zero_sector : List ℕ
 zero_sector = replicate 512 0
@@ -40,7 +47,7 @@ covers start count s = nat_le start s && nat_lt s (start + count)
 
 -- whether a request has a sector of a page
 abbrev pub touches : ℕ → ℕ → ℕ → Bool
-touches start count page = nat_lt start (8 * page + 8) && nat_lt (8 * page) (start + count)
+touches start count page = nat_lt 0 count && (nat_lt start (8 * page + 8) && nat_lt (8 * page) (start + count))
 
 -- whether a request has all sectors of a page
 abbrev pub has_whole : ℕ → ℕ → ℕ → Bool
@@ -56,13 +63,13 @@ count_of (Write start count stuff) = count
 count_of (Read start count) = count
 count_of (Discard start count) = count
 
--- a request's sectors in their bounds
+-- a request begins below sector 2 ^ 32, and has one sector at least and at most so many
 abbrev pub InBounds : ℕ → ℕ → Type 0
-InBounds start count = (start < 2 ^ 32) × (1 ≤ count) × (count ≤ 2048)
+InBounds start count = (start < 2 ^ 32) × (1 ≤ count) × (count ≤ MOST_SECTORS)
 
--- a request has one sector at least, and at most 2048; a write has its bytes
+-- what an operation asks for lies in these bounds; a write has its bytes
 abbrev pub IsRequest : Op → Type 0
-IsRequest (Write start count stuff) = InBounds start count × HasSectors stuff count
+IsRequest (Write start count stuff) = InBounds start count × HasSectors stuff count × HasBytes stuff
 IsRequest (Read start count) = InBounds start count
 IsRequest (Discard start count) = InBounds start count
 

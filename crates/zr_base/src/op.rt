@@ -1,11 +1,10 @@
 //! Operations of a job, their pieces, tags and ends.
 
-ghost use Rattle.std.specs.Prelude.{◌≡◌, ℕ, ◌+◌, ◌*◌, ◌<◌, ◌≤◌, ◌^◌, List, [], ◌∷◌, ◌++◌, length, take, drop, OnOk, OnErr, IfErr, ◌%◌};
+ghost use Rattle.std.specs.Prelude.{◌≡◌, ℕ, ◌+◌, ◌*◌, ◌<◌, ◌≤◌, ◌^◌, ◌%◌, length, take, drop};
 ghost use Rattle.zr_base.specs.Plain.{words_from};
 
+use crate::list::List;
 use crate::page::PageIx;
-use std::alloc::Global;
-use std::marker::Model;
 
 /// Names an operation: the actor's number in its phase, and the operation's number among the actor's, both from 0.
 #[derive(Clone, Copy, PartialEq, Eq, Debug)]
@@ -40,48 +39,7 @@ pub enum OpEnd {
 }
 
 /// A list of bytes.
-#[derive(Drop)]
-pub struct Bytes {
-    items: Vec<u8>,
-}
-
-impl Model for Bytes {
-    ghost use Rattle.std.specs.Prelude.{ℕ, List};
-
-    ghost Value = { List ℕ };
-
-    ghost view = { λ b. b.items.items };
-}
-
-impl Bytes {
-    /// The empty list; it takes no memory.
-    pub fn new(alloc: Global) -> Self
-        ensures { result ≡ [] }
-    {
-        Bytes {
-            items: Vec::new(alloc),
-        }
-    }
-
-    /// Puts a byte last. Err is want of memory, and hands the byte back.
-    pub fn push(&mut self, item: u8) -> Result<(), u8>
-        ensures ok { OnOk result (self.new ≡ self.old ++ item ∷ []) }
-        ensures err { OnErr result (self.new ≡ self.old) }
-        ensures back { IfErr result (λ byte. byte ≡ item) }
-    {
-        match self.items.push(item) {
-            Ok(()) => Ok(()),
-            Err(failed) => Err(failed.value),
-        }
-    }
-
-    /// The bytes in order.
-    pub fn as_slice(&self) -> &[u8]
-        ensures { result.now ≡ self.now }
-    {
-        &self.items
-    }
-}
+pub type Bytes = List<u8>;
 
 /// What a write puts.
 #[derive(Drop)]
@@ -156,46 +114,4 @@ pub enum Op {
 }
 
 /// The operations of an actor, in turn.
-#[derive(Drop)]
-pub struct ActorOps {
-    items: Vec<Op>,
-}
-
-impl Model for ActorOps {
-    ghost use Rattle.std.specs.Prelude.{List};
-    ghost use Rattle.zr_base.specs.declared.op.Op.{Op};
-
-    ghost Value = { List Op };
-
-    ghost view = { λ a. a.items.items };
-}
-
-impl ActorOps {
-    /// The empty list; it takes no memory.
-    pub fn new(alloc: Global) -> Self
-        ensures { result ≡ [] }
-    {
-        ActorOps {
-            items: Vec::new(alloc),
-        }
-    }
-
-    /// Puts an operation last. Err is want of memory, and hands the operation back.
-    pub fn push(&mut self, item: Op) -> Result<(), Op>
-        ensures ok { OnOk result (self.new ≡ self.old ++ item ∷ []) }
-        ensures err { OnErr result (self.new ≡ self.old) }
-        ensures back { IfErr result (λ op. op ≡ item) }
-    {
-        match self.items.push(item) {
-            Ok(()) => Ok(()),
-            Err(failed) => Err(failed.value),
-        }
-    }
-
-    /// The operations in order.
-    pub fn as_slice(&self) -> &[Op]
-        ensures { result.now ≡ self.now }
-    {
-        &self.items
-    }
-}
+pub type ActorOps = List<Op>;

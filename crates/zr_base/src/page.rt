@@ -70,6 +70,7 @@ impl Page {
     /// Sets a sector; the other seven stay.
     pub fn put_sector(&mut self, at: u8, from: &[u8; 512])
         requires { at < 8 }
+        ensures size { length self.new ≡ 4096 }
         ensures put { page_sector self.new at ≡ from.now }
         ensures others { (k : ℕ) → k < 8 → ¬ (k ≡ at) → page_sector self.new k ≡ page_sector self.old k }
     {

@@ -1,6 +1,6 @@
 //! Where an output's bytes go.
 
-ghost use Rattle.std.specs.Prelude.{◌≡◌, ◌⊎◌, ℕ, ◌+◌, ◌-◌, ◌^◌, ◌≤◌, ◌↔◌, Bool, true, false, IsTrue, List, [], Option, None, Some, min, length, IsErr, IfOk};
+ghost use Rattle.std.specs.Prelude.{◌≡◌, ◌⊎◌, ℕ, ◌+◌, ◌-◌, ◌^◌, ◌≤◌, ◌↔◌, Bool, true, false, IsTrue, List, [], Option, None, Some, min, length, cond, is_err, IsErr, IfOk, OnErr};
 ghost use Rattle.std.specs.Io.{WritesAtMost};
 ghost use Rattle.std.specs.Io.KnownBytes.{WriteAppends};
 ghost use Rattle.zr_base.specs.Faults.{HasCause, FailsNext, TookNone};
@@ -78,7 +78,7 @@ impl MemSink {
 }
 
 impl Sink for MemSink {
-    ghost use Rattle.std.specs.Prelude.{◌≡◌, ◌⊎◌, ℕ, ◌+◌, ◌-◌, ◌^◌, ◌↔◌, IsTrue, Some, min, length, IsErr, IfOk};
+    ghost use Rattle.std.specs.Prelude.{◌≡◌, ◌⊎◌, ℕ, ◌+◌, ◌-◌, ◌^◌, ◌↔◌, IsTrue, Some, min, length, cond, is_err, IsErr, IfOk, OnErr};
     ghost use Rattle.std.specs.Io.{WritesAtMost};
     ghost use Rattle.std.specs.Io.KnownBytes.{WriteAppends};
     ghost use Rattle.zr_base.specs.Faults.{HasCause, FailsNext, TookNone};
@@ -99,7 +99,9 @@ impl Sink for MemSink {
         ensures planned { IsErr result ↔ FailsNext self.old.calls self.old.failing }
         ensures calls { self.new.calls ≡ min (self.old.calls + 1) (2 ^ 64 - 1) }
         ensures failing { self.new.failing ≡ self.old.failing }
+        ensures faults { self.new.faults ≡ self.old.faults + cond (is_err result) 1 0 }
         ensures most { IfOk result (λ n. (n ≡ min (length from.now) self.old.room) × (self.new.room ≡ self.old.room - n)) }
+        ensures room_stays { OnErr result (self.new.room ≡ self.old.room) }
     {
         if self.planned.fails() {
             return Err(Failed);

@@ -1,6 +1,6 @@
 //! Where a job's bytes come from.
 
-ghost use Rattle.std.specs.Prelude.{◌≡◌, ℕ, ◌+◌, ◌-◌, ◌^◌, ◌≤◌, ◌↔◌, List, Option, None, Some, min, length, IsErr, IfOk, OnErr};
+ghost use Rattle.std.specs.Prelude.{◌≡◌, ℕ, ◌+◌, ◌-◌, ◌^◌, ◌≤◌, ◌↔◌, List, Option, None, Some, min, length, cond, is_err, IsErr, IfOk, OnErr};
 ghost use Rattle.std.specs.Io.{ReadsAtMost};
 ghost use Rattle.std.specs.Io.KnownBytes.{ReadConsumes};
 ghost use Rattle.zr_base.specs.Faults.{HasCause, FailsNext};
@@ -64,7 +64,7 @@ impl MemSource {
 }
 
 impl Source for MemSource {
-    ghost use Rattle.std.specs.Prelude.{◌≡◌, ℕ, ◌+◌, ◌-◌, ◌^◌, ◌↔◌, List, Option, Some, min, length, IsErr, IfOk};
+    ghost use Rattle.std.specs.Prelude.{◌≡◌, ℕ, ◌+◌, ◌-◌, ◌^◌, ◌↔◌, List, Option, Some, min, length, cond, is_err, IsErr, IfOk};
     ghost use Rattle.std.specs.Io.{ReadsAtMost};
     ghost use Rattle.std.specs.Io.KnownBytes.{ReadConsumes};
     ghost use Rattle.zr_base.specs.Faults.{HasCause, FailsNext};
@@ -82,6 +82,7 @@ impl Source for MemSource {
         ensures planned { IsErr result ↔ FailsNext self.old.calls self.old.failing }
         ensures calls { self.new.calls ≡ min (self.old.calls + 1) (2 ^ 64 - 1) }
         ensures failing { self.new.failing ≡ self.old.failing }
+        ensures faults { self.new.faults ≡ self.old.faults + cond (is_err result) 1 0 }
         ensures most { IfOk result (λ n. n ≡ min (length into.old) (length self.old.left)) }
     {
         if self.planned.fails() {

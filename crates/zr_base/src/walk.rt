@@ -1,8 +1,10 @@
 //! The walk over the pieces of a request.
 
-ghost use Rattle.std.specs.Prelude.{◌≡◌, ℕ, ◌+◌, ◌-◌, ◌*◌, ◌/◌, ◌<◌, ◌≤◌, ◌^◌, ◌↔◌, IsTrue};
+ghost use Rattle.std.specs.Prelude.{◌≡◌, ℕ, ◌<◌, ◌≤◌, ◌^◌, ◌↔◌, IsTrue};
+ghost use Rattle.std.specs.List.{AllByRecursion};
+ghost use Rattle.zr_base.specs.declared.limits.TheConstants.{MOST_SECTORS};
 ghost use Rattle.zr_base.specs.Plain.{touches};
-ghost use Rattle.zr_base.specs.Pieces.{pieces_of, piece_on, IsPieceOf, IsTouched};
+ghost use Rattle.zr_base.specs.Pieces.{pieces_of, IsPieceOf, IsTouched};
 
 use crate::op::Piece;
 use crate::page::PageIx;
@@ -31,10 +33,10 @@ impl Model for PieceWalk {
 /// page that it touches.
 pub fn pieces(start: u64, count: u32) -> PieceWalk
     requires start { start < 2 ^ 32 }
-    requires count { count ≤ 2048 }
+    requires count { count ≤ MOST_SECTORS }
     ensures pieces { result ≡ pieces_of start count }
-    ensures pages { (page : ℕ) → 1 ≤ count → IsTrue (touches start count page) → IsTouched start count page }
-    ensures sectors { (page : ℕ) → 1 ≤ count → IsTrue (touches start count page) → IsPieceOf start count page (piece_on start count page) }
+    ensures pages { (page : ℕ) → IsTrue (touches start count page) ↔ IsTouched start count page }
+    ensures sectors { AllByRecursion (λ piece. IsPieceOf start count piece.page.0 piece) result }
 {
     PieceWalk {
         from: start,

@@ -25,7 +25,8 @@ each_more : {A B : Type 0} (P : ℕ → A → B → Type 0) (xs : List A) (ys : 
     → length ys ≡ length xs
     → ((k : ℕ) (a : A) (b : B) → slice_get xs k ≡ Some a → slice_get ys k ≡ Some b → P k a b)
     → P (length xs) x y
-    → (k : ℕ) (a : A) (b : B) → slice_get (xs ++ x ∷ []) k ≡ Some a → slice_get (ys ++ y ∷ []) k ≡ Some b
+    → (k : ℕ) (a : A) (b : B) → slice_get (xs ++ x ∷ []) k ≡ Some a
+    → slice_get (ys ++ y ∷ []) k ≡ Some b
     → P k a b
 each_more P [] [] x y e all last zero a b f g =
     let p : x ≡ a = (let q : Some x ≡ Some a = f in cc) in
@@ -38,19 +39,25 @@ each_more P (z ∷ zs) [] x y e all last k a b f g = absurd (let q : 0 ≡ suc (
     let none : ⊥ = omega arith in none)
 each_more P (z ∷ zs) (w ∷ ws) x y e all last zero a b f g = all zero a b f g
 each_more P (z ∷ zs) (w ∷ ws) x y e all last (suc k) a b f g =
-    each_more (λ j. P (suc j)) zs ws x y (omega arith) (λ j c d h i. all (suc j) c d h i) last k a b f g
+    each_more (λ j. P (suc j)) zs ws x y (omega arith)
+    (λ j c d h i. all (suc j) c d h i) last k a b f g
 
 -- ---- replies
 
-pub no_replies : (size : ℕ) (ops : List Op) → AreNewReplies size (take 0 ops) []
-no_replies size ops = record { count = refl; each = λ k op r e f. absurd (cc) }
-
 pub reply_more : (size : ℕ) (ops : List Op) (i : ℕ) (op : Op) (rs rs' : List Reply) (r : Reply)
-    → slice_get ops i ≡ Some op → rs' ≡ rs ++ r ∷ [] → AreNewReplies size (take i ops) rs → IsNewReply size op r
+    → slice_get ops i ≡ Some op → rs' ≡ rs ++ r ∷ [] → AreNewReplies size (take i ops) rs
+    → IsNewReply size op r
     → AreNewReplies size (take (i + 1) ops) rs'
 reply_more size ops i op rs rs' r at more old new =
-    subst (λ (c : List Op × List Reply). AreNewReplies size c.0 c.1) (λ j. ((sym (ap (λ (n : ℕ). take n ops) (let q : i + 1 ≡ suc i = omega arith in q) ∙ take_more ops i op at)) j, sym more j)) record {
-      count = length_push rs r ∙ ap (λ (n : ℕ). n + 1) old.count ∙ sym (length_push (take i ops) op);
+    subst (λ (c : List Op × List Reply). AreNewReplies size c.0 c.1)
+    (λ j. (
+      (sym
+          (ap (λ (n : ℕ). take n ops) (let q : i + 1 ≡ suc i = omega arith in q)
+          ∙ take_more ops i op at)) j,
+      sym more j,
+    )) record {
+      count = length_push rs r ∙ ap (λ (n : ℕ). n + 1) old.count
+          ∙ sym (length_push (take i ops) op);
       each = each_more (λ k o s. IsNewReply size o s) (take i ops) rs op r old.count old.each new;
     }
 
@@ -62,15 +69,18 @@ new_fits size pl k (Write start count stuff) r n = n.none
 new_fits size pl k (Discard start count) r n = n.none
 new_fits size pl k (Read start count) r n = (
   record {
-    later = λ lt inside. let q = n.room in let l = n.len in let s = ap (λ (b : Bool). cond b 0 count) inside in
+    later = λ lt inside. let q = n.room in let l = n.len in
+        let s = ap (λ (b : Bool). cond b 0 count) inside in
         omega arith;
-    here = λ e inside. let q = n.room in let l = n.len in let s = ap (λ (b : Bool). cond b 0 count) inside in
+    here = λ e inside. let q = n.room in let l = n.len in
+        let s = ap (λ (b : Bool). cond b 0 count) inside in
         omega arith;
   },
   λ beyond. n.none,
 )
 
-pub is_new_worker : (size actor : ℕ) (ops : List Op) (w : Worker) → AreRequests ops → length ops < 2 ^ 32
+pub is_new_worker : (size actor : ℕ) (ops : List Op) (w : Worker) → AreRequests ops
+    → length ops < 2 ^ 32
     → w.actor ≡ actor → w.entry ≡ None → IsPlace size ops w.place → IsSettled ops w.place
     → todo_at size ops w.place ≡ program size 0 ops
     → AreNewReplies size ops w.replies.items → IsNewWorker size actor ops w
@@ -92,12 +102,24 @@ is_new_worker size actor ops w requests few who at place settled todo new = reco
       let n = new.count in omega arith) in (new.each k op.0 r op.1 f).none;
 }
 
-pub worker_more : (size : ℕ) (actors : List (List Op)) (i actor : ℕ) (ops : List Op) (ws ws' : List Worker) (w : Worker) → actor ≡ i → slice_get actors i ≡ Some ops → i ≤ length actors → ws' ≡ ws ++ w ∷ [] → AreNewWorkers size (take i actors) ws → IsNewWorker size actor ops w
+pub worker_more : (size : ℕ) (actors : List (List Op)) (i actor : ℕ) (ops : List Op)
+    (ws ws' : List Worker) (w : Worker) → actor ≡ i → slice_get actors i ≡ Some ops
+    → i ≤ length actors → ws' ≡ ws ++ w ∷ [] → AreNewWorkers size (take i actors) ws
+    → IsNewWorker size actor ops w
     → AreNewWorkers size (take (i + 1) actors) ws'
 worker_more size actors i actor ops ws ws' w same at le more old new =
-    subst (λ (c : List (List Op) × List Worker). AreNewWorkers size c.0 c.1) (λ j. ((sym (ap (λ (n : ℕ). take n actors) (let q : i + 1 ≡ suc i = omega arith in q) ∙ take_more actors i ops at)) j, sym more j)) record {
-      count = length_push ws w ∙ ap (λ (n : ℕ). n + 1) old.count ∙ sym (length_push (take i actors) ops);
-      each = each_more (IsNewWorker size) (take i actors) ws ops w old.count old.each (subst (λ (a : ℕ). IsNewWorker size a ops w) (same ∙ sym (length-take-le i actors le)) new);
+    subst (λ (c : List (List Op) × List Worker). AreNewWorkers size c.0 c.1)
+    (λ j. (
+      (sym
+          (ap (λ (n : ℕ). take n actors) (let q : i + 1 ≡ suc i = omega arith in q)
+          ∙ take_more actors i ops at)) j,
+      sym more j,
+    )) record {
+      count = length_push ws w ∙ ap (λ (n : ℕ). n + 1) old.count
+          ∙ sym (length_push (take i actors) ops);
+      each = each_more (IsNewWorker size) (take i actors) ws ops w old.count old.each
+          (subst (λ (a : ℕ). IsNewWorker size a ops w)
+          (same ∙ sym (length-take-le i actors le)) new);
     }
 
 pub few_of : (actors : List (List Op)) (a : ℕ) (ops : List Op) → slice_get actors a ≡ Some ops

@@ -4,23 +4,13 @@ use Rattle.std.proofs.lemmas.Bool.{cases_lt}
 use Rattle.std.proofs.lemmas.List.{length_push}
 use Rattle.lock_row.specs.declared.names.LockNo.{LockNo}
 use Rattle.lock_row.specs.declared.names.Held.TheVariants as holds
-use Rattle.lock_row.specs.Rows.{Row, place_in, cell, at_home, names_of, cells_of}
+use Rattle.lock_row.specs.Rows.{Row, place_in, cell, at_home}
 use Rattle.slot_entry.specs.declared.entry.Kept.TheVariants.{Empty}
 use Rattle.slot_entry.specs.Entries.{EntryState}
 use Rattle.zr_core.specs.Steps.{DiskHeld, slot}
 use Rattle.zr_core.specs.States.{slots_of, IsBlank, IsAtRest}
-use Rattle.zr_core.proofs.Sectors.{map_range_push}
+use Rattle.std.proofs.lemmas.List.FromFn.{map-range_with_len_more}
 use Rattle.zr_core.proofs.States.{slot_place}
-
-names_push : (xs : List (LockNo × DiskHeld)) (k : LockNo) (v : DiskHeld)
-    → names_of (xs ++ (k, v) ∷ []) ≡ names_of xs ++ k ∷ []
-names_push [] k v = refl
-names_push (x ∷ xs) k v = ap (λ (ks : List LockNo). x.0 ∷ ks) (names_push xs k v)
-
-cells_push : (xs : List (LockNo × DiskHeld)) (k : LockNo) (v : DiskHeld)
-    → cells_of (xs ++ (k, v) ∷ []) ≡ cells_of xs ++ Some v ∷ []
-cells_push [] k v = refl
-cells_push (x ∷ xs) k v = ap (λ (cs : List (Option DiskHeld)). Some x.1 ∷ cs) (cells_push xs k v)
 
 get_below : {A : Type 0} (xs : List A) (x : A) (i : ℕ) → i < length xs
     → slice_get (xs ++ x ∷ []) i ≡ slice_get xs i
@@ -33,31 +23,29 @@ get_end [] x = refl
 get_end (y ∷ ys) x = get_end ys x
 
 -- one more page
-pub more_names : (xs : List (LockNo × DiskHeld)) (n : ℕ) (v : DiskHeld) → names_of xs ≡ slots_of n
-    → names_of (xs ++ (slot n, v) ∷ []) ≡ slots_of (n + 1)
-more_names xs n v e = names_push xs (slot n) v ∙ ap (λ (ks : List LockNo). ks ++ slot n ∷ []) e
-    ∙ sym (map_range_push slot 0 n n (omega arith))
+pub more_names : (names : List LockNo) (n : ℕ) → names ≡ slots_of n
+    → names ++ slot n ∷ [] ≡ slots_of (n + 1)
+more_names names n e = ap (λ (ks : List LockNo). ks ++ slot n ∷ []) e
+    ∙ sym (map-range_with_len_more slot 0 n n (omega arith))
 
-pub none_blank : IsBlank 0 []
-none_blank = record { size = refl; each = λ p lt. absurd (omega arith) }
-
-pub more_blank : (xs : List (LockNo × DiskHeld)) (n : ℕ) (k : LockNo) (e : EntryState) → e.kept ≡ Empty
-    → e.order ≡ [] → IsBlank n (cells_of xs) → IsBlank (n + 1) (cells_of (xs ++ (k, holds.Slot e) ∷ []))
-more_blank xs n k e kept order b = subst (IsBlank (n + 1)) (sym (cells_push xs k (holds.Slot e))) record {
-  size = (let q = length_push (cells_of xs) (Some (holds.Slot e)) in let r = b.size in omega arith);
+pub more_blank : (cells : List (Option DiskHeld)) (n : ℕ) (e : EntryState) → e.kept ≡ Empty
+    → e.order ≡ []
+    → IsBlank n cells → IsBlank (n + 1) (cells ++ Some (holds.Slot e) ∷ [])
+more_blank cells n e kept order b = record {
+  size = (let q = length_push cells (Some (holds.Slot e)) in let r = b.size in omega arith);
   each = λ p lt. ⊎_elim
       (λ below. let x = b.each p below in (
         x.0,
-        get_below (cells_of xs) (Some (holds.Slot e)) p (let r = b.size in omega arith)
+        get_below cells (Some (holds.Slot e)) p (let r = b.size in omega arith)
             ∙ x.1,
         x.2,
         x.3,
       ))
       (λ last. (
         e,
-        ap (λ (i : ℕ). slice_get (cells_of xs ++ Some (holds.Slot e) ∷ []) i) (let r = b.size in
-            let q : p ≡ length (cells_of xs) = omega arith in q)
-            ∙ get_end (cells_of xs) (Some (holds.Slot e)),
+        ap (λ (i : ℕ). slice_get (cells ++ Some (holds.Slot e) ∷ []) i)
+            (let r = b.size in let q : p ≡ length cells = omega arith in q)
+            ∙ get_end cells (Some (holds.Slot e)),
         kept,
         order,
       ))
@@ -67,7 +55,8 @@ more_blank xs n k e kept order b = subst (IsBlank (n + 1)) (sym (cells_push xs k
 -- the value of a page's slot
 pub value_at : (r : Row DiskHeld) (size page : ℕ) → r.names ≡ slots_of size → page < size
     → (c : Option DiskHeld) → slice_get r.cells page ≡ Some c → at_home (cell r (slot page)) ≡ c
-value_at r size page names lt c e = ap at_home (ap (slice_get r.cells) (ap (λ ks. place_in ks (slot page)) names
+value_at r size page names lt c e =
+    ap at_home (ap (slice_get r.cells) (ap (λ ks. place_in ks (slot page)) names
     ∙ slot_place size page lt) ∙ e)
 
 pub blank_rest : (n : ℕ) (cells : List (Option DiskHeld)) → IsBlank n cells → IsAtRest n cells

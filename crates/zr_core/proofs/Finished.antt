@@ -1,4 +1,5 @@
--- A state with the joint rule in which all actors are finished prints a phase that the plain disk allows.
+-- A state with the joint rule in which all actors are finished prints a phase that the plain disk
+-- allows.
 use Rattle.std.proofs.Common.{◌≡◌, ℕ, zero, suc, ◌+◌, ◌*◌, ◌/◌, ◌%◌, ◌<◌, List, [], ◌∷◌, map, length, Option, Some, None, slice_get, refl, sym, ap, ◌∙◌, subst, arith}
 use Rattle.std.proofs.lemmas.Bool.{and_from, eq-eqb}
 use Rattle.std.proofs.lemmas.List.{length-map}
@@ -11,7 +12,7 @@ use Rattle.call_history.specs.declared.part.Done.{Done}
 use Rattle.call_history.specs.Parts.{program, Follows, stands_so, noted_on, ops_of}
 use Rattle.call_history.specs.Shows.{ShowsPage, IsTold}
 use Rattle.call_history.specs.Histories.{history, HasSomeEach, Agree}
-use Rattle.call_history.proofs.Phases.{is_phase}
+use Rattle.call_history.specs.Laws.{TellsPhase}
 use Rattle.lock_row.specs.declared.names.LockNo.{LockNo}
 use Rattle.lock_row.specs.declared.names.Held.TheVariants as holds
 use Rattle.lock_row.specs.declared.names.At.{At}
@@ -59,7 +60,8 @@ module _ (g : Given) (w : State DiskHeld) (j : Joint g w) (fin : AllFinished w) 
   no_todo a l who = finished_is l.todo l.at (fin a l who)
 
   nothing_held : (a : ℕ) (l : Here) → slice_get w.locals a ≡ Some l → l.held ≡ []
-  nothing_held a l who = map_nil (λ (x : LockNo × DiskHeld). x.0) l.held ((j.told.actors a l who).locks
+  nothing_held a l who =
+      map_nil (λ (x : LockNo × DiskHeld). x.0) l.held ((j.told.actors a l who).locks
       ∙ ap (locks_at l.at) (no_todo a l who) ∙ locks_none l.at)
 
   -- each value is in the row
@@ -68,7 +70,9 @@ module _ (g : Given) (w : State DiskHeld) (j : Joint g w) (fin : AllFinished w) 
   by_cell p (Some v) e = (v, e)
   by_cell p None e =
       let h = j.apart.keeper p e in
-      let none : slice_get (let xs : List (LockNo × DiskHeld) = [] in xs) h.2 ≡ Some h.3 = ap (λ (ys : List (LockNo × DiskHeld)). slice_get ys h.2) (sym (nothing_held h.0 h.1 h.4)) ∙ h.5 in absurd (cc)
+      let none : slice_get (let xs : List (LockNo × DiskHeld) = [] in xs) h.2 ≡ Some h.3 =
+      ap (λ (ys : List (LockNo × DiskHeld)). slice_get ys h.2) (sym (nothing_held h.0 h.1 h.4))
+      ∙ h.5 in absurd (cc)
 
   pub all_home : (p : ℕ) → p < length w.row → (v : DiskHeld) × (slice_get w.row p ≡ Some (Some v))
   all_home p lt = let c = there_is w.row p lt in by_cell p c.0 c.1
@@ -78,7 +82,8 @@ module _ (g : Given) (w : State DiskHeld) (j : Joint g w) (fin : AllFinished w) 
     there : slice_get w.row p ≡ Some (Some (holds.Slot entry))
     shows : ShowsPage g (dones w.locals) p (page_of entry.kept) entry.order
 
-  by_value : (p : ℕ) (v : DiskHeld) → slice_get w.row p ≡ Some (Some v) → Shows g (dones w.locals) p v → Page p
+  by_value : (p : ℕ) (v : DiskHeld) → slice_get w.row p ≡ Some (Some v)
+      → Shows g (dones w.locals) p v → Page p
   by_value p (holds.Slot e) there h = record { entry = e; there = there; shows = h }
   by_value p (holds.Class x) there h = elim x [ ]
   by_value p (holds.Account x) there h = elim x [ ]
@@ -90,7 +95,8 @@ module _ (g : Given) (w : State DiskHeld) (j : Joint g w) (fin : AllFinished w) 
       let v = all_home p (let q = j.told.row in omega arith) in
       by_value p v.0 v.1 (j.told.values.in_row p v.0 v.1)
 
-  pub entry_home : (p : ℕ) → p < g.size → (e : EntryState) × (slice_get w.row p ≡ Some (Some (holds.Slot e)))
+  pub entry_home : (p : ℕ) → p < g.size
+      → (e : EntryState) × (slice_get w.row p ≡ Some (Some (holds.Slot e)))
   entry_home p lt = let x = page p lt in (x.entry, x.there)
 
   order_is : (p : ℕ) (x : Page p) → nth_order (orders_of w.row) p ≡ x.entry.order
@@ -102,7 +108,8 @@ module _ (g : Given) (w : State DiskHeld) (j : Joint g w) (fin : AllFinished w) 
       let l = local_of w.locals a done there in
       let h = j.told.actors a l.0 l.1 in
       let same : h.ops ≡ ops = (let z : Some h.ops ≡ Some ops = sym h.named ∙ named in cc) in
-      subst (λ (c : List Op × List Done × List Part). Follows (program g.size 0 c.0) c.1 c.2) (λ i. (same i, l.2 i, no_todo a l.0 l.1 i)) h.follows
+      subst (λ (c : List Op × List Done × List Part). Follows (program g.size 0 c.0) c.1 c.2)
+      (λ i. (same i, l.2 i, no_todo a l.0 l.1 i)) h.follows
 
   agree : Agree g (histories w.locals) (orders_of w.row)
   agree = record {
@@ -114,7 +121,8 @@ module _ (g : Given) (w : State DiskHeld) (j : Joint g w) (fin : AllFinished w) 
     reads = λ a i d at lt stands.
         let x = page d.part.page lt in
         subst (IsTold g a d) (sym (order_is d.part.page x))
-        (x.shows.reads a i d (ap (λ (ds : List Done). slice_get ds i) (sym (history_is w.locals a)) ∙ at)
+        (x.shows.reads a i d
+        (ap (λ (ds : List Done). slice_get ds i) (sym (history_is w.locals a)) ∙ at)
         (and_from _ (stands_so d.part.op d.end) (eq-eqb d.part.page d.part.page refl) stands));
   }
 
@@ -122,9 +130,13 @@ module _ (g : Given) (w : State DiskHeld) (j : Joint g w) (fin : AllFinished w) 
       → sector_in w.row s ≡ held_after g (nth_order (orders_of w.row) (s / 8)) s
   holds_now s lt =
       let x = page (s / 8) (omega arith) in
-      ap (λ (c : Option DiskHeld). page_sector (page_in c) (s % 8)) (get_or_from_slice_get w.row (s / 8) (Some (holds.Slot x.entry)) None x.there)
+      ap (λ (c : Option DiskHeld). page_sector (page_in c) (s % 8))
+      (get_or_from_slice_get w.row (s / 8) (Some (holds.Slot x.entry)) None x.there)
       ∙ x.shows.holds (s % 8) (omega arith)
-      ∙ (λ i. held_after g (sym (order_is (s / 8) x) i) ((let q : 8 * (s / 8) + s % 8 ≡ s = omega arith in q) i))
+      ∙ (λ i. held_after g (sym (order_is (s / 8) x) i)
+      ((let q : 8 * (s / 8) + s % 8 ≡ s = omega arith in q) i))
 
-  pub finished_prints : HasSomeEach g.actors → IsPhase g (printed g w) (sector_in w.row)
-  finished_prints some = is_phase g (histories w.locals) (orders_of w.row) some agree (sector_in w.row) holds_now
+  pub finished_prints : TellsPhase → HasSomeEach g.actors
+      → IsPhase g (printed g w) (sector_in w.row)
+  finished_prints tells some =
+      tells g (histories w.locals) (orders_of w.row) (sector_in w.row) some agree holds_now

@@ -14,7 +14,7 @@ use Rattle.call_history.specs.declared.part.PartEnd.TheVariants.{Carried}
 use Rattle.call_history.specs.declared.part.Done.{Done}
 use Rattle.call_history.specs.Parts.{got_by, got_of}
 use Rattle.call_history.specs.Shows.{tag_by, got_from}
-use Rattle.call_history.proofs.Ends.{got_append}
+use Rattle.call_history.specs.Laws.{GotGrows}
 use Rattle.lock_row.specs.declared.names.LockNo.{LockNo}
 use Rattle.lock_row.specs.declared.names.Held.TheVariants as holds
 use Rattle.lock_row.specs.declared.names.At.TheVariants as stage
@@ -34,20 +34,27 @@ use Rattle.zr_core.proofs.Turns.{part_at, behind, todo_next}
 -- ---- replies
 
 -- a reply now is the one with more, or one of before
-more_at : (nr : ℕ) (got : List (List ℕ)) (n : ℕ) (old new : List Reply) (m : HasMore nr got n old new) (k : ℕ) (r : Reply) → slice_get new k ≡ Some r
+more_at : (nr : ℕ) (got : List (List ℕ)) (n : ℕ) (old new : List Reply)
+    (m : HasMore nr got n old new) (k : ℕ) (r : Reply) → slice_get new k ≡ Some r
     → ((k ≡ nr) × (m.is ≡ r)) ⊎ ((k ≢ nr) × (slice_get old k ≡ Some r))
 more_at nr got n old new m k r e = dite (ℕ_discrete k nr)
-    (λ s. inl (s, let q : Some m.is ≡ Some r = sym m.after ∙ (ap (slice_get new) (sym s) ∙ e) in cc))
+    (λ s. inl (
+      s,
+      let q : Some m.is ≡ Some r = sym m.after ∙ (ap (slice_get new) (sym s) ∙ e) in
+          cc,
+    ))
     (λ ne. inr (ne, sym (m.others k ne) ∙ e))
 
 -- a later place asks for no more room
-fits_later : (size : ℕ) (pl pl' : Place) (k : ℕ) (op : Op) (r : Reply) → k ≢ pl.nr → IsOnward (behind pl) pl'
+fits_later : (size : ℕ) (pl pl' : Place) (k : ℕ) (op : Op) (r : Reply) → k ≢ pl.nr
+    → IsOnward (behind pl) pl'
     → ReplyFits size pl k op r → ReplyFits size pl' k op r
 fits_later size pl pl' k (Write start count stuff) r ne on f = f
 fits_later size pl pl' k (Discard start count) r ne on f = f
 fits_later size pl pl' k (Read start count) r ne on f = (
   record {
-    later = λ lt inside. f.0.later (⊎_elim (λ h. omega arith) (λ h. let q = h.0 in omega arith) on) inside;
+    later = λ lt inside. f.0.later
+        (⊎_elim (λ h. omega arith) (λ h. let q = h.0 in omega arith) on) inside;
     here = λ e inside. ⊎_elim
         (λ h. let q = f.0.later (omega arith) inside in omega arith)
         (λ h. absurd (ne (sym (h.0 ∙ e))))
@@ -61,7 +68,8 @@ fits_here : (size : ℕ) (pl pl' : Place) (op : Op) (was is : Reply) → IsOnwar
     → vec_len is.sectors ≡ vec_len was.sectors + reads op pl.page
     → vec_capacity is.sectors ≡ vec_capacity was.sectors
     → is_beyond size op ≡ false → (bytes : ℕ → List ℕ)
-    → is.sectors.items ≡ was.sectors.items ++ got_by op pl.page bytes → ReplyFits size pl pl.nr op was
+    → is.sectors.items ≡ was.sectors.items ++ got_by op pl.page bytes
+    → ReplyFits size pl pl.nr op was
     → ReplyFits size pl' pl.nr op is
 fits_here size pl pl' (Write start count stuff) was is on len cap inside bytes got f = got
     ∙ append-nil was.sectors.items ∙ f
@@ -69,7 +77,8 @@ fits_here size pl pl' (Discard start count) was is on len cap inside bytes got f
     ∙ append-nil was.sectors.items ∙ f
 fits_here size pl pl' (Read start count) was is on len cap inside₀ bytes got f = (
   record {
-    later = λ lt inside. absurd (⊎_elim (λ h. let none : ⊥ = omega arith in none) (λ h. let q = h.0 in
+    later = λ lt inside. absurd
+        (⊎_elim (λ h. let none : ⊥ = omega arith in none) (λ h. let q = h.0 in
         let none : ⊥ = omega arith in none) on);
     here = λ e inside. ⊎_elim
         (λ h. absurd (let none : ⊥ = omega arith in none))
@@ -119,7 +128,8 @@ module _ (size : ℕ) (ops : List Op) (v : Worker) (e : EntryState) where
     pub has_room : (r : Reply) → slice_get v.replies.items v.place.nr ≡ Some r
         → vec_len r.sectors ≤ vec_capacity r.sectors
         → vec_len r.sectors + reads op v.place.page ≤ vec_capacity r.sectors
-    has_room r there le = room_for size v.place op r (on.inside some_left) (fit.reads v.place.nr op r at there) le
+    has_room r there le =
+        room_for size v.place op r (on.inside some_left) (fit.reads v.place.nr op r at there) le
 
     pub behind_place : IsPlace size ops (behind v.place)
     behind_place = place_here size ops v.place.nr op at (v.place.page + 1) (v.place.left - 1)
@@ -130,42 +140,64 @@ module _ (size : ℕ) (ops : List Op) (v : Worker) (e : EntryState) where
     gives_slot = ap (λ ps. plan_at ps stage.Entered) todo_is
 
     module _ (f : EntryState) (kept : (k : ℕ) → k < 8
-        → page_sector (page_of f.kept) k ≡ sector_after op (8 * v.place.page + k) (page_sector (page_of e.kept) k))
+        → page_sector (page_of f.kept) k
+        ≡ sector_after op (8 * v.place.page + k) (page_sector (page_of e.kept) k))
         (order : f.order ≡ e.order ++ tag_by v.actor p ∷ []) (room : e.room ≤ f.room + 1) where
       pub works : WorksAlways size ops w (holds.Slot f)
-      works done = carries p rest e f todo_is refl refl refl (record { work = record { notes = order; holds = kept }; room = room }) (ap (gave_by (here size ops w done)) todo_is)
+      works done =
+          carries p rest e f todo_is refl refl refl
+          (record { work = record { notes = order; holds = kept }; room = room })
+          (ap (gave_by (here size ops w done)) todo_is)
 
-      module _ {X : Type 0} (takes : X → LockNo → (Here → DiskHeld → Here) → DiskHeld → X → Type 0) (misses : X
+      module _ {X : Type 0} (takes : X → LockNo → (Here → DiskHeld → Here) → DiskHeld → X → Type 0)
+          (misses : X
           → LockNo → X → Type 0) (gives : X → LockNo → (Here → DiskHeld → Here) → DiskHeld → X
           → Type 0) (h g : X)
-          (w' : Worker) (m : HasMore v.place.nr (got_from (page_of e.kept) p) (reads op v.place.page) v.replies.items w'.replies.items)
-          (actor : w'.actor ≡ v.actor) (empty : w'.entry ≡ None) (same : todo_at size ops w'.place ≡ rest) where
+          (w' : Worker)
+          (m : HasMore v.place.nr (got_from (page_of e.kept) p)
+          (reads op v.place.page) v.replies.items w'.replies.items)
+          (actor : w'.actor ≡ v.actor) (empty : w'.entry ≡ None)
+          (same : todo_at size ops w'.place ≡ rest) where
         abbrev d : Done
         d = record { part = p; end = Carried; got = got_from (page_of e.kept) p }
 
-        keeps_more : (done : List Done) → Keeps v done → Keeps w' (done ++ d ∷ [])
-        keeps_more done keeps = record {
+        keeps_more : GotGrows → (done : List Done) → Keeps v done → Keeps w' (done ++ d ∷ [])
+        keeps_more grows done keeps = record {
           sectors = λ k r there. ⊎_elim
               (λ s. subst (λ (x : Reply). x.sectors.items ≡ got_of k (done ++ d ∷ [])) s.1
-              (m.sectors ∙ ap (λ (xs : List (List ℕ)). xs ++ d.got) (keeps.sectors v.place.nr m.was m.before)
-              ∙ sym (ap (λ (n : ℕ). got_of n (done ++ d ∷ [])) s.0 ∙ got_append v.place.nr done (d ∷ [])
-              ∙ ap (λ (b : Bool). got_of v.place.nr done ++ cond b (d.got ++ []) []) (eq-eqb v.place.nr v.place.nr refl) ∙ ap (λ (xs : List (List ℕ)). got_of v.place.nr done ++ xs) (append-nil d.got))))
-              (λ o. keeps.sectors k r o.1 ∙ sym (got_append k done (d ∷ [])
-              ∙ ap (λ (b : Bool). got_of k done ++ cond b (d.got ++ []) []) (ne_eqb v.place.nr k (λ s. o.0 (sym s))) ∙ append-nil (got_of k done)))
-              (more_at v.place.nr (got_from (page_of e.kept) p) (reads op v.place.page) v.replies.items w'.replies.items m k r there);
+              (m.sectors ∙ ap (λ (xs : List (List ℕ)). xs ++ d.got)
+              (keeps.sectors v.place.nr m.was m.before)
+              ∙ sym (ap (λ (n : ℕ). got_of n (done ++ d ∷ [])) s.0 ∙ grows v.place.nr done (d ∷ [])
+              ∙ ap (λ (b : Bool). got_of v.place.nr done ++ cond b (d.got ++ []) [])
+              (eq-eqb v.place.nr v.place.nr refl)
+              ∙ ap (λ (xs : List (List ℕ)). got_of v.place.nr done ++ xs) (append-nil d.got))))
+              (λ o. keeps.sectors k r o.1 ∙ sym (grows k done (d ∷ [])
+              ∙ ap (λ (b : Bool). got_of k done ++ cond b (d.got ++ []) [])
+              (ne_eqb v.place.nr k (λ s. o.0 (sym s))) ∙ append-nil (got_of k done)))
+              (more_at v.place.nr (got_from (page_of e.kept) p)
+              (reads op v.place.page) v.replies.items w'.replies.items m k r there);
         }
 
-        pub given : (done : List Done) → Keeps v done → gives h (slot v.place.page) gave (holds.Slot f) g
+        pub given : GotGrows → (done : List Done) → Keeps v done
+            → gives h (slot v.place.page) gave (holds.Slot f) g
             → Advanced takes misses gives size ops w h w' g turn.Went done
-        given done keeps give = (
+        given grows done keeps give = (
           done ++ d ∷ [],
-          keeps_more done keeps,
+          keeps_more grows done keeps,
           gave_it (slot v.place.page) (holds.Slot f) gives_slot give (works done)
-              ((λ i. record { actor = actor i; at = at_of (empty i); todo = same i; held = held_by w'.place.page (empty i); done = done ++ d ∷ [] })
+              ((λ i. record {
+                actor = actor i;
+                at = at_of (empty i);
+                todo = same i;
+                held =
+                    held_by w'.place.page (empty i);
+                done = done ++ d ∷ [];
+              })
               ∙ sym (ap (gave_by (here size ops w done)) todo_is)),
         )
 
-        pub still_fit : IsPlace size ops w'.place → IsSettled ops w'.place → IsOnward (behind v.place) w'.place
+        pub still_fit : IsPlace size ops w'.place → IsSettled ops w'.place
+            → IsOnward (behind v.place) w'.place
             → IsFit size ops w'
         still_fit place settled onward = record {
           requests = fit.requests;
@@ -178,14 +210,22 @@ module _ (size : ℕ) (ops : List Op) (v : Worker) (e : EntryState) where
               (λ s. subst (λ (x : Reply). x.end ≡ cond (is_beyond size o) ends.Range ends.Ok) s.1
               (m.end ∙ fit.ends v.place.nr o m.was (ap (slice_get ops) (sym s.0) ∙ named) m.before))
               (λ x. fit.ends k o r named x.1)
-              (more_at v.place.nr (got_from (page_of e.kept) p) (reads op v.place.page) v.replies.items w'.replies.items m k r there);
+              (more_at v.place.nr (got_from (page_of e.kept) p)
+              (reads op v.place.page) v.replies.items w'.replies.items m k r there);
           reads = λ k o r named there. ⊎_elim
-              (λ s. mine k o r s.0 s.1 (let q : Some op ≡ Some o = sym at ∙ (ap (slice_get ops) (sym s.0)
+              (λ s. mine k o r s.0 s.1
+              (let q : Some op ≡ Some o = sym at ∙ (ap (slice_get ops) (sym s.0)
               ∙ named) in cc))
               (λ x. fits_later size v.place w'.place k o r x.0 onward (fit.reads k o r named x.1))
-              (more_at v.place.nr (got_from (page_of e.kept) p) (reads op v.place.page) v.replies.items w'.replies.items m k r there);
+              (more_at v.place.nr (got_from (page_of e.kept) p)
+              (reads op v.place.page) v.replies.items w'.replies.items m k r there);
         } where
           mine : (k : ℕ) (o : Op) (r : Reply) → k ≡ v.place.nr → m.is ≡ r → op ≡ o
               → ReplyFits size w'.place k o r
-          mine k o r s t u = subst (λ (x : ℕ × Op × Reply). ReplyFits size w'.place x.0 x.1 x.2) (λ i. (sym s i, u i, t i))
-              (fits_here size v.place w'.place op m.was m.is onward m.len m.room (on.inside some_left) (λ s. page_sector (page_of e.kept) (s - 8 * v.place.page)) m.sectors (fit.reads v.place.nr op m.was at m.before))
+          mine k o r s t u =
+              subst (λ (x : ℕ × Op × Reply). ReplyFits size w'.place x.0 x.1 x.2)
+              (λ i. (sym s i, u i, t i))
+              (fits_here size v.place w'.place op m.was m.is onward m.len m.room
+              (on.inside some_left)
+              (λ s. page_sector (page_of e.kept) (s - 8 * v.place.page)) m.sectors
+              (fit.reads v.place.nr op m.was at m.before))

@@ -1,3 +1,7 @@
+pub mod Cited
+pub mod Lists
+pub mod Values
+pub mod Machines
 pub mod Told
 pub mod Room
 pub mod Joint

@@ -17,11 +17,11 @@ use Rattle.zr_core.specs.Joint.{pieces_on, owed}
 use Rattle.zr_core.specs.Places.{todo_at}
 use Rattle.zr_core.specs.Machines.{page_in, sector_in, Starts, IsFresh, IsStart}
 use Rattle.zr_core.specs.Workers.{at_of, held_by, here, Keeps}
-use Rattle.zr_core.specs.States.{heres, state, given_on, IsAtRest, IsPrepared, AreFit, AreKept, CanGoOn}
+use Rattle.zr_core.specs.Laws.{StartHasJoint}
+use Rattle.zr_core.specs.States.{heres, state, Playing, given_on, IsAtRest, IsPrepared, AreKept, HasJoint, CanGoOn}
 use Rattle.zr_core.specs.Runs.{nothing_over}
 use Rattle.zr_core.specs.Preparing.{count_at, pieces_each, IsReserved, AreReserved, AreNewWorkers}
 use Rattle.zr_core.proofs.Places.{there_is}
-use Rattle.zr_core.proofs.Starts.{start_joint}
 
 -- ---- the row
 
@@ -29,7 +29,8 @@ same_entry : (e f : EntryState) (c : Option (Option DiskHeld)) → c ≡ Some (S
     → c ≡ Some (Some (holds.Slot f)) → e ≡ f
 same_entry e f c p q = let r : c ≡ Some (Some (holds.Slot f)) = q in cc
 
-pub reserved_none : (size : ℕ) (counts : List ℕ) (cells : List (Option DiskHeld)) → IsAtRest size cells
+pub reserved_none : (size : ℕ) (counts : List ℕ) (cells : List (Option DiskHeld))
+    → IsAtRest size cells
     → AreReserved 0 counts cells cells
 reserved_none size counts cells rest = record {
   size = refl;
@@ -51,7 +52,8 @@ reserved_more counts page n old mid new count r x = record {
   size = x.size ∙ r.size;
   each = λ p lt. let k = r.each p lt in dite (ℕ_discrete p page)
       (λ s.
-      let mine = same_entry x.was k.is (slice_get mid page) x.before (ap (slice_get mid) (sym s) ∙ k.after) in
+      let mine = same_entry x.was k.is (slice_get mid page) x.before
+      (ap (slice_get mid) (sym s) ∙ k.after) in
       record {
         was = k.was;
         is = x.is;
@@ -72,7 +74,8 @@ reserved_more counts page n old mid new count r x = record {
       });
 }
 
-pub reserved_any : (n : ℕ) (counts : List ℕ) (old new : List (Option DiskHeld)) → AreReserved n counts old new
+pub reserved_any : (n : ℕ) (counts : List ℕ) (old new : List (Option DiskHeld))
+    → AreReserved n counts old new
     → AreReserved 0 counts old new
 reserved_any n counts old new r = record {
   size = r.size;
@@ -87,7 +90,8 @@ reserved_any n counts old new r = record {
   };
 }
 
-pub reserved_rest : (size n : ℕ) (counts : List ℕ) (old new : List (Option DiskHeld)) → IsAtRest size old
+pub reserved_rest : (size n : ℕ) (counts : List ℕ) (old new : List (Option DiskHeld))
+    → IsAtRest size old
     → AreReserved n counts old new → IsAtRest size new
 reserved_rest size n counts old new rest r = record {
   size = r.size ∙ rest.size;
@@ -95,25 +99,30 @@ reserved_rest size n counts old new rest r = record {
 }
 
 page_at : (cells : List (Option DiskHeld)) (p : ℕ) (e : EntryState)
-    → slice_get cells p ≡ Some (Some (holds.Slot e)) → page_in (get_or cells p None) ≡ page_of e.kept
+    → slice_get cells p ≡ Some (Some (holds.Slot e))
+    → page_in (get_or cells p None) ≡ page_of e.kept
 page_at cells p e at = ap page_in (get_or_from_slice_get cells p (Some (holds.Slot e)) None at)
 
-pub reserved_holds : (size n : ℕ) (counts : List ℕ) (old new : List (Option DiskHeld)) → IsAtRest size old
+pub reserved_holds : (size n : ℕ) (counts : List ℕ) (old new : List (Option DiskHeld))
+    → IsAtRest size old
     → AreReserved n counts old new → (s : ℕ) → s < 8 * size → sector_in new s ≡ sector_in old s
 reserved_holds size n counts old new rest r s lt =
     let k = r.each (s / 8) (let e = rest.size in omega arith) in
     ap (λ (page : List ℕ). page_sector page (s % 8))
-    (page_at new (s / 8) k.is k.after ∙ ap page_of k.kept ∙ sym (page_at old (s / 8) k.was k.before))
+    (page_at new (s / 8) k.is k.after ∙ ap page_of k.kept
+    ∙ sym (page_at old (s / 8) k.was k.before))
 
 -- ---- the workers
 
-none_over : (ws : List Worker) (a : ℕ) (done : List Done) → slice_get (nothing_over ws) a ≡ Some done
+none_over : (ws : List Worker) (a : ℕ) (done : List Done)
+    → slice_get (nothing_over ws) a ≡ Some done
     → done ≡ []
 none_over [] a done e = absurd (cc)
 none_over (w ∷ ws) zero done e = let q : Some (let ds : List Done = [] in ds) ≡ Some done = e in cc
 none_over (w ∷ ws) (suc a) done e = none_over ws a done e
 
-record HereAt (size : ℕ) (actors : List (List Op)) (ws : List Worker) (a : ℕ) (l : Here) : Type 0 where
+record HereAt (size : ℕ) (actors : List (List Op)) (ws : List Worker) (a : ℕ)
+    (l : Here) : Type 0 where
   ops : List Op
   worker : Worker
   named : slice_get actors a ≡ Some ops
@@ -124,7 +133,15 @@ here_at : (size : ℕ) (actors : List (List Op)) (ws : List Worker) (a : ℕ) (l
     → slice_get (heres size actors ws (nothing_over ws)) a ≡ Some l → HereAt size actors ws a l
 here_at size [] ws a l e = absurd (cc)
 here_at size (ops ∷ more) [] a l e = absurd (cc)
-here_at size (ops ∷ more) (w ∷ ws) zero l e = record { ops = ops; worker = w; named = refl; there = refl; is = (let q : Some (here size ops w []) ≡ Some l = e in cc) }
+here_at size (ops ∷ more) (w ∷ ws) zero l e =
+    record {
+      ops = ops;
+      worker = w;
+      named = refl;
+      there = refl;
+      is =
+          (let q : Some (here size ops w []) ≡ Some l = e in cc);
+    }
 here_at size (ops ∷ more) (w ∷ ws) (suc a) l e = let h = here_at size more ws a l e in
     record { ops = h.ops; worker = h.worker; named = h.named; there = h.there; is = h.is }
 
@@ -136,29 +153,38 @@ as_many size (ops ∷ more) [] e = absurd (let q : 0 ≡ suc (length more) = e i
 as_many size (ops ∷ more) (w ∷ ws) e = ap suc (as_many size more ws (omega arith))
 
 owed_is : (size p : ℕ) (actors : List (List Op)) (ws : List Worker) → length ws ≡ length actors
-    → ((a : ℕ) (ops : List Op) (w : Worker) → slice_get actors a ≡ Some ops → slice_get ws a ≡ Some w
+    → ((a : ℕ) (ops : List Op) (w : Worker) → slice_get actors a ≡ Some ops
+    → slice_get ws a ≡ Some w
     → todo_at size ops w.place ≡ program size 0 ops)
     → owed (heres size actors ws (nothing_over ws)) p ≡ pieces_each size actors p
 owed_is size p [] ws e todo = refl
 owed_is size p (ops ∷ more) [] e todo = absurd (let q : 0 ≡ suc (length more) = e in
     let none : ⊥ = omega arith in none)
 owed_is size p (ops ∷ more) (w ∷ ws) e todo =
-    λ i. pieces_on p (todo 0 ops w refl refl i) + owed_is size p more ws (omega arith) (λ a os v named there. todo (suc a) os v named there) i
+    λ i. pieces_on p (todo 0 ops w refl refl i)
+    + owed_is size p more ws (omega arith)
+    (λ a os v named there. todo (suc a) os v named there) i
 
 -- ---- the state before the first turn
 
-module _ (size : ℕ) (actors : List (List Op)) (cells cells' : List (Option DiskHeld)) (ws : List Worker) (counts : List ℕ) (new : AreNewWorkers size actors ws)
+module _ (size : ℕ) (actors : List (List Op)) (cells cells' : List (Option DiskHeld))
+    (ws : List Worker) (counts : List ℕ) (new : AreNewWorkers size actors ws)
     (counted : (p : ℕ) → p < size
-    → count_at counts p ≡ pieces_each size actors p) (rest : IsAtRest size cells) (r : AreReserved size counts cells cells') where
+    → count_at counts p ≡ pieces_each size actors p) (rest : IsAtRest size cells)
+    (r : AreReserved size counts cells cells') where
   kept : AreKept ws (nothing_over ws)
   kept = record {
     count = length-map ws (λ (w : Worker). (let ds : List Done = [] in ds));
     each = λ a w done e f. subst (Keeps w) (sym (none_over ws a done f)) record {
       sectors = λ k reply at.
-          let ops = there_is actors a (let q = slice_get_within ws a w e in let n = new.count in omega arith) in
+          let ops = there_is actors a
+          (let q = slice_get_within ws a w e in let n = new.count in omega arith) in
           (new.each a ops.0 w ops.1 e).none k reply at;
     };
   }
+
+  abbrev now : Playing
+  now = record { size = size; actors = actors; cells = cells'; workers = ws }
 
   abbrev locals : List Here
   locals = heres size actors ws (nothing_over ws)
@@ -166,21 +192,30 @@ module _ (size : ℕ) (actors : List (List Op)) (cells cells' : List (Option Dis
   fresh : (p : ℕ) (c : Option DiskHeld) → slice_get cells' p ≡ Some c
       → IsFresh (given_on size actors cells) locals p c
   fresh p c e =
-      let lt : p < size = (let q = slice_get_within cells' p c e in let s = r.size in let t = rest.size in
+      let lt : p < size =
+      (let q = slice_get_within cells' p c e in let s = r.size in let t = rest.size in
       omega arith) in
       let k = r.each p (let t = rest.size in omega arith) in
-      let is : Some (holds.Slot k.is) ≡ c = (let q : Some (Some (holds.Slot k.is)) ≡ Some c = sym k.after
+      let is : Some (holds.Slot k.is) ≡ c =
+      (let q : Some (Some (holds.Slot k.is)) ≡ Some c = sym k.after
       ∙ e in cc) in
       subst (IsFresh (given_on size actors cells) locals p) is (
         k.order lt,
         (λ j small.
             ap (λ (kept : Kept). page_sector (page_of kept) j) k.kept
-            ∙ sym (ap (λ (x : ℕ × ℕ). page_sector (page_in (get_or cells x.0 None)) x.1) (λ i. ((let q : (8 * p + j) / 8 ≡ p = omega arith in q) i, (let q : (8 * p + j) % 8 ≡ j = omega arith in q) i))
+            ∙ sym (ap (λ (x : ℕ × ℕ). page_sector (page_in (get_or cells x.0 None)) x.1)
+            (λ i. (
+              (let q : (8 * p + j) / 8 ≡ p = omega arith in q) i,
+              (let q : (8 * p + j) % 8 ≡ j = omega arith in q) i,
+            ))
             ∙ ap (λ (page : List ℕ). page_sector page j) (page_at cells p k.was k.before))),
-        (let o = owed_is size p actors ws new.count (λ a ops w named there. (new.each a ops w named there).todo) in let m = counted p lt in let room = k.room lt in omega arith),
+        (let o = owed_is size p actors ws new.count
+            (λ a ops w named there. (new.each a ops w named there).todo) in let m = counted p lt in
+            let room = k.room lt in omega arith),
       )
 
-  starts : (a : ℕ) (l : Here) → slice_get locals a ≡ Some l → Starts (given_on size actors cells) a l
+  starts : (a : ℕ) (l : Here) → slice_get locals a ≡ Some l
+      → Starts (given_on size actors cells) a l
   starts a l e =
       let h = here_at size actors ws a l e in
       let w = new.each a h.ops h.worker h.named h.there in
@@ -206,16 +241,23 @@ module _ (size : ℕ) (actors : List (List Op)) (cells cells' : List (Option Dis
   pub prepared : IsPrepared (given_on size actors cells) cells' ws
   prepared = record { dones = nothing_over ws; kept = kept; start = first_state }
 
-  pub may_go_on : CanGoOn size actors cells' ws
-  may_go_on = record {
-    given = given_on size actors cells;
-    dones = nothing_over ws;
+  pub has_joint : StartHasJoint → HasJoint (given_on size actors cells) now
+  has_joint start = record {
     pages = refl;
     ops = refl;
+    dones = nothing_over ws;
     kept = kept;
-    joint = start_joint (given_on size actors cells) (state size actors cells' ws (nothing_over ws)) first_state;
+    joint = start (given_on size actors cells)
+        (state size actors cells' ws (nothing_over ws)) first_state;
   }
 
-pub fit_for : (size : ℕ) (actors : List (List Op)) (ws : List Worker) → AreNewWorkers size actors ws
-    → AreFit size actors ws
-fit_for size actors ws new = record { count = new.count; each = λ a ops w named there. (new.each a ops w named there).fit }
+  pub may_go_on : StartHasJoint → CanGoOn now
+  may_go_on start = record {
+    fit = record {
+      count = new.count;
+      each =
+          λ a ops w named there. (new.each a ops w named there).fit;
+    };
+    given = given_on size actors cells;
+    joint = has_joint start;
+  }

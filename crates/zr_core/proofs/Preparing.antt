@@ -9,7 +9,8 @@ use Rattle.zr_core.specs.States.{slots_of, IsAtRest}
 use Rattle.zr_core.specs.Preparing.{IsReserved}
 use Rattle.zr_core.proofs.States.{set_same, slot_place}
 
-pub on_ok_both : {A E P Q R : Type 0} (r : Result A E) → (P → Q → R) → OnOk r P → OnOk r Q → OnOk r R
+pub on_ok_both : {A E P Q R : Type 0} (r : Result A E) → (P → Q → R) → OnOk r P → OnOk r Q
+    → OnOk r R
 on_ok_both (Ok x) f p q = f p q
 on_ok_both (Err e) f p q = tt
 
@@ -33,18 +34,22 @@ get_set_other (z ∷ zs) zero (suc j) x ne = refl
 get_set_other (z ∷ zs) (suc i) zero x ne = refl
 get_set_other (z ∷ zs) (suc i) (suc j) x ne = get_set_other zs i j x (λ e. ne (ap suc e))
 
-set_twice : {A : Type 0} (xs : List A) (i : ℕ) (x y : A) → slice_set (slice_set xs i x) i y ≡ slice_set xs i y
+set_twice : {A : Type 0} (xs : List A) (i : ℕ) (x y : A)
+    → slice_set (slice_set xs i x) i y ≡ slice_set xs i y
 set_twice [] i x y = refl
 set_twice (z ∷ zs) zero x y = refl
 set_twice (z ∷ zs) (suc i) x y = ap (λ ws. z ∷ ws) (set_twice zs i x y)
 
 module _ (size page : ℕ) (lt : page < size) where
-  cell_at : (r : Row DiskHeld) → r.names ≡ slots_of size → cell r (slot page) ≡ slice_get r.cells page
-  cell_at r names = ap (slice_get r.cells) (ap (λ ks. place_in ks (slot page)) names ∙ slot_place size page lt)
+  cell_at : (r : Row DiskHeld) → r.names ≡ slots_of size
+      → cell r (slot page) ≡ slice_get r.cells page
+  cell_at r names =
+      ap (slice_get r.cells) (ap (λ ks. place_in ks (slot page)) names ∙ slot_place size page lt)
 
   cells_with : (r : Row DiskHeld) (x : Option DiskHeld) → r.names ≡ slots_of size
       → (with_cell r (slot page) x).cells ≡ slice_set r.cells page x
-  cells_with r x names = ap (λ (p : ℕ). slice_set r.cells p x) (ap (λ ks. place_in ks (slot page)) names
+  cells_with r x names =
+      ap (λ (p : ℕ). slice_set r.cells p x) (ap (λ ks. place_in ks (slot page)) names
       ∙ slot_place size page lt)
 
   module _ (r : Row DiskHeld) (names : r.names ≡ slots_of size) (rest : IsAtRest size r.cells) where
@@ -52,10 +57,12 @@ module _ (size page : ℕ) (lt : page < size) where
     entry_in_row = let e = rest.each page lt in (Some (holds.Slot e.0), cell_at r names ∙ e.1)
 
     pub not_out : cell r (slot page) ≡ Some None → ⊥
-    not_out out = let e = rest.each page lt in let q : Some None ≡ Some (Some (holds.Slot e.0)) = sym out
+    not_out out = let e = rest.each page lt in
+        let q : Some None ≡ Some (Some (holds.Slot e.0)) = sym out
         ∙ cell_at r names ∙ e.1 in cc
 
-    module _ (v : DiskHeld) (home : cell r (slot page) ≡ Some (Some v)) (r₁ : Row DiskHeld) (taken : r₁ ≡ with_cell r (slot page) None) where
+    module _ (v : DiskHeld) (home : cell r (slot page) ≡ Some (Some v)) (r₁ : Row DiskHeld)
+        (taken : r₁ ≡ with_cell r (slot page) None) where
       names₁ : r₁.names ≡ slots_of size
       names₁ = ap (λ (x : Row DiskHeld). x.names) taken ∙ names
 
@@ -63,10 +70,12 @@ module _ (size page : ℕ) (lt : page < size) where
       cells₁ = ap (λ (x : Row DiskHeld). x.cells) taken ∙ cells_with r None names
 
       pub is_out_now : cell r₁ (slot page) ≡ Some None
-      is_out_now = cell_at r₁ names₁ ∙ ap (λ (cs : List (Option DiskHeld)). slice_get cs page) cells₁
+      is_out_now = cell_at r₁ names₁
+          ∙ ap (λ (cs : List (Option DiskHeld)). slice_get cs page) cells₁
           ∙ get_set_here r.cells page None (Some v) (sym (cell_at r names) ∙ home)
 
-      module _ (w : DiskHeld) (r₂ : Row DiskHeld) (given : r₂ ≡ with_cell r₁ (slot page) (Some w)) where
+      module _ (w : DiskHeld) (r₂ : Row DiskHeld)
+          (given : r₂ ≡ with_cell r₁ (slot page) (Some w)) where
         cells₂ : r₂.cells ≡ slice_set r.cells page (Some w)
         cells₂ = ap (λ (x : Row DiskHeld). x.cells) given ∙ cells_with r₁ (Some w) names₁
             ∙ ap (λ (cs : List (Option DiskHeld)). slice_set cs page (Some w)) cells₁
@@ -76,7 +85,8 @@ module _ (size page : ℕ) (lt : page < size) where
         gives_back same = cells₂ ∙ set_same r.cells page (Some w) (sym (cell_at r names) ∙ home
             ∙ ap (λ (x : DiskHeld). Some (Some x)) (sym same))
 
-        pub gives_reserved : (n : ℕ) (e f : EntryState) → v ≡ holds.Slot e → w ≡ holds.Slot f → f.kept ≡ e.kept
+        pub gives_reserved : (n : ℕ) (e f : EntryState) → v ≡ holds.Slot e → w ≡ holds.Slot f
+            → f.kept ≡ e.kept
             → f.order ≡ [] → n ≤ f.room → IsReserved page n r.cells r₂.cells
         gives_reserved n e f was is kept order room = record {
           size = ap length cells₂ ∙ length-set r.cells page (Some w);
@@ -98,6 +108,8 @@ home_at : (o : Option (Option DiskHeld)) (v : DiskHeld) → at_home o ≡ Some v
 home_at None v e = absurd (cc)
 home_at (Some x) v e = ap (λ (y : Option DiskHeld). Some y) e
 
-pub seen_at_home : (size page : ℕ) → page < size → (r : Row DiskHeld) → r.names ≡ slots_of size → (v : DiskHeld)
+pub seen_at_home : (size page : ℕ) → page < size → (r : Row DiskHeld) → r.names ≡ slots_of size
+    → (v : DiskHeld)
     → at_home (cell r (slot page)) ≡ Some v → slice_get r.cells page ≡ Some (Some v)
-seen_at_home size page lt r names v e = home_at (slice_get r.cells page) v (ap at_home (sym (cell_at size page lt r names)) ∙ e)
+seen_at_home size page lt r names v e =
+    home_at (slice_get r.cells page) v (ap at_home (sym (cell_at size page lt r names)) ∙ e)

@@ -2,6 +2,7 @@
 use Rattle.std.proofs.Common.{◌≡◌, ℕ, zero, suc, ◌+◌, ◌-◌, ◌*◌, ◌/◌, ◌<◌, ◌≤◌, Bool, true, cond, min, max, List, [], ◌∷◌, ◌++◌, map, take, drop, refl, sym, ap, ◌∙◌, arith, add-one}
 use Rattle.std.specs.Prelude.{replicate}
 use Rattle.std.specs.List.{range_with_len}
+use Rattle.std.proofs.lemmas.List.{drop-replicate, take-replicate}
 use Rattle.zr_base.specs.declared.op.Op.TheVariants.{Read, Discard}
 use Rattle.zr_base.specs.Sectors.{page_sector}
 use Rattle.zr_base.specs.Plain.{zero_sector, has_whole, sector_after}
@@ -9,47 +10,31 @@ use Rattle.call_history.specs.Parts.{got_by}
 
 -- ---- lists
 
-map_range_suc : {X : Type 0} (f : ℕ → X) (a n j : ℕ) → a + n ≡ j
-    → map f (range_with_len a (suc n)) ≡ map f (range_with_len a n) ++ f j ∷ []
-map_range_suc {X} f a zero j e = ap (λ (i : ℕ). f i ∷ []) (let q : a ≡ j = omega arith in q)
-map_range_suc {X} f a (suc n) j e = ap (λ (xs : List X). f a ∷ xs) (map_range_suc f (a + 1) n j (omega arith))
-
--- one more at the end
-pub map_range_push : {X : Type 0} (f : ℕ → X) (a n j : ℕ) → a + n ≡ j
-    → map f (range_with_len a (n + 1)) ≡ map f (range_with_len a n) ++ f j ∷ []
-map_range_push f a n j e = rw add-one (map_range_suc f a n j e)
-
 -- counted from another number on
 pub map_range_shift : {X : Type 0} (f : ℕ → X) (c a b n : ℕ) → a ≡ c + b
     → map f (range_with_len b n) ≡ map (λ s. f (s - c)) (range_with_len a n)
 map_range_shift f c a b zero e = refl
-map_range_shift {X} f c a b (suc n) e = λ i. f ((let q : b ≡ a - c = omega arith in q) i) ∷ map_range_shift f c (a + 1) (b + 1) n (omega arith) i
-
-drop_replicate : {X : Type 0} (n m : ℕ) (x : X) → drop n (replicate m x) ≡ replicate (m - n) x
-drop_replicate zero m x = ap (λ (k : ℕ). replicate k x) (let q : m ≡ m - 0 = omega arith in q)
-drop_replicate (suc n) zero x = ap (λ (k : ℕ). replicate k x) (let q : 0 ≡ 0 - suc n = omega arith in q)
-drop_replicate (suc n) (suc m) x = drop_replicate n m x
-    ∙ ap (λ (k : ℕ). replicate k x) (let q : m - n ≡ suc m - suc n = omega arith in q)
-
-take_replicate : {X : Type 0} (n m : ℕ) (x : X) → n ≤ m → take n (replicate m x) ≡ replicate n x
-take_replicate zero m x le = refl
-take_replicate (suc n) zero x le = absurd (omega arith)
-take_replicate {X} (suc n) (suc m) x le = ap (λ (xs : List X). x ∷ xs) (take_replicate n m x (omega arith))
+map_range_shift {X} f c a b (suc n) e =
+    λ i. f ((let q : b ≡ a - c = omega arith in q) i) ∷ map_range_shift f c (a + 1) (b + 1) n
+    (omega arith) i
 
 -- a sector of the page of zeros
 pub zeros_sector : (k : ℕ) → k < 8 → page_sector (replicate 4096 0) k ≡ replicate 512 0
-zeros_sector k lt = ap (take 512) (drop_replicate (512 * k) 4096 0)
-    ∙ take_replicate 512 (4096 - 512 * k) 0 (omega arith)
+zeros_sector k lt = ap (take 512) (drop-replicate (512 * k) 4096 0)
+    ∙ take-replicate 512 (4096 - 512 * k) 0 (omega arith)
 
 -- ---- pieces
 
 -- the sectors that a read gets, by its piece
-pub got_read : (start count page first n : ℕ) (old : List ℕ) → first ≡ max start (8 * page) - 8 * page
+pub got_read : (start count page first n : ℕ) (old : List ℕ)
+    → first ≡ max start (8 * page) - 8 * page
     → n ≡ min (start + count) (8 * page + 8) - max start (8 * page)
-    → map (page_sector old) (range_with_len first n) ≡ got_by (Read start count) page (λ s. page_sector old (s - 8 * page))
+    → map (page_sector old) (range_with_len first n)
+    ≡ got_by (Read start count) page (λ s. page_sector old (s - 8 * page))
 got_read start count page first n old f_is n_is =
     map_range_shift (page_sector old) (8 * page) (max start (8 * page)) first n (omega arith)
-    ∙ ap (λ (m : ℕ). map (λ s. page_sector old (s - 8 * page)) (range_with_len (max start (8 * page)) m)) n_is
+    ∙ ap (λ (m : ℕ). map (λ s. page_sector old (s - 8 * page))
+    (range_with_len (max start (8 * page)) m)) n_is
 
 -- those that a discard leaves
 pub discarded : (start count page k : ℕ) (old : List ℕ) → has_whole start count page ≡ true → k < 8
@@ -57,4 +42,5 @@ pub discarded : (start count page k : ℕ) (old : List ℕ) → has_whole start 
 unfolding zero_sector
 discarded start count page k old whole lt =
     zeros_sector k lt
-    ∙ sym (ap (λ (b : Bool). cond b zero_sector old) (ap (has_whole start count) (let q : (8 * page + k) / 8 ≡ page = omega arith in q) ∙ whole))
+    ∙ sym (ap (λ (b : Bool). cond b zero_sector old)
+    (ap (has_whole start count) (let q : (8 * page + k) / 8 ≡ page = omega arith in q) ∙ whole))

@@ -30,7 +30,9 @@ module _ (g : Given) (w : State DiskHeld) (s : IsStart g w) where
   fresh_page p e none same = record {
     holds = λ k lt. same k lt ∙ ap (λ (ts : List Tag). held_after g ts (8 * p + k)) (sym none);
     turns = λ a. ap (ops_of a) none ∙ sym (ap (noted_on p) (dones_none a));
-    reads = λ a i d at on. absurd (let q : slice_get (let ds : List Done = [] in ds) i ≡ Some d = ap (λ (ds : List Done). slice_get ds i) (sym (dones_none a)) ∙ at in cc);
+    reads = λ a i d at on. absurd
+        (let q : slice_get (let ds : List Done = [] in ds) i ≡ Some d =
+        ap (λ (ds : List Done). slice_get ds i) (sym (dones_none a)) ∙ at in cc);
   }
 
   fresh : (p : ℕ) (v : DiskHeld) → IsFresh g w.locals p (Some v)
@@ -43,17 +45,25 @@ module _ (g : Given) (w : State DiskHeld) (s : IsStart g w) where
 
   no_lock : (a i : ℕ) (l : Here) (x : LockNo × DiskHeld) → slice_get w.locals a ≡ Some l
       → slice_get l.held i ≡ Some x → ⊥
-  no_lock a i l x who at = let q : slice_get (let ys : List (LockNo × DiskHeld) = [] in ys) i ≡ Some x = ap (λ (ys : List (LockNo × DiskHeld)). slice_get ys i) (sym (s.actors a l who).held) ∙ at in cc
+  no_lock a i l x who at = let q : slice_get (let ys : List (LockNo × DiskHeld) = [] in ys) i
+      ≡ Some x =
+      ap (λ (ys : List (LockNo × DiskHeld)). slice_get ys i) (sym (s.actors a l who).held) ∙ at in
+      cc
 
   pub start_joint : Joint g w
   start_joint = record {
     told = record {
-      values = record { in_row = λ k v e. (fresh k v (s.values k (Some v) e)).0; in_hand = λ a i l x who at. absurd (no_lock a i l x who at) };
+      values = record {
+        in_row = λ k v e. (fresh k v (s.values k (Some v) e)).0;
+        in_hand =
+            λ a i l x who at. absurd (no_lock a i l x who at);
+      };
       actors = λ a l who. let h = s.actors a l who in record {
         who = h.who;
         ops = h.ops;
         named = h.named;
-        follows = subst (λ (c : List Done × List Part). Follows (program g.size 0 h.ops) c.0 c.1) (λ i. (sym h.done i, sym h.todo i)) refl;
+        follows = subst (λ (c : List Done × List Part). Follows (program g.size 0 h.ops) c.0 c.1)
+            (λ i. (sym h.done i, sym h.todo i)) refl;
         locks = ap (map (λ (x : LockNo × DiskHeld). x.0)) h.held
             ∙ sym (ap (λ (at : At). locks_at at l.todo) h.at);
       };
@@ -65,5 +75,9 @@ module _ (g : Given) (w : State DiskHeld) (s : IsStart g w) where
       alone = λ a b i j l m x y who who' at at' same. absurd (no_lock a i l x who at);
       keeper = λ k e. absurd (s.values k None e);
     };
-    room = record { in_row = λ k v e. (fresh k v (s.values k (Some v) e)).1; in_hand = λ a i l x who at. absurd (no_lock a i l x who at) };
+    room = record {
+      in_row = λ k v e. (fresh k v (s.values k (Some v) e)).1;
+      in_hand =
+          λ a i l x who at. absurd (no_lock a i l x who at);
+    };
   }

@@ -1,7 +1,7 @@
 -- The state that a row and its workers stand for, and its turns.
 use Rattle.std.proofs.Common.{◌≡◌, ◌⊎◌, ℕ, zero, suc, ◌+◌, ◌*◌, ◌<◌, ◌≤◌, Bool, cond, eqb, List, [], ◌∷◌, map, length, Option, Some, None, slice_get, slice_set, refl, sym, ap, ◌∙◌, subst, arith, inl, inr, ⊎_elim, length-set}
 use Rattle.std.specs.List.{range_with_len}
-use Rattle.std.proofs.lemmas.Bool.{cases_lt, eq-eqb, ltb-false}
+use Rattle.std.proofs.lemmas.Bool.{ne_eqb, cases_lt, eq-eqb, ltb-false}
 use Rattle.std.proofs.lemmas.Option.{slice_get_within}
 use Rattle.zr_base.specs.declared.op.Op.{Op}
 use Rattle.zr_base.specs.Plain.{start_of, count_of, IsRequest}
@@ -15,9 +15,7 @@ use Rattle.lock_row.specs.declared.names.At.TheVariants as stage
 use Rattle.lock_row.specs.declared.names.Plan.TheVariants.{Finished, Take, Give}
 use Rattle.lock_row.specs.declared.names.State.{State}
 use Rattle.lock_row.specs.Rows.{Row, IsDistinct, place_in, cell, with_cell}
-use Rattle.lock_row.proofs.Places.{place_of}
-use Rattle.lock_row.proofs.Values.{get_set}
-use Rattle.lock_row.proofs.Totals.{locals_le}
+use Rattle.lock_row.specs.Laws.{IsPartOfSum}
 use Rattle.slot_entry.specs.Entries.{EntryState}
 use Rattle.zr_core.specs.declared.worker.Worker.{Worker}
 use Rattle.zr_core.specs.declared.worker.Turn.{Turn}
@@ -26,17 +24,20 @@ use Rattle.zr_core.specs.Joint.{pieces_on, owed_by, owed, HasRoom, Joint}
 use Rattle.zr_core.specs.Places.{IsOn}
 use Rattle.zr_core.specs.Workers.{at_of, held_by, here, next_event, Keeps, Fits, IsFit, Turned, finished, waited, took_it, gave_it}
 use Rattle.zr_core.specs.States.{slots_of, heres, AreFit, AreKept, taken, given, TurnIs}
+use Rattle.zr_core.proofs.Lists.{get_set}
 use Rattle.zr_core.proofs.Places.{there_is, no_todo, on_here, has_settled, in_bounds, pages_some}
 use Rattle.zr_core.proofs.Turns.{part_at, todo_next}
 
 -- ---- lists
 
-pub set_same : {A : Type 0} (xs : List A) (i : ℕ) (x : A) → slice_get xs i ≡ Some x → slice_set xs i x ≡ xs
+pub set_same : {A : Type 0} (xs : List A) (i : ℕ) (x : A) → slice_get xs i ≡ Some x
+    → slice_set xs i x ≡ xs
 set_same [] i x e = refl
 set_same (y ∷ ys) zero x e = let q : y ≡ x = cc in λ i. sym q i ∷ ys
 set_same (y ∷ ys) (suc i) x e = ap (λ zs. y ∷ zs) (set_same ys i x e)
 
-pub heres_get : (size : ℕ) (actors : List (List Op)) (ws : List Worker) (dones : List (List Done)) (a : ℕ) (ops : List Op) (w : Worker) (done : List Done)
+pub heres_get : (size : ℕ) (actors : List (List Op)) (ws : List Worker) (dones : List (List Done))
+    (a : ℕ) (ops : List Op) (w : Worker) (done : List Done)
     → slice_get actors a ≡ Some ops → slice_get ws a ≡ Some w → slice_get dones a ≡ Some done
     → slice_get (heres size actors ws dones) a ≡ Some (here size ops w done)
 heres_get size [] ws ds a ops w done e f h = absurd (cc)
@@ -47,21 +48,28 @@ heres_get size (x ∷ xs) (y ∷ ys) (z ∷ zs) zero ops w done e f h =
     let q : y ≡ w = (let q : Some y ≡ Some w = f in cc) in
     let r : z ≡ done = (let q : Some z ≡ Some done = h in cc) in
     λ i. Some (here size (p i) (q i) (r i))
-heres_get size (x ∷ xs) (y ∷ ys) (z ∷ zs) (suc a) ops w done e f h = heres_get size xs ys zs a ops w done e f h
+heres_get size (x ∷ xs) (y ∷ ys) (z ∷ zs) (suc a) ops w done e f h =
+    heres_get size xs ys zs a ops w done e f h
 
-pub heres_set : (size : ℕ) (actors : List (List Op)) (ws : List Worker) (dones : List (List Done)) (a : ℕ) (ops : List Op) (w : Worker) (done : List Done)
+pub heres_set : (size : ℕ) (actors : List (List Op)) (ws : List Worker) (dones : List (List Done))
+    (a : ℕ) (ops : List Op) (w : Worker) (done : List Done)
     → slice_get actors a ≡ Some ops → a < length ws → a < length dones
-    → heres size actors (slice_set ws a w) (slice_set dones a done) ≡ slice_set (heres size actors ws dones) a (here size ops w done)
+    → heres size actors (slice_set ws a w) (slice_set dones a done)
+    ≡ slice_set (heres size actors ws dones) a (here size ops w done)
 heres_set size [] ws ds a ops w done e f h = absurd (cc)
 heres_set size (x ∷ xs) [] ds a ops w done e f h = absurd (omega arith)
 heres_set size (x ∷ xs) (y ∷ ys) [] a ops w done e f h = absurd (omega arith)
 heres_set size (x ∷ xs) (y ∷ ys) (z ∷ zs) zero ops w done e f h =
     let p : x ≡ ops = (let q : Some x ≡ Some ops = e in cc) in
     ap (λ (os : List Op). here size os w done ∷ heres size xs ys zs) p
-heres_set size (x ∷ xs) (y ∷ ys) (z ∷ zs) (suc a) ops w done e f h = ap (λ (ls : List Here). here size x y z ∷ ls) (heres_set size xs ys zs a ops w done e (omega arith) (omega arith))
+heres_set size (x ∷ xs) (y ∷ ys) (z ∷ zs) (suc a) ops w done e f h =
+    ap (λ (ls : List Here). here size x y z ∷ ls)
+    (heres_set size xs ys zs a ops w done e (omega arith) (omega arith))
 
-pub fit_set : (size : ℕ) (actors : List (List Op)) (ws : List Worker) (a : ℕ) (ops : List Op) (old w : Worker)
-    → AreFit size actors ws → slice_get actors a ≡ Some ops → slice_get ws a ≡ Some old → IsFit size ops w
+pub fit_set : (size : ℕ) (actors : List (List Op)) (ws : List Worker) (a : ℕ) (ops : List Op)
+    (old w : Worker)
+    → AreFit size actors ws → slice_get actors a ≡ Some ops → slice_get ws a ≡ Some old
+    → IsFit size ops w
     → AreFit size actors (slice_set ws a w)
 fit_set size actors ws a ops old w fit named there new = record {
   count = length-set ws a w ∙ fit.count;
@@ -75,7 +83,8 @@ fit_set size actors ws a ops old w fit named there new = record {
       (get_set ws a b w v old there f);
 }
 
-pub kept_set : (ws : List Worker) (dones : List (List Done)) (a : ℕ) (old w : Worker) (was done : List Done)
+pub kept_set : (ws : List Worker) (dones : List (List Done)) (a : ℕ) (old w : Worker)
+    (was done : List Done)
     → AreKept ws dones → slice_get ws a ≡ Some old → slice_get dones a ≡ Some was → Keeps w done
     → AreKept (slice_set ws a w) (slice_set dones a done)
 kept_set ws dones a old w was done kept there had new = record {
@@ -113,10 +122,25 @@ is_slot size i k e =
     ap slot (let z : i ≡ 0 + i = omega arith in z) ∙ r
 
 pub slots_distinct : (size : ℕ) → IsDistinct (slots_of size)
-slots_distinct size = record { once = λ i j k e f. ap spot (is_slot size i k e ∙ sym (is_slot size j k f)) }
+slots_distinct size =
+    record { once = λ i j k e f. ap spot (is_slot size i k e ∙ sym (is_slot size j k f)) }
+
+place_from : (a n i : ℕ) → i < n → place_in (map slot (range_with_len a n)) (slot (a + i)) ≡ i
+place_from a zero i lt = absurd (omega arith)
+place_from a (suc n) zero lt =
+    ap (λ (b : Bool). cond b 0
+    (suc (place_in (map slot (range_with_len (a + 1) n)) (slot (a + 0)))))
+    (eq-eqb a (a + 0) (omega arith))
+place_from a (suc n) (suc i) lt =
+    ap (λ (b : Bool). cond b 0
+    (suc (place_in (map slot (range_with_len (a + 1) n)) (slot (a + suc i)))))
+    (ne_eqb a (a + suc i) (λ e. let none : ⊥ = omega arith in none))
+    ∙ ap suc (ap (λ (k : ℕ). place_in (map slot (range_with_len (a + 1) n)) (slot k))
+    (let q : a + suc i ≡ a + 1 + i = omega arith in q) ∙ place_from (a + 1) n i (omega arith))
 
 pub slot_place : (size page : ℕ) → page < size → place_in (slots_of size) (slot page) ≡ page
-slot_place size page lt = place_of (slots_of size) page (slot page) (slots_distinct size) (slot_at 0 size page lt ∙ ap (λ (k : ℕ). Some (slot k)) (let q : 0 + page ≡ page = omega arith in q))
+slot_place size page lt = ap (λ (k : ℕ). place_in (slots_of size) (slot k))
+    (let q : page ≡ 0 + page = omega arith in q) ∙ place_from 0 size page lt
 
 -- ---- the next lock of a worker
 
@@ -128,9 +152,11 @@ pub record Next (size : ℕ) (ops : List Op) (w : Worker) : Type 0 where
   pub same : p.page ≡ w.place.page
   pub below : w.place.page < size
 
-pub below_size : (size : ℕ) (op : Op) (page n : ℕ) → IsRequest op → IsOn size op page n → 1 ≤ n → page < size
+pub below_size : (size : ℕ) (op : Op) (page n : ℕ) → IsRequest op → IsOn size op page n → 1 ≤ n
+    → page < size
 below_size size op page n r on some =
-    let l = on.last in let inside = ltb-false (8 * size) (start_of op + count_of op) (on.inside some) in
+    let l = on.last in
+    let inside = ltb-false (8 * size) (start_of op + count_of op) (on.inside some) in
     let m = pages_some op r in let b = (in_bounds op r).1 in omega arith
 
 next_or_none : (size : ℕ) (ops : List Op) (w : Worker) → IsFit size ops w
@@ -140,15 +166,18 @@ next_or_none size ops w fit = ⊎_elim
     let op = there_is ops w.place.nr lt in
     let todo = todo_next size ops w.place op.0 op.1 fit.settled in
     let on = on_here size ops w.place.nr op.0 op.1 w.place.page w.place.left fit.place in
-    let some = (has_settled size ops w.place.nr op.0 op.1 w.place.page w.place.left fit.settled).0 in record {
+    let some = (has_settled size ops w.place.nr op.0 op.1 w.place.page w.place.left fit.settled).0
+    in record {
       p = part_at w.place op.0;
       rest = _;
       todo = ap (λ ps. plan_at ps (at_of w.entry)) todo;
       here = λ done. todo;
       same = refl;
-      below = below_size size op.0 w.place.page w.place.left (fit.requests w.place.nr op.0 op.1) on some;
+      below = below_size size op.0 w.place.page w.place.left
+          (fit.requests w.place.nr op.0 op.1) on some;
     }))
-    (λ ge. inr (ap (λ ps. plan_at ps (at_of w.entry)) (no_todo size w.place.nr ops w.place.page w.place.left ge)))
+    (λ ge. inr (ap (λ ps. plan_at ps (at_of w.entry))
+    (no_todo size w.place.nr ops w.place.page w.place.left ge)))
     (cases_lt w.place.nr (length ops))
 
 take_is : (p : Part) (rest : List Part) (at : At) (k : LockNo) → plan_at (p ∷ rest) at ≡ Take k
@@ -181,56 +210,72 @@ gives_here size ops w k fit e = ⊎_elim
 
 -- ---- what the joint rule gives a worker
 
-fits_room : (ls : List Here) (page : ℕ) (v : DiskHeld) → 1 ≤ owed ls page → HasRoom ls page v → Fits v
+fits_room : (ls : List Here) (page : ℕ) (v : DiskHeld) → 1 ≤ owed ls page → HasRoom ls page v
+    → Fits v
 fits_room ls page (holds.Slot e) some room = omega arith
 fits_room ls page (holds.Class x) some room = tt
 fits_room ls page (holds.Account x) some room = tt
 fits_room ls page (holds.Blocks x) some room = tt
 fits_room ls page (holds.Device x) some room = tt
 
-module _ (g : Given) (s : State DiskHeld) (j : Joint g s) (a size : ℕ) (pages : g.size ≡ size) (ops : List Op) (w : Worker) (done : List Done) (fit : IsFit size ops w)
+module _ (g : Given) (s : State DiskHeld) (j : Joint g s) (a size : ℕ) (pages : g.size ≡ size)
+    (ops : List Op) (w : Worker) (done : List Done) (fit : IsFit size ops w)
     (who : slice_get s.locals a ≡ Some (here size ops w done)) where
   pub in_row : (page : ℕ) → page < size → (x : Option DiskHeld) × (slice_get s.row page ≡ Some x)
   in_row page lt = there_is s.row page (let q = j.told.row in omega arith)
 
-  pub value_fits : (k : LockNo) (v : DiskHeld) → next_event size ops w ≡ Take k
+  pub value_fits : IsPartOfSum DiskHeld → (k : LockNo) (v : DiskHeld)
+      → next_event size ops w ≡ Take k
       → slice_get s.row w.place.page ≡ Some (Some v) → Fits v
-  value_fits k v what there = ⊎_elim
+  value_fits part k v what there = ⊎_elim
       (λ n.
-      let e : owed_by w.place.page (here size ops w done) ≡ cond (eqb n.p.page w.place.page) 1 0 + pieces_on w.place.page n.rest = ap (pieces_on w.place.page) (n.here done) in
-      let on = ap (λ (b : Bool). cond b 1 0 + pieces_on w.place.page n.rest) (eq-eqb n.p.page w.place.page n.same) in
-      let le = locals_le (owed_by w.place.page) s.locals a (here size ops w done) who in
+      let e : owed_by w.place.page (here size ops w done)
+      ≡ cond (eqb n.p.page w.place.page) 1 0 + pieces_on w.place.page n.rest =
+      ap (pieces_on w.place.page) (n.here done) in
+      let on = ap (λ (b : Bool). cond b 1 0 + pieces_on w.place.page n.rest)
+      (eq-eqb n.p.page w.place.page n.same) in
+      let le = part (owed_by w.place.page) s.locals a (here size ops w done) who in
       fits_room s.locals w.place.page v (omega arith) (j.room.in_row w.place.page v there))
       (λ none. absurd (let q : Finished ≡ Take k = sym none ∙ what in cc))
       (next_or_none size ops w fit)
 
   held_out : (e : Option EntryState) → w.entry ≡ e → (k : LockNo) → next_event size ops w ≡ Give k
       → slice_get s.row w.place.page ≡ Some None
-  held_out None is k what = absurd (let q : plan_at (here size ops w done).todo stage.Start ≡ Give k = ap (λ o. plan_at (here size ops w done).todo (at_of o)) (sym is) ∙ what in no_give (here size ops w done).todo k q) where
-    no_give : (ps : List Part) (k : LockNo) → plan_at ps stage.Start ≡ Give k → ⊥
-    no_give [] k e = cc
-    no_give (p ∷ ps) k e = cc
-  held_out (Some e) is k what = j.apart.out a 0 (here size ops w done) (slot w.place.page, holds.Slot e) who (ap (λ o. slice_get (held_by w.place.page o) 0) is)
+  held_out None is k what =
+      absurd (let q : plan_at (here size ops w done).todo stage.Start ≡ Give k =
+      ap (λ o. plan_at (here size ops w done).todo (at_of o)) (sym is) ∙ what in
+      no_give (here size ops w done).todo k q) where
+        no_give : (ps : List Part) (k : LockNo) → plan_at ps stage.Start ≡ Give k → ⊥
+        no_give [] k e = cc
+        no_give (p ∷ ps) k e = cc
+  held_out (Some e) is k what =
+      j.apart.out a 0 (here size ops w done) (slot w.place.page, holds.Slot e) who
+      (ap (λ o. slice_get (held_by w.place.page o) 0) is)
 
-  pub is_out : (k : LockNo) → next_event size ops w ≡ Give k → slice_get s.row w.place.page ≡ Some None
+  pub is_out : (k : LockNo) → next_event size ops w ≡ Give k
+      → slice_get s.row w.place.page ≡ Some None
   is_out k what = held_out w.entry refl k what
 
 -- ---- a turn by a hand over the row
 
-module _ {X : Type 0} {takes : X → LockNo → (Here → DiskHeld → Here) → DiskHeld → X → Type 0} {misses : X
+module _ {X : Type 0} {takes : X → LockNo → (Here → DiskHeld → Here) → DiskHeld → X
+    → Type 0} {misses : X
     → LockNo → X → Type 0} {gives : X → LockNo → (Here → DiskHeld → Here) → DiskHeld → X
     → Type 0} {l : Here} {h : X} {m : Here} {g : X} where
   -- what each event keeps, the turn keeps
-  pub turn_keeps : {Y : Type 0} (name : X → Y) → ((k : LockNo) (f : Here → DiskHeld → Here) (v : DiskHeld)
+  pub turn_keeps : {Y : Type 0} (name : X → Y)
+      → ((k : LockNo) (f : Here → DiskHeld → Here) (v : DiskHeld)
       → takes h k f v g → name g ≡ name h) → ((k : LockNo) → misses h k g → name g ≡ name h)
-      → ((k : LockNo) (f : Here → DiskHeld → Here) (v : DiskHeld) → gives h k f v g → name g ≡ name h)
+      → ((k : LockNo) (f : Here → DiskHeld → Here) (v : DiskHeld) → gives h k f v g
+      → name g ≡ name h)
       → {r : Turn} → Turned takes misses gives l h m g r → name g ≡ name h
   turn_keeps name t n w (finished what same still) = ap name still
   turn_keeps name t n w (waited k what miss same) = n k miss
   turn_keeps name t n w (took_it k v what take same) = t k took v take
   turn_keeps name t n w (gave_it k v what give work same) = w k gave v give
 
-  pub turn_is : (row_of : X → Row DiskHeld) (cells : List (Option DiskHeld)) (ls : List Here) (a : ℕ)
+  pub turn_is : (row_of : X → Row DiskHeld) (cells : List (Option DiskHeld)) (ls : List Here)
+      (a : ℕ)
       → slice_get ls a ≡ Some l → (row_of h).cells ≡ cells
       → ((k : LockNo) → plan l ≡ Take k → place_in (row_of h).names k ≡ spot k) → ((k : LockNo)
       → plan l ≡ Give k → place_in (row_of h).names k ≡ spot k)
@@ -240,7 +285,8 @@ module _ {X : Type 0} {takes : X → LockNo → (Here → DiskHeld → Here) →
       → ((k : LockNo) (f : Here → DiskHeld → Here) (v : DiskHeld) → gives h k f v g
       → (cell (row_of h) k ≡ Some None) × (row_of g ≡ with_cell (row_of h) k (Some v)))
       → {r : Turn} → Turned takes misses gives l h m g r
-      → TurnIs a (record { row = cells; locals = ls }) (record { row = (row_of g).cells; locals = slice_set ls a m }) r
+      → TurnIs a (record { row = cells; locals = ls })
+      (record { row = (row_of g).cells; locals = slice_set ls a m }) r
   turn_is row_of cells ls a who is tp gp t n w (finished what same still) = (
     l,
     who,

@@ -34,21 +34,31 @@ pub todo_next : (size : ℕ) (ops : List Op) (pl : Place) (op : Op) → slice_ge
 todo_next size ops pl op at s =
     todo_here size ops pl.nr op at pl.page pl.left
     ∙ ap (λ (ps : List Part). ps ++ program size (pl.nr + 1) (drop (suc pl.nr) ops)) one
-    ∙ sym (ap (λ (ps : List Part). part_at pl op ∷ ps) (todo_here size ops pl.nr op at (pl.page + 1) (pl.left - 1))) where
-      one : parts_from pl.nr op pl.page pl.left ≡ part_at pl op ∷ parts_from pl.nr op (pl.page + 1) (pl.left - 1)
+    ∙ sym (ap (λ (ps : List Part). part_at pl op ∷ ps)
+    (todo_here size ops pl.nr op at (pl.page + 1) (pl.left - 1))) where
+      one : parts_from pl.nr op pl.page pl.left
+          ≡ part_at pl op ∷ parts_from pl.nr op (pl.page + 1) (pl.left - 1)
       one =
           let h = has_settled size ops pl.nr op at pl.page pl.left s in
           ap (parts_from pl.nr op pl.page) (let q = h.0 in
           let r : pl.left ≡ suc (pl.left - 1) = omega arith in r)
-          ∙ ap (λ (b : Bool). cond b (part_at pl op ∷ []) [] ++ parts_from pl.nr op (pl.page + 1) (pl.left - 1)) h.1
+          ∙ ap (λ (b : Bool). cond b (part_at pl op ∷ []) []
+          ++ parts_from pl.nr op (pl.page + 1) (pl.left - 1)) h.1
 
-module _ {X : Type 0} (takes : X → LockNo → (Here → DiskHeld → Here) → DiskHeld → X → Type 0) (misses : X
+module _ {X : Type 0} (takes : X → LockNo → (Here → DiskHeld → Here) → DiskHeld → X → Type 0)
+    (misses : X
     → LockNo → X → Type 0) (gives : X → LockNo → (Here → DiskHeld → Here) → DiskHeld → X → Type 0)
     (size : ℕ) (ops : List Op) (w : Worker) (h g : X) where
   -- nothing is left
   pub at_end : (done : List Done) → length ops ≤ w.place.nr → Keeps w done
       → Advanced takes misses gives size ops w h w h turn.Finished done
-  at_end done le keeps = (done, keeps, finished (ap (λ ps. plan_at ps (at_of w.entry)) (no_todo size w.place.nr ops w.place.page w.place.left le)) refl refl)
+  at_end done le keeps = (
+    done,
+    keeps,
+    finished
+        (ap (λ ps. plan_at ps (at_of w.entry))
+        (no_todo size w.place.nr ops w.place.page w.place.left le)) refl refl,
+  )
 
   module _ (fit : IsFit size ops w) (empty : w.entry ≡ None) (more : w.place.nr < length ops) where
     pub takes_slot : next_event size ops w ≡ Take (slot w.place.page)
@@ -60,17 +70,27 @@ module _ {X : Type 0} (takes : X → LockNo → (Here → DiskHeld → Here) →
         → Advanced takes misses gives size ops w h w g (turn.Waited (slot w.place.page)) done
     misses_slot done keeps miss = (done, keeps, waited (slot w.place.page) takes_slot miss refl)
 
-    pub has_slot : (done : List Done) (v : DiskHeld) (e : EntryState) → v ≡ holds.Slot e → Keeps w done
+    pub has_slot : (done : List Done) (v : DiskHeld) (e : EntryState) → v ≡ holds.Slot e
+        → Keeps w done
         → takes h (slot w.place.page) took v g
         → Advanced takes misses gives size ops w h (with_entry w (Some e)) g turn.Went done
     has_slot done v e is keeps take = (
       done,
       record { sectors = keeps.sectors },
       took_it (slot w.place.page) v takes_slot take
-          (λ i. record { actor = w.actor; at = at.Entered; todo = todo_at size ops w.place; held = held_is i; done = done }),
+          (λ i. record {
+            actor = w.actor;
+            at = at.Entered;
+            todo = todo_at size ops w.place;
+            held =
+                held_is i;
+            done = done;
+          }),
     ) where
-      held_is : (slot w.place.page, holds.Slot e) ∷ [] ≡ (lock_of (next_event size ops w), v) ∷ held_by w.place.page w.entry
-      held_is = λ i. (ap lock_of (sym takes_slot) i, sym is i) ∷ ap (held_by w.place.page) (sym empty) i
+      held_is : (slot w.place.page, holds.Slot e) ∷ []
+          ≡ (lock_of (next_event size ops w), v) ∷ held_by w.place.page w.entry
+      held_is = λ i. (ap lock_of (sym takes_slot) i, sym is i) ∷ ap (held_by w.place.page)
+          (sym empty) i
 
   pub fits_slot : IsFit size ops w → (v : DiskHeld) (e : EntryState) → v ≡ holds.Slot e → Fits v
       → IsFit size ops (with_entry w (Some e))

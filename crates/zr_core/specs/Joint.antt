@@ -11,11 +11,13 @@ use Rattle.lock_row.specs.declared.names.Held.TheVariants as holds
 use Rattle.lock_row.specs.declared.names.At.{At}
 use Rattle.lock_row.specs.declared.names.At.TheVariants.{Start, Entered}
 use Rattle.lock_row.specs.declared.names.State.{State}
-use Rattle.lock_row.specs.Values.{Everywhere, Exclusive}
+use Rattle.lock_row.specs.Values.{Exclusive}
 use Rattle.lock_row.specs.Totals.{locals_sum}
 use Rattle.slot_entry.specs.Entries.{page_of}
 use Rattle.zr_core.specs.Steps.{DiskHeld, Here, slot, spot}
+use Rattle.zr_core.specs.Values.{Everywhere}
 
+-- the pieces that are over of an actor, or none where there is no such actor
 abbrev pub done_by : Option Here → List Done
 done_by None = []
 done_by (Some l) = l.done
@@ -38,6 +40,8 @@ locks_at Start ps = []
 locks_at Entered [] = []
 locks_at Entered (p ∷ ps) = slot p.page ∷ []
 
+-- An actor is at its piece, with the locks that its stage has, and its pieces follow its
+-- operations.
 pub record IsActor (g : Given) (a : ℕ) (l : Here) : Type 0 where
   pub who : l.actor ≡ a
   pub ops : List Op

@@ -7,3 +7,6 @@ pub mod Workers
 pub mod States
 pub mod Runs
 pub mod Preparing
+pub mod Values
+pub mod Playing
+pub mod Laws

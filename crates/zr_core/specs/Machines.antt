@@ -22,9 +22,11 @@ use Rattle.zr_core.specs.Joint.{HasRoom}
 abbrev pub OneTurn : ℕ → State DiskHeld → State DiskHeld → Type 0
 OneTurn = Turn spot plan took Works
 
+-- these turns, one after the other
 abbrev pub Turns : List ℕ → State DiskHeld → State DiskHeld → Type 0
 Turns = Run spot plan took Works
 
+-- some turns lead from the first state to the second
 abbrev pub IsReached : State DiskHeld → State DiskHeld → Type 0
 IsReached = Reached spot plan took Works
 
@@ -41,6 +43,7 @@ order_in (Some (holds.Account x)) = []
 order_in (Some (holds.Blocks x)) = []
 order_in (Some (holds.Device x)) = []
 
+-- the page that a place of the row has at home
 abbrev pub page_in : Option DiskHeld → List ℕ
 page_in None = []
 page_in (Some (holds.Slot e)) = page_of e.kept
@@ -49,6 +52,7 @@ page_in (Some (holds.Account x)) = []
 page_in (Some (holds.Blocks x)) = []
 page_in (Some (holds.Device x)) = []
 
+-- the orders of all pages
 abbrev pub orders_of : List (Option DiskHeld) → List (List Tag)
 orders_of row = map order_in row
 
@@ -56,12 +60,15 @@ orders_of row = map order_in row
 abbrev pub sector_in : List (Option DiskHeld) → ℕ → List ℕ
 sector_in row s = page_sector (page_in (get_or row (s / 8) None)) (s % 8)
 
+-- what is over of each actor
 abbrev pub histories : List Here → List (List Done)
 histories ls = map (λ (l : Here). l.done) ls
 
 -- what is printed of a state in which all actors are finished
 abbrev pub printed : Given → State DiskHeld → List OutLine
-printed g w = phase_lines (ends_each g.size g.actors (histories w.locals)) (told_each g.size g.actors (histories w.locals)) (orders_of w.row)
+printed g w =
+    phase_lines (ends_each g.size g.actors (histories w.locals))
+    (told_each g.size g.actors (histories w.locals)) (orders_of w.row)
 
 -- An actor before its first turn.
 pub record Starts (g : Given) (a : ℕ) (l : Here) : Type 0 where
@@ -73,10 +80,13 @@ pub record Starts (g : Given) (a : ℕ) (l : Here) : Type 0 where
   pub held : l.held ≡ []
   pub done : l.done ≡ []
 
--- an entry before the first turn: no calls, the page as the phase before left it, and room for the phase's pieces
+-- an entry before the first turn: no calls, the page as the phase before left it, and room for the
+-- phase's pieces
 abbrev pub IsFresh : Given → List Here → ℕ → Option DiskHeld → Type 0
 IsFresh g ls p None = ⊥
-IsFresh g ls p (Some (holds.Slot e)) = (e.order ≡ []) × ((k : ℕ) → k < 8 → page_sector (page_of e.kept) k ≡ g.before (8 * p + k)) × HasRoom ls p (holds.Slot e)
+IsFresh g ls p (Some (holds.Slot e)) = (e.order ≡ [])
+    × ((k : ℕ) → k < 8 → page_sector (page_of e.kept) k ≡ g.before (8 * p + k))
+    × HasRoom ls p (holds.Slot e)
 IsFresh g ls p (Some (holds.Class x)) = Unit {0}
 IsFresh g ls p (Some (holds.Account x)) = Unit {0}
 IsFresh g ls p (Some (holds.Blocks x)) = Unit {0}
@@ -94,8 +104,10 @@ abbrev pub rounds_of : ℕ → ℕ → List ℕ
 rounds_of n zero = []
 rounds_of n (suc r) = range_with_len 0 n ++ rounds_of n r
 
--- A phase makes these turns from a start, after which all actors are finished: what it prints, and the row that it leaves.
-pub record PhaseSteps (g : Given) (turns : List ℕ) (lines : List OutLine) (row : List (Option DiskHeld)) : Type 0 where
+-- A phase makes these turns from a start, after which all actors are finished: what it prints, and
+-- the row that it leaves.
+pub record PhaseSteps (g : Given) (turns : List ℕ) (lines : List OutLine)
+    (row : List (Option DiskHeld)) : Type 0 where
   pub start : State DiskHeld
   pub last : State DiskHeld
   pub is_start : IsStart g start

@@ -1,4 +1,5 @@
--- What setting a phase up makes: the pieces counted for each page, entries without calls and with room, and workers before their first turn.
+-- What setting a phase up makes: the pieces counted for each page, entries without calls and with
+-- room, and workers before their first turn.
 use Rattle.std.specs.Prelude.{◌≡◌, ◌≢◌, ℕ, ◌+◌, ◌<◌, ◌≤◌, List, [], ◌∷◌, length, get_or, Option, Some, None, slice_get, vec_len, vec_capacity, if◌then◌else◌}
 use Rattle.zr_base.specs.declared.op.Op.{Op}
 use Rattle.zr_base.specs.declared.op.Op.TheVariants.{Write, Read, Discard}
@@ -21,7 +22,8 @@ count_at counts page = get_or counts page 0
 -- the pieces of all actors on a page
 abbrev pub pieces_each : ℕ → List (List Op) → ℕ → ℕ
 pieces_each size [] page = 0
-pieces_each size (ops ∷ more) page = pieces_on page (program size 0 ops) + pieces_each size more page
+pieces_each size (ops ∷ more) page =
+    pieces_on page (program size 0 ops) + pieces_each size more page
 
 -- A page's entry has no calls now and room for n; its page is as before, and the other entries are.
 pub record IsReserved (page n : ℕ) (old new : List (Option DiskHeld)) : Type 0 where
@@ -35,8 +37,10 @@ pub record IsReserved (page n : ℕ) (old new : List (Option DiskHeld)) : Type 0
   pub order : is.order ≡ []
   pub room : n ≤ is.room
 
--- A page's entry keeps its page; where it is among the first n, it has no calls and room for those that are counted.
-pub record KeepsPage (n : ℕ) (counts : List ℕ) (page : ℕ) (old new : List (Option DiskHeld)) : Type 0 where
+-- A page's entry keeps its page; where it is among the first n, it has no calls and room for those
+-- that are counted.
+pub record KeepsPage (n : ℕ) (counts : List ℕ) (page : ℕ)
+    (old new : List (Option DiskHeld)) : Type 0 where
   pub was : EntryState
   pub is : EntryState
   pub before : slice_get old page ≡ Some (Some (holds.Slot was))
@@ -63,9 +67,11 @@ pub record IsNewReply (size : ℕ) (op : Op) (r : Reply) : Type 0 where
   pub len : vec_len r.sectors ≡ 0
   pub room : sectors_due size op ≤ vec_capacity r.sectors
 
+-- A reply for each operation, as it is before the first turn.
 pub record AreNewReplies (size : ℕ) (ops : List Op) (rs : List Reply) : Type 0 where
   pub count : length rs ≡ length ops
-  pub each : (k : ℕ) (op : Op) (r : Reply) → slice_get ops k ≡ Some op → slice_get rs k ≡ Some r → IsNewReply size op r
+  pub each : (k : ℕ) (op : Op) (r : Reply) → slice_get ops k ≡ Some op → slice_get rs k ≡ Some r
+      → IsNewReply size op r
 
 -- A worker before its first turn.
 pub record IsNewWorker (size actor : ℕ) (ops : List Op) (w : Worker) : Type 0 where
@@ -75,6 +81,8 @@ pub record IsNewWorker (size actor : ℕ) (ops : List Op) (w : Worker) : Type 0 
   pub fit : IsFit size ops w
   pub none : (k : ℕ) (r : Reply) → slice_get w.replies.items k ≡ Some r → r.sectors.items ≡ []
 
+-- A worker for each actor, as it is before the first turn.
 pub record AreNewWorkers (size : ℕ) (actors : List (List Op)) (ws : List Worker) : Type 0 where
   pub count : length ws ≡ length actors
-  pub each : (a : ℕ) (ops : List Op) (w : Worker) → slice_get actors a ≡ Some ops → slice_get ws a ≡ Some w → IsNewWorker size a ops w
+  pub each : (a : ℕ) (ops : List Op) (w : Worker) → slice_get actors a ≡ Some ops
+      → slice_get ws a ≡ Some w → IsNewWorker size a ops w

@@ -1,6 +1,6 @@
 -- Runs of a world, and the events that are left.
 use Rattle.std.specs.Prelude.{◌≡◌, ◌≢◌, ◌⊎◌, ℕ, ◌+◌, ◌*◌, ◌<◌, ◌≤◌, List, [], ◌∷◌, ◌++◌, length, map, replicate, Option, Some, slice_get}
-use Rattle.std.specs.List.{flat_map}
+use Rattle.std.specs.List.{flat_map, range_with_len}
 use Rattle.zr_base.specs.declared.op.Op.{Op}
 use Rattle.zr_base.specs.declared.op.Turns.{Turns}
 use Rattle.call_history.specs.declared.part.Part.{Part}
@@ -14,20 +14,28 @@ use Rattle.lock_row.specs.Totals.{locals_sum}
 use Rattle.zr_core.specs.declared.worker.Worker.{Worker}
 use Rattle.zr_core.specs.Steps.{DiskHeld, Here, spot, plan}
 use Rattle.zr_core.specs.Machines.{Turns as Makes, rounds_of, AllFinished}
-use Rattle.zr_core.specs.States.{heres, state, AreKept}
+use Rattle.zr_core.specs.States.{heres, AreKept, Playing, state_of, CanGoOn}
 
 -- the turns of a schedule, one after the other
 abbrev pub turns_of : List Turns → List ℕ
 turns_of schedule = flat_map (λ t. replicate t.times t.actor) schedule
 
 -- these turns lead from the state that was to one that is, whatever was over before
-abbrev pub GoesBy : List ℕ → ℕ → List (List Op) → List (Option DiskHeld) → List Worker → List (Option DiskHeld) → List Worker → List (List Done) → Type 0
-GoesBy turns size actors cells ws cells' ws' dones = (dones' : List (List Done)) × AreKept ws' dones' × Makes turns (state size actors cells ws dones) (state size actors cells' ws' dones')
+abbrev pub GoesBy : List ℕ → Playing → Playing → List (List Done) → Type 0
+GoesBy turns x y dones = (dones' : List (List Done)) × AreKept y.workers dones'
+    × Makes turns (state_of x dones) (state_of y dones')
 
 -- the schedule's turns, and then rounds until all actors are finished
-abbrev pub RunsOut : List ℕ → ℕ → List (List Op) → List (Option DiskHeld) → List Worker → List (Option DiskHeld) → List Worker → List (List Done) → Type 0
-RunsOut turns size actors cells ws cells' ws' dones = (rounds : ℕ) × (dones' : List (List Done)) × AreKept ws' dones'
-    × Makes (turns ++ rounds_of (length actors) rounds) (state size actors cells ws dones) (state size actors cells' ws' dones') × AllFinished (state size actors cells' ws' dones')
+abbrev pub RunsOut : List ℕ → Playing → Playing → List (List Done) → Type 0
+RunsOut turns x y dones = (rounds : ℕ) × (dones' : List (List Done)) × AreKept y.workers dones'
+    × Makes (turns ++ rounds_of (length x.actors) rounds) (state_of x dones) (state_of y dones')
+    × AllFinished (state_of y dones')
+
+-- The phase goes on by these turns, and can go on.
+pub record Plays (turns : List ℕ) (x y : Playing) : Type 0 where
+  pub pages : y.size ≡ x.size
+  pub can : CanGoOn y
+  pub goes : (dones : List (List Done)) → AreKept x.workers dones → GoesBy turns x y dones
 
 -- some actor isn't finished
 pub record IsBusy (actors : List (List Op)) (ws : List Worker) : Type 0 where
@@ -40,7 +48,8 @@ pub record IsBusy (actors : List (List Op)) (ws : List Worker) : Type 0 where
 
 -- all are finished
 abbrev pub AllOver : List (List Op) → List Worker → Type 0
-AllOver actors ws = (a : ℕ) (ops : List Op) (w : Worker) → slice_get actors a ≡ Some ops → slice_get ws a ≡ Some w → length ops ≤ w.place.nr
+AllOver actors ws = (a : ℕ) (ops : List Op) (w : Worker) → slice_get actors a ≡ Some ops
+    → slice_get ws a ≡ Some w → length ops ≤ w.place.nr
 
 -- the events that are left: two for each piece, and one less where its slot is taken
 abbrev pub left_at : List Part → At → ℕ
@@ -48,22 +57,34 @@ left_at [] at = 0
 left_at (p ∷ ps) Start = 2 + 2 * length ps
 left_at (p ∷ ps) Entered = 1 + 2 * length ps
 
+-- the events that an actor has left
 abbrev pub left_by : Here → ℕ
 left_by l = left_at l.todo l.at
 
+-- those that all actors have left
 abbrev pub all_left : State DiskHeld → ℕ
 all_left w = locals_sum left_by w.locals
 
+-- before the first turn no piece is over
 abbrev pub nothing_over : List Worker → List (List Done)
 nothing_over ws = map (λ w. []) ws
 
+-- the events that workers have left, whatever is over
 abbrev pub left_of : ℕ → List (List Op) → List Worker → ℕ
 left_of size actors ws = locals_sum left_by (heres size actors ws (nothing_over ws))
 
 -- the next turn of this actor is an event
 abbrev pub IsFree : State DiskHeld → ℕ → Type 0
-IsFree w a = (l : Here) × (slice_get w.locals a ≡ Some l) × (plan l ≢ Finished) × ((k : LockNo) → plan l ≡ Take k → (v : DiskHeld) × (slice_get w.row (spot k) ≡ Some (Some v)))
+IsFree w a = (l : Here) × (slice_get w.locals a ≡ Some l) × (plan l ≢ Finished)
+    × ((k : LockNo) → plan l ≡ Take k → (v : DiskHeld) × (slice_get w.row (spot k) ≡ Some (Some v)))
 
--- in a round so far, up to the actor i: fewer events are left, or nothing happened and no actor below i was free
+-- in a round so far, up to the actor i: fewer events are left, or nothing happened and no actor
+-- below i was free
 abbrev pub Round : State DiskHeld → State DiskHeld → ℕ → Type 0
-Round start now i = (all_left now < all_left start) ⊎ ((now ≡ start) × ((f : ℕ) → IsFree start f → i ≤ f))
+Round start now i = (all_left now < all_left start)
+    ⊎ ((now ≡ start) × ((f : ℕ) → IsFree start f → i ≤ f))
+
+-- a round has come to the actor i
+abbrev pub RoundTo : State DiskHeld → Playing → ℕ → Type 0
+RoundTo start x i = (dones : List (List Done)) × AreKept x.workers dones
+    × Makes (range_with_len 0 i) start (state_of x dones) × Round start (state_of x dones) i

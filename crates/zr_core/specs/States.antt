@@ -18,38 +18,44 @@ use Rattle.zr_core.specs.declared.worker.Turn.{Turn}
 use Rattle.zr_core.specs.declared.worker.Turn.TheVariants as turn
 use Rattle.zr_core.specs.Steps.{DiskHeld, Here, slot, spot, plan, took, Works}
 use Rattle.zr_core.specs.Joint.{Joint}
-use Rattle.zr_core.specs.Machines.{sector_in, IsStart}
+use Rattle.zr_core.specs.Machines.{sector_in, IsStart, IsReached}
 use Rattle.zr_core.specs.Workers.{here, Keeps, IsFit}
 
 -- the names of a disk's locks: the slots of its pages, in rising order
 abbrev pub slots_of : ℕ → List LockNo
 slots_of size = map slot (range_with_len 0 size)
 
+-- the locals of workers, where these pieces of each are over
 abbrev pub heres : ℕ → List (List Op) → List Worker → List (List Done) → List Here
 heres size [] ws dones = []
 heres size (ops ∷ more) [] dones = []
 heres size (ops ∷ more) (w ∷ ws) [] = []
 heres size (ops ∷ more) (w ∷ ws) (done ∷ dones) = here size ops w done ∷ heres size more ws dones
 
-abbrev pub state : ℕ → List (List Op) → List (Option DiskHeld) → List Worker → List (List Done) → State DiskHeld
+-- the state of a row and its workers, where these pieces of each are over
+abbrev pub state : ℕ → List (List Op) → List (Option DiskHeld) → List Worker → List (List Done)
+    → State DiskHeld
 state size actors cells ws dones = record { row = cells; locals = heres size actors ws dones }
 
 -- how the operations ended, and the sectors that they read
 abbrev pub ends_shown : List Worker → List (List OpEnd)
 ends_shown ws = map (λ (w : Worker). map (λ (r : Reply). r.end) w.replies.items) ws
 
+-- the sectors that they read
 abbrev pub sectors_shown : List Worker → List (List (List (List ℕ)))
 sectors_shown ws = map (λ (w : Worker). map (λ (r : Reply). r.sectors.items) w.replies.items) ws
 
 -- Each worker is fit for its operations.
 pub record AreFit (size : ℕ) (actors : List (List Op)) (ws : List Worker) : Type 0 where
   pub count : length ws ≡ length actors
-  pub each : (a : ℕ) (ops : List Op) (w : Worker) → slice_get actors a ≡ Some ops → slice_get ws a ≡ Some w → IsFit size ops w
+  pub each : (a : ℕ) (ops : List Op) (w : Worker) → slice_get actors a ≡ Some ops
+      → slice_get ws a ≡ Some w → IsFit size ops w
 
 -- The workers' replies have what these pieces have read.
 pub record AreKept (ws : List Worker) (dones : List (List Done)) : Type 0 where
   pub count : length dones ≡ length ws
-  pub each : (a : ℕ) (w : Worker) (done : List Done) → slice_get ws a ≡ Some w → slice_get dones a ≡ Some done → Keeps w done
+  pub each : (a : ℕ) (w : Worker) (done : List Done) → slice_get ws a ≡ Some w
+      → slice_get dones a ≡ Some done → Keeps w done
 
 -- what a phase of these actors begins with on a row
 abbrev pub given_on : ℕ → List (List Op) → List (Option DiskHeld) → Given
@@ -61,40 +67,76 @@ pub record IsPrepared (g : Given) (cells : List (Option DiskHeld)) (ws : List Wo
   pub kept : AreKept ws dones
   pub start : IsStart g (state g.size g.actors cells ws dones)
 
--- The joint rule holds for some phase's start.
-pub record CanGoOn (size : ℕ) (actors : List (List Op)) (cells : List (Option DiskHeld)) (ws : List Worker) : Type 0 where
-  pub given : Given
+-- A phase between two turns: the pages of the disk, the actors' operations, the row and the
+-- workers.
+pub record Playing : Type 0 where
+  pub size : ℕ
+  pub actors : List (List Op)
+  pub cells : List (Option DiskHeld)
+  pub workers : List Worker
+
+-- the state that it stands for, where these pieces of each actor are over
+abbrev pub state_of : Playing → List (List Done) → State DiskHeld
+state_of x dones = state x.size x.actors x.cells x.workers dones
+
+-- The joint rule holds for this start.
+pub record HasJoint (g : Given) (x : Playing) : Type 0 where
+  pub pages : g.size ≡ x.size
+  pub ops : g.actors ≡ x.actors
   pub dones : List (List Done)
-  pub pages : given.size ≡ size
-  pub ops : given.actors ≡ actors
-  pub kept : AreKept ws dones
-  pub joint : Joint given (state size actors cells ws dones)
+  pub kept : AreKept x.workers dones
+  pub joint : Joint g (state_of x dones)
+
+-- Turns lead from this state to the one that it stands for.
+pub record IsReachedFrom (start : State DiskHeld) (x : Playing) : Type 0 where
+  pub dones : List (List Done)
+  pub kept : AreKept x.workers dones
+  pub reached : IsReached start (state_of x dones)
+
+-- Each worker is fit for its operations, and the joint rule holds for some start.
+pub record CanGoOn (x : Playing) : Type 0 where
+  pub fit : AreFit x.size x.actors x.workers
+  pub given : Given
+  pub joint : HasJoint given x
 
 -- one event of an actor
 pub data IsEvent (a : ℕ) (w n : State DiskHeld) : Type 0 where
-  taken : (l : Here) (k : LockNo) (v : DiskHeld) → Taking spot plan took Works a l k v w n → IsEvent a w n
-  given : (l : Here) (k : LockNo) (v : DiskHeld) (m : Here) → Giving spot plan took Works a l k v m w n → IsEvent a w n
+  taken : (l : Here) (k : LockNo) (v : DiskHeld) → Taking spot plan took Works a l k v w n
+      → IsEvent a w n
+  given : (l : Here) (k : LockNo) (v : DiskHeld) (m : Here)
+      → Giving spot plan took Works a l k v m w n → IsEvent a w n
 
--- what a turn was: one event, a miss at the lock that is next and out, or nothing where the actor is finished
+-- what a turn was: one event, a miss at the lock that is next and out, or nothing where the actor
+-- is finished
 abbrev pub TurnIs : ℕ → State DiskHeld → State DiskHeld → Turn → Type 0
 TurnIs a w n turn.Went = IsEvent a w n
-TurnIs a w n (turn.Waited k) = (l : Here) × (slice_get w.locals a ≡ Some l) × (plan l ≡ Take k) × (slice_get w.row (spot k) ≡ Some None) × (n ≡ w)
-TurnIs a w n turn.Finished = (l : Here) × (slice_get w.locals a ≡ Some l) × (plan l ≡ Finished) × (n ≡ w)
+TurnIs a w n (turn.Waited k) = (l : Here) × (slice_get w.locals a ≡ Some l) × (plan l ≡ Take k)
+    × (slice_get w.row (spot k) ≡ Some None) × (n ≡ w)
+TurnIs a w n turn.Finished = (l : Here) × (slice_get w.locals a ≡ Some l) × (plan l ≡ Finished)
+    × (n ≡ w)
 
 -- a turn from the state that was to one that is, whatever was over before
-abbrev pub TurnsOnce : ℕ → ℕ → List (List Op) → List (Option DiskHeld) → List Worker → List (Option DiskHeld) → List Worker → Turn → List (List Done) → Type 0
-TurnsOnce a size actors cells ws cells' ws' t dones = (dones' : List (List Done)) × AreKept ws' dones' × TurnIs a (state size actors cells ws dones) (state size actors cells' ws' dones') t
+abbrev pub TurnsOnce : ℕ → Playing → Playing → Turn → List (List Done) → Type 0
+TurnsOnce a x y t dones = (dones' : List (List Done)) × AreKept y.workers dones'
+    × TurnIs a (state_of x dones) (state_of y dones') t
 
 -- an item of an actor's operation
 abbrev pub of_op : {A : Type 0} → List (List A) → ℕ → ℕ → Option A
 of_op all actor op = option_and_then (λ xs. slice_get xs op) (slice_get all actor)
 
+-- the operation is over: its actor is past it
+abbrev pub HasEnded : List Worker → ℕ → ℕ → Type 0
+HasEnded ws actor op = (w : Worker) × (slice_get ws actor ≡ Some w) × (op < w.place.nr)
+
 -- Each page has its entry at home, as between two phases.
 pub record IsAtRest (pages : ℕ) (cells : List (Option DiskHeld)) : Type 0 where
   pub size : length cells ≡ pages
-  pub each : (p : ℕ) → p < pages → (e : EntryState) × (slice_get cells p ≡ Some (Some (holds.Slot e)))
+  pub each : (p : ℕ) → p < pages
+      → (e : EntryState) × (slice_get cells p ≡ Some (Some (holds.Slot e)))
 
 -- Each page has an entry at home, with nothing kept and no calls.
 pub record IsBlank (pages : ℕ) (cells : List (Option DiskHeld)) : Type 0 where
   pub size : length cells ≡ pages
-  pub each : (p : ℕ) → p < pages → (e : EntryState) × (slice_get cells p ≡ Some (Some (holds.Slot e))) × (e.kept ≡ Empty) × (e.order ≡ [])
+  pub each : (p : ℕ) → p < pages
+      → (e : EntryState) × (slice_get cells p ≡ Some (Some (holds.Slot e))) × (e.kept ≡ Empty)
+      × (e.order ≡ [])

@@ -21,9 +21,11 @@ use Rattle.slot_entry.specs.Entries.{EntryState, page_of}
 abbrev pub DiskHeld : Type 0
 DiskHeld = Held EntryState Infallible Infallible Infallible Infallible
 
+-- an actor of a disk
 abbrev pub Here : Type 0
 Here = Local DiskHeld
 
+-- the lock of a page
 abbrev pub slot : ℕ → LockNo
 slot page = lock.Slot (record { 0 = page })
 
@@ -41,9 +43,11 @@ plan_at [] at = Finished
 plan_at (p ∷ ps) Start = Take (slot p.page)
 plan_at (p ∷ ps) Entered = Give (slot p.page)
 
+-- what an actor does next
 abbrev pub plan : Here → Plan
 plan l = plan_at l.todo l.at
 
+-- the lock that an event takes or gives
 abbrev pub lock_of : Plan → LockNo
 lock_of (Take k) = k
 lock_of (Give k) = k
@@ -51,11 +55,26 @@ lock_of Finished = slot 0
 
 -- the local after a taking
 abbrev pub took : Here → DiskHeld → Here
-took l v = record { actor = l.actor; at = Entered; todo = l.todo; held = (lock_of (plan l), v) ∷ l.held; done = l.done }
+took l v = record {
+  actor = l.actor;
+  at = Entered;
+  todo = l.todo;
+  held =
+      (lock_of (plan l), v) ∷ l.held;
+  done = l.done;
+}
 
 -- the local where the piece is over
 abbrev pub over : Here → Part → PartEnd → List (List ℕ) → List Part → Here
-over l p end got rest = record { actor = l.actor; at = Start; todo = left_by end p.nr rest; held = []; done = l.done ++ record { part = p; end = end; got = got } ∷ [] }
+over l p end got rest =
+    record {
+      actor = l.actor;
+      at = Start;
+      todo = left_by end p.nr rest;
+      held = [];
+      done =
+          l.done ++ record { part = p; end = end; got = got } ∷ [];
+    }
 
 -- what a piece reads from the value that is held
 abbrev pub got_held : DiskHeld → Part → List (List ℕ)
@@ -65,6 +84,7 @@ got_held (holds.Account x) p = []
 got_held (holds.Blocks x) p = []
 got_held (holds.Device x) p = []
 
+-- what a piece reads from the value that was taken last
 abbrev pub got_in : List (LockNo × DiskHeld) → Part → List (List ℕ)
 got_in [] p = []
 got_in (x ∷ xs) p = got_held x.1 p
@@ -74,6 +94,7 @@ abbrev pub gave_by : Here → List Part → Here
 gave_by l [] = l
 gave_by l (p ∷ rest) = over l p Carried (got_in l.held p) rest
 
+-- the local after a giving, whose first piece is over
 abbrev pub gave : Here → DiskHeld → Here
 gave l v = gave_by l l.todo
 
@@ -85,5 +106,7 @@ pub record CarriesOut (actor : ℕ) (p : Part) (e f : EntryState) : Type 0 where
 
 -- The giving of the value v, after which the local is m.
 pub data Works (l : Here) (v : DiskHeld) (m : Here) : Type 0 where
-  carries : (p : Part) (rest : List Part) (e f : EntryState) → l.todo ≡ p ∷ rest → l.at ≡ Entered → l.held ≡ (slot p.page, holds.Slot e) ∷ []
-      → v ≡ holds.Slot f → CarriesOut l.actor p e f → m ≡ over l p Carried (got_from (page_of e.kept) p) rest → Works l v m
+  carries : (p : Part) (rest : List Part) (e f : EntryState) → l.todo ≡ p ∷ rest → l.at ≡ Entered
+      → l.held ≡ (slot p.page, holds.Slot e) ∷ []
+      → v ≡ holds.Slot f → CarriesOut l.actor p e f
+      → m ≡ over l p Carried (got_from (page_of e.kept) p) rest → Works l v m

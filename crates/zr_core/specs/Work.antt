@@ -3,7 +3,7 @@ use Rattle.std.specs.Prelude.{◌≡◌, ℕ, ◌+◌, ◌-◌, ◌*◌, ◌<◌
 use Rattle.zr_base.specs.declared.op.Op.{Op}
 use Rattle.zr_base.specs.declared.op.Op.TheVariants.{Write, Read, Discard}
 use Rattle.zr_base.specs.Plain.{has_event, IsRequest}
-use Rattle.call_history.specs.Parts.{first_page, pages_of}
+use Rattle.zr_base.specs.Pieces.{first_page, pages_of}
 
 -- The operation has a piece with events on the page.
 pub record IsPiece (op : Op) (page : ℕ) : Type 0 where

@@ -23,18 +23,29 @@ use Rattle.zr_core.specs.Places.{AreRequests, todo_at, IsPlace, IsSettled}
 
 -- ---- the local
 
+-- the stage of a worker with this entry in its hand
 abbrev pub at_of : Option EntryState → At
 at_of None = at.Start
 at_of (Some e) = at.Entered
 
+-- the locks that it then holds
 abbrev pub held_by : ℕ → Option EntryState → List (LockNo × DiskHeld)
 held_by page None = []
 held_by page (Some e) = (slot page, holds.Slot e) ∷ []
 
 -- the local, where these pieces are over
 abbrev pub here : ℕ → List Op → Worker → List Done → Here
-here size ops w done = record { actor = w.actor; at = at_of w.entry; todo = todo_at size ops w.place; held = held_by w.place.page w.entry; done = done }
+here size ops w done =
+    record {
+      actor = w.actor;
+      at = at_of w.entry;
+      todo = todo_at size ops w.place;
+      held =
+          held_by w.place.page w.entry;
+      done = done;
+    }
 
+-- what it does next
 abbrev pub next_event : ℕ → List Op → Worker → Plan
 next_event size ops w = plan_at (todo_at size ops w.place) (at_of w.entry)
 
@@ -44,10 +55,12 @@ with_entry w o = record { actor = w.actor; place = w.place; entry = o; replies =
 
 -- the replies have what the pieces that are over have read
 pub record Keeps (w : Worker) (done : List Done) : Type 0 where
-  pub sectors : (k : ℕ) (r : Reply) → slice_get w.replies.items k ≡ Some r → r.sectors.items ≡ got_of k done
+  pub sectors : (k : ℕ) (r : Reply) → slice_get w.replies.items k ≡ Some r
+      → r.sectors.items ≡ got_of k done
 
 -- ---- what a worker has to have
 
+-- the entry in its hand has room for a tag
 abbrev pub HasRoomIn : Option EntryState → Type 0
 HasRoomIn None = Unit {0}
 HasRoomIn (Some e) = 0 < e.room
@@ -63,12 +76,16 @@ Fits (holds.Device x) = Unit {0}
 -- A reply has room for the sectors that are left to read, where the operation is the k-th.
 pub record ReadFits (size : ℕ) (pl : Place) (k start count len room : ℕ) : Type 0 where
   pub later : pl.nr < k → is_beyond size (Read start count) ≡ false → len + count ≤ room
-  pub here : pl.nr ≡ k → is_beyond size (Read start count) ≡ false → len + (start + count - max start (8 * pl.page)) ≤ room
+  pub here : pl.nr ≡ k → is_beyond size (Read start count) ≡ false
+      → len + (start + count - max start (8 * pl.page)) ≤ room
 
--- the reply of the k-th operation has room for what is left to read; only reads on the disk have sectors
+-- the reply of the k-th operation has room for what is left to read; only reads on the disk have
+-- sectors
 abbrev pub ReplyFits : ℕ → Place → ℕ → Op → Reply → Type 0
 ReplyFits size pl k (Write start count stuff) r = r.sectors.items ≡ []
-ReplyFits size pl k (Read start count) r = ReadFits size pl k start count (vec_len r.sectors) (vec_capacity r.sectors) × (is_beyond size (Read start count) ≡ true → r.sectors.items ≡ [])
+ReplyFits size pl k (Read start count) r =
+    ReadFits size pl k start count (vec_len r.sectors) (vec_capacity r.sectors)
+    × (is_beyond size (Read start count) ≡ true → r.sectors.items ≡ [])
 ReplyFits size pl k (Discard start count) r = r.sectors.items ≡ []
 
 -- The worker is at a piece with events, or behind all of them, with room for what is left to do.
@@ -79,8 +96,11 @@ pub record IsFit (size : ℕ) (ops : List Op) (w : Worker) : Type 0 where
   pub settled : IsSettled ops w.place
   pub room : HasRoomIn w.entry
   pub replies : length w.replies.items ≡ length ops
-  pub ends : (k : ℕ) (op : Op) (r : Reply) → slice_get ops k ≡ Some op → slice_get w.replies.items k ≡ Some r → r.end ≡ (if is_beyond size op then ends.Range else ends.Ok)
-  pub reads : (k : ℕ) (op : Op) (r : Reply) → slice_get ops k ≡ Some op → slice_get w.replies.items k ≡ Some r → ReplyFits size w.place k op r
+  pub ends : (k : ℕ) (op : Op) (r : Reply) → slice_get ops k ≡ Some op
+      → slice_get w.replies.items k ≡ Some r
+      → r.end ≡ (if is_beyond size op then ends.Range else ends.Ok)
+  pub reads : (k : ℕ) (op : Op) (r : Reply) → slice_get ops k ≡ Some op
+      → slice_get w.replies.items k ≡ Some r → ReplyFits size w.place k op r
 
 -- one reply has more sectors, and the others are as before
 pub record HasMore (nr : ℕ) (got : List (List ℕ)) (n : ℕ) (old new : List Reply) : Type 0 where
@@ -99,16 +119,22 @@ pub record HasMore (nr : ℕ) (got : List (List ℕ)) (n : ℕ) (old new : List 
 
 -- the value may be given, whatever is over
 abbrev pub WorksAlways : ℕ → List Op → Worker → DiskHeld → Type 0
-WorksAlways size ops w v = (done : List Done) → Works (here size ops w done) v (gave (here size ops w done) v)
+WorksAlways size ops w v = (done : List Done)
+    → Works (here size ops w done) v (gave (here size ops w done) v)
 
-module _ {X : Type 0} (takes : X → LockNo → (Here → DiskHeld → Here) → DiskHeld → X → Type 0) (misses : X → LockNo → X → Type 0) (gives : X → LockNo → (Here → DiskHeld → Here) → DiskHeld → X → Type 0) where
+module _ {X : Type 0} (takes : X → LockNo → (Here → DiskHeld → Here) → DiskHeld → X → Type 0)
+    (misses : X → LockNo → X → Type 0)
+    (gives : X → LockNo → (Here → DiskHeld → Here) → DiskHeld → X → Type 0) where
   -- one turn of an actor at l by a hand
   pub data Turned (l : Here) (h : X) (m : Here) (g : X) : Turn → Type 0 where
     finished : plan l ≡ Finished → m ≡ l → g ≡ h → Turned l h m g turn.Finished
     waited : (k : LockNo) → plan l ≡ Take k → misses h k g → m ≡ l → Turned l h m g (turn.Waited k)
-    took_it : (k : LockNo) (v : DiskHeld) → plan l ≡ Take k → takes h k took v g → m ≡ took l v → Turned l h m g turn.Went
-    gave_it : (k : LockNo) (v : DiskHeld) → plan l ≡ Give k → gives h k gave v g → Works l v (gave l v) → m ≡ gave l v → Turned l h m g turn.Went
+    took_it : (k : LockNo) (v : DiskHeld) → plan l ≡ Take k → takes h k took v g → m ≡ took l v
+        → Turned l h m g turn.Went
+    gave_it : (k : LockNo) (v : DiskHeld) → plan l ≡ Give k → gives h k gave v g
+        → Works l v (gave l v) → m ≡ gave l v → Turned l h m g turn.Went
 
   -- that of a worker, where these pieces are over before it
   abbrev pub Advanced : ℕ → List Op → Worker → X → Worker → X → Turn → List Done → Type 0
-  Advanced size ops w h w' g t done = (done' : List Done) × Keeps w' done' × Turned (here size ops w done) h (here size ops w' done') g t
+  Advanced size ops w h w' g t done = (done' : List Done) × Keeps w' done'
+      × Turned (here size ops w done) h (here size ops w' done') g t

@@ -1,19 +1,32 @@
-//! What the machine of a disk and its actors keeps, whatever the turns are.
+//! What the machine of a disk and its actors keeps, whatever the turns are. Each law is a function
+//! whose body
+//! calls the laws that it rests on: who wants it calls it, and has its clauses.
 
-ghost use Rattle.std.specs.Prelude.{◌≡◌, ℕ};
-ghost use Rattle.call_history.specs.Histories.{HasSomeEach};
-ghost use Rattle.plain_disk.specs.Phases.{IsPhase};
-ghost use Rattle.zr_core.specs.Joint.{Joint};
-ghost use Rattle.zr_core.specs.Machines.{OneTurn, IsStart, IsReached, AllFinished, PhaseSteps, printed, sector_in};
+ghost use Rattle.zr_core.specs.Laws.{StartHasJoint, TurnKeepsJoint, ReachedHasJoint, PrintsPhase, StepsPrintPhase};
 
-/// The state before the first turn has the joint rule, and each turn keeps it.
+use crate::worker::DiskHeld;
+use call_history::{histories_go_on, histories_tell, pieces_keep};
+use lock_row::{sums_move, values_stay_apart};
+
+/// The state before the first turn has the joint rule, each turn keeps it, and so each state has it
+/// that is
+/// reached from one that does.
 pub fn turns_keep()
-    ensures start { (g : _) (w : _) → IsStart g w → Joint g w }
-    ensures turn { (g : _) (a : ℕ) (w : _) (n : _) → Joint g w → OneTurn a w n → Joint g n }
-{}
+    ensures start { StartHasJoint }
+    ensures turn { TurnKeepsJoint }
+    ensures reached { ReachedHasJoint }
+{
+    values_stay_apart::<DiskHeld>();
+    sums_move::<DiskHeld>();
+    pieces_keep();
+    histories_go_on();
+}
 
 /// A phase prints what the plain disk allows, whatever its turns are.
 pub fn phases_are_legal()
-    ensures state { (g : _) (w : _) → Joint g w → AllFinished w → HasSomeEach g.actors → IsPhase g (printed g w) (sector_in w.row) }
-    ensures steps { (g : _) (turns : _) (lines : _) (row : _) → HasSomeEach g.actors → PhaseSteps g turns lines row → IsPhase g lines (sector_in row) }
-{}
+    ensures state { PrintsPhase }
+    ensures steps { StepsPrintPhase }
+{
+    turns_keep();
+    histories_tell();
+}

@@ -2,13 +2,15 @@
 
 ghost use Rattle.std.specs.Prelude.{◌≡◌, ◌<◌, ◌≤◌, false, Some, length, drop, slice_get, if◌then◌else◌};
 ghost use Rattle.std.specs.Bool.{OnTrue, OnFalse};
-ghost use Rattle.zr_base.specs.Plain.{start_of, count_of, is_beyond, has_event, IsRequest};
-ghost use Rattle.call_history.specs.Parts.{pages_of, program};
+ghost use Rattle.zr_base.specs.Plain.{is_beyond, has_event, IsRequest};
+ghost use Rattle.zr_base.specs.Pieces.{pages_of};
+ghost use Rattle.call_history.specs.Parts.{program};
 ghost use Rattle.zr_core.specs.Places.{AreRequests, todo_at, IsPlace, IsSettled, IsOnward, steps_left};
 
 use zr_base::Op;
 
-/// The operation in work, counted from 0, the page of its next piece, and how many of its pages are left.
+/// The operation in work, counted from 0, the page of its next piece, and how many of its pages are
+/// left.
 #[derive(Clone, Copy)]
 pub struct Place {
     pub nr: usize,
@@ -16,43 +18,12 @@ pub struct Place {
     pub left: u32,
 }
 
-/// The first sector of a request and how many it has.
-pub(crate) fn bounds(op: &Op) -> (u64, u32)
-    ensures start { result.0 ≡ start_of op.now }
-    ensures count { result.1 ≡ count_of op.now }
-{
-    match op {
-        Op::Write { start, count, .. } => (*start, *count),
-        Op::Read { start, count } => (*start, *count),
-        Op::Discard { start, count } => (*start, *count),
-    }
-}
-
-/// Whether the operation's piece on a page has events.
-pub(crate) fn has_work(op: &Op, page: u32) -> bool
-    requires { IsRequest op.now }
-    ensures { result ≡ has_event op.now page }
-{
-    match op {
-        Op::Write { .. } | Op::Read { .. } => true,
-        Op::Discard { start, count } => {
-            let first = 8 * page as u64;
-            *start <= first && first + 8 <= *start + *count as u64
-        }
-    }
-}
-
-/// The pages on which an operation has pieces.
+/// How many pages an operation has pieces on: none where it lies beyond the disk.
 pub(crate) fn pages_to_do(size: u32, op: &Op) -> u32
     requires { IsRequest op.now }
     ensures { result ≡ (if is_beyond size op.now then 0 else pages_of op.now) }
 {
-    let (start, count) = bounds(op);
-    let end = start + count as u64;
-    if 8 * (size as u64) < end || count == 0 {
-        return 0;
-    }
-    ((end - 1) / 8 + 1 - start / 8) as u32
+    if op.is_beyond(size) { 0 } else { op.pages() }
 }
 
 /// The first page of an operation, whether or not it has a piece with events.
@@ -71,10 +42,9 @@ pub fn first_piece(size: u32, ops: &[Op], nr: usize) -> Place
         };
     }
     let op = &ops[nr];
-    let first = bounds(op).0 / 8;
     Place {
         nr,
-        page: first as u32,
+        page: op.first_page(),
         left: pages_to_do(size, op),
     }
 }
@@ -83,12 +53,15 @@ pub fn first_piece(size: u32, ops: &[Op], nr: usize) -> Place
 fn is_settled(ops: &[Op], place: Place) -> bool
     requires { AreRequests ops.now }
     ensures on { OnTrue result (IsSettled ops.now place) }
-    ensures off { OnFalse result ((place.nr < length ops.now) × ((op : _) → slice_get ops.now place.nr ≡ Some op → 1 ≤ place.left → has_event op place.page ≡ false)) }
+    ensures off { OnFalse result
+        ((place.nr < length ops.now)
+        × ((op : _) → slice_get ops.now place.nr ≡ Some op → 1 ≤ place.left
+        → has_event op place.page ≡ false)) }
 {
     if place.nr >= ops.len() {
         return true;
     }
-    place.left > 0 && has_work(&ops[place.nr], place.page)
+    place.left > 0 && ops[place.nr].has_event(place.page)
 }
 
 // The page after this one, whose piece has no event, or the first one of the next operation.
@@ -96,7 +69,8 @@ fn passed(size: u32, ops: &[Op], place: Place) -> Place
     requires requests { AreRequests ops.now }
     requires place { IsPlace size ops.now place }
     requires more { place.nr < length ops.now }
-    requires off { (op : _) → slice_get ops.now place.nr ≡ Some op → 1 ≤ place.left → has_event op place.page ≡ false }
+    requires off { (op : _) → slice_get ops.now place.nr ≡ Some op → 1 ≤ place.left
+        → has_event op place.page ≡ false }
     ensures place { IsPlace size ops.now result }
     ensures same { todo_at size ops.now result ≡ todo_at size ops.now place }
     ensures onward { IsOnward place result }

@@ -12,7 +12,7 @@ ghost use Rattle.zr_core.specs.Places.{AreRequests, IsWork};
 ghost use Rattle.zr_core.specs.States.{slots_of, IsAtRest};
 ghost use Rattle.zr_core.specs.Preparing.{count_at, pieces_each, IsReserved, AreReserved, IsNewReply, AreNewReplies, IsNewWorker, AreNewWorkers};
 
-use crate::place::{bounds, first_piece, has_work, pages_to_do, settled};
+use crate::place::{first_piece, pages_to_do, settled};
 use crate::worker::{DiskHeld, Reply, Worker, entry_in, entry_of};
 use lock_row::{Hand, Held, LockNo, SimRow, Still};
 use std::alloc::{AllocError, Global};
@@ -24,12 +24,13 @@ fn count_op(size: u32, op: &Op, counts: &mut [u32])
     requires size { length counts.old ≡ size }
     requires fits { (p : ℕ) → p < size → count_at counts.old p + pieces_on p (parts size 0 op.now) < 2 ^ 32 }
     ensures size { length counts.new ≡ length counts.old }
-    ensures counted { (p : ℕ) → p < size → count_at counts.new p ≡ count_at counts.old p + pieces_on p (parts size 0 op.now) }
+    ensures counted { (p : ℕ) → p < size
+        → count_at counts.new p ≡ count_at counts.old p + pieces_on p (parts size 0 op.now) }
 {
-    let first = (bounds(op).0 / 8) as u32;
+    let first = op.first_page();
     let left = pages_to_do(size, op);
     for page in first..first + left {
-        if has_work(op, page) {
+        if op.has_event(page) {
             counts[page as usize] += 1;
         }
     }
@@ -41,7 +42,8 @@ fn count_actor(size: u32, ops: &[Op], counts: &mut [u32])
     requires size { length counts.old ≡ size }
     requires fits { (p : ℕ) → p < size → count_at counts.old p + pieces_on p (program size 0 ops.now) < 2 ^ 32 }
     ensures size { length counts.new ≡ length counts.old }
-    ensures counted { (p : ℕ) → p < size → count_at counts.new p ≡ count_at counts.old p + pieces_on p (program size 0 ops.now) }
+    ensures counted { (p : ℕ) → p < size
+        → count_at counts.new p ≡ count_at counts.old p + pieces_on p (program size 0 ops.now) }
 {
     for op in ops {
         count_op(size, op, counts);
@@ -56,7 +58,8 @@ pub(crate) fn count_pieces(
 ) -> Result<Vec<u32>, AllocError>
     requires { IsWork ops.now }
     ensures size { IfOk result (λ counts. length counts.items ≡ size) }
-    ensures counted { IfOk result (λ counts. (p : ℕ) → p < size → count_at counts.items p ≡ pieces_each size ops.now p) }
+    ensures counted { IfOk result (λ counts. (p : ℕ) → p < size
+        → count_at counts.items p ≡ pieces_each size ops.now p) }
 {
     let mut counts = vec![in alloc; 0; size as usize]?;
     for actor in ops {
@@ -69,7 +72,9 @@ pub(crate) fn count_pieces(
 fn is_unused(row: &SimRow<DiskHeld>, size: u32, page: u32) -> bool
     requires names { row.now.names ≡ slots_of size }
     requires page { page < size }
-    ensures { OnTrue result ((e : EntryState) × (slice_get row.now.cells page ≡ Some (Some (holds.Slot e))) × (e.order ≡ [])) }
+    ensures { OnTrue result
+        ((e : EntryState) × (slice_get row.now.cells page ≡ Some (Some (holds.Slot e)))
+        × (e.order ≡ [])) }
 {
     match row.value(LockNo::Slot(PageIx(page))) {
         None => false,
@@ -124,11 +129,10 @@ fn new_reply(alloc: Global, size: u32, op: &Op) -> Result<Reply, AllocError>
     requires { IsRequest op.now }
     ensures { IfOk result (IsNewReply size op.now) }
 {
-    let (start, count) = bounds(op);
-    let is_beyond = 8 * (size as u64) < start + count as u64;
+    let is_beyond = op.is_beyond(size);
     let end = if is_beyond { OpEnd::Range } else { OpEnd::Ok };
     let room = match op {
-        Op::Read { .. } if !is_beyond => count as usize,
+        Op::Read { count, .. } if !is_beyond => *count as usize,
         _ => 0,
     };
     let sectors = Vec::with_capacity(alloc, room)?;

@@ -1,4 +1,11 @@
 //! What a piece does to its page's entry while it has the slot.
+//!
+//! A write copies the page, changes its sectors and puts it back. Nobody can come between, since
+//! the page's slot
+//! is held from `Worker::enter` to `Worker::leave`: else of two writers of one page one would put
+//! back what it had
+//! copied before the other's put, and the other's sectors would be lost
+//! (`examples/race_partial_writes.job`).
 
 ghost use Rattle.std.specs.Prelude.{◌≡◌, ◌⊎◌, ℕ, ◌+◌, ◌-◌, ◌*◌, ◌/◌, ◌<◌, ◌≤◌, ◌^◌, List, ◌++◌, map, length, vec_len, vec_capacity};
 ghost use Rattle.std.specs.List.{range_with_len};
@@ -11,26 +18,7 @@ ghost use Rattle.slot_entry.specs.Entries.{page_of};
 ghost use Rattle.zr_core.specs.Work.{IsPiece, reads};
 
 use slot_entry::{Entry, Kept};
-use zr_base::{Op, Page, PageIx, Piece, Stuff};
-
-// The sectors that a request has on a page that it touches.
-fn piece_at(start: u64, count: u32, page: u32) -> Piece
-    requires start { start < 2 ^ 32 }
-    requires count { count ≤ 2048 }
-    requires page { page < 2 ^ 30 }
-    requires first { start < 8 * page + 8 }
-    requires last { 8 * page < start + count }
-    ensures { result ≡ piece_on start count page }
-{
-    let low = 8 * page as u64;
-    let from = start.max(low);
-    let to = (start + count as u64).min(low + 8);
-    Piece {
-        page: PageIx(page),
-        first: (from - low) as u8,
-        count: (to - from) as u8,
-    }
-}
+use zr_base::{Op, Page, Piece, Stuff};
 
 // The page that a form stands for.
 fn copy_of(kept: &Kept) -> Page
@@ -58,7 +46,8 @@ fn sector_of(kept: &Kept, at: u8) -> [u8; 512]
 fn read_sectors(kept: &Kept, first: u8, count: u8, sectors: &mut Vec<[u8; 512]>)
     requires within { first + count ≤ 8 }
     requires room { vec_len sectors.old + count ≤ vec_capacity sectors.old }
-    ensures items { sectors.new.items ≡ sectors.old.items ++ map (page_sector (page_of kept.now)) (range_with_len first count) }
+    ensures items { sectors.new.items
+        ≡ sectors.old.items ++ map (page_sector (page_of kept.now)) (range_with_len first count) }
     ensures len { vec_len sectors.new ≡ vec_len sectors.old + count }
     ensures capacity { vec_capacity sectors.new ≡ vec_capacity sectors.old }
 {
@@ -72,8 +61,10 @@ fn write_sectors(stuff: &Stuff, from: u32, page: &mut Page, first: u8, count: u8
     requires within { first + count ≤ 8 }
     requires small { from < 2 ^ 31 }
     requires there { HasSectors stuff.now (from + count) }
-    ensures put { (k : ℕ) → first ≤ k → k < first + count → page_sector page.new k ≡ stuff_sector stuff.now (from + (k - first)) }
-    ensures others { (k : ℕ) → k < 8 → (k < first) ⊎ (first + count ≤ k) → page_sector page.new k ≡ page_sector page.old k }
+    ensures put { (k : ℕ) → first ≤ k → k < first + count
+        → page_sector page.new k ≡ stuff_sector stuff.now (from + (k - first)) }
+    ensures others { (k : ℕ) → k < 8 → (k < first) ⊎ (first + count ≤ k)
+        → page_sector page.new k ≡ page_sector page.old k }
 {
     let mut sector = [0; 512];
     for at in first..first + count {
@@ -83,35 +74,35 @@ fn write_sectors(stuff: &Stuff, from: u32, page: &mut Page, first: u8, count: u8
 }
 
 // Writes the request's sectors on the page.
-fn write_piece(start: u64, count: u32, stuff: &Stuff, page: u32, entry: &mut Entry)
+fn write_piece(start: u64, count: u32, stuff: &Stuff, piece: Piece, entry: &mut Entry)
     requires bounds { InBounds start count }
     requires there { HasSectors stuff.now count }
-    requires page { page < 2 ^ 30 }
-    requires first { start < 8 * page + 8 }
-    requires last { 8 * page < start + count }
-    ensures holds { (k : ℕ) → k < 8 → page_sector (page_of entry.new.kept) k ≡ sector_after (Write start count stuff.now) (8 * page + k) (page_sector (page_of entry.old.kept) k) }
+    requires piece { piece ≡ piece_on start count piece.page.0 }
+    requires first { start < 8 * piece.page.0 + 8 }
+    requires last { 8 * piece.page.0 < start + count }
+    ensures holds { (k : ℕ) → k < 8 → page_sector (page_of entry.new.kept) k
+        ≡ sector_after (Write start count stuff.now) (8 * piece.page.0 + k) (page_sector (page_of entry.old.kept) k) }
     ensures order { entry.new.order ≡ entry.old.order }
     ensures room { entry.new.room ≡ entry.old.room }
 {
-    let piece = piece_at(start, count, page);
     let mut written = copy_of(entry.kept());
-    let from = (8 * page as u64 + piece.first as u64 - start) as u32;
+    let from = (8 * piece.page.0 as u64 + piece.first as u64 - start) as u32;
     write_sectors(stuff, from, &mut written, piece.first, piece.count);
     entry.put(Kept::Plain(written));
 }
 
 // Reads the request's sectors on the page.
-fn read_piece(start: u64, count: u32, page: u32, kept: &Kept, sectors: &mut Vec<[u8; 512]>)
+fn read_piece(start: u64, count: u32, piece: Piece, kept: &Kept, sectors: &mut Vec<[u8; 512]>)
     requires bounds { InBounds start count }
-    requires page { page < 2 ^ 30 }
-    requires first { start < 8 * page + 8 }
-    requires last { 8 * page < start + count }
-    requires room { vec_len sectors.old + reads (Read start count) page ≤ vec_capacity sectors.old }
-    ensures got { sectors.new.items ≡ sectors.old.items ++ got_by (Read start count) page (λ s. page_sector (page_of kept.now) (s - 8 * page)) }
-    ensures len { vec_len sectors.new ≡ vec_len sectors.old + reads (Read start count) page }
+    requires piece { piece ≡ piece_on start count piece.page.0 }
+    requires first { start < 8 * piece.page.0 + 8 }
+    requires last { 8 * piece.page.0 < start + count }
+    requires room { vec_len sectors.old + reads (Read start count) piece.page.0 ≤ vec_capacity sectors.old }
+    ensures got { sectors.new.items ≡ sectors.old.items
+        ++ got_by (Read start count) piece.page.0 (λ s. page_sector (page_of kept.now) (s - 8 * piece.page.0)) }
+    ensures len { vec_len sectors.new ≡ vec_len sectors.old + reads (Read start count) piece.page.0 }
     ensures capacity { vec_capacity sectors.new ≡ vec_capacity sectors.old }
 {
-    let piece = piece_at(start, count, page);
     read_sectors(kept, piece.first, piece.count, sectors);
 }
 
@@ -120,20 +111,23 @@ fn read_piece(start: u64, count: u32, page: u32, kept: &Kept, sectors: &mut Vec<
 pub fn carry_out(op: &Op, page: u32, entry: &mut Entry, sectors: &mut Vec<[u8; 512]>)
     requires piece { IsPiece op.now page }
     requires room { vec_len sectors.old + reads op.now page ≤ vec_capacity sectors.old }
-    ensures holds { (k : ℕ) → k < 8 → page_sector (page_of entry.new.kept) k ≡ sector_after op.now (8 * page + k) (page_sector (page_of entry.old.kept) k) }
+    ensures holds { (k : ℕ) → k < 8 → page_sector (page_of entry.new.kept) k
+        ≡ sector_after op.now (8 * page + k) (page_sector (page_of entry.old.kept) k) }
     ensures order { entry.new.order ≡ entry.old.order }
     ensures room { entry.new.room ≡ entry.old.room }
-    ensures got { sectors.new.items ≡ sectors.old.items ++ got_by op.now page (λ s. page_sector (page_of entry.old.kept) (s - 8 * page)) }
+    ensures got { sectors.new.items ≡ sectors.old.items
+        ++ got_by op.now page (λ s. page_sector (page_of entry.old.kept) (s - 8 * page)) }
     ensures len { vec_len sectors.new ≡ vec_len sectors.old + reads op.now page }
     ensures capacity { vec_capacity sectors.new ≡ vec_capacity sectors.old }
 {
+    let piece = op.piece_on(page);
     match op {
         Op::Write {
             start,
             count,
             stuff,
-        } => write_piece(*start, *count, stuff, page, entry),
-        Op::Read { start, count } => read_piece(*start, *count, page, entry.kept(), sectors),
+        } => write_piece(*start, *count, stuff, piece, entry),
+        Op::Read { start, count } => read_piece(*start, *count, piece, entry.kept(), sectors),
         Op::Discard { .. } => entry.put(Kept::Empty),
     }
 }

@@ -1,5 +1,16 @@
 //! An actor of a phase: its place among its operations, the entry in its hand, and its replies. Its
 //! steps are written for any hand.
+//!
+//! | Stage | The actor has | Next event | Function | The event's work | Next stage |
+//! |---|---|---|---|---|---|
+//! | start | no lock (`entry` is none) | takes the slot of the piece's page | `enter` | none |
+//! entered |
+//! | entered | that slot's entry | gives the slot back | `leave` | the piece is carried out, and
+//! its tag noted | start of the next piece |
+//!
+//! Between `enter` and `leave` no other actor has the entry, so what a partial write puts back is
+//! the page that
+//! it copied, with its own sectors changed (`examples/race_partial_writes.job`).
 
 ghost use Rattle.std.specs.Prelude.{◌≡◌, ℕ, ◌+◌, ◌*◌, ◌-◌, ◌<◌, ◌≤◌, nat_le, List, length, vec_len, vec_capacity, slice_get, Some, None};
 ghost use Rattle.zr_base.specs.Sectors.{page_sector};
@@ -16,6 +27,7 @@ ghost use Rattle.zr_core.specs.Workers.{next_event, Keeps, Fits, IsFit, HasMore,
 
 use crate::place::{Place, settled};
 use crate::work::carry_out;
+use call_history::histories_go_on;
 use lock_row::{Hand, Held, LockNo, NextLocal};
 use slot_entry::Entry;
 use std::convert::Infallible;
@@ -73,11 +85,15 @@ impl NextLocal<DiskHeld> for Gave {
 fn work(replies: &mut Vec<Reply>, nr: usize, op: &Op, page: u32, entry: &mut Entry)
     requires there { nr < vec_len replies.old }
     requires piece { IsPiece op.now page }
-    requires room { (r : _) → slice_get replies.old.items nr ≡ Some r → vec_len r.sectors + reads op.now page ≤ vec_capacity r.sectors }
-    ensures holds { (k : ℕ) → k < 8 → page_sector (page_of entry.new.kept) k ≡ sector_after op.now (8 * page + k) (page_sector (page_of entry.old.kept) k) }
+    requires room { (r : _) → slice_get replies.old.items nr ≡ Some r
+        → vec_len r.sectors + reads op.now page ≤ vec_capacity r.sectors }
+    ensures holds { (k : ℕ) → k < 8
+        → page_sector (page_of entry.new.kept) k
+        ≡ sector_after op.now (8 * page + k) (page_sector (page_of entry.old.kept) k) }
     ensures order { entry.new.order ≡ entry.old.order }
     ensures room { entry.new.room ≡ entry.old.room }
-    ensures more { HasMore nr (got_by op.now page (λ s. page_sector (page_of entry.old.kept) (s - 8 * page))) (reads op.now page) replies.old.items replies.new.items }
+    ensures more { HasMore nr (got_by op.now page (λ s. page_sector (page_of entry.old.kept) (s - 8 * page)))
+        (reads op.now page) replies.old.items replies.new.items }
 {
     let reply = &mut replies[nr];
     carry_out(op, page, entry, &mut reply.sectors);
@@ -117,9 +133,12 @@ impl Worker {
         requires empty { self.old.entry ≡ None }
         requires more { self.old.place.nr < length ops.now }
         requires takes { (k : LockNo) → next_event size ops.now self.old ≡ Take k → H.can_take hand.old k took }
-        requires fits { (k : LockNo) (v : DiskHeld) (after : H) → next_event size ops.now self.old ≡ Take k → H.takes hand.old k took v after → Fits v }
+        requires fits { (k : LockNo) (v : DiskHeld) (after : H) → next_event size ops.now self.old ≡ Take k
+            → H.takes hand.old k took v after → Fits v }
         ensures fit { IsFit size ops.now self.new }
-        ensures turn { (done : List Done) → Keeps self.old done → Advanced H.takes H.misses H.gives size ops.now self.old hand.old self.new hand.new result done }
+        ensures turn { (done : List Done) → Keeps self.old done
+            → Advanced H.takes H.misses H.gives size ops.now self.old hand.old self.new hand.new
+            result done }
     {
         let lock = LockNo::Slot(PageIx(self.place.page));
         match hand.try_take::<Took>(lock) {
@@ -142,10 +161,16 @@ impl Worker {
         requires fit { IsFit size ops.now (with_entry self.old (Some entry)) }
         requires empty { self.old.entry ≡ None }
         requires more { self.old.place.nr < length ops.now }
-        requires gives { (k : LockNo) (v : DiskHeld) → next_event size ops.now (with_entry self.old (Some entry)) ≡ Give k → WorksAlways size ops.now (with_entry self.old (Some entry)) v → H.can_give hand.old k gave v }
+        requires gives { (k : LockNo) (v : DiskHeld)
+            → next_event size ops.now (with_entry self.old (Some entry)) ≡ Give k
+            → WorksAlways size ops.now (with_entry self.old (Some entry)) v
+            → H.can_give hand.old k gave v }
         ensures fit { IsFit size ops.now self.new }
-        ensures turn { (done : List Done) → Keeps self.old done → Advanced H.takes H.misses H.gives size ops.now (with_entry self.old (Some entry)) hand.old self.new hand.new result done }
+        ensures turn { (done : List Done) → Keeps self.old done
+            → Advanced H.takes H.misses H.gives size ops.now
+            (with_entry self.old (Some entry)) hand.old self.new hand.new result done }
     {
+        histories_go_on();
         let Place { nr, page, left } = self.place;
         let mut worked = entry;
         work(&mut self.replies, nr, &ops[nr], page, &mut worked);
@@ -173,10 +198,14 @@ impl Worker {
     ) -> Turn
         requires fit { IsFit size ops.now self.old }
         requires takes { (k : LockNo) → next_event size ops.now self.old ≡ Take k → H.can_take hand.old k took }
-        requires fits { (k : LockNo) (v : DiskHeld) (after : H) → next_event size ops.now self.old ≡ Take k → H.takes hand.old k took v after → Fits v }
-        requires gives { (k : LockNo) (v : DiskHeld) → next_event size ops.now self.old ≡ Give k → WorksAlways size ops.now self.old v → H.can_give hand.old k gave v }
+        requires fits { (k : LockNo) (v : DiskHeld) (after : H) → next_event size ops.now self.old ≡ Take k
+            → H.takes hand.old k took v after → Fits v }
+        requires gives { (k : LockNo) (v : DiskHeld) → next_event size ops.now self.old ≡ Give k
+            → WorksAlways size ops.now self.old v → H.can_give hand.old k gave v }
         ensures fit { IsFit size ops.now self.new }
-        ensures turn { (done : List Done) → Keeps self.old done → Advanced H.takes H.misses H.gives size ops.now self.old hand.old self.new hand.new result done }
+        ensures turn { (done : List Done) → Keeps self.old done
+            → Advanced H.takes H.misses H.gives size ops.now self.old hand.old self.new hand.new
+            result done }
     {
         if self.is_done(ops) {
             return Turn::Finished;

@@ -6,4 +6,5 @@ returns-clause-here c g D D' a d p page order page' order' grown is stands work 
     page_here g D D' a d grown p page order page' order' is stands work named_p got sh
 
 pub returns-clause-elsewhere : goal.returns-clause-elsewhere
-returns-clause-elsewhere c g D D' a d p page order grown off sh = page_still g D D' a d grown p page order off sh
+returns-clause-elsewhere c g D D' a d p page order grown off sh =
+    page_still g D D' a d grown p page order off sh

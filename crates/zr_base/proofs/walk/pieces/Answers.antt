@@ -1,8 +1,17 @@
-use Rattle.zr_base.proofs.Requests.{is_touched, is_piece_of}
+use Rattle.std.proofs.Common.{◌≡◌, ℕ, ◌+◌, ◌-◌, sym, subst, arith}
+use Rattle.std.specs.List.{AllByRecursion}
+use Rattle.zr_base.specs.declared.op.Piece.{Piece}
+use Rattle.zr_base.specs.Pieces.{pieces_of, IsPieceOf}
+use Rattle.zr_base.proofs.Requests.{touched, touched-back, pieces_of-each}
 use Rattle.zr_base.proofs.walk.pieces.Goals as goal
 
 pub returns-clause-pages : goal.returns-clause-pages
-returns-clause-pages c page some touched = is_touched c.args.start c.args.count page some touched
+returns-clause-pages c page =
+    (touched c.args.start c.args.count page, touched-back c.args.start c.args.count page)
 
 pub returns-clause-sectors : goal.returns-clause-sectors
-returns-clause-sectors c page some touched = is_piece_of c.args.start c.args.count page some touched
+returns-clause-sectors c =
+    let a = c.args.start in
+    let n : a + c.args.count - a ≡ c.args.count = omega arith in
+    let P : ℕ → Type 0 = λ n. AllByRecursion (λ (p : Piece). IsPieceOf a c.args.count p.page.0 p) (pieces_of a n) in
+    subst P (sym n) (pieces_of-each a c.args.count)

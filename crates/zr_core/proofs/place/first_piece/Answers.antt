@@ -1,22 +1,25 @@
 use Rattle.std.proofs.Common.{◌≡◌, Some, slice_get, refl, arith}
-use Rattle.call_history.specs.Parts.{first_page}
-use Rattle.zr_core.proofs.Places.{at_index, in_bounds, few_first}
+use Rattle.zr_base.specs.Pieces.{first_page}
+use Rattle.zr_core.proofs.Places.{at_index, few_first}
 use Rattle.zr_core.proofs.place.first_piece.Goals as goal
-use Rattle.zr_core.proofs.place.first_piece.Goals.{After-bounds-first, After-index-ops-nr}
+use Rattle.zr_core.proofs.place.first_piece.Goals.{After-index-ops-nr}
 
 at_nr : (c : After-index-ops-nr) → slice_get c.args.ops.now c.args.nr ≡ Some c.index-ops-nr.result
 at_nr c = at_index c.args.ops.now c.args.nr c.index-ops-nr.result (let f = c.if-nr-ops.false in
     omega arith) c.index-ops-nr.is
 
-pub overflow_cast-result : goal.overflow_cast-result
-overflow_cast-result c =
-    let b = (in_bounds c.index-ops-nr.result (c.requires.requests c.args.nr c.index-ops-nr.result (at_nr (goal.at.overflow_cast-result c).After-index-ops-nr))).0 in
-    let s = c.bounds-first.ensures.start in omega arith
+pub first_page-requires : goal.first_page-requires
+first_page-requires c = c.requires.requests c.args.nr c.index-ops-nr.result
+    (at_nr (goal.at.first_page-requires c).After-index-ops-nr)
 
 pub pages_to_do-requires : goal.pages_to_do-requires
-pages_to_do-requires c = c.requires.requests c.args.nr c.index-ops-nr.result (at_nr (goal.at.pages_to_do-requires c).After-index-ops-nr)
+pages_to_do-requires c =
+    c.requires.requests c.args.nr c.index-ops-nr.result
+    (at_nr (goal.at.pages_to_do-requires c).After-index-ops-nr)
 
 pub returns-clause-few : goal.returns-clause-few
 returns-clause-few c =
     let at = at_nr (goal.at.returns-clause-few c).After-index-ops-nr in
-    few_first c.args.size c.args.ops.now c.args.nr c.index-ops-nr.result at (first_page c.index-ops-nr.result) c.pages_to_do.result refl c.pages_to_do.ensures (c.requires.requests c.args.nr c.index-ops-nr.result at)
+    few_first c.args.size c.args.ops.now c.args.nr c.index-ops-nr.result at
+    (first_page c.index-ops-nr.result) c.pages_to_do.result refl c.pages_to_do.ensures
+    (c.requires.requests c.args.nr c.index-ops-nr.result at)

@@ -8,5 +8,6 @@ abbrev pub invariant-loop-op : goal.invariant-loop-op
 invariant-loop-op l = record {
   size : length l.counts ≡ l.size;
   counted : (p : ℕ) → p < l.size
-      → count_at l.counts p + pieces_on p (program l.size 0 (drop l.op-index l.ops)) ≡ count_at l.initial.counts p + pieces_on p (program l.size 0 l.ops);
+      → count_at l.counts p + pieces_on p (program l.size 0 (drop l.op-index l.ops))
+      ≡ count_at l.initial.counts p + pieces_on p (program l.size 0 l.ops);
 }

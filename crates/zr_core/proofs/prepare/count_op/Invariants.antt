@@ -9,5 +9,6 @@ invariant-loop-page l = record {
   from : l.first ≤ l.page;
   size : length l.counts ≡ l.size;
   counted : (p : ℕ) → p < l.size
-      → count_at l.counts p + pieces_on p (parts_from 0 l.op l.page (l.page-end - l.page)) ≡ count_at l.initial.counts p + pieces_on p (parts l.size 0 l.op);
+      → count_at l.counts p + pieces_on p (parts_from 0 l.op l.page (l.page-end - l.page))
+      ≡ count_at l.initial.counts p + pieces_on p (parts l.size 0 l.op);
 }

@@ -6,5 +6,6 @@ abbrev pub invariant-loop-actor : goal.invariant-loop-actor
 invariant-loop-actor l = record {
   size : length l.counts.items ≡ l.size;
   counted : (p : ℕ) → p < l.size
-      → count_at l.counts.items p + pieces_each l.size (drop l.actor-index l.ops) p ≡ pieces_each l.size l.ops p;
+      → count_at l.counts.items p + pieces_each l.size (drop l.actor-index l.ops) p
+      ≡ pieces_each l.size l.ops p;
 }

@@ -4,8 +4,11 @@ use Rattle.zr_core.proofs.Beginners.{worker_more, few_of}
 use Rattle.zr_core.proofs.prepare.new_workers.Goals as goal
 use Rattle.zr_core.proofs.prepare.new_workers.Goals.{After-as_slice}
 
-ops_at : (c : After-as_slice) → slice_get c.args.ops.now c.loop-actor.actor ≡ Some c.as_slice.result.now
-ops_at c = at_index c.args.ops.now c.loop-actor.actor c.index-ops-actor.result (let t = c.loop-actor-test.true in omega arith) c.index-ops-actor.is ∙ ap Some (sym c.as_slice.ensures)
+ops_at : (c : After-as_slice)
+    → slice_get c.args.ops.now c.loop-actor.actor ≡ Some c.as_slice.result.now
+ops_at c = at_index c.args.ops.now c.loop-actor.actor c.index-ops-actor.result
+    (let t = c.loop-actor-test.true in omega arith) c.index-ops-actor.is
+    ∙ ap Some (sym c.as_slice.ensures)
 
 pub new_worker-requires-clause-few : goal.new_worker-requires-clause-few
 new_worker-requires-clause-few c =
@@ -20,7 +23,8 @@ loop-actor-preserved c =
     let p = c.push_reserved.ensures in record {
       len = (let q = p.len in let r = i.len in omega arith);
       room = (let q = p.capacity in let r = i.room in omega arith);
-      workers = worker_more c.args.size c.args.ops.now c.loop-actor.actor _ c.as_slice.result.now c.loop-actor.workers.items c.push_reserved.new.self.items c.in_ok-worker.worker
+      workers = worker_more c.args.size c.args.ops.now c.loop-actor.actor _ c.as_slice.result.now
+          c.loop-actor.workers.items c.push_reserved.new.self.items c.in_ok-worker.worker
           refl (ops_at a) (let t = c.loop-actor-test.true in
           omega arith) p.items i.workers c.in_ok-worker.ensures;
     }

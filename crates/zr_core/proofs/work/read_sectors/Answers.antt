@@ -2,7 +2,7 @@ use Rattle.std.proofs.Common.{◌≡◌, ℕ, ◌+◌, ◌-◌, List, ◌∷◌,
 use Rattle.std.specs.List.{range_with_len}
 use Rattle.zr_base.specs.Sectors.{page_sector}
 use Rattle.slot_entry.specs.Entries.{page_of}
-use Rattle.zr_core.proofs.Sectors.{map_range_push}
+use Rattle.std.proofs.lemmas.List.FromFn.{map-range_with_len_more}
 use Rattle.zr_core.proofs.work.read_sectors.Goals as goal
 
 pub loop-at-preserved : goal.loop-at-preserved
@@ -13,9 +13,12 @@ loop-at-preserved c =
     let n : ℕ = c.loop-at.at - c.args.first in
     let low = c.loop-at.auto.at in record {
       items = p.items ∙ (λ j. i.items j ++ c.sector_of.ensures j ∷ [])
-          ∙ append_assoc c.args.sectors.now.items (map f (range_with_len c.args.first n)) (f c.loop-at.at ∷ [])
-          ∙ ap (λ (xs : List (List ℕ)). c.args.sectors.now.items ++ xs) (sym (map_range_push f c.args.first n c.loop-at.at (omega arith)))
-          ∙ ap (λ (m : ℕ). c.args.sectors.now.items ++ map f (range_with_len c.args.first m)) (let q : n + 1 ≡ c.loop-at.at + 1 - c.args.first = omega arith in q);
+          ∙ append_assoc c.args.sectors.now.items (map f (range_with_len c.args.first n))
+          (f c.loop-at.at ∷ [])
+          ∙ ap (λ (xs : List (List ℕ)). c.args.sectors.now.items ++ xs)
+          (sym (map-range_with_len_more f c.args.first n c.loop-at.at (omega arith)))
+          ∙ ap (λ (m : ℕ). c.args.sectors.now.items ++ map f (range_with_len c.args.first m))
+          (let q : n + 1 ≡ c.loop-at.at + 1 - c.args.first = omega arith in q);
       len = (let q = i.len in let r = p.len in omega arith);
       capacity = p.capacity ∙ i.capacity;
     }

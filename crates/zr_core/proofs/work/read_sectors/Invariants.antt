@@ -6,7 +6,9 @@ use Rattle.zr_core.proofs.work.read_sectors.Given as goal
 
 abbrev pub invariant-loop-at : goal.invariant-loop-at
 invariant-loop-at l = record {
-  items : l.sectors.items ≡ l.initial.sectors.items ++ map (page_sector (page_of l.kept)) (range_with_len l.first (l.at - l.first));
+  items : l.sectors.items
+      ≡ l.initial.sectors.items
+      ++ map (page_sector (page_of l.kept)) (range_with_len l.first (l.at - l.first));
   len : vec_len l.sectors ≡ vec_len l.initial.sectors + (l.at - l.first);
   capacity : vec_capacity l.sectors ≡ vec_capacity l.initial.sectors;
 }

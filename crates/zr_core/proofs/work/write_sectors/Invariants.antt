@@ -5,5 +5,7 @@ use Rattle.zr_core.proofs.work.write_sectors.Given as goal
 
 abbrev pub invariant-loop-at : goal.invariant-loop-at
 invariant-loop-at l =
-    ((k : ℕ) → l.first ≤ k → k < l.at → page_sector l.page k ≡ stuff_sector l.stuff (l.from + (k - l.first)))
-    × ((k : ℕ) → k < 8 → (k < l.first) ⊎ (l.at ≤ k) → page_sector l.page k ≡ page_sector l.initial.page k)
+    ((k : ℕ) → l.first ≤ k → k < l.at
+    → page_sector l.page k ≡ stuff_sector l.stuff (l.from + (k - l.first)))
+    × ((k : ℕ) → k < 8 → (k < l.first) ⊎ (l.at ≤ k)
+    → page_sector l.page k ≡ page_sector l.initial.page k)

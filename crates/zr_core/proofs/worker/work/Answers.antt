@@ -1,5 +1,5 @@
 use Rattle.std.proofs.Common.{◌<◌, length, refl, arith, length-set}
-use Rattle.lock_row.proofs.Runs.{get_here, get_else}
+use Rattle.zr_core.proofs.Lists.{get_here, get_else}
 use Rattle.zr_core.proofs.Places.{at_index}
 use Rattle.zr_core.proofs.worker.work.Goals as goal
 
@@ -7,7 +7,8 @@ pub returns-clause-more : goal.returns-clause-more
 returns-clause-more c =
     let replies = c.args.replies.now.items in
     let was = c.index_mut-reply.result.now in
-    let below : c.args.nr < length replies = (let q = c.requires.there in let k = c.args.replies.now.ok in
+    let below : c.args.nr < length replies =
+    (let q = c.requires.there in let k = c.args.replies.now.ok in
     omega (arith, k.0)) in
     let at = at_index replies c.args.nr was below c.index_mut-reply.ensures.value in record {
       size = length-set replies c.args.nr _;

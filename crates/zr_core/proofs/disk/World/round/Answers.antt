@@ -1,0 +1,40 @@
+use Rattle.std.proofs.Common.{◌≡◌, ℕ, length, refl, sym, ap, ◌∙◌, subst, arith}
+use Rattle.std.specs.List.{range_with_len}
+use Rattle.zr_core.specs.Playing.{playing}
+use Rattle.zr_core.specs.Runs.{Plays}
+use Rattle.zr_core.proofs.Runs.{plays_none, plays_once, then_turn, turn_more, round_none, round_left}
+use Rattle.zr_core.proofs.disk.World.round.Goals as goal
+
+pub loop-actor-init : goal.loop-actor-init
+loop-actor-init c = record {
+  plays = plays_none _ c.requires.can;
+  falls = λ dones kept. (dones, kept, refl, round_none _);
+}
+
+pub loop-actor-preserved : goal.loop-actor-preserved
+loop-actor-preserved c =
+    let i = c.loop-actor.invariant in
+    let t = c.step-turn.ensures in record {
+      plays = then_turn _ _ _ c.loop-actor.actor i.plays
+          (plays_once c.loop-actor.actor _ _ c.step-turn.result t.pages t.can t.turn);
+      falls = λ dones kept. turn_more c.sums_move.ensures.moves _ _ _ c.loop-actor.actor
+          c.step-turn.result
+          (i.falls dones kept) t.turn;
+    }
+
+pub returns-clause-plays : goal.returns-clause-plays
+returns-clause-plays c =
+    let all : c.loop-actor.actor ≡ length c.args.actors.now = (let t = c.loop-actor-test.false in
+    let le = c.loop-actor.auto in omega arith) in
+    subst (λ (n : ℕ). Plays (range_with_len 0 n)
+    (playing c.args.self.now c.args.phase.now c.args.actors.now)
+    (playing c.loop-actor.self c.loop-actor.phase c.args.actors.now)) all
+    c.loop-actor.invariant.plays
+
+pub returns-clause-falls : goal.returns-clause-falls
+returns-clause-falls c busy =
+    let i = c.loop-actor.invariant in
+    let j = c.requires.can.joint in
+    round_left _ c.requires.can busy c.sums_move.ensures.moves _ i.plays.pages refl
+    c.loop-actor.actor
+    (let t = c.loop-actor-test.false in omega arith) (i.falls j.dones j.kept)
