@@ -17,15 +17,19 @@ module _ (bytes : List ℕ) (size : length bytes ≡ 512) where
   word_size j lt = simp (length-take, length-drop, size) (omega (arith, lt))
 
   -- equal words, and the bytes of two neighbours
-  neighbours : IsFilled bytes → (q r : ℕ) → q < 63 → r < 8 → get_or bytes (8 * suc q + r) 0 ≡ get_or bytes (8 * q + r) 0
+  neighbours : IsFilled bytes → (q r : ℕ) → q < 63 → r < 8
+      → get_or bytes (8 * suc q + r) 0 ≡ get_or bytes (8 * q + r) 0
   neighbours is q r few lt =
       sym (byte_of (suc q) r lt)
-      ∙ ap (λ (w : List ℕ). get_or w r 0) (is (suc q) (omega (arith, few)) ∙ sym (is q (omega (arith, few))))
+      ∙ ap (λ (w : List ℕ). get_or w r 0) (is (suc q) (omega (arith, few))
+      ∙ sym (is q (omega (arith, few))))
       ∙ byte_of q r lt
 
   shifted : IsFilled bytes → drop 8 bytes ≡ take 504 bytes
-  shifted is = same_number_lists (drop 8 bytes) (take 504 bytes) (simp (length-take, length-drop, size) refl)
-      (λ k lt. by k (let n : length (drop 8 bytes) ≡ length bytes - 8 = length-drop 8 bytes in omega (arith, lt, n, size)))
+  shifted is = same_number_lists (drop 8 bytes) (take 504 bytes)
+      (simp (length-take, length-drop, size) refl)
+      (λ k lt. by k (let n : length (drop 8 bytes) ≡ length bytes - 8 = length-drop 8 bytes in
+      omega (arith, lt, n, size)))
     where
       by : (k : ℕ) → k < 504 → get_or (drop 8 bytes) k 0 ≡ get_or (take 504 bytes) k 0
       by k lt =
@@ -36,7 +40,8 @@ module _ (bytes : List ℕ) (size : length bytes ≡ 512) where
           ∙ ap (λ (i : ℕ). get_or bytes i 0) at
           ∙ sym (get_or-take 504 bytes k 0 lt)
 
-  next_word : drop 8 bytes ≡ take 504 bytes → (q : ℕ) → q < 63 → word_at bytes (suc q) ≡ word_at bytes q
+  next_word : drop 8 bytes ≡ take 504 bytes → (q : ℕ) → q < 63
+      → word_at bytes (suc q) ≡ word_at bytes q
   next_word same q few = same_number_lists (word_at bytes (suc q)) (word_at bytes q)
       (word_size (suc q) (omega (arith, few)) ∙ sym (word_size q (omega (arith, few))))
       (λ r lt. by r (let n = word_size (suc q) (omega (arith, few)) in omega (arith, lt, n)))

@@ -1,4 +1,4 @@
--- Jobs item by item, and the plain disk behind each.
+-- Jobs item by item, and the plain disk after each.
 use Rattle.std.proofs.Common.{◌≡◌, ℕ, zero, suc, ◌-◌, ◌*◌, ◌/◌, ◌%◌, ◌<◌, ◌≤◌, List, [], ◌∷◌, ◌++◌, take, Option, Some, None, Result, Ok, Err, OnOk, slice_get, unwrap_or, replicate, refl, sym, ap, ◌∙◌, subst, append_assoc, arith}
 use Rattle.std.proofs.lemmas.List.{append-nil, take-replicate, drop-replicate}
 use Rattle.std.proofs.lemmas.Option.{get_or_from_slice_get}
@@ -31,12 +31,16 @@ use Rattle.job_session.proofs.Sending.{Tells-none, Tells-more, Tells-stop}
 
 -- ---- one after the other
 
-stepped_append : (xs ys : List Item) (d m last : Disk) (ts us : List (List ℕ)) (ls ks : List OutLine)
-    → Stepped d xs ts ls m → Stepped m ys us ks last → Stepped d (xs ++ ys) (ts ++ us) (ls ++ ks) last
+stepped_append : (xs ys : List Item) (d m last : Disk) (ts us : List (List ℕ))
+    (ls ks : List OutLine)
+    → Stepped d xs ts ls m → Stepped m ys us ks last
+    → Stepped d (xs ++ ys) (ts ++ us) (ls ++ ks) last
 stepped_append [] ys d m last ts us ls ks s next =
-    let P : List (List ℕ) × List OutLine × Disk → Type 0 = λ x. Stepped x.2 ys (x.0 ++ us) (x.1 ++ ks) last in
+    let P : List (List ℕ) × List OutLine × Disk → Type 0 =
+    λ x. Stepped x.2 ys (x.0 ++ us) (x.1 ++ ks) last in
     subst P (λ i. (sym s.0 i, sym s.1 i, s.2 i)) next
-stepped_append (items.Attr (DiskPages n) ∷ xs) ys d m last ts us ls ks s next = (s.0, s.1, s.2, stepped_append xs ys s.0 m last ts us ls ks s.3 next)
+stepped_append (items.Attr (DiskPages n) ∷ xs) ys d m last ts us ls ks s next =
+    (s.0, s.1, s.2, stepped_append xs ys s.0 m last ts us ls ks s.3 next)
 stepped_append (items.Phase phase ∷ xs) ys d m last ts us ls ks s next = (
   s.0,
   s.1,
@@ -55,7 +59,8 @@ own_append : (xs ys : List Item) (ts us : List (List ℕ)) → AreOwn xs ts → 
 own_append [] ys ts us own next = subst (λ (x : List (List ℕ)). AreOwn ys (x ++ us)) (sym own) next
 own_append (items.Attr attr ∷ xs) ys ts us own next = own_append xs ys ts us own next
 own_append (items.Phase phase ∷ xs) ys [] us own next = absurd own
-own_append (items.Phase phase ∷ xs) ys (mine ∷ ts) us own next = (own.0, own_append xs ys ts us own.1 next)
+own_append (items.Phase phase ∷ xs) ys (mine ∷ ts) us own next =
+    (own.0, own_append xs ys ts us own.1 next)
 
 pub items_none : (d : Disk) (o : OutputState) → ItemsTold d [] d o o (Ok tt)
 items_none d o = record {
@@ -72,7 +77,8 @@ items_none d o = record {
 }
 
 -- nothing was told of these items
-pub items_stop : (d m : Disk) (job : List Item) (o : OutputState) (stop : Stop) → StopCause o.faults o.faults o.stopped stop
+pub items_stop : (d m : Disk) (job : List Item) (o : OutputState) (stop : Stop)
+    → StopCause o.faults o.faults o.stopped stop
     → ItemsTold d job m o o (Err stop)
 items_stop d m job o stop cause = record {
   front = [];
@@ -100,15 +106,19 @@ module _ (xs : List Item) (d m : Disk) (o p : OutputState) (t : ItemsTold d xs m
   all_own = subst (λ (x : List Item). AreOwn x t.turns) all_items t.own
 
 -- a phase keeps the disk's pages
-pub phase_size : (d m : Disk) (item : Item) (o p : OutputState) → ItemsTold d (item ∷ []) m o p (Ok tt)
+pub phase_size : (d m : Disk) (item : Item) (o p : OutputState)
+    → ItemsTold d (item ∷ []) m o p (Ok tt)
     → (text : PhaseText) → item ≡ items.Phase text → m.size ≡ d.size
-phase_size d m item o p t text is = by (subst (λ (x : Item). Stepped d (x ∷ []) t.turns t.lines m) is (all_stepped (item ∷ []) d m o p t))
+phase_size d m item o p t text is =
+    by (subst (λ (x : Item). Stepped d (x ∷ []) t.turns t.lines m) is
+    (all_stepped (item ∷ []) d m o p t))
   where
     by : Stepped d (items.Phase text ∷ []) t.turns t.lines m → m.size ≡ d.size
     by s = ap (λ (x : Disk). x.size) s.7.2 ∙ s.5
 
 -- some items, and then others
-pub items_more : (xs ys : List Item) (d m n : Disk) (o p q : OutputState) (r : Result (Unit {0}) Stop)
+pub items_more : (xs ys : List Item) (d m n : Disk) (o p q : OutputState)
+    (r : Result (Unit {0}) Stop)
     → ItemsTold d xs m o p (Ok tt) → ItemsTold m ys n p q r → ItemsTold d (xs ++ ys) n o q r
 items_more xs ys d m n o p q r s t = record {
   front = xs ++ t.front;
@@ -117,7 +127,8 @@ items_more xs ys d m n o p q r s t = record {
   turns = s.turns ++ t.turns;
   lines = s.lines ++ t.lines;
   last = t.last;
-  stepped = stepped_append xs t.front d m t.last s.turns t.turns s.lines t.lines (all_stepped xs d m o p s) t.stepped;
+  stepped = stepped_append xs t.front d m t.last s.turns t.turns s.lines t.lines
+      (all_stepped xs d m o p s) t.stepped;
   own = own_append xs t.front s.turns t.turns (all_own xs d m o p s) t.own;
   told = Tells-more o p q r s.lines t.lines s.told t.told;
   whole = t.whole;
@@ -139,7 +150,8 @@ items_cut xs ys d m n o p stop t = record {
   whole = tt;
 }
 
-pub attr_told : (d m : Disk) (attr : Attr) (o : OutputState) → Stepped d (items.Attr attr ∷ []) [] [] m
+pub attr_told : (d m : Disk) (attr : Attr) (o : OutputState)
+    → Stepped d (items.Attr attr ∷ []) [] [] m
     → ItemsTold d (items.Attr attr ∷ []) m o o (Ok tt)
 attr_told d m attr o s = record {
   front = items.Attr attr ∷ [];
@@ -155,9 +167,11 @@ attr_told d m attr o s = record {
 }
 
 -- a phase of these actors that was run by its schedule
-pub phase_told : (d m : Disk) (phase : PhaseText) (actors : List (List Op)) (schedule : List Turns) (turns : List ℕ)
+pub phase_told : (d m : Disk) (phase : PhaseText) (actors : List (List Op)) (schedule : List Turns)
+    (turns : List ℕ)
     (lines : List OutLine) (o p : OutputState) (r : Result (Unit {0}) Stop)
-    → actors ≡ phase.actors → schedule ≡ phase.schedule → m.size ≡ d.size → IsBySchedule actors schedule turns
+    → actors ≡ phase.actors → schedule ≡ phase.schedule → m.size ≡ d.size
+    → IsBySchedule actors schedule turns
     → PhaseSteps (given_on d.size actors d.row) turns lines m.row → Tells o p r lines
     → ItemsTold d (items.Phase phase ∷ []) m o p r
 phase_told d m phase actors schedule turns lines o p r are is size own steps told = record {
@@ -168,12 +182,21 @@ phase_told d m phase actors schedule turns lines o p r are is size own steps tol
   lines = lines;
   last = m;
   stepped = (
-    m, turns, [], lines, [], size,
-    subst (λ (x : List (List Op)). PhaseSteps (given_on d.size x d.row) turns lines m.row) are steps,
-    (refl, refl, refl), refl, sym (append-nil lines),
+    m,
+    turns,
+    [],
+    lines,
+    [],
+    size,
+    subst (λ (x : List (List Op)). PhaseSteps (given_on d.size x d.row) turns lines m.row) are
+        steps,
+    (refl, refl, refl),
+    refl,
+    sym (append-nil lines),
   );
   own = (
-    subst (λ (x : List (List Op) × List Turns). IsBySchedule x.0 x.1 turns) (λ i. (are i, is i)) own,
+    subst (λ (x : List (List Op) × List Turns). IsBySchedule x.0 x.1 turns)
+        (λ i. (are i, is i)) own,
     refl,
   );
   told = told;
@@ -196,7 +219,8 @@ blank_holds : (n : ℕ) (row : List (Option DiskHeld)) → IsBlank n row → (s 
     → sector_in row s ≡ zero_sector
 blank_holds n row blank s lt =
     let e = blank.each (s / 8) (omega arith) in
-    ap (λ (c : Option DiskHeld). page_sector (page_in c) (s % 8)) (get_or_from_slice_get row (s / 8) (Some (holds.Slot e.0)) None e.1)
+    ap (λ (c : Option DiskHeld). page_sector (page_in c) (s % 8))
+    (get_or_from_slice_get row (s / 8) (Some (holds.Slot e.0)) None e.1)
     ∙ ap (λ (k : Kept). page_sector (page_of k) (s % 8)) e.2
     ∙ zeros_there (s % 8) (omega arith)
 
@@ -213,13 +237,16 @@ some_each u (op ∷ ops) may = (some_of op may.0, some_each (with_op u op) ops m
 
 has_some_each : (u : Used) (actors : List (List Op)) → MayAct u actors → HasSomeEach actors
 has_some_each u [] may a ops is = absurd (no_item a ops is)
-has_some_each u (mine ∷ more) may zero ops is = subst SomeEach (λ i. unwrap_or (is i) mine) (some_each u mine may.0)
-has_some_each u (mine ∷ more) may (suc a) ops is = has_some_each (with_ops u mine) more may.1 a ops is
+has_some_each u (mine ∷ more) may zero ops is = subst SomeEach (λ i. unwrap_or (is i) mine)
+    (some_each u mine may.0)
+has_some_each u (mine ∷ more) may (suc a) ops is = has_some_each
+    (with_ops u mine) more may.1 a ops is
 
 -- where each phase prints what the plain disk allows, so does the job
 pub legal_by : ((g : Given) (turns : List ℕ) (lines : List OutLine) (row : List (Option DiskHeld))
     → HasSomeEach g.actors → PhaseSteps g turns lines row → IsPhase g lines (sector_in row))
-    → (u : Used) (job : List Item) (d : Disk) (turns : List (List ℕ)) (lines : List OutLine) (last : Disk)
+    → (u : Used) (job : List Item) (d : Disk) (turns : List (List ℕ)) (lines : List OutLine)
+    (last : Disk)
     → MayFollow u job → Stepped d job turns lines last → Legal (plain d) job lines (plain last)
 legal_by phases u [] d turns lines last may s = (s.1, ap plain s.2)
 legal_by phases u (items.Attr (DiskPages n) ∷ more) d turns lines last may s = (

@@ -33,11 +33,13 @@ disk_by_ops u [] = refl
 disk_by_ops u (op ∷ ops) = disk_by_ops (with_op u op) ops
 
 -- there are none, or the limit leaves room for the last of them
-few : (u : Used) (ops : List Op) → MayOperate u ops → (length ops ≡ 0) ⊎ (u.operations + length ops ≤ 1000000)
+few : (u : Used) (ops : List Op) → MayOperate u ops → (length ops ≡ 0)
+    ⊎ (u.operations + length ops ≤ 1000000)
 few u [] may = inl refl
 few u (op ∷ ops) may = inr (by (few (with_op u op) ops may.2))
   where
-    by : (length ops ≡ 0) ⊎ (u.operations + 1 + length ops ≤ 1000000) → u.operations + suc (length ops) ≤ 1000000
+    by : (length ops ≡ 0) ⊎ (u.operations + 1 + length ops ≤ 1000000)
+        → u.operations + suc (length ops) ≤ 1000000
     by (inl none) = grind (arith, nat_tests, may.1, none)
     by (inr fits) = omega (arith, fits)
 
@@ -46,8 +48,10 @@ few u (op ∷ ops) may = inr (by (few (with_op u op) ops may.2))
 requests_each : (u : Used) (actors : List (List Op)) → MayAct u actors → (a : ℕ) (ops : List Op)
     → slice_get actors a ≡ Some ops → AreRequests ops
 requests_each u [] may a ops is = absurd (no_item a ops is)
-requests_each u (mine ∷ more) may zero ops is = subst AreRequests (λ i. unwrap_or (is i) mine) (requests u mine may.0)
-requests_each u (mine ∷ more) may (suc a) ops is = requests_each (with_ops u mine) more may.1 a ops is
+requests_each u (mine ∷ more) may zero ops is = subst AreRequests (λ i. unwrap_or (is i) mine)
+    (requests u mine may.0)
+requests_each u (mine ∷ more) may (suc a) ops is = requests_each
+    (with_ops u mine) more may.1 a ops is
 
 few_all : (u : Used) (actors : List (List Op)) → MayAct u actors
     → (operations actors ≡ 0) ⊎ (u.operations + operations actors ≤ 1000000)
@@ -56,7 +60,8 @@ few_all u (ops ∷ more) may = by (few u ops may.0) (few_all (with_ops u ops) mo
   where
     by : (length ops ≡ 0) ⊎ (u.operations + length ops ≤ 1000000)
         → (operations more ≡ 0) ⊎ ((with_ops u ops).operations + operations more ≤ 1000000)
-        → (length ops + operations more ≡ 0) ⊎ (u.operations + (length ops + operations more) ≤ 1000000)
+        → (length ops + operations more ≡ 0)
+        ⊎ (u.operations + (length ops + operations more) ≤ 1000000)
     by (inl none) (inl nothing) = inl (omega (arith, none, nothing))
     by (inr fits) (inl nothing) = inr (omega (arith, fits, nothing))
     by some (inr fits) = inr (omega (arith, fits, counted u ops))
@@ -65,23 +70,31 @@ disk_by : (u : Used) (actors : List (List Op)) → (with_actors u actors).disk �
 disk_by u [] = refl
 disk_by u (ops ∷ more) = disk_by (with_ops u ops) more ∙ disk_by_ops u ops
 
-pub work_by : (u : Used) (actors : List (List Op)) → length actors ≤ 64 → MayAct u actors → IsWork actors
-work_by u actors size may = record { few = size; most = by (few_all u actors may); requests = requests_each u actors may }
+pub work_by : (u : Used) (actors : List (List Op)) → length actors ≤ 64 → MayAct u actors
+    → IsWork actors
+work_by u actors size may = record {
+  few = size;
+  most = by (few_all u actors may);
+  requests = requests_each u actors may;
+}
   where
-    by : (operations actors ≡ 0) ⊎ (u.operations + operations actors ≤ 1000000) → operations actors ≤ 1000000
+    by : (operations actors ≡ 0) ⊎ (u.operations + operations actors ≤ 1000000)
+        → operations actors ≤ 1000000
     by (inl none) = omega (arith, none)
     by (inr fits) = omega (arith, fits)
 
 pub named : (actors : ℕ) (schedule : List Turns) → MayTurn actors schedule → (k : ℕ) (t : Turns)
     → slice_get schedule k ≡ Some t → t.actor < actors
 named actors [] may k t is = absurd (no_item k t is)
-named actors (turns ∷ more) may zero t is = subst (λ (x : Turns). x.actor < actors) (λ i. unwrap_or (is i) turns) may.0
+named actors (turns ∷ more) may zero t is = subst (λ (x : Turns). x.actor < actors)
+    (λ i. unwrap_or (is i) turns) may.0
 named actors (turns ∷ more) may (suc k) t is = named actors more may.3 k t is
 
 -- ---- items
 
--- the items behind one that was run, which leaves so many pages
-pub stand_on : (pages after : ℕ) (item : Item) (more : List Item) → ((text : _) → item ≡ items.Phase text → after ≡ pages)
+-- the items after one that was run, which leaves so many pages
+pub stand_on : (pages after : ℕ) (item : Item) (more : List Item)
+    → ((text : _) → item ≡ items.Phase text → after ≡ pages)
     → MayStand pages (item ∷ more) → MayStand after more
 stand_on pages after (items.Attr (DiskPages n)) more size may = record {
   used = with_disk may.used;
@@ -95,17 +108,24 @@ stand_on pages after (items.Phase text) more size may = record {
 }
 
 -- the first of several items
-pub stand_first : (pages : ℕ) (item : Item) (more : List Item) → MayStand pages (item ∷ more) → MayStand pages (item ∷ [])
+pub stand_first : (pages : ℕ) (item : Item) (more : List Item) → MayStand pages (item ∷ more)
+    → MayStand pages (item ∷ [])
 stand_first pages (items.Attr (DiskPages n)) more may = record {
   used = may.used;
   bare = may.bare;
   may = (may.may.0, may.may.1, may.may.2, tt);
 }
-stand_first pages (items.Phase text) more may = record { used = may.used; bare = may.bare; may = (may.may.0, tt) }
+stand_first pages (items.Phase text) more may = record {
+  used = may.used;
+  bare = may.bare;
+  may = (may.may.0, tt);
+}
 
 -- the front of a job
-pub front_may : (u : Used) (front later : List Item) → MayFollow u (front ++ later) → MayFollow u front
+pub front_may : (u : Used) (front later : List Item) → MayFollow u (front ++ later)
+    → MayFollow u front
 front_may u [] later may = tt
-front_may u (items.Attr (DiskPages n) ∷ front) later may = (may.0, may.1, may.2, front_may (with_disk u) front later may.3)
+front_may u (items.Attr (DiskPages n) ∷ front) later may =
+    (may.0, may.1, may.2, front_may (with_disk u) front later may.3)
 front_may u (items.Phase text ∷ front) later may =
     (may.0, front_may (with_text u text.actors text.schedule) front later may.1)

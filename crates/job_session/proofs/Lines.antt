@@ -16,7 +16,8 @@ pub or_false : (b : Bool) → (b || false) ≡ b
 or_false true = refl
 or_false false = refl
 
-pub any_refusal-append : (xs ys : List OutLine) → any_refusal (xs ++ ys) ≡ (any_refusal xs || any_refusal ys)
+pub any_refusal-append : (xs ys : List OutLine) → any_refusal (xs ++ ys)
+    ≡ (any_refusal xs || any_refusal ys)
 any_refusal-append [] ys = refl
 any_refusal-append (x ∷ xs) ys = by (is_refusal x) (any_refusal-append xs ys)
   where
@@ -36,53 +37,67 @@ any_refusal-order p (tag ∷ tags) = refl
 -- an operation's lines say a refusal where its end does
 pub any_refusal-op : (tag : Tag) (end : OpEnd) (got : List (List ℕ))
     → any_refusal (op_lines tag end got) ≡ is_refusal (ended tag end)
-any_refusal-op tag end got = ap (λ (b : Bool). is_refusal (ended tag end) || b) (any_refusal-sectors got)
+any_refusal-op tag end got = ap (λ (b : Bool). is_refusal (ended tag end) || b)
+    (any_refusal-sectors got)
     ∙ or_false (is_refusal (ended tag end))
 
 -- ---- lines from a place on
 
 module _ {A : Type 0} where
-  pub of_op_is : (all : List (List A)) (actor op : ℕ) → of_op all actor op ≡ slice_get (get_or all actor []) op
+  pub of_op_is : (all : List (List A)) (actor op : ℕ) → of_op all actor op
+      ≡ slice_get (get_or all actor []) op
   of_op_is [] actor op = refl
   of_op_is (xs ∷ all) zero op = refl
   of_op_is (xs ∷ all) (suc actor) op = of_op_is all actor op
 
-  drop_at : (xs : List A) (i : ℕ) (x : A) → slice_get xs i ≡ Some x → drop i xs ≡ x ∷ drop (i + 1) xs
+  drop_at : (xs : List A) (i : ℕ) (x : A) → slice_get xs i ≡ Some x
+      → drop i xs ≡ x ∷ drop (i + 1) xs
   drop_at xs i x is = drop_more xs i x (slice_get_within xs i x is)
       ∙ ap (λ (y : A). y ∷ drop (i + 1) xs) (get_or_from_slice_get xs i x x is)
 
 -- those of an actor's operations
-pub next_op : (actor op : ℕ) (es : List OpEnd) (gots : List (List (List ℕ))) (end : OpEnd) (got : List (List ℕ))
-    → slice_get es op ≡ Some end → slice_get gots op ≡ Some got
-    → actor_lines actor op (drop op es) (drop op gots)
+pub next_op : (ends : List (List OpEnd)) (sectors : List (List (List (List ℕ)))) (actor op : ℕ)
+    (end : OpEnd) (got : List (List ℕ))
+    → of_op ends actor op ≡ Some end → of_op sectors actor op ≡ Some got
+    → actor_lines actor op (drop op (get_or ends actor [])) (drop op (get_or sectors actor []))
     ≡ op_lines (record { actor = actor; op = op }) end got
-    ++ actor_lines actor (op + 1) (drop (op + 1) es) (drop (op + 1) gots)
-next_op actor op es gots end got e g = λ i. actor_lines actor op (drop_at es op end e i) (drop_at gots op got g i)
+    ++ actor_lines actor (op + 1) (drop (op + 1) (get_or ends actor []))
+    (drop (op + 1) (get_or sectors actor []))
+next_op ends sectors actor op end got e s = λ i. actor_lines actor op
+    (drop_at (get_or ends actor []) op end (sym (of_op_is ends actor op) ∙ e) i)
+    (drop_at (get_or sectors actor []) op got (sym (of_op_is sectors actor op) ∙ s) i)
 
 pub no_op : (actor op : ℕ) (es : List OpEnd) (gots : List (List (List ℕ))) → length es ≤ op
     → actor_lines actor op (drop op es) (drop op gots) ≡ []
 no_op actor op es gots past = λ i. actor_lines actor op (drop_of_length-le es past i) (drop op gots)
 
 -- those of the actors
-pub next_actor : (actor : ℕ) (es : List (List OpEnd)) (gots : List (List (List (List ℕ)))) → actor < length es
+pub next_actor : (actor : ℕ) (es : List (List OpEnd)) (gots : List (List (List (List ℕ))))
+    → actor < length es
     → actor < length gots
     → actors_lines actor (drop actor es) (drop actor gots)
     ≡ actor_lines actor 0 (get_or es actor []) (get_or gots actor [])
     ++ actors_lines (actor + 1) (drop (actor + 1) es) (drop (actor + 1) gots)
-next_actor actor es gots e g = λ i. actors_lines actor (drop_more es actor [] e i) (drop_more gots actor [] g i)
+next_actor actor es gots e g = λ i. actors_lines actor (drop_more es actor [] e i)
+    (drop_more gots actor [] g i)
 
-pub no_actor : (actor : ℕ) (es : List (List OpEnd)) (gots : List (List (List (List ℕ)))) → length es ≤ actor
+pub no_actor : (actor : ℕ) (es : List (List OpEnd)) (gots : List (List (List (List ℕ))))
+    → length es ≤ actor
     → actors_lines actor (drop actor es) (drop actor gots) ≡ []
-no_actor actor es gots past = λ i. actors_lines actor (drop_of_length-le es past i) (drop actor gots)
+no_actor actor es gots past = λ i. actors_lines actor (drop_of_length-le es past i)
+    (drop actor gots)
 
 -- those of the pages
-pub next_page : (page : ℕ) (cells : List (Option DiskHeld)) (cell : Option DiskHeld) (order : List Tag)
+pub next_page : (page : ℕ) (cells : List (Option DiskHeld)) (cell : Option DiskHeld)
+    (order : List Tag)
     → slice_get cells page ≡ Some cell → order ≡ order_in cell
     → order_lines page (orders_of (drop page cells))
     ≡ order_line page order ++ order_lines (page + 1) (orders_of (drop (page + 1) cells))
 next_page page cells cell order is of =
-    ap (λ (cs : List (Option DiskHeld)). order_lines page (orders_of cs)) (drop_at cells page cell is)
-    ∙ ap (λ (tags : List Tag). order_line page tags ++ order_lines (page + 1) (orders_of (drop (page + 1) cells))) (sym of)
+    ap (λ (cs : List (Option DiskHeld)). order_lines page (orders_of cs))
+    (drop_at cells page cell is)
+    ∙ ap (λ (tags : List Tag). order_line page tags ++ order_lines (page + 1)
+    (orders_of (drop (page + 1) cells))) (sym of)
 
 pub no_page : (page : ℕ) (cells : List (Option DiskHeld)) → length cells ≤ page
     → order_lines page (orders_of (drop page cells)) ≡ []

@@ -17,19 +17,16 @@ use Rattle.job_session.proofs.Lines.{or_false, any_refusal-append}
 -- ---- beginnings of a text
 
 abbrev pub BeginsWith-nothing : (u : Option (List ℕ)) (whole : List ℕ) → BeginsWith u u whole
-BeginsWith-nothing u whole = record { sent = []; rest = whole; parts = refl; appended = Appends-nil u }
-
--- of a longer text
-pub BeginsWith-longer : (u v : Option (List ℕ)) (xs ys : List ℕ) → BeginsWith u v xs → BeginsWith u v (xs ++ ys)
-BeginsWith-longer u v xs ys b = record {
-  sent = b.sent;
-  rest = b.rest ++ ys;
-  parts = ap (λ (x : List ℕ). x ++ ys) b.parts ∙ append_assoc b.sent b.rest ys;
-  appended = b.appended;
+BeginsWith-nothing u whole = record {
+  sent = [];
+  rest = whole;
+  parts = refl;
+  appended = Appends-nil u;
 }
 
 -- one after the other: what was left of the first text is the front of the second
-abbrev pub BeginsWith-trans : (u v w : Option (List ℕ)) (xs ys zs all : List ℕ) (b : BeginsWith u v xs)
+abbrev pub BeginsWith-trans : (u v w : Option (List ℕ)) (xs ys zs all : List ℕ)
+    (b : BeginsWith u v xs)
     → BeginsWith v w zs → zs ≡ b.rest ++ ys → all ≡ xs ++ ys → BeginsWith u w all
 BeginsWith-trans u v w xs ys zs all b c next is = record {
   sent = b.sent ++ c.sent;
@@ -55,7 +52,12 @@ StopCause-later before mid now stopped Write later (inr stops) = inr stops
 
 pub Tells-none : (o : OutputState) → Tells o o (Ok tt) []
 Tells-none o = record {
-  sends = record { sent = []; rest = o.waits; parts = append-nil o.waits; appended = Appends-nil o.sent };
+  sends = record {
+    sent = [];
+    rest = o.waits;
+    parts = append-nil o.waits;
+    appended = Appends-nil o.sent;
+  };
   whole = (refl, sym (or_false o.refused));
   loan = refl;
   later = omega arith;
@@ -63,7 +65,8 @@ Tells-none o = record {
 }
 
 -- nothing was sent, and a call was given up
-pub Tells-stop : (o : OutputState) (stop : Stop) → StopCause o.faults o.faults o.stopped stop → Tells o o (Err stop) []
+pub Tells-stop : (o : OutputState) (stop : Stop) → StopCause o.faults o.faults o.stopped stop
+    → Tells o o (Err stop) []
 Tells-stop o stop cause = record {
   sends = BeginsWith-nothing o.sent (o.waits ++ []);
   whole = tt;
@@ -73,10 +76,17 @@ Tells-stop o stop cause = record {
 }
 
 -- all that waited was sent
-pub Tells-sent : (o m : OutputState) (bytes : List ℕ) → Appends o.sent m.sent bytes → bytes ≡ o.waits → m.waits ≡ []
+pub Tells-sent : (o m : OutputState) (bytes : List ℕ) → Appends o.sent m.sent bytes
+    → bytes ≡ o.waits → m.waits ≡ []
     → m.refused ≡ o.refused → m.loan ≡ o.loan → o.faults ≤ m.faults → Tells o m (Ok tt) []
 Tells-sent o m bytes sent is none refused loan later = record {
-  sends = record { sent = bytes; rest = []; parts = append-nil o.waits ∙ sym is ∙ sym (append-nil bytes); appended = sent };
+  sends = record {
+    sent = bytes;
+    rest = [];
+    parts = append-nil o.waits ∙ sym is
+        ∙ sym (append-nil bytes);
+    appended = sent;
+  };
   whole = (sym none, refused ∙ sym (or_false o.refused));
   loan = loan;
   later = later;
@@ -84,17 +94,21 @@ Tells-sent o m bytes sent is none refused loan later = record {
 }
 
 -- some lines, and then others
-pub Tells-more : (o m n : OutputState) (r : Result (Unit {0}) Stop) (xs ys : List OutLine) → Tells o m (Ok tt) xs
+pub Tells-more : (o m n : OutputState) (r : Result (Unit {0}) Stop) (xs ys : List OutLine)
+    → Tells o m (Ok tt) xs
     → Tells m n r ys → Tells o n r (xs ++ ys)
 Tells-more o m n r xs ys s t = record {
   sends = BeginsWith-trans o.sent m.sent n.sent (o.waits ++ text xs) (text ys) (m.waits ++ text ys)
       (o.waits ++ text (xs ++ ys)) s.sends t.sends
       (ap (λ (x : List ℕ). x ++ text ys) (sym s.whole.0))
-      (ap (λ (x : List ℕ). o.waits ++ x) (flat_map-append line_text xs ys) ∙ sym (append_assoc o.waits (text xs) (text ys)));
+      (ap (λ (x : List ℕ). o.waits ++ x) (flat_map-append line_text xs ys)
+      ∙ sym (append_assoc o.waits (text xs) (text ys)));
   whole = on_ok_weaker r (λ w. (w.0, w.1 ∙ refusals)) t.whole;
   loan = t.loan ∙ s.loan;
   later = omega (arith, s.later, t.later);
-  cause = IfErr-weaker r _ _ (λ stop cause. StopCause-later o.faults m.faults n.faults n.stopped stop s.later cause) t.cause;
+  cause = IfErr-weaker r _ _
+      (λ stop cause. StopCause-later o.faults m.faults n.faults n.stopped stop s.later cause)
+      t.cause;
 }
   where
     refusals : (m.refused || any_refusal ys) ≡ (o.refused || any_refusal (xs ++ ys))
@@ -103,8 +117,10 @@ Tells-more o m n r xs ys s t = record {
         ∙ ap (λ (b : Bool). o.refused || b) (sym (any_refusal-append xs ys))
 
 -- lines were put into the buffer, and some of it was sent
-pub Tells-put : (o m n : OutputState) (r : Result (Unit {0}) Stop) (lines : List OutLine) → m.sent ≡ o.sent
-    → m.waits ≡ o.waits ++ text lines → m.refused ≡ (o.refused || any_refusal lines) → m.faults ≡ o.faults → m.loan ≡ o.loan
+pub Tells-put : (o m n : OutputState) (r : Result (Unit {0}) Stop) (lines : List OutLine)
+    → m.sent ≡ o.sent
+    → m.waits ≡ o.waits ++ text lines → m.refused ≡ (o.refused || any_refusal lines)
+    → m.faults ≡ o.faults → m.loan ≡ o.loan
     → Tells m n r [] → Tells o n r lines
 Tells-put o m n r lines sent waits refused faults loan t =
     subst (Tells o n r) (append-nil lines) (Tells-more o m n r lines [] put t)
@@ -115,7 +131,8 @@ Tells-put o m n r lines sent waits refused faults loan t =
         sent = [];
         rest = o.waits ++ text lines;
         parts = refl;
-        appended = subst (λ (x : Option (List ℕ)). Appends o.sent x []) (sym sent) (Appends-nil o.sent);
+        appended = subst (λ (x : Option (List ℕ)). Appends o.sent x []) (sym sent)
+            (Appends-nil o.sent);
       };
       whole = (sym waits, refused);
       loan = loan;
@@ -127,9 +144,12 @@ Tells-put o m n r lines sent waits refused faults loan t =
 pub Tells-cut : (o m : OutputState) (stop : Stop) (xs ys : List OutLine) → Tells o m (Err stop) xs
     → Tells o m (Err stop) (xs ++ ys)
 Tells-cut o m stop xs ys t = record {
-  sends = BeginsWith-trans o.sent m.sent m.sent (o.waits ++ text xs) (text ys) (t.sends.rest ++ text ys)
-      (o.waits ++ text (xs ++ ys)) t.sends (BeginsWith-nothing m.sent (t.sends.rest ++ text ys)) refl
-      (ap (λ (x : List ℕ). o.waits ++ x) (flat_map-append line_text xs ys) ∙ sym (append_assoc o.waits (text xs) (text ys)));
+  sends = BeginsWith-trans o.sent m.sent m.sent (o.waits ++ text xs) (text ys)
+      (t.sends.rest ++ text ys)
+      (o.waits ++ text (xs ++ ys)) t.sends (BeginsWith-nothing m.sent (t.sends.rest ++ text ys))
+      refl
+      (ap (λ (x : List ℕ). o.waits ++ x) (flat_map-append line_text xs ys)
+      ∙ sym (append_assoc o.waits (text xs) (text ys)));
   whole = tt;
   loan = t.loan;
   later = t.later;
@@ -146,17 +166,21 @@ pub SoFar-start : (o : OutputState) (all : List OutLine) → SoFar o o all all
 SoFar-start o all = record { front = []; told = Tells-none o; joined = refl }
 
 -- all were
-pub SoFar-all : (o m : OutputState) (left all : List OutLine) → SoFar o m left all → left ≡ [] → Tells o m (Ok tt) all
+pub SoFar-all : (o m : OutputState) (left all : List OutLine) → SoFar o m left all → left ≡ []
+    → Tells o m (Ok tt) all
 SoFar-all o m left all s none =
     subst (Tells o m (Ok tt))
-        (sym (append-nil s.front) ∙ ap (λ (y : List OutLine). s.front ++ y) (sym none) ∙ s.joined) s.told
+    (sym (append-nil s.front) ∙ ap (λ (y : List OutLine). s.front ++ y) (sym none)
+    ∙ s.joined) s.told
 
 module _ (o m n : OutputState) (left all : List OutLine) (s : SoFar o m left all) where
   joins : (x rest : List OutLine) → left ≡ x ++ rest → s.front ++ x ++ rest ≡ all
-  joins x rest is = append_assoc s.front x rest ∙ ap (λ (y : List OutLine). s.front ++ y) (sym is) ∙ s.joined
+  joins x rest is = append_assoc s.front x rest ∙ ap (λ (y : List OutLine). s.front ++ y) (sym is)
+      ∙ s.joined
 
   -- some more of what is left
-  pub SoFar-more : (x rest : List OutLine) → left ≡ x ++ rest → Tells m n (Ok tt) x → SoFar o n rest all
+  pub SoFar-more : (x rest : List OutLine) → left ≡ x ++ rest → Tells m n (Ok tt) x
+      → SoFar o n rest all
   SoFar-more x rest is t = record {
     front = s.front ++ x;
     told = Tells-more o m n (Ok tt) s.front x s.told t;
@@ -168,4 +192,4 @@ module _ (o m n : OutputState) (left all : List OutLine) (s : SoFar o m left all
       → Tells o n (Err stop) all
   SoFar-cut stop x rest is t =
       subst (Tells o n (Err stop)) (joins x rest is)
-          (Tells-cut o n stop (s.front ++ x) rest (Tells-more o m n (Err stop) s.front x s.told t))
+      (Tells-cut o n stop (s.front ++ x) rest (Tells-more o m n (Err stop) s.front x s.told t))

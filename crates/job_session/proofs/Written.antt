@@ -16,10 +16,14 @@ use Rattle.job_session.proofs.Jobs.{all_stepped, all_own}
 use Rattle.job_session.proofs.Lawful.{front_may}
 use Rattle.job_session.proofs.Sending.{BeginsWith-trans}
 
-module _ (legal : (u : Used) (d : Disk) (job : List Item) (turns : List (List ℕ)) (lines : List OutLine) (last : Disk)
-    → MayFollow u job → Stepped d job turns lines last → Legal (plain d) job lines (plain last)) where
-  written_by : (job : List Item) (Writes : List ℕ → Type 0) (turns : List (List ℕ)) (lines : List OutLine) (last : Disk)
-      → MayFollow nothing_used job → Stepped without_pages job turns lines last → AreOwn job turns → Writes (text lines)
+module _ (legal : (u : Used) (d : Disk) (job : List Item) (turns : List (List ℕ))
+    (lines : List OutLine) (last : Disk)
+    → MayFollow u job → Stepped d job turns lines last
+    → Legal (plain d) job lines (plain last)) where
+  written_by : (job : List Item) (Writes : List ℕ → Type 0) (turns : List (List ℕ))
+      (lines : List OutLine) (last : Disk)
+      → MayFollow nothing_used job → Stepped without_pages job turns lines last → AreOwn job turns
+      → Writes (text lines)
       → IsWritten job Writes (any_refusal lines)
   written_by job Writes turns lines last may stepped own output = record {
     lines = lines;
@@ -42,7 +46,8 @@ module _ (legal : (u : Used) (d : Disk) (job : List Item) (turns : List (List �
     bytes_of lines = ap (λ (xs : List ℕ). xs ++ text lines) none
 
     -- the items were given up
-    pub cut_items : (r : Result (Unit {0}) Stop) → ItemsTold without_pages job last o p r → w ≡ p.sent
+    pub cut_items : (r : Result (Unit {0}) Stop) → ItemsTold without_pages job last o p r
+        → w ≡ p.sent
         → IsCut job (BeginsWith u w)
     cut_items r t to = record {
       front = t.front;
@@ -50,7 +55,8 @@ module _ (legal : (u : Used) (d : Disk) (job : List Item) (turns : List (List �
       parts = t.parts;
       refused = any_refusal t.lines;
       run = written_by t.front (BeginsWith u w) t.turns t.lines t.last
-          (front_may nothing_used t.front t.later (subst (MayFollow nothing_used) t.parts may)) t.stepped t.own
+          (front_may nothing_used t.front t.later (subst (MayFollow nothing_used) t.parts may))
+          t.stepped t.own
           (subst (λ (x : Option (List ℕ) × Option (List ℕ) × List ℕ). BeginsWith x.0 x.1 x.2)
           (λ i. (sym from i, sym to i, bytes_of t.lines i)) t.told.sends);
     }
@@ -65,26 +71,31 @@ module _ (legal : (u : Used) (d : Disk) (job : List Item) (turns : List (List �
         later = [];
         parts = sym (append-nil job);
         refused = any_refusal t.lines;
-        run = written_by job (BeginsWith u w) t.turns t.lines last may (all_stepped job without_pages last o p t)
+        run = written_by job (BeginsWith u w) t.turns t.lines last may
+            (all_stepped job without_pages last o p t)
             (all_own job without_pages last o p t)
             (subst (λ (x : Option (List ℕ) × Option (List ℕ)). BeginsWith x.0 x.1 (text t.lines))
             (λ i. (sym from i, sym to i))
-            (BeginsWith-trans o.sent p.sent v (o.waits ++ text t.lines) [] bytes (text t.lines) t.told.sends b
+            (BeginsWith-trans o.sent p.sent v (o.waits ++ text t.lines) [] bytes
+            (text t.lines) t.told.sends b
             (waited ∙ sym t.told.whole.0 ∙ sym (append-nil t.told.sends.rest))
             (sym (bytes_of t.lines) ∙ sym (append-nil (o.waits ++ text t.lines)))));
       }
 
       -- or all of it
-      pub written : (refused : Bool) → Appends p.sent v bytes → refused ≡ p.refused → o.refused ≡ false
+      pub written : (refused : Bool) → Appends p.sent v bytes → refused ≡ p.refused
+          → o.refused ≡ false
           → IsWritten job (Appends u w) refused
       written refused sent refuses faultless =
           subst (IsWritten job (Appends u w))
-              (sym (refuses ∙ t.told.whole.1 ∙ ap (λ (b : Bool). b || any_refusal t.lines) faultless))
-              (written_by job (Appends u w) t.turns t.lines last may (all_stepped job without_pages last o p t)
-              (all_own job without_pages last o p t)
-              (subst (λ (x : Option (List ℕ) × Option (List ℕ) × List ℕ). Appends x.0 x.1 x.2)
-              (λ i. (sym from i, sym to i, whole i))
-              (Appends-trans o.sent p.sent v t.told.sends.sent bytes t.told.sends.appended sent)))
+          (sym (refuses ∙ t.told.whole.1
+          ∙ ap (λ (b : Bool). b || any_refusal t.lines) faultless))
+          (written_by job (Appends u w) t.turns t.lines last may
+          (all_stepped job without_pages last o p t)
+          (all_own job without_pages last o p t)
+          (subst (λ (x : Option (List ℕ) × Option (List ℕ) × List ℕ). Appends x.0 x.1 x.2)
+          (λ i. (sym from i, sym to i, whole i))
+          (Appends-trans o.sent p.sent v t.told.sends.sent bytes t.told.sends.appended sent)))
         where
           whole : t.told.sends.sent ++ bytes ≡ text t.lines
           whole = ap (λ (x : List ℕ). t.told.sends.sent ++ x) (waited ∙ sym t.told.whole.0)

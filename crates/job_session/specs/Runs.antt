@@ -54,8 +54,9 @@ pub record IsRead (left left_after : Option (List ℕ)) (Is : List ℕ → Type 
 
 -- ---- a text that is a job
 
--- What was written is the text of lines that these items may print, from a plain disk without pages, and that their phases
--- print by their own turns; some line says that something was refused, or none does.
+-- What was written is the text of lines that these items may print, from a plain disk without
+-- pages, and that their phases print by their own turns; some line says that something was refused,
+-- or none does.
 pub record IsWritten (job : List Item) (Writes : List ℕ → Type 0) (refused : Bool) : Type 0 where
   pub lines : List OutLine
   pub first : PlainDisk
@@ -75,7 +76,7 @@ pub record IsTextRun (Writes : List ℕ → Type 0) (refused : Bool) (bytes : Li
   pub is_job : IsJob bytes job
   pub run : IsWritten job Writes refused
 
--- What some first items of the job may print was written: its output is cut behind the item in work.
+-- What some first items of the job may print was written: its output is cut after the item in work.
 pub record IsCut (job : List Item) (Writes : List ℕ → Type 0) : Type 0 where
   pub front : List Item
   pub later : List Item
@@ -89,7 +90,8 @@ pub record IsTextCut (Writes : List ℕ → Type 0) (bytes : List ℕ) : Type 0 
   pub is_job : IsJob bytes job
   pub cut : IsCut job Writes
 
--- the source was read to its end, what it had is the text of a job, and what this job may print was written
+-- the source was read to its end, what it had is the text of a job, and what this job may print was
+-- written
 abbrev pub IsRun : Option (List ℕ) → Option (List ℕ) → (List ℕ → Type 0) → Bool → Type 0
 IsRun left left_after Writes refused = IsRead left left_after (IsTextRun Writes refused)
 
@@ -106,7 +108,8 @@ pub record IsNoJob (Writes : List ℕ → Type 0) (bytes : List ℕ) : Type 0 wh
   pub no_job : (job : List Item) → IsJob bytes job → ⊥
   pub output : Writes (fault_text fault)
 
--- The source was read to its end, or more bytes were read than a job has at most, and they are no job.
+-- The source was read to its end, or more bytes were read than a job has at most, and they are no
+-- job.
 pub record IsRefused (left left_after : Option (List ℕ)) (Writes : List ℕ → Type 0) : Type 0 where
   pub bytes : List ℕ
   pub taken : Consumes left left_after bytes

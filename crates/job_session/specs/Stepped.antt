@@ -3,7 +3,7 @@ use Rattle.std.specs.Prelude.{◌≡◌, ℕ, List, [], ◌∷◌, ◌++◌, len
 use Rattle.zr_base.specs.declared.op.Op.{Op}
 use Rattle.zr_base.specs.declared.op.Turns.{Turns}
 use Rattle.plain_disk.specs.Output.{OutLine}
-use Rattle.zr_core.specs.declared.world.World.{World}
+use Rattle.zr_core.specs.declared.disk.World.{World}
 use Rattle.zr_core.specs.Steps.{DiskHeld}
 use Rattle.zr_core.specs.Machines.{PhaseSteps, rounds_of, sector_in}
 use Rattle.zr_core.specs.Runs.{turns_of}
@@ -30,8 +30,8 @@ disk_of world = record { size = world.pages; row = world.row.cells }
 abbrev pub plain : Disk → PlainDisk
 plain d = record { size = d.size; holds = sector_in d.row }
 
--- A job's lines by one list of turns for each phase. A disk's size gives pages of zeros and prints nothing; a phase
--- begins on the disk that the items before it left.
+-- A job's lines by one list of turns for each phase. A disk's size gives pages of zeros and prints
+-- nothing; a phase begins on the disk that the items before it left.
 abbrev pub Stepped : Disk → List Item → List (List ℕ) → List OutLine → Disk → Type 0
 Stepped d [] turns lines last = (turns ≡ []) × (lines ≡ []) × (last ≡ d)
 Stepped d (items.Attr (DiskPages n) ∷ more) turns lines last =
@@ -43,11 +43,13 @@ Stepped d (items.Phase text ∷ more) turns lines last =
 
 -- turns of a schedule, and then of rounds in which each actor has one
 abbrev pub IsBySchedule : List (List Op) → List Turns → List ℕ → Type 0
-IsBySchedule actors schedule turns = (rounds : ℕ) × (turns ≡ turns_of schedule ++ rounds_of (length actors) rounds)
+IsBySchedule actors schedule turns = (rounds : ℕ) × (turns
+    ≡ turns_of schedule ++ rounds_of (length actors) rounds)
 
 -- each phase's turns are those of its schedule, and then of rounds
 abbrev pub AreOwn : List Item → List (List ℕ) → Type 0
 AreOwn [] turns = turns ≡ []
 AreOwn (items.Attr attr ∷ more) turns = AreOwn more turns
 AreOwn (items.Phase text ∷ more) [] = ⊥
-AreOwn (items.Phase text ∷ more) (mine ∷ others) = IsBySchedule text.actors text.schedule mine × AreOwn more others
+AreOwn (items.Phase text ∷ more) (mine ∷ others) = IsBySchedule text.actors text.schedule mine
+    × AreOwn more others

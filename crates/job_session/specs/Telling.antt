@@ -33,8 +33,9 @@ ReadCause left left_after before now no.Long = IsLong left left_after
 
 -- ---- an output
 
--- An output in the making: what the sink was given, where it tells that; the bytes that wait before it; whether some line
--- said that something was refused; how often the sink has failed; whether it has stopped; the loan by which it is held.
+-- An output in the making: what the sink was given, where it tells that; the bytes that wait before
+-- it; whether some line said that something was refused; how often the sink has failed; whether it
+-- has stopped; the loan by which it is held.
 pub record OutputState : Type 0 where
   pub sent : Option (List ℕ)
   pub waits : List ℕ
@@ -43,8 +44,10 @@ pub record OutputState : Type 0 where
   pub stopped : Bool
   pub loan : ℕ
 
--- These lines were told: what waited and their text were sent in part, and all but what waits now where nothing went wrong.
-pub record Tells (o m : OutputState) (r : Result (Unit {0}) Stop) (lines : List OutLine) : Type 0 where
+-- These lines were told: what waited and their text were sent in part, and all but what waits now
+-- where nothing went wrong.
+pub record Tells (o m : OutputState) (r : Result (Unit {0}) Stop)
+    (lines : List OutLine) : Type 0 where
   pub sends : BeginsWith o.sent m.sent (o.waits ++ text lines)
   pub whole : OnOk r ((sends.rest ≡ m.waits) × (m.refused ≡ (o.refused || any_refusal lines)))
   pub loan : m.loan ≡ o.loan
@@ -59,9 +62,10 @@ pub record MayStand (pages : ℕ) (items : List Item) : Type 0 where
   pub bare : used.disk ≡ false → pages ≡ 0
   pub may : MayFollow used items
 
--- Items were run one after the other by their own turns, on the disk d, and their lines were told. Where nothing went
--- wrong these are all items of the job, and the disk m is behind them.
-pub record ItemsTold (d : Disk) (job : List Item) (m : Disk) (o p : OutputState) (r : Result (Unit {0}) Stop) : Type 0 where
+-- Items were run one after the other by their own turns, on the disk d, and their lines were told.
+-- Where nothing went wrong these are all items of the job, and the disk m is the one after them.
+pub record ItemsTold (d : Disk) (job : List Item) (m : Disk) (o p : OutputState)
+    (r : Result (Unit {0}) Stop) : Type 0 where
   pub front : List Item
   pub later : List Item
   pub parts : job ≡ front ++ later
@@ -90,9 +94,11 @@ abbrev pub LineStops : List ℕ → Option (List ℕ) → Option (List ℕ) → 
 LineStops line before after stops.Memory = Appends before after []
 LineStops line before after stops.Write = BeginsWith before after line
 
--- what a text that was given up has written: nothing yet, a beginning of its job's output, or of the line of its fault
+-- what a text that was given up has written: nothing yet, a beginning of its job's output, or of
+-- the line of its fault
 abbrev pub TextStops : List ℕ → Option (List ℕ) → Option (List ℕ) → Stop → Type 0
-TextStops bytes before after stops.Memory = Appends before after [] ⊎ IsTextCut (BeginsWith before after) bytes
+TextStops bytes before after stops.Memory = Appends before after []
+    ⊎ IsTextCut (BeginsWith before after) bytes
 TextStops bytes before after stops.Write =
     IsNoJob (BeginsWith before after) bytes ⊎ IsTextCut (BeginsWith before after) bytes
 

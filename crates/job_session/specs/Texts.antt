@@ -40,17 +40,20 @@ fill_text word = codes "fill " ++ flat_map hex_byte (reverse word) ++ 10 ∷ []
 abbrev pub hex_text : List ℕ → List ℕ
 hex_text bytes = codes "hex " ++ flat_map hex_byte bytes ++ 10 ∷ []
 
--- The word that all words of a sector are, or else each byte: the sector without its first word is that without its last.
+-- The word that all words of a sector are, or else each byte: the sector without its first word is
+-- that without its last.
 unfoldable pub sector_text : List ℕ → List ℕ
-sector_text bytes = if bytes_eq (drop 8 bytes) (take 504 bytes) then fill_text (take 8 bytes) else hex_text bytes
+sector_text bytes = if bytes_eq (drop 8 bytes) (take 504 bytes) then fill_text
+    (take 8 bytes) else hex_text bytes
 
--- a call of an order, behind the page or another call
+-- a call of an order, after the page or another call
 abbrev pub tag_text : Tag → List ℕ
 tag_text tag = 32 ∷ decimal tag.actor ++ 58 ∷ decimal tag.op
 
 -- the line of an operation's end
 unfoldable pub ended_text : Tag → OpEnd → List ℕ
-ended_text tag end = codes "op " ++ decimal tag.actor ++ 32 ∷ decimal tag.op ++ 32 ∷ end_text end ++ 10 ∷ []
+ended_text tag end = codes "op " ++ decimal tag.actor ++ 32 ∷ decimal tag.op ++ 32 ∷ end_text end
+    ++ 10 ∷ []
 
 -- the line of a page's order
 unfoldable pub ordered_text : ℕ → List Tag → List ℕ
@@ -79,6 +82,7 @@ cause_text causes.NoDisk = codes "nodisk"
 cause_text causes.TooMany = codes "toomany"
 cause_text causes.Order = codes "order"
 
--- the one line of a text that is no job: its first faulty line, and the first of the causes that it has
+-- the one line of a text that is no job: its first faulty line, and the first of the causes that it
+-- has
 unfoldable pub fault_text : JobFault → List ℕ
 fault_text fault = codes "job " ++ decimal fault.line ++ 32 ∷ cause_text fault.cause ++ 10 ∷ []

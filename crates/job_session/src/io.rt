@@ -51,8 +51,8 @@ pub(crate) fn send<K: Sink>(out: &mut K, bytes: &[u8]) -> Result<(), Failed>
 pub(crate) fn read_all<S: Source>(alloc: Global, job: &mut S) -> Result<Vec<u8>, NoText>
     ensures done { IfOk result (λ text. Consumes (S.left job.old) (S.left job.new) text.items
         × IsAtEnd (S.left job.new)) }
-    ensures cause { IfErr result
-        (ReadCause (S.left job.old) (S.left job.new) (S.fault_count job.old) (S.fault_count job.new)) }
+    ensures cause { IfErr result (ReadCause (S.left job.old) (S.left job.new)
+        (S.fault_count job.old) (S.fault_count job.new)) }
 {
     let mut chunk = [0; PIECE];
     let mut text = Vec::new(alloc);

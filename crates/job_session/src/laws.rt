@@ -22,5 +22,4 @@ pub fn equal_words_fill()
         → sector_text bytes ≡ fill_text (word_at bytes 0) }
     ensures hex { (bytes : List ℕ) → length bytes ≡ 512 → ¬ IsFilled bytes
         → sector_text bytes ≡ hex_text bytes }
-{
-}
+{}

@@ -1,7 +1,7 @@
 //! An output in the making: a sink with a buffer before it.
 //!
-//! The lines of an operation, or of a page's order, are put into the buffer; the buffer goes to the sink whenever it has
-//! 64 KiB or more. What is left at the end is sent by whoever made the output.
+//! The lines of an operation, or of a page's order, are put into the buffer; the buffer goes to the
+//! sink whenever it has 64 KiB or more. What is left at the end is sent by whoever made the output.
 
 ghost use Rattle.std.specs.Prelude.{◌≡◌, false, []};
 ghost use Rattle.plain_disk.specs.Output.{ended, is_refusal, op_lines, order_line};
@@ -29,12 +29,13 @@ impl<'a, K: Sink> Model for Output<'a, K> {
     ghost Value = { OutputState };
 
     ghost view = { λ o. record {
-        sent = K.written o.sink.now;
-        waits = o.buffer.items;
-        refused = o.refused;
-        faults = K.fault_count o.sink.now;
-        stopped = K.has_stopped o.sink.now;
-        loan = o.sink.ghost_name } };
+      sent = K.written o.sink.now;
+      waits = o.buffer.items;
+      refused = o.refused;
+      faults = K.fault_count o.sink.now;
+      stopped = K.has_stopped o.sink.now;
+      loan = o.sink.ghost_name;
+    } };
 }
 
 fn is_refused(end: OpEnd) -> bool
@@ -50,12 +51,13 @@ impl<'a, K: Sink> Output<'a, K> {
     /// An output to the sink, with nothing told.
     pub(crate) fn new(alloc: Global, sink: &'a mut K) -> Output<'a, K>
         ensures { result ≡ record {
-            sent = K.written sink.old;
-            waits = [];
-            refused = false;
-            faults = K.fault_count sink.old;
-            stopped = K.has_stopped sink.old;
-            loan = sink.entry.ghost_name } }
+          sent = K.written sink.old;
+          waits = [];
+          refused = false;
+          faults = K.fault_count sink.old;
+          stopped = K.has_stopped sink.old;
+          loan = sink.entry.ghost_name;
+        } }
     {
         Output {
             sink,
@@ -78,7 +80,12 @@ impl<'a, K: Sink> Output<'a, K> {
     }
 
     /// Tells how an operation ended, and the sectors that it read.
-    pub(crate) fn tell_op(&mut self, tag: Tag, end: OpEnd, sectors: &[[u8; 512]]) -> Result<(), Stop>
+    pub(crate) fn tell_op(
+        &mut self,
+        tag: Tag,
+        end: OpEnd,
+        sectors: &[[u8; 512]],
+    ) -> Result<(), Stop>
         ensures { Tells self.old self.new result (op_lines tag end sectors.now) }
     {
         put_op(&mut self.buffer, self.alloc, tag, end, sectors)?;

@@ -133,12 +133,7 @@ pub(crate) fn put_op(
 
 // The line of a page's order.
 #[tactic(auto, unfolding(crate::specs::Texts::ordered_text))]
-fn put_ordered(
-    out: &mut Vec<u8>,
-    alloc: Global,
-    page: u32,
-    order: &[Tag],
-) -> Result<(), AllocError>
+fn put_ordered(out: &mut Vec<u8>, alloc: Global, page: u32, order: &[Tag]) -> Result<(), AllocError>
     ensures { OnOk result (out.new.items ≡ out.old.items ++ ordered_text page order.now) }
 {
     let line = format!(in alloc; "order {page}")?;

@@ -47,11 +47,7 @@ fn run_phase<K: Sink>(
 }
 
 // An item, with its lines.
-fn run_item<K: Sink>(
-    out: &mut Output<'_, K>,
-    world: &mut World,
-    item: &Item,
-) -> Result<(), Stop>
+fn run_item<K: Sink>(out: &mut Output<'_, K>, world: &mut World, item: &Item) -> Result<(), Stop>
     requires may { MayStand world.old.pages (item.now ∷ []) }
     requires rest { IsAtRest world.old.pages world.old.row.cells }
     ensures item { ItemsTold (disk_of world.old) (item.now ∷ []) (disk_of world.new)

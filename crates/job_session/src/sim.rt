@@ -2,17 +2,18 @@
 //!
 //! | Status | What came of the run | What was written |
 //! |---|---|---|
-//! | 0 `Done` | the job was read to its end and carried out | the text of lines that the job may print |
+//! | 0 `Done` | the job was read to its end and carried out | the text of lines that it may print |
 //! | 1 `Refused` | the same, but some operation was refused | the same; some line tells of it |
 //! | 2 `Words` | the words aren't the one word `run`; nothing is read | the usage line |
 //! | 3 `Job` | the text is no job, or too long for one | the line of its first fault |
 //! | 4 `ReadFault` | the source failed | nothing |
-//! | 5 `WriteFault` | the sink failed, or took nothing | a beginning of what 0 to 3 would have written |
-//! | 6 `NoMemory` | there was no memory left | the same, or nothing |
+//! | 5 `WriteFault` | the sink failed, or took nothing | a beginning of what 0 to 3 would write |
+//! | 6 `NoMemory` | there was no memory left | nothing, or a beginning of what 0 or 1 would write |
 //!
-//! Of the lines at 0 and 1 the contract says two facts. They are *legal*: by each page's order, each read tells what the
-//! plain disk holds (`Legal`), which can be checked without knowing of locks and turns. They are *stepped*: the machine
-//! prints them where each phase makes the turns of its schedule, and then rounds (`Stepped`, `AreOwn`).
+//! Of the lines at 0 and 1 the contract says two facts. They are *legal*: by each page's order,
+//! each read tells what the plain disk holds (`Legal`), which can be checked without knowing of
+//! locks and turns. They are *stepped*: the machine prints them where each phase makes the turns of
+//! its schedule, and then rounds (`Stepped`, `AreOwn`).
 
 ghost use Rattle.std.specs.Prelude.{◌≡◌, ◌⊎◌, ◌<◌, false, true, IsTrue, ◌↔◌, [], Ok, IfOk, OnOk, OnErr, IfErr};
 ghost use Rattle.std.specs.Io.KnownBytes.{Appends};
@@ -61,7 +62,7 @@ pub enum Status {
 impl Status {
     /// The exit status of the program, 0 to 6.
     pub fn number(self) -> u8
-        ensures { result ≡ status_number self }
+        ensures number { result ≡ status_number self }
     {
         match self {
             Status::Done => 0,
@@ -99,7 +100,8 @@ fn run_all<K: Sink>(alloc: Global, sink: &mut K, job: &[Item]) -> Result<bool, S
     requires { MayFollow nothing_used job.now }
     ensures written { IfOk result
         (IsWritten job.now (Appends (K.written sink.old) (K.written sink.new))) }
-    ensures cut { OnErr result (IsCut job.now (BeginsWith (K.written sink.old) (K.written sink.new))) }
+    ensures cut { OnErr result
+        (IsCut job.now (BeginsWith (K.written sink.old) (K.written sink.new))) }
     ensures cause { IfErr result
         (StopCause (K.fault_count sink.old) (K.fault_count sink.new) (K.has_stopped sink.new)) }
 {
@@ -151,8 +153,9 @@ fn run_text<K: Sink>(alloc: Global, text: &[u8], sink: &mut K) -> Result<Status,
     }
 }
 
-/// Does all that `zramsim` does: it takes the words of the command line after the program's name, reads a job from
-/// `job`, runs it and writes its output to `out`. It returns for every source and sink.
+/// Does all that `zramsim` does: it takes the words of the command line after the program's name,
+/// reads a job from `job`, runs it and writes its output to `out`. It returns for every source and
+/// sink.
 ///
 /// A job's text has at most 16,777,216 bytes; source and sink are asked for at most 64 KiB at once.
 pub fn sim_main<S: Source, K: Sink>(
@@ -166,10 +169,10 @@ pub fn sim_main<S: Source, K: Sink>(
     // The job was read to its end, and what it may print was written.
     ensures done { result ≡ Status.Done → IsRunWord words.now
         × IsRun (S.left job.old) (S.left job.new)
-            (Appends (K.written out.old) (K.written out.new)) false }
+        (Appends (K.written out.old) (K.written out.new)) false }
     ensures refused { result ≡ Status.Refused → IsRunWord words.now
         × IsRun (S.left job.old) (S.left job.new)
-            (Appends (K.written out.old) (K.written out.new)) true }
+        (Appends (K.written out.old) (K.written out.new)) true }
 
     // Any other words are answered by the usage line alone, and nothing is read.
     ensures words { result ≡ Status.Words → ¬ IsRunWord words.now
@@ -180,7 +183,7 @@ pub fn sim_main<S: Source, K: Sink>(
     // A text that is no job, or too long for one, is answered by the one line of its first fault.
     ensures job { result ≡ Status.Job → IsRunWord words.now
         × IsRefused (S.left job.old) (S.left job.new)
-            (Appends (K.written out.old) (K.written out.new)) }
+        (Appends (K.written out.old) (K.written out.new)) }
 
     // A fault is answered only where the source failed, or the sink failed or stopped.
     ensures read { result ≡ Status.ReadFault → IsRunWord words.now
@@ -189,19 +192,19 @@ pub fn sim_main<S: Source, K: Sink>(
     ensures write { result ≡ Status.WriteFault
         → WriteCause (K.fault_count out.old) (K.fault_count out.new) (K.has_stopped out.new) }
 
-    // What was written then is a beginning of the usage line, of the line of the first fault, or of an output that the
-    // job may print, cut behind the item in work.
+    // What was written then is a beginning of the usage line, of the line of the first fault, or of
+    // an output that the job may print, cut after the item in work.
     ensures cut_write { result ≡ Status.WriteFault
         → (¬ IsRunWord words.now × BeginsWith (K.written out.old) (K.written out.new) usage_text)
         ⊎ (IsRunWord words.now
-            × (IsRefused (S.left job.old) (S.left job.new)
-                (BeginsWith (K.written out.old) (K.written out.new))
-            ⊎ IsCutRun (S.left job.old) (S.left job.new)
-                (BeginsWith (K.written out.old) (K.written out.new)))) }
+        × (IsRefused (S.left job.old) (S.left job.new)
+        (BeginsWith (K.written out.old) (K.written out.new))
+        ⊎ IsCutRun (S.left job.old) (S.left job.new)
+        (BeginsWith (K.written out.old) (K.written out.new)))) }
     ensures cut_memory { result ≡ Status.NoMemory → IsRunWord words.now
         × (Appends (K.written out.old) (K.written out.new) []
         ⊎ IsCutRun (S.left job.old) (S.left job.new)
-            (BeginsWith (K.written out.old) (K.written out.new))) }
+        (BeginsWith (K.written out.old) (K.written out.new))) }
 {
     if !is_run(words) {
         return match send(out, USAGE) {

@@ -1,9 +1,12 @@
-//! The lines of a phase that was run: its operations, actor by actor, and then the orders of its pages.
+//! The lines of a phase that was run: its operations, actor by actor, and then the orders of its
+//! pages.
 
-ghost use Rattle.std.specs.Prelude.{◌≡◌, ℕ, ◌≤◌, [], length, get_or};
-ghost use Rattle.plain_disk.specs.Output.{order_lines, actor_lines, actors_lines, phase_lines};
+ghost use Rattle.std.specs.Prelude.{◌≡◌, ℕ, ◌<◌, ◌≤◌, [], length, get_or};
+ghost use Rattle.plain_disk.specs.Output.{order_lines, actor_lines, actors_lines};
 ghost use Rattle.zr_core.specs.Machines.{orders_of};
-ghost use Rattle.zr_core.specs.States.{ends_shown, sectors_shown, AreFit, IsAtRest};
+ghost use Rattle.zr_core.specs.Playing.{playing, lines_shown};
+ghost use Rattle.zr_core.specs.Runs.{AllOver};
+ghost use Rattle.zr_core.specs.States.{ends_shown, sectors_shown, AreFit, CanGoOn, HasEnded, IsAtRest};
 ghost use Rattle.job_session.specs.Telling.{Tells};
 
 use crate::output::Output;
@@ -20,6 +23,7 @@ fn tell_actor<K: Sink>(
 ) -> Result<(), Stop>
     requires ends { length (get_or (ends_shown phase.now.workers.items) actor []) ≡ ops }
     requires sectors { length (get_or (sectors_shown phase.now.workers.items) actor []) ≡ ops }
+    requires over { (op : ℕ) → op < ops → HasEnded phase.now.workers.items actor op }
     ensures { Tells out.old out.new result (actor_lines actor 0
         (get_or (ends_shown phase.now.workers.items) actor [])
         (get_or (sectors_shown phase.now.workers.items) actor [])) }
@@ -39,6 +43,7 @@ fn tell_actors<K: Sink>(
 ) -> Result<(), Stop>
     requires few { length actors.now ≤ 64 }
     requires fit { (size : ℕ) × AreFit size actors.now phase.now.workers.items }
+    requires over { AllOver actors.now phase.now.workers.items }
     ensures { Tells out.old out.new result (actors_lines 0
         (ends_shown phase.now.workers.items) (sectors_shown phase.now.workers.items)) }
 {
@@ -68,11 +73,10 @@ pub(crate) fn tell_phase<K: Sink>(
     actors: &[ActorOps],
 ) -> Result<(), Stop>
     requires few { length actors.now ≤ 64 }
-    requires fit { AreFit world.now.pages actors.now phase.now.workers.items }
+    requires can { CanGoOn (playing world.now phase.now actors.now) }
+    requires over { AllOver actors.now phase.now.workers.items }
     requires rest { IsAtRest world.now.pages world.now.row.cells }
-    ensures { Tells out.old out.new result (phase_lines
-        (ends_shown phase.now.workers.items) (sectors_shown phase.now.workers.items)
-        (orders_of world.now.row.cells)) }
+    ensures { Tells out.old out.new result (lines_shown (playing world.now phase.now actors.now)) }
 {
     tell_actors(out, phase, actors)?;
     tell_orders(out, world)

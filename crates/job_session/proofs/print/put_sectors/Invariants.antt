@@ -5,4 +5,5 @@ use Rattle.job_session.proofs.print.put_sectors.Given as goal
 
 abbrev pub invariant-loop-sector : goal.invariant-loop-sector
 invariant-loop-sector l =
-    l.out.items ++ text (map sector (drop l.sector-index l.told)) ≡ l.fn.out.items ++ text (map sector l.told)
+    l.out.items ++ text (map sector (drop l.sector-index l.told))
+    ≡ l.fn.out.items ++ text (map sector l.told)

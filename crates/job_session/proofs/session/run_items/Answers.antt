@@ -12,7 +12,10 @@ use Rattle.job_session.proofs.session.run_items.Goals as goal
 pub loop-item-init : goal.loop-item-init
 loop-item-init g c = record {
   told = subst (λ (x : Disk). ItemsTold without_pages [] x c.args.out.now c.args.out.now (Ok tt))
-      (λ i. record { size = sym c.new-world.ensures.pages i; row = sym c.new-world.ensures.cells i })
+      (λ i. record {
+        size = sym c.new-world.ensures.pages i;
+        row = sym c.new-world.ensures.cells i;
+      })
       (items_none without_pages c.args.out.now);
   may = record { used = nothing_used; bare = λ bare. c.new-world.ensures.pages; may = c.requires };
   rest = c.new-world.ensures.rest;
@@ -21,13 +24,16 @@ loop-item-init g c = record {
 -- an item of a job, and what is left of it
 left_at : (job : List Item) (at : ℕ) (item : Item) → at < length job → item ≡ get_or job at item
     → drop at job ≡ item ∷ drop (at + 1) job
-left_at job at item lt is = drop_more job at item lt ∙ ap (λ (x : Item). x ∷ drop (at + 1) job) (sym is)
+left_at job at item lt is = drop_more job at item lt
+    ∙ ap (λ (x : Item). x ∷ drop (at + 1) job) (sym is)
 
 pub run_item-requires-clause-may : goal.run_item-requires-clause-may
 run_item-requires-clause-may g c =
-    stand_first c.loop-item.world.pages c.item-item.result (drop (c.loop-item.item-index + 1) c.args.job.now)
+    stand_first c.loop-item.world.pages c.item-item.result
+    (drop (c.loop-item.item-index + 1) c.args.job.now)
     (subst (MayStand c.loop-item.world.pages)
-    (left_at c.args.job.now c.loop-item.item-index c.item-item.result c.loop-item-test.true c.item-item.is)
+    (left_at c.args.job.now c.loop-item.item-index c.item-item.result c.loop-item-test.true
+    c.item-item.is)
     c.loop-item.invariant.may)
 
 pub returns-in_err-run_item : goal.returns-in_err-run_item
@@ -40,13 +46,18 @@ returns-in_err-run_item g c =
     let n : Disk = disk_of c.run_item.new.world in
     let whole : front ++ item ∷ [] ++ back ≡ c.args.job.now =
     append_assoc front (item ∷ []) back
-    ∙ ap (λ (xs : List Item). front ++ xs) (sym (left_at c.args.job.now at item c.loop-item-test.true c.item-item.is))
+    ∙ ap (λ (xs : List Item). front ++ xs)
+    (sym (left_at c.args.job.now at item c.loop-item-test.true c.item-item.is))
     ∙ take-append-drop at c.args.job.now in
     let p = err_from_is_err_and c.from_residual.result c.from_residual.ensures.1 in
-    rw (p.1, p.2) (n,
-    subst (λ (xs : List Item). ItemsTold without_pages xs n c.args.out.now c.run_item.new.out (Err c.in_err-run_item.field-0.0)) whole
-    (items_cut (front ++ item ∷ []) back without_pages n n _ _ _
-    (items_more front (item ∷ []) without_pages d n _ _ _ _ c.loop-item.invariant.told c.in_err-run_item.ensures.item)))
+    rw (p.1, p.2) (
+      n,
+      subst (λ (xs : List Item). ItemsTold without_pages xs n c.args.out.now c.run_item.new.out
+          (Err c.in_err-run_item.field-0.0)) whole
+          (items_cut (front ++ item ∷ []) back without_pages n n _ _ _
+          (items_more front (item ∷ []) without_pages d n _ _ _ _ c.loop-item.invariant.told
+          c.in_err-run_item.ensures.item)),
+    )
 
 pub loop-item-preserved : goal.loop-item-preserved
 loop-item-preserved g c =
@@ -61,8 +72,10 @@ loop-item-preserved g c =
     ∙ ap (λ (x : Item). front ++ x ∷ []) (sym c.item-item.is) in
     let left = left_at c.args.job.now at item c.loop-item-test.true c.item-item.is in
     record {
-      told = subst (λ (xs : List Item). ItemsTold without_pages xs n c.args.out.now c.run_item.new.out (Ok tt)) (sym taken)
-          (items_more front (item ∷ []) without_pages d n _ _ _ _ c.loop-item.invariant.told c.in_ok-run_item.ensures.item);
+      told = subst (λ (xs : List Item). ItemsTold without_pages xs n c.args.out.now
+          c.run_item.new.out (Ok tt)) (sym taken)
+          (items_more front (item ∷ []) without_pages d n _ _ _ _ c.loop-item.invariant.told
+          c.in_ok-run_item.ensures.item);
       may = stand_on d.size n.size item back (phase_size d n item _ _ c.in_ok-run_item.ensures.item)
           (subst (MayStand c.loop-item.world.pages) left c.loop-item.invariant.may);
       rest = c.in_ok-run_item.ensures.rest;

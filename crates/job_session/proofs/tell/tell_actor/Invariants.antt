@@ -9,4 +9,5 @@ abbrev pub invariant-loop-op : goal.invariant-loop-op
 invariant-loop-op g l =
     let es : List OpEnd = get_or (ends_shown l.phase.workers.items) l.actor [] in
     let gots : List (List (List ℕ)) = get_or (sectors_shown l.phase.workers.items) l.actor [] in
-    SoFar l.fn.out l.out (actor_lines l.actor l.op (drop l.op es) (drop l.op gots)) (actor_lines l.actor 0 es gots)
+    SoFar l.fn.out l.out (actor_lines l.actor l.op (drop l.op es) (drop l.op gots))
+    (actor_lines l.actor 0 es gots)

@@ -8,4 +8,5 @@ returns-then-len-lt-PIECE g c = Tells-none c.args.self.now
 pub returns : goal.returns
 returns g c =
     rw (← c.self.view_is)
-        (Tells-sent _ _ c.deref.result.now c.in_ok-send.ensures.all c.deref.ensures.value c.clear.ensures.items refl refl c.send.ensures.later)
+    (Tells-sent _ _ c.deref.result.now c.in_ok-send.ensures.all c.deref.ensures.value
+    c.clear.ensures.items refl refl c.send.ensures.later)
