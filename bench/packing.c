@@ -101,10 +101,9 @@ JOIN(join_b4d1, uint32_t, int8_t, 16, 1)
 JOIN(join_b4d2, uint32_t, int16_t, 16, 2)
 JOIN(join_b2d1, uint16_t, int8_t, 32, 1)
 
-/* Whether the payload is a line's packing; the line is set. */
-static int unpack_line(int code, const uint8_t *in, uint8_t *line)
+/* The line of a payload. */
+static void decode_line(int code, const uint8_t *in, uint8_t *line)
 {
-    uint8_t again[64];
     switch (code) {
     case ZEROS: memset(line, 0, 64); break;
     case REPEATED: for (int j = 0; j < 8; j++) memcpy(line + 8 * j, in, 8); break;
@@ -116,6 +115,13 @@ static int unpack_line(int code, const uint8_t *in, uint8_t *line)
     case B2D1: join_b2d1(in, line); break;
     default: memcpy(line, in, 64);
     }
+}
+
+/* Whether the payload is a line's packing; the line is set. */
+static int unpack_line(int code, const uint8_t *in, uint8_t *line)
+{
+    uint8_t again[64];
+    decode_line(code, in, line);
     return pack_line(line, again) == code && !memcmp(again, in, sizes[code]);
 }
 
@@ -148,6 +154,17 @@ static int unpack(const uint8_t *in, size_t len, uint8_t *page)
         return 0;
     memcpy(page, read, 4096);
     return 1;
+}
+
+/* Sets the page whose packing the bytes are known to be. */
+static void decode(const uint8_t *in, uint8_t *page)
+{
+    size_t at = 32;
+    for (int i = 0; i < 64; i++) {
+        int code = i % 2 ? in[i / 2] >> 4 : in[i / 2] & 15;
+        decode_line(code, in + at, page + 64 * i);
+        at += sizes[code];
+    }
 }
 
 static int same_word(const uint8_t *page)
@@ -205,7 +222,10 @@ int main(int argc, char **argv)
             sum += pack(page, out);
         else if (!strcmp(task, "unpack"))
             sum += (uint64_t)unpack(out, len, page);
-        else if (!strcmp(task, "same"))
+        else if (!strcmp(task, "decode")) {
+            decode(out, page);
+            sum += page[4088];
+        } else if (!strcmp(task, "same"))
             sum += (uint64_t)same_word(page);
         else {
             fill(page, n);

@@ -1,4 +1,5 @@
 """The repository's own rules. Each is a function that yields its breaches: path, line and remedy."""
+import functools
 import os
 import re
 from collections.abc import Iterator
@@ -19,8 +20,17 @@ PATH = re.compile(r"(?<![\w.])/(work|tmp|opt|root|home)/")
 CITATION = re.compile(r"\b(documents?|papers?|requests?) (no\.? ?)?\d+\b", re.IGNORECASE)
 PLACE = re.compile(r"crates/[a-z0-9_]+/(src|specs|proofs)/")
 NAMED = re.compile(r"`((?:\.ci|bench|bin|crates|docs|examples|tools|man|editors)/[\w./-]+)")
-HEADINGS = ["What it is", "What a contract sees", "What is proved", "What is only tested", "What is trusted", "Limits"]
+HEADINGS = [
+    "What it is",
+    "What a contract sees",
+    "What is proved",
+    "What is only tested",
+    "What is trusted",
+    "Limits",
+]
 IMPORT = re.compile(r"\s*(?:pub )?(?:ghost )?use ")
+# The laws of a trait's impl may cite lemmas of specs alone.
+LEMMAS_OF_SPECS = {"crates/lock_row/specs/HandLaws.antt"}
 LANES = ("words", "halves", "quarters")
 
 
@@ -90,9 +100,10 @@ def crates_are_listed() -> Iterator[Breach]:
 
 
 def arrows_are_right() -> Iterator[Breach]:
-    """Each arrow of the README's drawing leads to a crate on which the other stands, in its layer, and all those are drawn."""
+    """The README's drawing has an arrow, or two, to each crate of its layer on which a crate stands, and no others."""
     layer = {crate.name: crate.layer for crate in files.crates()}
-    needs = {(crate.name, other) for crate in files.crates() for other in crate.needs if layer.get(other) == crate.layer}
+    every = [(crate.name, other) for crate in files.crates() for other in crate.needs]
+    needs = {(one, other) for one, other in every if layer[one] == layer.get(other)}
     drawn = set()
     for number, line in enumerate(files.text("README.md").splitlines(), 1):
         for one, other in re.findall(r"(?=\b(\w+) -> (\w+))", line):
@@ -152,7 +163,7 @@ def line_of(path: str, words: str) -> int:
 
 
 def lost_clauses(cell: str, known: dict[str, set[str]]) -> Iterator[str]:
-    """What is wrong with a cell such as `f`, `g`: `a`, `b`; `h`: a function that isn't there, or a clause that it hasn't."""
+    """What is wrong with a cell such as `f`, `g`: `a`, `b`; `h`: no such function, or no such clause of it."""
     for part in cell.split(";"):
         head, _, tail = part.partition("`:")
         names = re.findall(r"`([^`]+)`", head + ("`" if tail else ""))
@@ -185,22 +196,38 @@ def own_proofs_alone() -> Iterator[Breach]:
         for number, line in enumerate(lines, 1):
             other = re.match(r"\s*(?:pub )?(?:ghost )?use Rattle\.(\w+)\.proofs\b", line)
             if other and other.group(1) not in (crate, "std"):
-                yield path, number, f"a lemma of {other.group(1)}: let a clause or a law of a public function there say it"
+                yield path, number, f"a lemma of {other.group(1)}: let a clause or a law of a public function say it"
 
 
 def lemmas_are_cited() -> Iterator[Breach]:
-    """Each lemma is named outside its own text and the imports of it."""
+    """Each lemma is cited: in its file outside its own text, or in a file of its crate that imports it."""
     for crate in files.crates():
-        lemmas = list(lemmas_of(crate.name))
-        used: dict[str, list[tuple[str, int]]] = {name: [] for _, _, _, name in lemmas}
-        for path in files.sources(crate.name):
-            for number, line in enumerate(joined(path), 1):
-                if not IMPORT.match(line):
-                    for word in set(re.findall(r"[A-Za-z_][\w'-]*", line.split("-- ")[0])) & used.keys():
-                        used[word].append((path, number))
-        for path, first, last, name in lemmas:
-            if all(place == path and first <= number < last for place, number in used[name]):
+        paths = files.sources(crate.name)
+        elsewhere = set().union(*(cited_elsewhere(crate.name, path) for path in paths))
+        for path, first, last, name in lemmas_of(crate.name):
+            own = words_of(path).get(name, [])
+            if (path, name) not in elsewhere and all(first <= number < last for number in own):
                 yield path, first, f"nothing cites the lemma {name}: delete it"
+
+
+@functools.cache
+def words_of(path: str) -> dict[str, list[int]]:
+    """The words of a file outside its imports and comments, each with its lines."""
+    found: dict[str, list[int]] = {}
+    for number, line in enumerate(joined(path), 1):
+        if not IMPORT.match(line):
+            for word in re.findall(r"[A-Za-z_][\w'-]*", line.split("-- ")[0]):
+                found.setdefault(word, []).append(number)
+    return found
+
+
+def cited_elsewhere(crate: str, path: str) -> set[tuple[str, str]]:
+    """The lemmas of other files that a file cites, by an import or by their whole path, as (path, name)."""
+    known = contracts.known_names(path)
+    found = {known[word] for word in words_of(path).keys() & known.keys()}
+    for place, name in re.findall(r"\bcrate::(proofs(?:::\w+)*)::([\w'-]+)", files.text(path)):
+        found.add((crate + "." + place.replace("::", "."), name))
+    return {("crates/" + place.replace(".", "/") + ".antt", name) for place, name in found}
 
 
 def joined(path: str) -> list[str]:
@@ -217,7 +244,7 @@ LEMMA = re.compile(r"^(?P<indent> *)(?:pub )?(?P<name>[A-Za-z_][\w'-]*) :")
 
 
 def lemmas_of(crate: str) -> Iterator[tuple[str, int, int, str]]:
-    """The lemmas of a crate's files of proofs: path, first line, line behind, name. Those of functions are the prover's."""
+    """The lemmas of a crate's proofs, but for the files of functions: path, first line, line after, name."""
     for path in files.sources(crate, "proofs", endings=(".antt",)):
         if os.path.basename(path) not in ("Answers.antt", "Invariants.antt", "Proof.antt", "Lib.antt"):
             yield from lemmas_in(path)
@@ -277,17 +304,33 @@ def short_lines() -> Iterator[Breach]:
     """Less than 3 of 100 lines pass 100 columns, imports left out."""
     long, total = long_share()
     if 100 * long >= MOST_LONG * total:
-        yield "crates", 1, f"{long} of {total} lines pass {MOST_COLUMNS} columns ({100 * long / total:.1f} %): break terms, types and clauses"
+        share = f"{long} of {total} lines pass {MOST_COLUMNS} columns ({100 * long / total:.1f} %)"
+        yield "crates", 1, f"{share}: break terms of proofs, types of lemmas and clauses"
 
 
 def specs_have_no_lemmas() -> Iterator[Breach]:
-    """Files of specs hold definitions (`abbrev`, `unfoldable`, `record`, `data`) and no lemmas, which are plain `NAME :`."""
+    """Files of specs hold definitions (`abbrev`, `unfoldable`, `record`, `data`), and no lemma (plain `NAME :`)."""
     for path in spec_files():
+        if path in LEMMAS_OF_SPECS:
+            continue
         for _, line, _, name in lemmas_in(path):
             yield path, line, f"{name} has a body that nobody unfolds, as a lemma: move it into proofs"
         for number, line in enumerate(files.text(path).splitlines(), 1):
             if re.match(r"use Rattle\.std\.proofs\b", line):
                 yield path, number, "a file of specs imports proofs: move what needs them into proofs"
+
+
+def tables_are_whole() -> Iterator[Breach]:
+    """A row of a table in a comment stands on one line."""
+    for _, path, lines in every_source():
+        inside = False
+        for number, line in enumerate(lines, 1):
+            said = re.match(r"\s*(?://[/!]?|--) (.*)", line)
+            begins = bool(said) and said.group(1).startswith("|")
+            ends = bool(said) and said.group(1).endswith("|")
+            if begins != ends and (begins or inside):
+                yield path, number, "a row of a table is broken: keep it on one line, however long"
+            inside = begins
 
 
 def definitions_have_sentences() -> Iterator[Breach]:
@@ -322,7 +365,7 @@ def named_lemmas_are_there() -> Iterator[Breach]:
 
 
 def lanes_are_one_text() -> Iterator[Breach]:
-    """The files of bdi_line for words, halves and quarters are one text, but for names, types and numbers of widths."""
+    """The files of bdi_line for words, halves and quarters are one text, but for what names a width."""
     paths = {name: f"crates/bdi_line/src/{name}.rt" for name in LANES}
     if not all(os.path.exists(files.at(path)) for path in paths.values()):
         return
@@ -344,7 +387,8 @@ def without_width(text: str) -> str:
     text = re.sub(r"u\d+x\d+", "Lanes", re.sub(r"\bu(8|16|32|64)\b", "uN", text))
     text = re.sub(r"(?<![A-Za-z])\d+", "#", text)
     text = re.sub(r"words|halves|quarters", "lanes", re.sub(r"Words|Halves|Quarters", "Lanes", text))
-    text = re.sub(r"(?<![a-z])(word|half|quarter)(?![a-z])", "lane", re.sub(r"Word|Half|Quarter", "Lane", text))
+    text = re.sub(r"Word|Half|Quarter", "Lane", text)
+    text = re.sub(r"(?<![a-z])(word|half|quarter)(?![a-z])", "lane", text)
     return re.sub(r"#(\s*,\s*#)+,?", "#s", re.sub(r"\s+", " ", text))
 
 
@@ -375,19 +419,20 @@ RULES = [
     crates_are_listed,
     arrows_are_right,
     readmes_have_the_headings,
+    promises_are_carried,
     short_functions,
     lanes_are_one_text,
+    own_proofs_alone,
+    short_lines,
     named_lemmas_are_there,
 ]
 
 # Rules that the sources don't meet yet: `.ci/rules --all` tries them too.
 WAITING = [
-    promises_are_carried,
-    own_proofs_alone,
     lemmas_are_cited,
-    short_lines,
     specs_have_no_lemmas,
     definitions_have_sentences,
     few_edits,
     plain_words,
+    tables_are_whole,
 ]

@@ -8,6 +8,7 @@ from definitions import WORD, Definition, found_at, imports
 
 OPENS = re.compile(r"^(?P<unsafe>unsafe )?(?:pub )?(?P<kind>impl|trait|struct|enum)\b(?P<rest>.*)")
 FUNCTION = re.compile(r"^(?P<indent> *)(?P<pub>pub )?(?:const |unsafe )*fn (?P<name>\w+)")
+MODEL = re.compile(r"^impl(?:<[^>]*>)? Model for (\w+).*?ghost Value = \{(.*?)\};", re.MULTILINE | re.DOTALL)
 CLAUSE = re.compile(r"\b(?:requires|ensures)\b *(?P<name>[a-z_0-9]*) *\{")
 
 
@@ -90,16 +91,34 @@ def functions_in(crate: str, path: str) -> list[Function]:
     return found
 
 
-def clause_words(text: str) -> set[str]:
-    """The names in the clauses of a function's head."""
+def clause_words(text: str, only: tuple[str, ...] = ()) -> set[str]:
+    """The names in the clauses of a function's head, or in those of some names."""
     found: set[str] = set()
     for match in CLAUSE.finditer(text):
+        if only and match["name"] not in only:
+            continue
         depth, end = 1, match.end()
         while depth and end < len(text):
             depth += {"{": 1, "}": -1}.get(text[end], 0)
             end += 1
         found |= set(WORD.findall(text[match.end():end - 1]))
     return found
+
+
+def known_names(path: str) -> dict[str, tuple[str, str]]:
+    """For each name that a source file imports for its clauses: the path and the name there."""
+    return imports([line.strip() for line in files.text(path).splitlines()])
+
+
+def cited_by(crate: str, name: str, *clauses: str) -> list[Definition]:
+    """The definitions that some clauses of a function name."""
+    for each in functions(crate):
+        if each.called == name:
+            known = known_names(each.path)
+            names = sorted(clause_words(each.text, clauses) & known.keys())
+            found = [found_at(*known[word]) for word in names]
+            return [definition for definition in found if definition is not None and not definition.is_type]
+    return []
 
 
 def cited(crate: str) -> list[Definition]:
@@ -109,12 +128,12 @@ def cited(crate: str) -> list[Definition]:
         if path.endswith("tests.rt"):
             continue
         text = files.text(path)
-        known = imports([line.strip() for line in text.splitlines()])
+        known = known_names(path)
         names: set[str] = set()
         for each in functions_in(crate, path):
             if each.is_public:
                 names |= clause_words(each.text)
-        for model, value in re.findall(r"^impl(?:<[^>]*>)? Model for (\w+).*?ghost Value = \{(.*?)\};", text, re.MULTILINE | re.DOTALL):
+        for model, value in MODEL.findall(text):
             if model in public_names(crate):
                 names |= set(WORD.findall(value))
         for name in sorted(names & known.keys()):

@@ -11,7 +11,10 @@ import files
 
 HEAD = re.compile(r"^(?P<indent> *)(?:abbrev |unfoldable )?pub (?:(?P<kind>record|data) )?(?P<name>[^\s:({]+)")
 WORD = re.compile(r"(?<![\w.'-])[A-Za-z_][\w'-]*")
-USE = re.compile(r"^ *(?:pub )?(?:ghost )?use Rattle\.(?P<path>[\w.-]+?)(?:\.\{(?P<names>[^}]*)\}| as (?P<alias>[\w'-]+))?;?$")
+USE = re.compile(
+    r"^ *(?:pub )?(?:ghost )?use Rattle\.(?P<path>[\w.-]+?)"
+    r"(?:\.\{(?P<names>[^}]*)\}| as (?P<alias>[\w'-]+))?;?$"
+)
 TYPE = re.compile(r"^(?:pub(?:\([a-z]+\))? )?(?:struct|enum|type) (?P<name>\w+)")
 USE_RUST = re.compile(r"^(?:pub )?use (?P<crate>\w+)::(?P<names>[^;]*);", re.MULTILINE)
 
@@ -94,7 +97,7 @@ def comment_above(lines: list[str], number: int) -> str:
 
 
 def end_of(lines: list[str], number: int, indent: int, name: str) -> int:
-    """The line behind a definition that begins at a line: its equations and all that stands deeper belong to it."""
+    """The line after a definition that begins at a line: its equations and all that stands deeper belong to it."""
     last = number
     for later in range(number + 1, len(lines)):
         line = lines[later]
@@ -119,10 +122,8 @@ def sheet(path: str) -> Sheet:
     while number < len(lines):
         line = lines[number]
         match = HEAD.match(line)
-        if line.startswith("module _"):
+        if line.startswith("module "):
             given = words([line])
-        elif line and not line.startswith(" ") and not line.startswith("--"):
-            given = given if match is None else set()
         if match is None or match["name"] in ("use", "mod") or line.strip().startswith("pub use"):
             number += 1
             continue
@@ -130,7 +131,7 @@ def sheet(path: str) -> Sheet:
         body = lines[number:end]
         found.definitions[match["name"]] = Definition(
             crate, path, match["name"], number + 1, body, comment_above(lines, number),
-            is_lemma=is_lemma(line, match["kind"]), words=words(body) | given,
+            is_lemma=is_lemma(line, match["kind"]), words=words(body) | (given if match["indent"] else set()),
         )
         number = end
     return found
@@ -194,8 +195,8 @@ def found_at(path: str, name: str) -> Definition | None:
     """The definition or type at an import's path, as `zr_base.specs.Plain` or `zr_base.specs.declared.op.Op`."""
     parts = path.split(".")
     if "declared" in parts:
-        names = [part for part in parts[parts.index("declared") + 1:] + [name] if part not in ("TheVariants", "TheConstants")]
         known = types(parts[0])
+        names = parts[parts.index("declared") + 1:] + [name]
         return next((known[part] for part in reversed(names) if part in known), None)
     if len(parts) < 2 or parts[1] != "specs":
         return None
@@ -259,7 +260,3 @@ def spec_files() -> list[str]:
             visit(path)
     return order
 
-
-def by_name(name: str) -> list[Definition]:
-    """The definitions of this name in all specs."""
-    return [sheet(path).definitions[name] for path in spec_files() if name in sheet(path).definitions]

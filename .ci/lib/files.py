@@ -60,7 +60,8 @@ def sources(crate: str, *folders: str, endings: tuple[str, ...] = (".rt", ".antt
     for folder in folders or ("src", "specs", "proofs"):
         for place, below, names in os.walk(at(f"crates/{crate}/{folder}")):
             below.sort()
-            found += [os.path.relpath(os.path.join(place, name), TOP) for name in sorted(names) if name.endswith(endings)]
+            paths = [os.path.join(place, name) for name in sorted(names) if name.endswith(endings)]
+            found += [os.path.relpath(path, TOP) for path in paths]
     return found
 
 

@@ -9,7 +9,7 @@ from collections.abc import Callable
 
 import contracts
 import files
-from definitions import Definition, by_name, closure, sheet, spec_files
+from definitions import Definition, closure, sheet, spec_files
 
 EXAMPLE = "examples/race_partial_writes"
 LAYERS = {
@@ -20,13 +20,14 @@ LAYERS = {
     "pools": "Pools",
     "account and device": "Account and device",
 }
-# The words of the headline, in reading order: the heading of each part, what it says, and the definitions it begins with.
-HEADLINE = [
+# The call that carries the headline, with its clauses; and parts of what they rest on, in reading order: the heading
+# of each part, and the definitions that it begins with. What no part has comes last.
+TOP_CALL = ("job_session", "sim_main", "done", "refused")
+PARTS = [
     ("What a job is", ["IsJob"]),
     ("What its output may say", ["Legal"]),
     ("How an output is written down", ["text"]),
     ("By which turns it came about", ["Stepped", "AreOwn"]),
-    ("The top call", ["IsRun"]),
 ]
 
 
@@ -35,8 +36,8 @@ class Lost(Exception):
 
 
 def table(head: list[str], rows: list[list[str]]) -> str:
-    lines = [head, ["---"] * len(head), *rows]
-    return "\n".join("| " + " | ".join(line) + " |" if line[0] != "---" else "|" + "---|" * len(line) for line in lines)
+    first, *others = ["| " + " | ".join(cells) + " |" for cells in [head, *rows]]
+    return "\n".join([first, "|" + "---|" * len(head), *others])
 
 
 # ---- a job beside its output
@@ -56,7 +57,8 @@ def same_lines(noted: list[tuple[str, str]], path: str) -> None:
     stored = [line for line in files.text(path).splitlines() if not line.startswith("#")]
     for line, note in itertools.zip_longest(stored, noted):
         if line is None or note is None or note[0] != f"`{line}`" or not note[1]:
-            raise Lost(f"{EXAMPLE}.notes: {note[0] if note else 'the end'} stands where {path} has {line}: write `{line} | half a sentence`")
+            here = note[0] if note else "the end"
+            raise Lost(f"{EXAMPLE}.notes: {here} stands where {path} has {line}: write `{line} | half a sentence`")
 
 
 def beside() -> str:
@@ -77,15 +79,23 @@ def beside() -> str:
 # ---- the definitions of the headline
 
 
-def one(name: str) -> Definition:
-    found = [each for each in by_name(name) if each.crate == "job_session"] or by_name(name)
-    if len(found) != 1:
-        raise Lost(f".ci/lib/pages.py: {len(found)} definitions are called {name}: give HEADLINE the name that the top call's clauses use")
-    return found[0]
+def roots(names: list[str]) -> list[Definition]:
+    """The definitions of these names on which the top call rests."""
+    whole = closure(contracts.cited_by(*TOP_CALL)).values()
+    found = [each for each in whole if each.name in names and not each.is_type]
+    if len(found) != len(names):
+        raise Lost(f".ci/lib/pages.py: {TOP_CALL[1]} doesn't rest on {' and '.join(names)}: mend TOP_CALL or PARTS")
+    return found
 
 
 def lines_of(definitions: list[Definition]) -> str:
     return f"{len(definitions)} definitions, {sum(each.size for each in definitions)} lines"
+
+
+def row_of(path: str, here: list[Definition]) -> list[str]:
+    """A file with its definitions and their lines, and the sum."""
+    names = ", ".join(f"`{each.name}` {each.size}" for each in here)
+    return [f"`{path}`", names, str(sum(each.size for each in here))]
 
 
 def by_file(definitions: list[Definition]) -> list[list[str]]:
@@ -94,33 +104,38 @@ def by_file(definitions: list[Definition]) -> list[list[str]]:
     mine = sorted(definitions, key=lambda each: (order[each.path], each.line))
     rows = []
     for path, group in itertools.groupby(mine, key=lambda each: each.path):
-        here = list(group)
-        names = ", ".join(f"`{each.name}` {each.size}" for each in here)
-        rows.append([f"`{path}`", names, str(sum(each.size for each in here))])
+        rows.append(row_of(path, list(group)))
     return rows
 
 
+def part(heading: str, begins: list[Definition], seen: set[tuple[str, str]]) -> str:
+    """A part of the page: what these definitions rest on and no part before has, which is seen from then on."""
+    specs = [each for each in closure(begins).values() if not each.is_type]
+    new = [each for each in specs if each.key not in seen]
+    seen |= {each.key for each in specs}
+    count = lines_of(specs)
+    if len(new) < len(specs):
+        count += f"; {len(new)} of them, {sum(each.size for each in new)} lines, stand in no table above"
+    words = " and ".join(f"`{each.name}`" for each in sorted(begins, key=lambda each: each.line))
+    head = ["File", "Definitions, each with its lines", "Lines"]
+    return f"## {heading}\n\n{words}: {count}.\n\n" + table(head, by_file(new))
+
+
 def headline() -> str:
-    parts, seen = [], set()
-    every = [each for each in closure([one("IsRun")]).values()]
-    for heading, names in HEADLINE:
-        whole = closure([one(name) for name in names])
-        specs = [each for each in whole.values() if not each.is_type]
-        new = [each for each in specs if each.key not in seen]
-        seen |= {each.key for each in specs}
-        count = lines_of(specs)
-        if len(new) < len(specs):
-            count += f"; {len(new)} of them, {sum(each.size for each in new)} lines, stand in no table above"
-        words = " and ".join(f"`{name}`" for name in names)
-        parts.append(f"## {heading}\n\n{words}: {count}.\n\n" + table(["File", "Definitions, each with its lines", "Lines"], by_file(new)))
-    specs = [each for each in every if not each.is_type]
-    types = [each for each in every if each.is_type]
+    top = contracts.cited_by(*TOP_CALL)
+    whole = closure(top).values()
+    specs = [each for each in whole if not each.is_type]
+    types = [each for each in whole if each.is_type]
+    cited = " and ".join(f"`{each.name}`" for each in top)
     head = (
-        f"`IsRun` rests on {len(specs)} definitions of {sum(each.size for each in specs)} lines, in"
-        f" {len({each.path for each in specs})} files, and on {len(types)} types of the code of"
-        f" {sum(each.size for each in types)} lines."
+        f"The clauses `done` and `refused` cite {cited}. These rest on {len(specs)} definitions of"
+        f" {sum(each.size for each in specs)} lines, in {len({each.path for each in specs})} files, and on {len(types)}"
+        f" types of the code of {sum(each.size for each in types)} lines."
     )
-    return "\n\n".join([head, *parts, "## The types of the code\n\n" + types_by_file(types)])
+    seen: set[tuple[str, str]] = set()
+    parts = [part(heading, roots(names), seen) for heading, names in PARTS]
+    last = part("The top call", top, seen)
+    return "\n\n".join([head, *parts, last, "## The types of the code\n\n" + types_by_file(types)])
 
 
 def types_by_file(types: list[Definition]) -> str:
@@ -128,8 +143,7 @@ def types_by_file(types: list[Definition]) -> str:
     mine = sorted(types, key=lambda each: (order[each.crate], each.path, each.line))
     rows = []
     for path, group in itertools.groupby(mine, key=lambda each: each.path):
-        here = list(group)
-        rows.append([f"`{path}`", ", ".join(f"`{each.name}` {each.size}" for each in here), str(sum(each.size for each in here))])
+        rows.append(row_of(path, list(group)))
     return table(["File", "Types, each with its lines", "Lines"], rows)
 
 
@@ -198,7 +212,9 @@ MADE: dict[str, Callable[[], str]] = {
     "proved": proved,
     "definitions": definitions,
 }
-MARK = re.compile(r"^<!-- made by \.ci/made: (?P<name>.*) -->\n(?P<old>.*?)^<!-- end of (?P=name) -->$", re.MULTILINE | re.DOTALL)
+MARK = re.compile(
+    r"^<!-- made by \.ci/made: (?P<name>.*) -->\n.*?^<!-- end of (?P=name) -->$", re.MULTILINE | re.DOTALL
+)
 
 
 def renewed(page: str) -> str:

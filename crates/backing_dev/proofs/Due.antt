@@ -3,33 +3,33 @@ use Rattle.std.proofs.Common.{◌≡◌, ℕ, zero, suc, ◌+◌, ◌-◌, ◌^�
 use Rattle.std.proofs.lemmas.Bool.Decides.{leb_tells}
 use Rattle.std.proofs.lemmas.List.Sums.{sum_by-cons}
 use Rattle.backing_dev.specs.Plan.{Calls, IsNextPlanned}
-use Rattle.backing_dev.specs.PlanInside.{due, due_until}
+use Rattle.backing_dev.specs.PlanInside.{due_at, due_until}
 
 -- One number
 
-due-le : (n number : ℕ) → due n number ≤ 1
-due-le n number = grind (arith, leb_tells number n)
+due_at-le : (n number : ℕ) → due_at n number ≤ 1
+due_at-le n number = grind (arith, leb_tells number n)
 
-due-mono : (n m number : ℕ) → n ≤ m → due n number ≤ due m number
-due-mono n m number later = grind (arith, leb_tells number n, leb_tells number m)
+due_at-mono : (n m number : ℕ) → n ≤ m → due_at n number ≤ due_at m number
+due_at-mono n m number later = grind (arith, leb_tells number n, leb_tells number m)
 
-due_now : (n number : ℕ) → number ≡ n + 1 → due n number + 1 ≤ due (n + 1) number
-due_now n number now = grind (arith, leb_tells number n, leb_tells number (n + 1))
+due_at-now : (n number : ℕ) → number ≡ n + 1 → due_at n number + 1 ≤ due_at (n + 1) number
+due_at-now n number now = grind (arith, leb_tells number n, leb_tells number (n + 1))
 
 -- All of them
 
 pub due_until-le : (n : ℕ) (failing : List ℕ) → due_until n failing ≤ length failing
 due_until-le n [] = omega arith
 due_until-le n (k ∷ failing) =
-    omega (arith, sum_by-cons (due n) k failing, due-le n k, due_until-le n failing)
+    omega (arith, sum_by-cons (due_at n) k failing, due_at-le n k, due_until-le n failing)
 
 pub due_until-mono : (n m : ℕ) (failing : List ℕ) → n ≤ m
     → due_until n failing ≤ due_until m failing
 due_until-mono n m [] later = omega arith
 due_until-mono n m (k ∷ failing) later =
-    let first = due-mono n m k later in
+    let first = due_at-mono n m k later in
     let rest = due_until-mono n m failing later in
-    omega (arith, sum_by-cons (due n) k failing, sum_by-cons (due m) k failing, first, rest)
+    omega (arith, sum_by-cons (due_at n) k failing, sum_by-cons (due_at m) k failing, first, rest)
 
 -- a planned number is due from itself on
 pub due_until-now : (n : ℕ) (failing : List ℕ) (at : ℕ)
@@ -38,11 +38,23 @@ pub due_until-now : (n : ℕ) (failing : List ℕ) (at : ℕ)
 due_until-now n [] at within now = absurd (omega arith)
 due_until-now n (k ∷ failing) zero within now =
     let rest = due_until-mono n (n + 1) failing (omega arith) in
-    omega (arith, sum_by-cons (due n) k failing, sum_by-cons (due (n + 1)) k failing, due_now n k now, rest)
+    omega (
+      arith,
+      sum_by-cons (due_at n) k failing,
+      sum_by-cons (due_at (n + 1)) k failing,
+      due_at-now n k now,
+      rest,
+    )
 due_until-now n (k ∷ failing) (suc at) within now =
-    let first = due-mono n (n + 1) k (omega arith) in
+    let first = due_at-mono n (n + 1) k (omega arith) in
     let rest = due_until-now n failing at (omega arith) now in
-    omega (arith, sum_by-cons (due n) k failing, sum_by-cons (due (n + 1)) k failing, first, rest)
+    omega (
+      arith,
+      sum_by-cons (due_at n) k failing,
+      sum_by-cons (due_at (n + 1)) k failing,
+      first,
+      rest,
+    )
 
 -- a call that fails was planned
 pub due_until-call : (p : Calls) → p.faults ≤ due_until p.calls p.failing → IsNextPlanned p

@@ -1,5 +1,5 @@
 -- What a device tells of its blocks.
-use Rattle.std.specs.Prelude.{◌≡◌, ◌≢◌, ℕ, ⊤, List, length, replicate, slice_get, Option, Some, None, IfSome}
+use Rattle.std.specs.Prelude.{◌≡◌, ◌≢◌, ℕ, ⊤, List, length, replicate, slice_get, Option, Some, None, IfSome, IsSomeAnd}
 
 -- the block has these bytes, where the device tells its contents
 abbrev pub HasBlock : Option (List (List ℕ)) → ℕ → List ℕ → Type 0
@@ -13,6 +13,11 @@ ChangesOnly (Some old) None b = ⊥
 ChangesOnly (Some old) (Some new) b =
     (length new ≡ length old) × ((c : ℕ) → c ≢ b → slice_get new c ≡ slice_get old c)
 
+-- the device is honest: it tells its contents, a page for each block that it counts; so what is read
+-- is what was written
+abbrev pub IsHonest : Option (List (List ℕ)) → ℕ → Type 0
+IsHonest contents blocks = IsSomeAnd contents (λ pages. length pages ≡ blocks)
+
 -- a page full of one byte
-unfoldable pub page_of : ℕ → List ℕ
-page_of byte = replicate 4096 byte
+unfoldable pub page_full_of : ℕ → List ℕ
+page_full_of byte = replicate 4096 byte

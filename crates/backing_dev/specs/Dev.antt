@@ -1,5 +1,6 @@
 -- A device with its two counters.
-use Rattle.std.specs.Prelude.{ℕ, ◌+◌, ◌-◌, ◌^◌, min, Result, is_ok, if◌then◌else◌}
+use Rattle.std.specs.Prelude.{ℕ, ◌+◌, Result, is_ok, if◌then◌else◌}
+use Rattle.backing_dev.specs.Calls.{at_most_end}
 use Rattle.backing_dev.specs.declared.dev.Dev.{Dev}
 
 -- the device itself
@@ -16,4 +17,4 @@ writes_of v = v.writes
 
 -- a count of the calls that succeeded, after one call more; it stands still at its type's end
 abbrev pub count_after : {T E : Type 0} → Result T E → ℕ → ℕ
-count_after result n = if is_ok result then min (n + 1) (2 ^ 64 - 1) else n
+count_after result n = if is_ok result then at_most_end (n + 1) else n

@@ -1,5 +1,6 @@
 -- Calls of one kind that are planned to fail.
-use Rattle.std.specs.Prelude.{ℕ, ◌+◌, ◌-◌, ◌^◌, min, Bool, List, if◌then◌else◌}
+use Rattle.std.specs.Prelude.{ℕ, ◌+◌, Bool, List, if◌then◌else◌}
+use Rattle.backing_dev.specs.Calls.{at_most_end}
 use Rattle.zr_base.specs.Faults.{FailsNext}
 
 -- the calls so far, how many of them failed, and the numbers of those that are to fail
@@ -19,6 +20,6 @@ IsNextPlanned p = FailsNext p.calls p.failing
 -- one call more, which failed or not
 abbrev pub after_call : Calls → Bool → Calls
 after_call p fails = record p {
-  calls = min (p.calls + 1) (2 ^ 64 - 1);
+  calls = at_most_end (p.calls + 1);
   faults = if fails then p.faults + 1 else p.faults;
 }

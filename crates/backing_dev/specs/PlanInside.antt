@@ -4,15 +4,15 @@ use Rattle.backing_dev.specs.declared.plan.Plan.TheInside.{Inside}
 use Rattle.backing_dev.specs.Plan.{Calls}
 
 -- 1 for a number that is at most n, else 0
-abbrev pub due : ℕ → ℕ → ℕ
-due n number = if nat_le number n then 1 else 0
+abbrev pub due_at : ℕ → ℕ → ℕ
+due_at n number = if nat_le number n then 1 else 0
 
 -- how many of the numbers are at most n
 abbrev pub due_until : ℕ → List ℕ → ℕ
-due_until n failing = sum_by (due n) failing
+due_until n failing = sum_by (due_at n) failing
 
-abbrev pub IsPlan : Inside → Type 0
-IsPlan p = p.faults ≤ due_until p.calls p.failing.items
+abbrev pub IsFaultPlan : Inside → Type 0
+IsFaultPlan p = p.faults ≤ due_until p.calls p.failing.items
 
 abbrev pub calls_of : Inside → Calls
 calls_of p = record { calls = p.calls; faults = p.faults; failing = p.failing.items }

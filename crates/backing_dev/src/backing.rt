@@ -1,7 +1,16 @@
-//! What a backing device is.
+//! What a backing device is: numbered blocks, each read and written as a whole.
+//!
+//! | Meaning | What it is | A call |
+//! |---|---|---|
+//! | `block_count` | how many blocks there are | never changes it |
+//! | `contents` | the bytes of each block, where the device tells them | a write changes its own block alone |
+//! | `fault_count` | how many calls failed | raises it exactly where it fails |
+//! | `calls` | how many calls were made, where the device tells | raises it by one |
+//! | `references` | the `&mut`s by which the device is reached | never changes them |
 
 ghost use Rattle.std.specs.Prelude.{◌≡◌, ℕ, ◌<◌, ◌≤◌, List, ◌∷◌, Option, OnOk, OnErr};
-ghost use Rattle.backing_dev.specs.Contents.{HasBlock, ChangesOnly};
+ghost use Rattle.backing_dev.specs.Contents.{HasBlock, ChangesOnly, IsHonest};
+ghost use Rattle.backing_dev.specs.Calls.{HasOneCallMore};
 ghost use Rattle.zr_base.specs.Faults.{HasCause};
 
 use zr_base::{Failed, Page};
@@ -16,6 +25,10 @@ pub trait Backing: Drop {
 
     // How many calls failed so far. The count never falls, and stands still at 2^64 - 1.
     ghost fault_count: { Self → ℕ };
+
+    // How many reads and writes were made so far, where the device tells. The count stands still
+    // at 2^64 - 1.
+    ghost calls: { Self → Option ℕ };
 
     // The references by which the device is reached, the outermost first. No call changes them. So
     // whoever lends a device by a `&mut` that others keep knows its state when they have let it go.
@@ -33,7 +46,11 @@ pub trait Backing: Drop {
         ensures contents { contents self.new ≡ contents self.old }
         ensures read { OnOk result (HasBlock (contents self.new) b into.new) }
         ensures failed { OnErr result (into.new ≡ into.old) }
-        ensures cause { HasCause (fault_count self.old) (fault_count self.new) result };
+        ensures cause { HasCause (fault_count self.old) (fault_count self.new) result }
+        ensures steady { OnOk result (fault_count self.new ≡ fault_count self.old) }
+        ensures once { HasOneCallMore (calls self.old) (calls self.new) }
+        ensures honest { IsHonest (contents self.old) (block_count self.old)
+            → IsHonest (contents self.new) (block_count self.new) };
 
     /// Writes a block. On an error the block may have changed, but no other.
     fn write(&mut self, b: u32, from: &Page) -> Result<(), Failed>
@@ -42,7 +59,11 @@ pub trait Backing: Drop {
         ensures same { references self.new ≡ references self.old }
         ensures written { OnOk result (HasBlock (contents self.new) b from.now) }
         ensures others { ChangesOnly (contents self.old) (contents self.new) b }
-        ensures cause { HasCause (fault_count self.old) (fault_count self.new) result };
+        ensures cause { HasCause (fault_count self.old) (fault_count self.new) result }
+        ensures steady { OnOk result (fault_count self.new ≡ fault_count self.old) }
+        ensures once { HasOneCallMore (calls self.old) (calls self.new) }
+        ensures honest { IsHonest (contents self.old) (block_count self.old)
+            → IsHonest (contents self.new) (block_count self.new) };
 
     /// How many calls failed so far. The count never falls.
     fn faults(&self) -> u64
@@ -55,6 +76,8 @@ impl<D: Backing> Backing for &mut D {
     ghost contents = { λ d. D.contents d.now };
 
     ghost fault_count = { λ d. D.fault_count d.now };
+
+    ghost calls = { λ d. D.calls d.now };
 
     ghost references = { λ d. d.ghost_name ∷ D.references d.now };
 

@@ -1,7 +1,9 @@
-//! A device with the counters of zram's `bd_stat`.
+//! A device with the counters of zram's `bd_stat`: a call is one call of the device, and counts
+//! where it succeeds.
 
 ghost use Rattle.std.specs.Prelude.{◌≡◌, ◌<◌, ◌≤◌, OnOk, OnErr, IfErr};
-ghost use Rattle.backing_dev.specs.Contents.{HasBlock, ChangesOnly};
+ghost use Rattle.backing_dev.specs.Contents.{HasBlock, ChangesOnly, IsHonest};
+ghost use Rattle.backing_dev.specs.Calls.{HasOneCallMore};
 ghost use Rattle.zr_base.specs.Faults.{HasCause};
 
 use crate::backing::Backing;
@@ -65,7 +67,13 @@ impl<D: Backing> Dev<D> {
         ensures contents { D.contents (device_of self.new) ≡ D.contents (device_of self.old) }
         ensures read { OnOk result (HasBlock (D.contents (device_of self.new)) b into.new) }
         ensures failed { OnErr result (into.new ≡ into.old) }
-        ensures cause { HasCause (D.fault_count (device_of self.old)) (D.fault_count (device_of self.new)) result }
+        ensures cause { HasCause (D.fault_count (device_of self.old))
+            (D.fault_count (device_of self.new)) result }
+        ensures steady { OnOk result
+            (D.fault_count (device_of self.new) ≡ D.fault_count (device_of self.old)) }
+        ensures once { HasOneCallMore (D.calls (device_of self.old)) (D.calls (device_of self.new)) }
+        ensures honest { IsHonest (D.contents (device_of self.old)) (D.block_count (device_of self.old))
+            → IsHonest (D.contents (device_of self.new)) (D.block_count (device_of self.new)) }
         ensures fault { IfErr result (λ f. f ≡ D.fault_count (device_of self.new)) }
         ensures counted { reads_of self.new ≡ count_after result (reads_of self.old) }
         ensures writes { writes_of self.new ≡ writes_of self.old }
@@ -87,7 +95,13 @@ impl<D: Backing> Dev<D> {
         ensures same { D.references (device_of self.new) ≡ D.references (device_of self.old) }
         ensures written { OnOk result (HasBlock (D.contents (device_of self.new)) b from.now) }
         ensures others { ChangesOnly (D.contents (device_of self.old)) (D.contents (device_of self.new)) b }
-        ensures cause { HasCause (D.fault_count (device_of self.old)) (D.fault_count (device_of self.new)) result }
+        ensures cause { HasCause (D.fault_count (device_of self.old))
+            (D.fault_count (device_of self.new)) result }
+        ensures steady { OnOk result
+            (D.fault_count (device_of self.new) ≡ D.fault_count (device_of self.old)) }
+        ensures once { HasOneCallMore (D.calls (device_of self.old)) (D.calls (device_of self.new)) }
+        ensures honest { IsHonest (D.contents (device_of self.old)) (D.block_count (device_of self.old))
+            → IsHonest (D.contents (device_of self.new)) (D.block_count (device_of self.new)) }
         ensures fault { IfErr result (λ f. f ≡ D.fault_count (device_of self.new)) }
         ensures counted { writes_of self.new ≡ count_after result (writes_of self.old) }
         ensures reads { reads_of self.new ≡ reads_of self.old }

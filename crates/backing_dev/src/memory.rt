@@ -1,7 +1,7 @@
 //! A backing device in memory, for tests and for disks without a file.
 
 ghost use Rattle.std.specs.Prelude.{◌≡◌, ℕ, ◌<◌, ◌≤◌, ◌↔◌, List, Some, length, replicate, IfOk, IsErr, OnOk, OnErr};
-ghost use Rattle.backing_dev.specs.Contents.{HasBlock, ChangesOnly, page_of};
+ghost use Rattle.backing_dev.specs.Contents.{HasBlock, ChangesOnly, page_full_of};
 
 use crate::backing::Backing;
 use crate::plan::Plan;
@@ -41,7 +41,7 @@ impl MemBacking {
         bad_reads: &[u64],
         bad_writes: &[u64],
     ) -> Result<MemBacking, AllocError>
-        ensures zeros { IfOk result (λ d. d.pages ≡ replicate blocks (page_of 0)) }
+        ensures zeros { IfOk result (λ d. d.pages ≡ replicate blocks (page_full_of 0)) }
         ensures reads { IfOk result (λ d. d.reads ≡ planned_calls bad_reads.now) }
         ensures writes { IfOk result (λ d. d.writes ≡ planned_calls bad_writes.now) }
     {
@@ -55,22 +55,22 @@ impl MemBacking {
 }
 
 // Leaves a page full of the byte ff.
-#[tactic(auto, unfolding(crate::specs::Contents::page_of))]
+#[tactic(auto, unfolding(crate::specs::Contents::page_full_of))]
 fn spoil(page: &mut Page)
-    ensures { page.new ≡ page_of 255 }
+    ensures { page.new ≡ page_full_of 255 }
 {
     page.put_bytes(&[0xff; 4096]);
 }
 
-#[tactic(auto, unfolding(crate::specs::Contents::page_of))]
+#[tactic(auto, unfolding(crate::specs::Contents::page_full_of))]
 fn zero_page() -> Page
-    ensures { result ≡ page_of 0 }
+    ensures { result ≡ page_full_of 0 }
 {
     Page::zero()
 }
 
 fn zero_pages(alloc: Global, blocks: u32) -> Result<Vec<Page>, AllocError>
-    ensures { IfOk result (λ pages. pages.items ≡ replicate blocks (page_of 0)) }
+    ensures { IfOk result (λ pages. pages.items ≡ replicate blocks (page_full_of 0)) }
 {
     let mut pages = Vec::with_capacity(alloc, blocks as usize)?;
     for _block in 0..blocks {
@@ -81,8 +81,9 @@ fn zero_pages(alloc: Global, blocks: u32) -> Result<Vec<Page>, AllocError>
 
 impl Backing for MemBacking {
     ghost use Rattle.std.specs.Prelude.{◌≡◌, ◌<◌, ◌≤◌, ◌↔◌, Some, length, IsErr, is_err, OnOk, OnErr};
-    ghost use Rattle.backing_dev.specs.Contents.{HasBlock, ChangesOnly, page_of};
-    ghost use Rattle.backing_dev.specs.Memory.{faults_of, references_of};
+    ghost use Rattle.backing_dev.specs.Contents.{HasBlock, ChangesOnly, IsHonest, page_full_of};
+    ghost use Rattle.backing_dev.specs.Calls.{HasOneCallMore};
+    ghost use Rattle.backing_dev.specs.Memory.{faults_of, calls_of, references_of};
     ghost use Rattle.zr_base.specs.Faults.{HasCause};
     ghost use Rattle.backing_dev.specs.Plan.{IsNextPlanned, after_call};
 
@@ -91,6 +92,8 @@ impl Backing for MemBacking {
     ghost contents = { λ d. Some d.pages };
 
     ghost fault_count = { faults_of };
+
+    ghost calls = { calls_of };
 
     ghost references = { references_of };
 
@@ -106,6 +109,10 @@ impl Backing for MemBacking {
         ensures read { OnOk result (HasBlock (Some self.new.pages) b into.new) }
         ensures failed { OnErr result (into.new ≡ into.old) }
         ensures cause { HasCause (faults_of self.old) (faults_of self.new) result }
+        ensures steady { OnOk result (faults_of self.new ≡ faults_of self.old) }
+        ensures once { HasOneCallMore (calls_of self.old) (calls_of self.new) }
+        ensures honest { IsHonest (Some self.old.pages) (length self.old.pages)
+            → IsHonest (Some self.new.pages) (length self.new.pages) }
 
         // It fails exactly at the planned calls.
         ensures planned { IsErr result ↔ IsNextPlanned self.old.reads }
@@ -127,12 +134,16 @@ impl Backing for MemBacking {
         ensures written { OnOk result (HasBlock (Some self.new.pages) b from.now) }
         ensures others { ChangesOnly (Some self.old.pages) (Some self.new.pages) b }
         ensures cause { HasCause (faults_of self.old) (faults_of self.new) result }
+        ensures steady { OnOk result (faults_of self.new ≡ faults_of self.old) }
+        ensures once { HasOneCallMore (calls_of self.old) (calls_of self.new) }
+        ensures honest { IsHonest (Some self.old.pages) (length self.old.pages)
+            → IsHonest (Some self.new.pages) (length self.new.pages) }
 
         // It fails exactly at the planned calls, and then leaves the block full of ff.
         ensures planned { IsErr result ↔ IsNextPlanned self.old.writes }
         ensures calls { self.new.writes ≡ after_call self.old.writes (is_err result) }
         ensures reads { self.new.reads ≡ self.old.reads }
-        ensures spoilt { OnErr result (HasBlock (Some self.new.pages) b (page_of 255)) }
+        ensures spoilt { OnErr result (HasBlock (Some self.new.pages) b (page_full_of 255)) }
     {
         if self.writes.call() {
             spoil(&mut self.pages[b as usize]);

@@ -19,11 +19,11 @@ impl Model for Plan {
 
     ghost Value = { Calls };
 
-    ghost use Rattle.backing_dev.specs.PlanInside.{calls_of, IsPlan};
+    ghost use Rattle.backing_dev.specs.PlanInside.{calls_of, IsFaultPlan};
 
     ghost view = { calls_of };
 
-    ghost invariant = { IsPlan };
+    ghost invariant = { IsFaultPlan };
 }
 
 impl Plan {

@@ -1,37 +1,55 @@
--- Bits of a mask: what none set says, and that a number is told by its bits.
-use Rattle.std.proofs.Common.{◌≡◌, ℕ, suc, ◌+◌, ◌*◌, ◌/◌, ◌%◌, ◌^◌, ◌<◌, ◌⊎◌, inl, inr, List, [], ◌∷◌, Bool, true, false, cond, length, get_or, refl, sym, ap, ◌∙◌, arith}
+-- Marks: what it says that none is set, and that a number is told by its bits.
+use Rattle.std.proofs.Common.{◌≡◌, ℕ, suc, ◌+◌, ◌*◌, ◌/◌, ◌%◌, ◌^◌, ◌<◌, List, [], ◌∷◌, Bool, true, false, cond, eqb, length, get_or, map, refl, sym, ap, ◌∙◌, arith}
 use Rattle.std.proofs.Math.Nat.{pow-zero, pow-suc, pow-succ', div-one, zero-div, div-div-eq-div-mul}
+use Rattle.std.proofs.lemmas.Bool.{eqb-true, eq-eqb}
+use Rattle.std.proofs.lemmas.List.{length-map, get_or-map}
 use Rattle.std.proofs.lemmas.Simd.{bit_mask_l}
 use Rattle.std.specs.Simd.Lanes.{mask_l}
+use Rattle.bdi_line.specs.Packed.{marks_of}
 
-pub tested : (b : Bool) → (b ≡ true) ⊎ (b ≡ false)
-tested true = inl refl
-tested false = inr refl
-
-abbrev pub bit : Bool → ℕ
+abbrev bit : Bool → ℕ
 bit b = cond b 1 0
 
-pub unset : (b : Bool) → bit b ≡ 0 → b ≡ false
+unset : (b : Bool) → bit b ≡ 0 → b ≡ false
 unset true e = absurd (omega arith)
 unset false e = refl
 
-pub no_mark : (bs : List Bool) → mask_l bs ≡ 0 → (j : ℕ) → get_or bs j false ≡ false
-no_mark bs e j = unset (get_or bs j false) (sym (bit_mask_l bs j) ∙ ap (λ n. n / 2 ^ j % 2) e ∙ ap (λ n. n % 2) (zero-div (2 ^ j)))
+no_mark : (bs : List Bool) → mask_l bs ≡ 0 → (j : ℕ) → get_or bs j false ≡ false
+no_mark bs e j =
+    unset (get_or bs j false)
+    (sym (bit_mask_l bs j) ∙ ap (λ n. n / 2 ^ j % 2) e ∙ ap (λ n. n % 2) (zero-div (2 ^ j)))
 
-pub unmarked : (bs : List Bool) → ((j : ℕ) → j < length bs → get_or bs j false ≡ false) → mask_l bs ≡ 0
+unmarked : (bs : List Bool) → ((j : ℕ) → j < length bs → get_or bs j false ≡ false) → mask_l bs ≡ 0
 unmarked [] h = refl
 unmarked (b ∷ bs) h =
     let first : b ≡ false = h 0 (omega arith) in
     rw (first, unmarked bs (λ j lt. h (suc j) (omega arith)))
 
+-- where no mark is set, no number passes the test
+pub none_passes : (test : ℕ → Bool) (xs : List ℕ) → eqb (marks_of test xs) 0 ≡ true
+    → (j : ℕ) → j < length xs → test (get_or xs j 0) ≡ false
+none_passes test xs e j lt =
+    sym (get_or-map test xs j 0 false lt) ∙ no_mark (map test xs) (eqb-true _ 0 e) j
+
+-- and the other way round
+pub no_marks : (test : ℕ → Bool) (xs : List ℕ)
+    → ((j : ℕ) → j < length xs → test (get_or xs j 0) ≡ false) → eqb (marks_of test xs) 0 ≡ true
+no_marks test xs h =
+    eq-eqb _ 0 (unmarked (map test xs) (λ j lt.
+    let within : j < length xs = omega (arith, length-map xs test) in
+    get_or-map test xs j 0 false within ∙ h j within))
+
 -- a number is told by its bits
-pub mask_unique : (bs : List Bool) (x : ℕ) → x < 2 ^ length bs → ((j : ℕ) → j < length bs → x / 2 ^ j % 2 ≡ cond (get_or bs j false) 1 0) → x ≡ mask_l bs
+pub mask_unique : (bs : List Bool) (x : ℕ) → x < 2 ^ length bs
+    → ((j : ℕ) → j < length bs → x / 2 ^ j % 2 ≡ cond (get_or bs j false) 1 0) → x ≡ mask_l bs
 mask_unique [] x lt h = omega (arith, pow-zero 2)
 mask_unique (b ∷ bs) x lt h =
-    let low : x % 2 ≡ cond b 1 0 = ap (λ n. n % 2) (sym (ap (λ n. x / n) (pow-zero 2) ∙ div-one x)) ∙ h 0 (omega arith) in
-    let rest : x / 2 ≡ mask_l bs = mask_unique bs (x / 2) (omega (arith, pow-suc 2 (length bs))) (λ j small.
-    ap (λ n. n % 2) (div-div-eq-div-mul x 2 (2 ^ j) ∙ ap (λ n. x / n) (sym (pow-succ' 2 j))) ∙ h (suc j) (omega arith)) in
-    let bit : Bool → ℕ = λ t. cond t 1 0 in
+    let low : x % 2 ≡ cond b 1 0 =
+    ap (λ n. n % 2) (sym (ap (λ n. x / n) (pow-zero 2) ∙ div-one x)) ∙ h 0 (omega arith) in
+    let rest : x / 2 ≡ mask_l bs =
+    mask_unique bs (x / 2) (omega (arith, pow-suc 2 (length bs))) (λ j small.
+    ap (λ n. n % 2) (div-div-eq-div-mul x 2 (2 ^ j) ∙ ap (λ n. x / n) (sym (pow-succ' 2 j)))
+    ∙ h (suc j) (omega arith)) in
     let whole : x ≡ x % 2 + 2 * (x / 2) = omega arith in
     whole ∙ ap (λ n. n + 2 * (x / 2)) low ∙ ap (λ n. bit b + 2 * n) rest
 

@@ -10,35 +10,46 @@ use Rattle.std.specs.List.{prefix_len}
 use Rattle.std.specs.Simd.Lanes.{Each1, mask_l}
 use Rattle.bdi_line.specs.Line.{is_large, base_of}
 
-pub same_on : {A B : Type 0} (P : A → Type 0) (f g : A → B) (xs : List A) → Each1 P xs → ((x : A) → P x → f x ≡ g x) → map f xs ≡ map g xs
+pub same_on : {A B : Type 0} (P : A → Type 0) (f g : A → B) (xs : List A) → Each1 P xs
+    → ((x : A) → P x → f x ≡ g x) → map f xs ≡ map g xs
 same_on P f g [] h e = refl
 same_on P f g (x ∷ xs) h e = λ i. e x h.0 i ∷ same_on P f g xs h.1 e i
 
-pub wrapped : (h m v : ℕ) → v < m → h ≤ m → ((v + h < m) × ((v + h) % m ≡ v + h)) ⊎ ((m ≤ v + h) × ((v + h) % m ≡ v + h - m))
-wrapped h m v lt le = elim (cases_lt (v + h) m) as (λ _. ((v + h < m) × ((v + h) % m ≡ v + h)) ⊎ ((m ≤ v + h) × ((v + h) % m ≡ v + h - m))) [
-  | inl a ↦ inl (a, mod-eq_of_lt a)
-  | inr b ↦ inr (b, mod-eq-sub-mod b ∙ mod-eq_of_lt (omega arith))
-]
+pub wrapped : (h m v : ℕ) → v < m → h ≤ m
+    → ((v + h < m) × ((v + h) % m ≡ v + h)) ⊎ ((m ≤ v + h) × ((v + h) % m ≡ v + h - m))
+wrapped h m v lt le = elim (cases_lt (v + h) m)
+    as (λ _. ((v + h < m) × ((v + h) % m ≡ v + h)) ⊎ ((m ≤ v + h) × ((v + h) % m ≡ v + h - m))) [
+      | inl a ↦ inl (a, mod-eq_of_lt a)
+      | inr b ↦ inr (b, mod-eq-sub-mod b ∙ mod-eq_of_lt (omega arith))
+    ]
 
-pub large_by_lanes : (h q m v : ℕ) → 0 < h → q ≡ 2 * h → q ≤ m → v < m → leb q ((v + h) % m) ≡ is_large h m v
-large_by_lanes h q m v pos e le lt = elim (wrapped h m v lt (omega arith)) as (λ _. leb q ((v + h) % m) ≡ is_large h m v) [
-  | inl a ↦ rw a.1 (grind (arith, nat_tests))
-  | inr b ↦ rw b.1 (grind (arith, nat_tests))
-]
+pub large_by_lanes : (h q m v : ℕ) → 0 < h → q ≡ 2 * h → q ≤ m → v < m
+    → leb q ((v + h) % m) ≡ is_large h m v
+large_by_lanes h q m v pos e le lt =
+    elim (wrapped h m v lt (omega arith)) as (λ _. leb q ((v + h) % m) ≡ is_large h m v) [
+      | inl a ↦ rw a.1 (grind (arith, nat_tests))
+      | inr b ↦ rw b.1 (grind (arith, nat_tests))
+    ]
 
 -- the lane at the lowest mark is the first that passes p, and there is none where no bit is set
-pub at_first : (p : ℕ → Bool) (xs : List ℕ) (marks : ℕ) → length xs ≤ 64 → marks ≡ mask_l (map p xs) →
+pub at_first : (p : ℕ → Bool) (xs : List ℕ) (marks : ℕ) → length xs ≤ 64
+    → marks ≡ mask_l (map p xs) →
     get_or xs (count_trailing_zeros 64 marks) 0 ≡ get_or xs (prefix_len (λ x. not (p x)) xs) 0
-at_first p xs marks le e = elim (cases_eq (mask_l (map p xs)) 0) as (λ _. get_or xs (count_trailing_zeros 64 marks) 0 ≡ get_or xs (prefix_len (λ x. not (p x)) xs) 0) [
-  | inl z ↦
-      ap (λ k. get_or xs k 0) (ap (count_trailing_zeros 64) (e ∙ z) ∙ trailing_of_zero 64)
-      ∙ get_or_past xs 64 0 le
-      ∙ sym (get_or_past xs (prefix_len (λ x. not (p x)) xs) 0 (omega (arith, leading_from_mask_l p xs z)))
-  | inr nz ↦
-      let pos : 0 < mask_l (map p xs) = omega (arith, nz) in
-      ap (λ k. get_or xs k 0) (ap (count_trailing_zeros 64) e ∙ trailing_mask_l p 64 xs le pos)
-]
+at_first p xs marks le e = elim (cases_eq (mask_l (map p xs)) 0)
+    as (λ _. get_or xs (count_trailing_zeros 64 marks) 0 ≡ get_or xs (prefix_len (λ x. not (p x)) xs)
+    0) [
+      | inl z ↦
+          ap (λ k. get_or xs k 0) (ap (count_trailing_zeros 64) (e ∙ z) ∙ trailing_of_zero 64)
+          ∙ get_or_past xs 64 0 le
+          ∙ sym (get_or_past xs (prefix_len (λ x. not (p x)) xs) 0
+          (omega (arith, leading_from_mask_l p xs z)))
+      | inr nz ↦
+          let pos : 0 < mask_l (map p xs) = omega (arith, nz) in
+          ap (λ k. get_or xs k 0) (ap (count_trailing_zeros 64) e ∙ trailing_mask_l p 64 xs le pos)
+    ]
 
-pub base_at : (h m : ℕ) (xs : List ℕ) (marks : ℕ) → length xs ≤ 64 → marks ≡ mask_l (map (is_large h m) xs) → get_or xs (count_trailing_zeros 64 marks) 0 ≡ base_of h m xs
+pub base_at : (h m : ℕ) (xs : List ℕ) (marks : ℕ) → length xs ≤ 64
+    → marks ≡ mask_l (map (is_large h m) xs)
+    → get_or xs (count_trailing_zeros 64 marks) 0 ≡ base_of h m xs
 unfolding base_of
 base_at h m xs marks le e = at_first (is_large h m) xs marks le e

@@ -4,6 +4,5 @@ pub mod Lanes
 pub mod Large
 pub mod Least
 pub mod Decoded
-pub mod Same
 pub mod Split
 pub mod Unique

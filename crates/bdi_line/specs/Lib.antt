@@ -1,3 +1,4 @@
 pub mod Line
 pub mod Coded
+pub mod Packed
 pub mod Written

@@ -1,7 +1,7 @@
 //! The nine codes of a line: their numbers and the sizes of their payloads.
 
 ghost use Rattle.std.specs.Prelude.{◌≡◌, ◌<◌, ◌↔◌, IfSome, IsNone};
-ghost use Rattle.bdi_line.specs.Coded.{number_of, size_of};
+ghost use Rattle.bdi_line.specs.Coded.{code_number, size_of};
 
 /// How a line of 64 bytes is kept: `B8D1` has values of 8 bytes and deltas of 1, and so on.
 #[derive(Clone, Copy, PartialEq, Eq, Debug)]
@@ -20,7 +20,7 @@ pub enum Code {
 impl Code {
     /// The number that stands for the code in a packing, 0 to 8.
     pub fn number(self) -> u8
-        ensures { result ≡ number_of self }
+        ensures { result ≡ code_number self }
     {
         match self {
             Code::Zeros => 0,
@@ -37,7 +37,9 @@ impl Code {
 
     /// The code with this number; None above 8.
     pub fn of_number(n: u8) -> Option<Code>
-        ensures some { IfSome result (λ code. number_of code ≡ n) }
+        ensures some { IfSome result (λ code. code_number code ≡ n) }
+        ensures one { IfSome result (λ code. (other : Code) → code_number other ≡ n
+            → other ≡ code) }
         ensures none { IsNone result ↔ (8 < n) }
     {
         match n {

@@ -1,9 +1,10 @@
-//! A line as 16 values of 4 bytes, a value a lane.
+//! A line as 16 values of 4 bytes, a value a lane: the text of `words.rt` for this width.
 
-ghost use Rattle.std.specs.Prelude.{◌≡◌, ℕ, ◌+◌, ◌*◌, ◌/◌, ◌%◌, ◌^◌, ◌-◌, ◌<◌, ◌==◌, ◌↔◌, map, cond, length, slice_index, IfSome, IsSome, IsTrue, nat_le, ◌≤◌};
-ghost use Rattle.std.specs.Simd.Lanes.{digits_l, number_l, mask_l, chunk};
+ghost use Rattle.std.specs.Prelude.{◌≡◌, ℕ, ◌+◌, ◌*◌, ◌/◌, ◌%◌, ◌^◌, ◌<◌, ◌≤◌, ◌==◌, nat_le, map, cond, length, slice_index, is_some, IfSome, IsTrue};
+ghost use Rattle.std.specs.Simd.Lanes.{digits_l, number_l, chunk};
 ghost use Rattle.bdi_line.specs.Line.{values, is_large, base_of, low_bytes};
-ghost use Rattle.bdi_line.specs.Written.{AreFar, AreNear, IsParted, delta_of};
+ghost use Rattle.bdi_line.specs.Packed.{marks_of, delta_of, is_near};
+ghost use Rattle.bdi_line.specs.Written.{AreFar, IsParted};
 
 use std::simd::prelude::*;
 
@@ -32,70 +33,71 @@ pub(crate) fn line_of_halves(values: u32x16) -> u8x64
     values.to_le_bytes()
 }
 
-/// The marks of the large values.
+// The marks of the large values.
 #[inline]
-fn marks_of_halves(values: u32x16, half: u32, whole: u32) -> u64
-    requires positive { 0 < half }
-    requires whole { whole ≡ 2 * half }
-    ensures { result ≡ mask_l (map (is_large half (2 ^ 32)) values) }
+fn marks_of_halves(values: u32x16, bound: u32, span: u32) -> u64
+    requires positive { 0 < bound }
+    requires span { span ≡ 2 * bound }
+    ensures { result ≡ marks_of (is_large bound (2 ^ 32)) values }
 {
-    (values + u32x16::splat(half))
-        .simd_ge(u32x16::splat(whole))
+    (values + u32x16::splat(bound))
+        .simd_ge(u32x16::splat(span))
         .to_bitmask()
 }
 
-/// The first value that is marked, or 0.
+// The first value that is marked, or 0.
 #[inline]
-fn base_of_halves(values: u32x16, marks: u64, half: u32) -> u32
-    requires { marks ≡ mask_l (map (is_large half (2 ^ 32)) values) }
-    ensures { result ≡ base_of half (2 ^ 32) values }
+fn base_of_halves(values: u32x16, marks: u64, bound: u32) -> u32
+    requires { marks ≡ marks_of (is_large bound (2 ^ 32)) values }
+    ensures { result ≡ base_of bound (2 ^ 32) values }
 {
     let first = marks.trailing_zeros() as usize;
     if first < 16 { values[first] } else { 0 }
 }
 
-/// What is kept of each value.
+// What is kept of each value.
 #[inline]
-fn deltas_of_halves(values: u32x16, half: u32, whole: u32, base: u32) -> u32x16
-    requires positive { 0 < half }
-    requires whole { whole ≡ 2 * half }
-    ensures { result ≡ map (delta_of half (2 ^ 32) base) values }
+fn deltas_of_halves(values: u32x16, bound: u32, span: u32, base: u32) -> u32x16
+    requires positive { 0 < bound }
+    requires span { span ≡ 2 * bound }
+    ensures { result ≡ map (delta_of bound (2 ^ 32) base) values }
 {
-    let large = (values + u32x16::splat(half)).simd_ge(u32x16::splat(whole));
+    let large = (values + u32x16::splat(bound)).simd_ge(u32x16::splat(span));
     large.select(values - u32x16::splat(base), values)
 }
 
-/// Whether both are large and the second isn't near the first: most lines that do not fit are told
-/// so by their first values.
+// Whether both are large and the second isn't near the first: most lines that do not fit are told
+// so by their first values.
 #[inline]
-fn is_far_half(first: u32, second: u32, half: u32, whole: u32) -> bool
-    requires positive { 0 < half }
-    requires whole { whole ≡ 2 * half }
-    ensures { IsTrue result → AreFar half (2 ^ 32) first second }
+fn is_far_half(first: u32, second: u32, bound: u32, span: u32) -> bool
+    requires positive { 0 < bound }
+    requires span { span ≡ 2 * bound }
+    ensures { IsTrue result → AreFar bound (2 ^ 32) first second }
 {
-    first.wrapping_add(half) >= whole
-        && second.wrapping_add(half) >= whole
-        && second.wrapping_sub(first).wrapping_add(half) >= whole
+    first.wrapping_add(bound) >= span
+        && second.wrapping_add(bound) >= span
+        && second.wrapping_sub(first).wrapping_add(bound) >= span
 }
 
-/// The values beside their base, where each is small or near it: `half` bounds a small value.
+/// The values beside their base, where each is small or near it: `bound` bounds a small value.
 #[inline]
-pub(crate) fn split_halves(values: u32x16, half: u32, whole: u32) -> Option<HalfSplit>
-    requires positive { 0 < half }
-    requires whole { whole ≡ 2 * half }
-    ensures some { IfSome result (λ split. IsParted half (2 ^ 32) values split.marks split.base split.deltas) }
-    ensures fits { IsSome result ↔ AreNear 16 half (2 ^ 32) values }
+pub(crate) fn split_halves(values: u32x16, bound: u32, span: u32) -> Option<HalfSplit>
+    requires positive { 0 < bound }
+    requires span { span ≡ 2 * bound }
+    ensures some { IfSome result (λ split.
+        IsParted bound (2 ^ 32) values split.marks split.base split.deltas) }
+    ensures fits { is_some result ≡ is_near bound (2 ^ 32) values }
 {
-    if is_far_half(values[0], values[1], half, whole) {
+    if is_far_half(values[0], values[1], bound, span) {
         return None;
     }
-    if is_far_half(values[0], values[2], half, whole) {
+    if is_far_half(values[0], values[2], bound, span) {
         return None;
     }
-    let marks = marks_of_halves(values, half, whole);
-    let base = base_of_halves(values, marks, half);
-    let deltas = deltas_of_halves(values, half, whole, base);
-    if marks_of_halves(deltas, half, whole) != 0 {
+    let marks = marks_of_halves(values, bound, span);
+    let base = base_of_halves(values, marks, bound);
+    let deltas = deltas_of_halves(values, bound, span, base);
+    if marks_of_halves(deltas, bound, span) != 0 {
         return None;
     }
     Some(HalfSplit {
@@ -132,10 +134,10 @@ pub(crate) fn low_2_of_halves(deltas: u32x16) -> [u8; 32]
 
 /// Each delta as a number that wraps: `rest` is what a wrapped number of the delta's width lacks.
 #[inline]
-pub(crate) fn signed_halves(low: u32x16, half: u32, rest: u32) -> u32x16
-    ensures { result ≡ map (λ x. cond (nat_le half x) ((x + rest) % 2 ^ 32) x) low }
+pub(crate) fn signed_halves(low: u32x16, bound: u32, rest: u32) -> u32x16
+    ensures { result ≡ map (λ x. cond (nat_le bound x) ((x + rest) % 2 ^ 32) x) low }
 {
-    low.simd_ge(u32x16::splat(half))
+    low.simd_ge(u32x16::splat(bound))
         .select(low + u32x16::splat(rest), low)
 }
 
@@ -144,7 +146,9 @@ pub(crate) fn signed_halves(low: u32x16, half: u32, rest: u32) -> u32x16
 pub(crate) fn based_halves(deltas: u32x16, marks: u64, base: u32) -> u32x16
     requires { length deltas ≡ 16 }
     ensures len { length result ≡ 16 }
-    ensures lanes { (j : ℕ) → j < 16 → slice_index result j ≡ cond (marks / 2 ^ j % 2 == 1) ((slice_index deltas j + base) % 2 ^ 32) (slice_index deltas j) }
+    ensures lanes { (j : ℕ) → j < 16 → slice_index result j
+        ≡ cond (marks / 2 ^ j % 2 == 1) ((slice_index deltas j + base) % 2 ^ 32)
+        (slice_index deltas j) }
 {
     let mut values = deltas.to_array();
     for j in 0..16usize {

@@ -20,14 +20,16 @@
 
 mod codes;
 mod halves;
+mod laws;
 mod pack;
 mod quarters;
 mod read;
 mod words;
 
 pub use codes::Code;
+pub use laws::lines_have_one_coding;
 pub use pack::pack_line;
-pub use read::unpack_line;
+pub use read::{decode_line, unpack_line};
 
 #[cfg(test)]
 mod tests;

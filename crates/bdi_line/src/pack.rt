@@ -1,9 +1,11 @@
-//! A line's code, and its payload appended: the codes are tried from the smallest payload up.
+//! A line's code, and its payload appended: the codes are tried from the smallest payload up, and
+//! the
+//! first that the line fits is its code.
 
-ghost use Rattle.std.specs.Prelude.{◌≡◌, ◌+◌, ◌≤◌, ◌↔◌, List, ℕ, ◌++◌, length, IsTrue, All, slice_index, false, ◌<◌};
+ghost use Rattle.std.specs.Prelude.{◌≡◌, ◌+◌, ◌^◌, ◌≤◌, List, ℕ, ◌++◌, length, IsTrue, slice_index, false};
 ghost use Rattle.arrayvec.specs.ArrayVec.{array_vec_len};
-ghost use Rattle.bdi_line.specs.Line.{FitsSplit, b8d1, b8d2, b8d4, b4d1, b4d2, b2d1};
-ghost use Rattle.bdi_line.specs.Written.{payload_of};
+ghost use Rattle.bdi_line.specs.Line.{bound_of, modulus_of, b8d1, b8d2, b8d4, b4d1, b4d2, b2d1};
+ghost use Rattle.bdi_line.specs.Packed.{is_all, is_near, code_of, split_payload, payload_under, payload_of};
 ghost use Rattle.bdi_line.specs.Coded.{IsCoded, size_of};
 ghost use Rattle.bdi_line.specs.declared.codes.Code.{Code};
 
@@ -15,26 +17,32 @@ use arrayvec::ArrayVec;
 use std::simd::prelude::*;
 
 /// Appends the line's payload, and answers its code. `out` needs 64 free bytes.
-#[inline]
+#[inline(always)]
 pub fn pack_line(line: &[u8; 64], out: &mut ArrayVec<u8, 4128>) -> Code
     requires { array_vec_len out.old + 64 ≤ 4128 }
+    ensures code { result ≡ code_of line.now }
+    ensures payload { out.new.items ≡ out.old.items ++ payload_of line.now }
     ensures size { array_vec_len out.new ≡ array_vec_len out.old + size_of result }
     ensures room { array_vec_len out.new ≤ array_vec_len out.old + 64 }
     ensures grows { array_vec_len out.old ≤ array_vec_len out.new }
-    ensures coded { (payload : List ℕ) × (out.new.items ≡ out.old.items ++ payload) × IsCoded line.now result payload }
-    ensures one { (code : Code) → (payload : List ℕ) → IsCoded line.now code payload → (code ≡ result) × (out.new.items ≡ out.old.items ++ payload) }
+    ensures coded { (payload : List ℕ) × (out.new.items ≡ out.old.items ++ payload)
+        × IsCoded line.now result payload }
+    ensures one { (code : Code) → (payload : List ℕ) → IsCoded line.now code payload
+        → (code ≡ result) × (out.new.items ≡ out.old.items ++ payload) }
 {
     pack_into(line, out)
 }
 
 /// Appends the line's payload, and answers its code.
-#[inline]
+#[inline(always)]
+#[tactic(auto, unfolding(crate::specs::Packed::code_of))]
 pub(crate) fn pack_into<const N: usize>(line: &[u8; 64], out: &mut ArrayVec<u8, N>) -> Code
     requires { array_vec_len out.old + 64 ≤ N }
+    ensures code { result ≡ code_of line.now }
+    ensures payload { out.new.items ≡ out.old.items ++ payload_under result line.now }
     ensures size { array_vec_len out.new ≡ array_vec_len out.old + size_of result }
     ensures room { array_vec_len out.new ≤ array_vec_len out.old + 64 }
     ensures grows { array_vec_len out.old ≤ array_vec_len out.new }
-    ensures coded { (payload : List ℕ) × (out.new.items ≡ out.old.items ++ payload) × IsCoded line.now result payload }
 {
     if is_zero(u8x64::from_array(*line)) {
         return Code::Zeros;
@@ -69,19 +77,19 @@ pub(crate) fn pack_into<const N: usize>(line: &[u8; 64], out: &mut ArrayVec<u8, 
 
 #[inline]
 fn is_zero(bytes: u8x64) -> bool
-    ensures { IsTrue result ↔ All (λ b. b ≡ 0) bytes }
+    ensures { result ≡ is_all 0 bytes }
 {
     bytes.simd_ne(u8x64::splat(0)).to_bitmask() == 0
 }
 
 #[inline]
 fn is_repeated(words: u64x8) -> bool
-    ensures { IsTrue result ↔ ((j : ℕ) → j < 8 → slice_index words j ≡ slice_index words 0) }
+    ensures { result ≡ is_all (slice_index words 0) words }
 {
     words.simd_ne(u64x8::splat(words[0])).to_bitmask() == 0
 }
 
-/// Appends the bytes.
+// Appends the bytes.
 #[inline]
 fn put<const N: usize>(out: &mut ArrayVec<u8, N>, bytes: &[u8])
     requires { array_vec_len out.old + length bytes.now ≤ N }
@@ -94,8 +102,8 @@ fn put<const N: usize>(out: &mut ArrayVec<u8, N>, bytes: &[u8])
 #[inline]
 fn put_b8d1<const N: usize>(values: u64x8, out: &mut ArrayVec<u8, N>) -> bool
     requires { array_vec_len out.old + 64 ≤ N }
-    ensures written { IsTrue result → out.new.items ≡ out.old.items ++ payload_of b8d1 values }
-    ensures fits { IsTrue result ↔ FitsSplit b8d1 values }
+    ensures written { IsTrue result → out.new.items ≡ out.old.items ++ split_payload b8d1 values }
+    ensures fits { result ≡ is_near (bound_of b8d1) (modulus_of b8d1) values }
     ensures size { IsTrue result → array_vec_len out.new ≡ array_vec_len out.old + 17 }
     ensures same { result ≡ false → out.new ≡ out.old }
 {
@@ -111,8 +119,8 @@ fn put_b8d1<const N: usize>(values: u64x8, out: &mut ArrayVec<u8, N>) -> bool
 #[inline]
 fn put_b8d2<const N: usize>(values: u64x8, out: &mut ArrayVec<u8, N>) -> bool
     requires { array_vec_len out.old + 64 ≤ N }
-    ensures written { IsTrue result → out.new.items ≡ out.old.items ++ payload_of b8d2 values }
-    ensures fits { IsTrue result ↔ FitsSplit b8d2 values }
+    ensures written { IsTrue result → out.new.items ≡ out.old.items ++ split_payload b8d2 values }
+    ensures fits { result ≡ is_near (bound_of b8d2) (modulus_of b8d2) values }
     ensures size { IsTrue result → array_vec_len out.new ≡ array_vec_len out.old + 25 }
     ensures same { result ≡ false → out.new ≡ out.old }
 {
@@ -128,8 +136,8 @@ fn put_b8d2<const N: usize>(values: u64x8, out: &mut ArrayVec<u8, N>) -> bool
 #[inline]
 fn put_b8d4<const N: usize>(values: u64x8, out: &mut ArrayVec<u8, N>) -> bool
     requires { array_vec_len out.old + 64 ≤ N }
-    ensures written { IsTrue result → out.new.items ≡ out.old.items ++ payload_of b8d4 values }
-    ensures fits { IsTrue result ↔ FitsSplit b8d4 values }
+    ensures written { IsTrue result → out.new.items ≡ out.old.items ++ split_payload b8d4 values }
+    ensures fits { result ≡ is_near (bound_of b8d4) (modulus_of b8d4) values }
     ensures size { IsTrue result → array_vec_len out.new ≡ array_vec_len out.old + 41 }
     ensures same { result ≡ false → out.new ≡ out.old }
 {
@@ -145,8 +153,8 @@ fn put_b8d4<const N: usize>(values: u64x8, out: &mut ArrayVec<u8, N>) -> bool
 #[inline]
 fn put_b4d1<const N: usize>(values: u32x16, out: &mut ArrayVec<u8, N>) -> bool
     requires { array_vec_len out.old + 64 ≤ N }
-    ensures written { IsTrue result → out.new.items ≡ out.old.items ++ payload_of b4d1 values }
-    ensures fits { IsTrue result ↔ FitsSplit b4d1 values }
+    ensures written { IsTrue result → out.new.items ≡ out.old.items ++ split_payload b4d1 values }
+    ensures fits { result ≡ is_near (bound_of b4d1) (modulus_of b4d1) values }
     ensures size { IsTrue result → array_vec_len out.new ≡ array_vec_len out.old + 22 }
     ensures same { result ≡ false → out.new ≡ out.old }
 {
@@ -162,8 +170,8 @@ fn put_b4d1<const N: usize>(values: u32x16, out: &mut ArrayVec<u8, N>) -> bool
 #[inline]
 fn put_b4d2<const N: usize>(values: u32x16, out: &mut ArrayVec<u8, N>) -> bool
     requires { array_vec_len out.old + 64 ≤ N }
-    ensures written { IsTrue result → out.new.items ≡ out.old.items ++ payload_of b4d2 values }
-    ensures fits { IsTrue result ↔ FitsSplit b4d2 values }
+    ensures written { IsTrue result → out.new.items ≡ out.old.items ++ split_payload b4d2 values }
+    ensures fits { result ≡ is_near (bound_of b4d2) (modulus_of b4d2) values }
     ensures size { IsTrue result → array_vec_len out.new ≡ array_vec_len out.old + 38 }
     ensures same { result ≡ false → out.new ≡ out.old }
 {
@@ -179,8 +187,8 @@ fn put_b4d2<const N: usize>(values: u32x16, out: &mut ArrayVec<u8, N>) -> bool
 #[inline]
 fn put_b2d1<const N: usize>(values: u16x32, out: &mut ArrayVec<u8, N>) -> bool
     requires { array_vec_len out.old + 64 ≤ N }
-    ensures written { IsTrue result → out.new.items ≡ out.old.items ++ payload_of b2d1 values }
-    ensures fits { IsTrue result ↔ FitsSplit b2d1 values }
+    ensures written { IsTrue result → out.new.items ≡ out.old.items ++ split_payload b2d1 values }
+    ensures fits { result ≡ is_near (bound_of b2d1) (modulus_of b2d1) values }
     ensures size { IsTrue result → array_vec_len out.new ≡ array_vec_len out.old + 38 }
     ensures same { result ≡ false → out.new ≡ out.old }
 {

@@ -1,9 +1,10 @@
-//! A line as 32 values of 2 bytes, a value a lane.
+//! A line as 32 values of 2 bytes, a value a lane: the text of `words.rt` for this width.
 
-ghost use Rattle.std.specs.Prelude.{◌≡◌, ℕ, ◌+◌, ◌*◌, ◌/◌, ◌%◌, ◌^◌, ◌-◌, ◌<◌, ◌==◌, ◌↔◌, map, cond, length, slice_index, IfSome, IsSome, IsTrue, nat_le, ◌≤◌};
-ghost use Rattle.std.specs.Simd.Lanes.{digits_l, number_l, mask_l, chunk};
+ghost use Rattle.std.specs.Prelude.{◌≡◌, ℕ, ◌+◌, ◌*◌, ◌/◌, ◌%◌, ◌^◌, ◌<◌, ◌≤◌, ◌==◌, nat_le, map, cond, length, slice_index, is_some, IfSome, IsTrue};
+ghost use Rattle.std.specs.Simd.Lanes.{digits_l, number_l, chunk};
 ghost use Rattle.bdi_line.specs.Line.{values, is_large, base_of, low_bytes};
-ghost use Rattle.bdi_line.specs.Written.{AreFar, AreNear, IsParted, delta_of};
+ghost use Rattle.bdi_line.specs.Packed.{marks_of, delta_of, is_near};
+ghost use Rattle.bdi_line.specs.Written.{AreFar, IsParted};
 
 use std::simd::prelude::*;
 
@@ -32,70 +33,71 @@ pub(crate) fn line_of_quarters(values: u16x32) -> u8x64
     values.to_le_bytes()
 }
 
-/// The marks of the large values.
+// The marks of the large values.
 #[inline]
-fn marks_of_quarters(values: u16x32, half: u16, whole: u16) -> u64
-    requires positive { 0 < half }
-    requires whole { whole ≡ 2 * half }
-    ensures { result ≡ mask_l (map (is_large half (2 ^ 16)) values) }
+fn marks_of_quarters(values: u16x32, bound: u16, span: u16) -> u64
+    requires positive { 0 < bound }
+    requires span { span ≡ 2 * bound }
+    ensures { result ≡ marks_of (is_large bound (2 ^ 16)) values }
 {
-    (values + u16x32::splat(half))
-        .simd_ge(u16x32::splat(whole))
+    (values + u16x32::splat(bound))
+        .simd_ge(u16x32::splat(span))
         .to_bitmask()
 }
 
-/// The first value that is marked, or 0.
+// The first value that is marked, or 0.
 #[inline]
-fn base_of_quarters(values: u16x32, marks: u64, half: u16) -> u16
-    requires { marks ≡ mask_l (map (is_large half (2 ^ 16)) values) }
-    ensures { result ≡ base_of half (2 ^ 16) values }
+fn base_of_quarters(values: u16x32, marks: u64, bound: u16) -> u16
+    requires { marks ≡ marks_of (is_large bound (2 ^ 16)) values }
+    ensures { result ≡ base_of bound (2 ^ 16) values }
 {
     let first = marks.trailing_zeros() as usize;
     if first < 32 { values[first] } else { 0 }
 }
 
-/// What is kept of each value.
+// What is kept of each value.
 #[inline]
-fn deltas_of_quarters(values: u16x32, half: u16, whole: u16, base: u16) -> u16x32
-    requires positive { 0 < half }
-    requires whole { whole ≡ 2 * half }
-    ensures { result ≡ map (delta_of half (2 ^ 16) base) values }
+fn deltas_of_quarters(values: u16x32, bound: u16, span: u16, base: u16) -> u16x32
+    requires positive { 0 < bound }
+    requires span { span ≡ 2 * bound }
+    ensures { result ≡ map (delta_of bound (2 ^ 16) base) values }
 {
-    let large = (values + u16x32::splat(half)).simd_ge(u16x32::splat(whole));
+    let large = (values + u16x32::splat(bound)).simd_ge(u16x32::splat(span));
     large.select(values - u16x32::splat(base), values)
 }
 
-/// Whether both are large and the second isn't near the first: most lines that do not fit are told
-/// so by their first values.
+// Whether both are large and the second isn't near the first: most lines that do not fit are told
+// so by their first values.
 #[inline]
-fn is_far_quarter(first: u16, second: u16, half: u16, whole: u16) -> bool
-    requires positive { 0 < half }
-    requires whole { whole ≡ 2 * half }
-    ensures { IsTrue result → AreFar half (2 ^ 16) first second }
+fn is_far_quarter(first: u16, second: u16, bound: u16, span: u16) -> bool
+    requires positive { 0 < bound }
+    requires span { span ≡ 2 * bound }
+    ensures { IsTrue result → AreFar bound (2 ^ 16) first second }
 {
-    first.wrapping_add(half) >= whole
-        && second.wrapping_add(half) >= whole
-        && second.wrapping_sub(first).wrapping_add(half) >= whole
+    first.wrapping_add(bound) >= span
+        && second.wrapping_add(bound) >= span
+        && second.wrapping_sub(first).wrapping_add(bound) >= span
 }
 
-/// The values beside their base, where each is small or near it: `half` bounds a small value.
+/// The values beside their base, where each is small or near it: `bound` bounds a small value.
 #[inline]
-pub(crate) fn split_quarters(values: u16x32, half: u16, whole: u16) -> Option<QuarterSplit>
-    requires positive { 0 < half }
-    requires whole { whole ≡ 2 * half }
-    ensures some { IfSome result (λ split. IsParted half (2 ^ 16) values split.marks split.base split.deltas) }
-    ensures fits { IsSome result ↔ AreNear 32 half (2 ^ 16) values }
+pub(crate) fn split_quarters(values: u16x32, bound: u16, span: u16) -> Option<QuarterSplit>
+    requires positive { 0 < bound }
+    requires span { span ≡ 2 * bound }
+    ensures some { IfSome result (λ split.
+        IsParted bound (2 ^ 16) values split.marks split.base split.deltas) }
+    ensures fits { is_some result ≡ is_near bound (2 ^ 16) values }
 {
-    if is_far_quarter(values[0], values[1], half, whole) {
+    if is_far_quarter(values[0], values[1], bound, span) {
         return None;
     }
-    if is_far_quarter(values[0], values[2], half, whole) {
+    if is_far_quarter(values[0], values[2], bound, span) {
         return None;
     }
-    let marks = marks_of_quarters(values, half, whole);
-    let base = base_of_quarters(values, marks, half);
-    let deltas = deltas_of_quarters(values, half, whole, base);
-    if marks_of_quarters(deltas, half, whole) != 0 {
+    let marks = marks_of_quarters(values, bound, span);
+    let base = base_of_quarters(values, marks, bound);
+    let deltas = deltas_of_quarters(values, bound, span, base);
+    if marks_of_quarters(deltas, bound, span) != 0 {
         return None;
     }
     Some(QuarterSplit {
@@ -121,10 +123,10 @@ pub(crate) fn low_1_of_quarters(deltas: u16x32) -> [u8; 32]
 
 /// Each delta as a number that wraps: `rest` is what a wrapped number of the delta's width lacks.
 #[inline]
-pub(crate) fn signed_quarters(low: u16x32, half: u16, rest: u16) -> u16x32
-    ensures { result ≡ map (λ x. cond (nat_le half x) ((x + rest) % 2 ^ 16) x) low }
+pub(crate) fn signed_quarters(low: u16x32, bound: u16, rest: u16) -> u16x32
+    ensures { result ≡ map (λ x. cond (nat_le bound x) ((x + rest) % 2 ^ 16) x) low }
 {
-    low.simd_ge(u16x32::splat(half))
+    low.simd_ge(u16x32::splat(bound))
         .select(low + u16x32::splat(rest), low)
 }
 
@@ -133,7 +135,9 @@ pub(crate) fn signed_quarters(low: u16x32, half: u16, rest: u16) -> u16x32
 pub(crate) fn based_quarters(deltas: u16x32, marks: u64, base: u16) -> u16x32
     requires { length deltas ≡ 32 }
     ensures len { length result ≡ 32 }
-    ensures lanes { (j : ℕ) → j < 32 → slice_index result j ≡ cond (marks / 2 ^ j % 2 == 1) ((slice_index deltas j + base) % 2 ^ 16) (slice_index deltas j) }
+    ensures lanes { (j : ℕ) → j < 32 → slice_index result j
+        ≡ cond (marks / 2 ^ j % 2 == 1) ((slice_index deltas j + base) % 2 ^ 16)
+        (slice_index deltas j) }
 {
     let mut values = deltas.to_array();
     for j in 0..32usize {

@@ -1,10 +1,11 @@
-//! The line that a code and a payload stand for: it is decoded, and then packed again, so that
-//! bytes that are no line's packing are refused.
+//! The line that a code and a payload stand for: it is decoded, and, where they aren't known to be
+//! a
+//! line's packing, packed again, so that other bytes are refused.
 
-ghost use Rattle.std.specs.Prelude.{◌≡◌, ◌+◌, ◌≤◌, ◌<◌, ◌^◌, ◌↔◌, List, ℕ, length, take, IsTrue, IfSome, IsNone, replicate};
-ghost use Rattle.std.specs.Simd.Lanes.{number_l, chunk, digits_l};
+ghost use Rattle.std.specs.Prelude.{◌≡◌, ◌≤◌, ◌↔◌, List, ℕ, length, IsTrue, IfSome, IsNone, replicate};
+ghost use Rattle.std.specs.Simd.Lanes.{number_l, chunk};
 ghost use Rattle.bdi_line.specs.Line.{IsSplit, values, b8d1, b8d2, b8d4, b4d1, b4d2, b2d1};
-ghost use Rattle.bdi_line.specs.Coded.{IsCoded, IsLine, size_of};
+ghost use Rattle.bdi_line.specs.Coded.{IsCoded, IsByteLine, size_of};
 
 use crate::codes::Code;
 use crate::halves::{based_halves, halves_from_1, halves_from_2, line_of_halves, signed_halves};
@@ -20,13 +21,15 @@ use std::simd::prelude::*;
 #[inline]
 pub fn unpack_line(code: Code, payload: &[u8]) -> Option<[u8; 64]>
     ensures some { IfSome result (λ line. IsCoded line code payload.now) }
-    ensures only { IfSome result (λ found. (line : List ℕ) → IsLine line → IsCoded line code payload.now → line ≡ found) }
-    ensures none { IsNone result → (line : List ℕ) → IsLine line → IsCoded line code payload.now → ⊥ }
+    ensures only { IfSome result (λ found. (line : List ℕ) → IsByteLine line
+        → IsCoded line code payload.now → line ≡ found) }
+    ensures none { IsNone result → (line : List ℕ) → IsByteLine line
+        → IsCoded line code payload.now → ⊥ }
 {
     if payload.len() != code.size() as usize {
         return None;
     }
-    let line = decoded(code, payload).to_array();
+    let line = decode_line(code, payload);
     if is_coded(&line, code, payload) {
         Some(line)
     } else {
@@ -34,7 +37,7 @@ pub fn unpack_line(code: Code, payload: &[u8]) -> Option<[u8; 64]>
     }
 }
 
-/// Whether this is how the line is packed.
+// Whether this is how the line is packed.
 #[inline]
 fn is_coded(line: &[u8; 64], code: Code, payload: &[u8]) -> bool
     ensures { IsTrue result ↔ IsCoded line.now code payload.now }
@@ -54,11 +57,21 @@ fn same_bytes(a: &[u8], b: &[u8]) -> bool
     a == b
 }
 
-/// The only line that may have this code and payload.
-#[inline]
+/// The line whose packing is known to be this code and payload. Nothing is checked: where no line
+/// has this packing, any line may come.
+#[inline(always)]
+pub fn decode_line(code: Code, payload: &[u8]) -> [u8; 64]
+    requires size { length payload.now ≡ size_of code }
+    ensures only { (line : List ℕ) → IsByteLine line → IsCoded line code payload.now
+        → line ≡ result }
+{
+    decoded(code, payload).to_array()
+}
+
+#[inline(always)]
 fn decoded(code: Code, payload: &[u8]) -> u8x64
     requires { length payload.now ≡ size_of code }
-    ensures { (line : List ℕ) → IsLine line → IsCoded line code payload.now → line ≡ result }
+    ensures { (line : List ℕ) → IsByteLine line → IsCoded line code payload.now → line ≡ result }
 {
     match code {
         Code::Zeros => line_of_zeros(),
@@ -123,7 +136,8 @@ fn read_repeated(payload: &[u8]) -> u64x8
 #[inline]
 fn read_b8d1(payload: &[u8]) -> u64x8
     requires { length payload.now ≡ 17 }
-    ensures { (line : List ℕ) → IsSplit b8d1 (values 8 8 line) payload.now → result ≡ values 8 8 line }
+    ensures { (line : List ℕ) → IsSplit b8d1 (values 8 8 line) payload.now
+        → result ≡ values 8 8 line }
 {
     let marks = payload[0] as u64;
     let base = word_at_front(&payload[1..]);
@@ -134,7 +148,8 @@ fn read_b8d1(payload: &[u8]) -> u64x8
 #[inline]
 fn read_b8d2(payload: &[u8]) -> u64x8
     requires { length payload.now ≡ 25 }
-    ensures { (line : List ℕ) → IsSplit b8d2 (values 8 8 line) payload.now → result ≡ values 8 8 line }
+    ensures { (line : List ℕ) → IsSplit b8d2 (values 8 8 line) payload.now
+        → result ≡ values 8 8 line }
 {
     let marks = payload[0] as u64;
     let base = word_at_front(&payload[1..]);
@@ -149,7 +164,8 @@ fn read_b8d2(payload: &[u8]) -> u64x8
 #[inline]
 fn read_b8d4(payload: &[u8]) -> u64x8
     requires { length payload.now ≡ 41 }
-    ensures { (line : List ℕ) → IsSplit b8d4 (values 8 8 line) payload.now → result ≡ values 8 8 line }
+    ensures { (line : List ℕ) → IsSplit b8d4 (values 8 8 line) payload.now
+        → result ≡ values 8 8 line }
 {
     let marks = payload[0] as u64;
     let base = word_at_front(&payload[1..]);
@@ -164,7 +180,8 @@ fn read_b8d4(payload: &[u8]) -> u64x8
 #[inline]
 fn read_b4d1(payload: &[u8]) -> u32x16
     requires { length payload.now ≡ 22 }
-    ensures { (line : List ℕ) → IsSplit b4d1 (values 4 16 line) payload.now → result ≡ values 4 16 line }
+    ensures { (line : List ℕ) → IsSplit b4d1 (values 4 16 line) payload.now
+        → result ≡ values 4 16 line }
 {
     let marks = quarter_at_front(payload) as u64;
     let base = half_at_front(&payload[2..]);
@@ -175,7 +192,8 @@ fn read_b4d1(payload: &[u8]) -> u32x16
 #[inline]
 fn read_b4d2(payload: &[u8]) -> u32x16
     requires { length payload.now ≡ 38 }
-    ensures { (line : List ℕ) → IsSplit b4d2 (values 4 16 line) payload.now → result ≡ values 4 16 line }
+    ensures { (line : List ℕ) → IsSplit b4d2 (values 4 16 line) payload.now
+        → result ≡ values 4 16 line }
 {
     let marks = quarter_at_front(payload) as u64;
     let base = half_at_front(&payload[2..]);
@@ -186,7 +204,8 @@ fn read_b4d2(payload: &[u8]) -> u32x16
 #[inline]
 fn read_b2d1(payload: &[u8]) -> u16x32
     requires { length payload.now ≡ 38 }
-    ensures { (line : List ℕ) → IsSplit b2d1 (values 2 32 line) payload.now → result ≡ values 2 32 line }
+    ensures { (line : List ℕ) → IsSplit b2d1 (values 2 32 line) payload.now
+        → result ≡ values 2 32 line }
 {
     let marks = half_at_front(payload) as u64;
     let base = quarter_at_front(&payload[4..]);

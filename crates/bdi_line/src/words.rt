@@ -1,9 +1,15 @@
 //! A line as 8 values of 8 bytes, a value a lane.
+//!
+//! A value is large where `value + bound`, which wraps, is at least `span`: `bound` is the number
+//! below which a delta is small, and `span` is twice that. What is kept of a large value is its
+//! difference from the first large one, the base; all values fit where no such delta is large.
+//! `halves.rt` and `quarters.rt` are this text for values of 4 and 2 bytes.
 
-ghost use Rattle.std.specs.Prelude.{◌≡◌, ℕ, ◌+◌, ◌*◌, ◌/◌, ◌%◌, ◌^◌, ◌-◌, ◌<◌, ◌==◌, ◌↔◌, map, cond, length, slice_index, IfSome, IsSome, IsTrue, nat_le, ◌≤◌};
-ghost use Rattle.std.specs.Simd.Lanes.{digits_l, number_l, mask_l, chunk};
+ghost use Rattle.std.specs.Prelude.{◌≡◌, ℕ, ◌+◌, ◌*◌, ◌/◌, ◌%◌, ◌^◌, ◌<◌, ◌≤◌, ◌==◌, nat_le, map, cond, length, slice_index, is_some, IfSome, IsTrue};
+ghost use Rattle.std.specs.Simd.Lanes.{digits_l, number_l, chunk};
 ghost use Rattle.bdi_line.specs.Line.{values, is_large, base_of, low_bytes};
-ghost use Rattle.bdi_line.specs.Written.{AreFar, AreNear, IsParted, delta_of};
+ghost use Rattle.bdi_line.specs.Packed.{marks_of, delta_of, is_near};
+ghost use Rattle.bdi_line.specs.Written.{AreFar, IsParted};
 
 use std::simd::prelude::*;
 
@@ -32,70 +38,71 @@ pub(crate) fn line_of_words(values: u64x8) -> u8x64
     values.to_le_bytes()
 }
 
-/// The marks of the large values.
+// The marks of the large values.
 #[inline]
-fn marks_of_words(values: u64x8, half: u64, whole: u64) -> u64
-    requires positive { 0 < half }
-    requires whole { whole ≡ 2 * half }
-    ensures { result ≡ mask_l (map (is_large half (2 ^ 64)) values) }
+fn marks_of_words(values: u64x8, bound: u64, span: u64) -> u64
+    requires positive { 0 < bound }
+    requires span { span ≡ 2 * bound }
+    ensures { result ≡ marks_of (is_large bound (2 ^ 64)) values }
 {
-    (values + u64x8::splat(half))
-        .simd_ge(u64x8::splat(whole))
+    (values + u64x8::splat(bound))
+        .simd_ge(u64x8::splat(span))
         .to_bitmask()
 }
 
-/// The first value that is marked, or 0.
+// The first value that is marked, or 0.
 #[inline]
-fn base_of_words(values: u64x8, marks: u64, half: u64) -> u64
-    requires { marks ≡ mask_l (map (is_large half (2 ^ 64)) values) }
-    ensures { result ≡ base_of half (2 ^ 64) values }
+fn base_of_words(values: u64x8, marks: u64, bound: u64) -> u64
+    requires { marks ≡ marks_of (is_large bound (2 ^ 64)) values }
+    ensures { result ≡ base_of bound (2 ^ 64) values }
 {
     let first = marks.trailing_zeros() as usize;
     if first < 8 { values[first] } else { 0 }
 }
 
-/// What is kept of each value.
+// What is kept of each value.
 #[inline]
-fn deltas_of_words(values: u64x8, half: u64, whole: u64, base: u64) -> u64x8
-    requires positive { 0 < half }
-    requires whole { whole ≡ 2 * half }
-    ensures { result ≡ map (delta_of half (2 ^ 64) base) values }
+fn deltas_of_words(values: u64x8, bound: u64, span: u64, base: u64) -> u64x8
+    requires positive { 0 < bound }
+    requires span { span ≡ 2 * bound }
+    ensures { result ≡ map (delta_of bound (2 ^ 64) base) values }
 {
-    let large = (values + u64x8::splat(half)).simd_ge(u64x8::splat(whole));
+    let large = (values + u64x8::splat(bound)).simd_ge(u64x8::splat(span));
     large.select(values - u64x8::splat(base), values)
 }
 
-/// Whether both are large and the second isn't near the first: most lines that do not fit are told
-/// so by their first values.
+// Whether both are large and the second isn't near the first: most lines that do not fit are told
+// so by their first values.
 #[inline]
-fn is_far_word(first: u64, second: u64, half: u64, whole: u64) -> bool
-    requires positive { 0 < half }
-    requires whole { whole ≡ 2 * half }
-    ensures { IsTrue result → AreFar half (2 ^ 64) first second }
+fn is_far_word(first: u64, second: u64, bound: u64, span: u64) -> bool
+    requires positive { 0 < bound }
+    requires span { span ≡ 2 * bound }
+    ensures { IsTrue result → AreFar bound (2 ^ 64) first second }
 {
-    first.wrapping_add(half) >= whole
-        && second.wrapping_add(half) >= whole
-        && second.wrapping_sub(first).wrapping_add(half) >= whole
+    first.wrapping_add(bound) >= span
+        && second.wrapping_add(bound) >= span
+        && second.wrapping_sub(first).wrapping_add(bound) >= span
 }
 
-/// The values beside their base, where each is small or near it: `half` bounds a small value.
+/// The values beside their base, where each is small or near it: `bound` bounds a small value.
 #[inline]
-pub(crate) fn split_words(values: u64x8, half: u64, whole: u64) -> Option<WordSplit>
-    requires positive { 0 < half }
-    requires whole { whole ≡ 2 * half }
-    ensures some { IfSome result (λ split. IsParted half (2 ^ 64) values split.marks split.base split.deltas) }
-    ensures fits { IsSome result ↔ AreNear 8 half (2 ^ 64) values }
+pub(crate) fn split_words(values: u64x8, bound: u64, span: u64) -> Option<WordSplit>
+    requires positive { 0 < bound }
+    requires span { span ≡ 2 * bound }
+    ensures some { IfSome result (λ split.
+        IsParted bound (2 ^ 64) values split.marks split.base split.deltas) }
+    ensures fits { is_some result ≡ is_near bound (2 ^ 64) values }
 {
-    if is_far_word(values[0], values[1], half, whole) {
+    if is_far_word(values[0], values[1], bound, span) {
         return None;
     }
-    if is_far_word(values[0], values[2], half, whole) {
+    if is_far_word(values[0], values[2], bound, span) {
         return None;
     }
-    let marks = marks_of_words(values, half, whole);
-    let base = base_of_words(values, marks, half);
-    let deltas = deltas_of_words(values, half, whole, base);
-    if marks_of_words(deltas, half, whole) != 0 {
+    let marks = marks_of_words(values, bound, span);
+    let base = base_of_words(values, marks, bound);
+    let deltas = deltas_of_words(values, bound, span, base);
+    if marks_of_words(deltas, bound, span) != 0 {
         return None;
     }
     Some(WordSplit {
@@ -143,10 +150,10 @@ pub(crate) fn low_4_of_words(deltas: u64x8) -> [u8; 32]
 
 /// Each delta as a number that wraps: `rest` is what a wrapped number of the delta's width lacks.
 #[inline]
-pub(crate) fn signed_words(low: u64x8, half: u64, rest: u64) -> u64x8
-    ensures { result ≡ map (λ x. cond (nat_le half x) ((x + rest) % 2 ^ 64) x) low }
+pub(crate) fn signed_words(low: u64x8, bound: u64, rest: u64) -> u64x8
+    ensures { result ≡ map (λ x. cond (nat_le bound x) ((x + rest) % 2 ^ 64) x) low }
 {
-    low.simd_ge(u64x8::splat(half))
+    low.simd_ge(u64x8::splat(bound))
         .select(low + u64x8::splat(rest), low)
 }
 
@@ -155,7 +162,9 @@ pub(crate) fn signed_words(low: u64x8, half: u64, rest: u64) -> u64x8
 pub(crate) fn based_words(deltas: u64x8, marks: u64, base: u64) -> u64x8
     requires { length deltas ≡ 8 }
     ensures len { length result ≡ 8 }
-    ensures lanes { (j : ℕ) → j < 8 → slice_index result j ≡ cond (marks / 2 ^ j % 2 == 1) ((slice_index deltas j + base) % 2 ^ 64) (slice_index deltas j) }
+    ensures lanes { (j : ℕ) → j < 8 → slice_index result j
+        ≡ cond (marks / 2 ^ j % 2 == 1) ((slice_index deltas j + base) % 2 ^ 64)
+        (slice_index deltas j) }
 {
     let mut values = deltas.to_array();
     for j in 0..8usize {

@@ -1,5 +1,4 @@
+pub mod Here
 pub mod Lines
 pub mod Packed
-pub mod Pairs
-pub mod Progress
-pub mod Unpacked
+pub mod Reading

@@ -1,80 +1,121 @@
--- One line, and then two, at a place in the bytes of a packing.
-use Rattle.std.proofs.Common.{◌≡◌, ℕ, ◌+◌, ◌-◌, ◌*◌, ◌/◌, ◌%◌, ◌≤◌, List, ◌++◌, length, take, drop, get_or, sym, ap, subst, ◌∙◌, arith, append_assoc, length-append, length-drop}
-use Rattle.std.proofs.lemmas.List.{take_at, drop_at, drop-drop}
-use Rattle.std.specs.Simd.Lanes.{chunk}
-use Rattle.bdi_line.specs.Coded.{IsCoded, IsLine, number_of, size_of, number_le, same_code}
-use Rattle.bdi_line.specs.declared.codes.Code.{Code}
-use Rattle.bdi_page.specs.Steps.{HasLine, IsLineRead, HasPair, IsPairRead}
+-- The lines of a page, two at a time, with their codes and payloads.
+use Rattle.std.proofs.Common.{◌≡◌, ℕ, zero, suc, ◌+◌, ◌*◌, ◌<◌, ◌≤◌, List, [], ◌∷◌, ◌++◌, length, take, drop, get_or, refl, sym, ap, ◌∙◌, arith, append_assoc, length-append}
+use Rattle.std.proofs.lemmas.Grind.{flat_map-append}
+use Rattle.std.proofs.lemmas.List.{take_all, take_at, drop_at, drop-drop, drop-take, take-take, length-take-le, append-nil, take-append-drop}
+use Rattle.bdi_line.specs.Packed.{payload_of}
+use Rattle.bdi_page.specs.Packing.{lines_of, codes_of, payloads_of}
+use Rattle.bdi_page.specs.Pairs.{first_line, second_line, number_in}
 
--- ---- one line
+-- ---- pairs of lines
 
-module _ (bytes : List ℕ) (number at : ℕ) (code : Code) (is : number_of code ≡ number) where
-  size_here : (line rest : List ℕ) → (h : HasLine bytes number at line rest) → length h.payload ≡ size_of code
-  size_here line rest h = h.coded.size_is ∙ ap size_of (same_code h.code code (h.number_is ∙ sym is))
+first_line-drop : (j : ℕ) (page : List ℕ) → first_line (drop 128 page) j ≡ first_line page (suc j)
+first_line-drop j page =
+    ap (take 64) (drop-drop (128 * j) 128 page)
+    ∙ ap (λ n. take 64 (drop n page)) (let e : 128 + 128 * j ≡ 128 * suc j = omega arith in e)
 
-  pub line_fits : (line rest : List ℕ) → HasLine bytes number at line rest → size_of code ≤ length bytes - at
-  line_fits line rest h = omega (arith, ap length h.here, length-append h.payload rest, length-drop at bytes, size_here line rest h)
+second_line-drop : (j : ℕ) (page : List ℕ)
+    → second_line (drop 128 page) j ≡ second_line page (suc j)
+second_line-drop j page =
+    ap (take 64) (drop-drop (128 * j + 64) 128 page)
+    ∙ ap (λ n. take 64 (drop n page))
+    (let e : 128 + (128 * j + 64) ≡ 128 * suc j + 64 = omega arith in e)
 
-  pub only_line : (line : List ℕ) → ((other : List ℕ) → IsLine other → IsCoded other code (chunk at (size_of code) bytes) → other ≡ line) → (other rest : List ℕ) → HasLine bytes number at other rest → (other ≡ line) × (rest ≡ drop (at + size_of code) bytes)
-  only_line line only other rest h =
-      let size = size_here other rest h in
-      let front : h.payload ≡ chunk at (size_of code) bytes = sym (ap (take (size_of code)) h.here ∙ take_at h.payload rest (size_of code) size) in
-      let P : Code → Type 0 = λ c. IsCoded other c h.payload in
-      let Q : List ℕ → Type 0 = IsCoded other code in (
-        only other h.line_is (subst Q front (subst P (same_code h.code code (h.number_is ∙ sym is)) h.coded)),
-        sym (sym (drop-drop (size_of code) at bytes) ∙ ap (drop (size_of code)) h.here ∙ drop_at h.payload rest (size_of code) size),
-      )
+lines_of-suc : (n : ℕ) (page : List ℕ)
+    → lines_of (suc n) page ≡ lines_of n page ++ first_line page n ∷ second_line page n ∷ []
+lines_of-suc zero page = refl
+lines_of-suc (suc n) page =
+    ap (λ l. take 64 page ∷ take 64 (drop 64 page) ∷ l) (lines_of-suc n (drop 128 page)
+    ∙ (λ i. lines_of n (drop 128 page) ++ first_line-drop n page i ∷ second_line-drop n page
+    i ∷ []))
 
--- ---- two lines
+pub lines_of-more : (n : ℕ) (page : List ℕ)
+    → lines_of (n + 1) page ≡ lines_of n page ++ first_line page n ∷ second_line page n ∷ []
+lines_of-more n page =
+    ap (λ k. lines_of k page) (let e : n + 1 ≡ suc n = omega arith in e) ∙ lines_of-suc n page
 
-module _ (bytes : List ℕ) (j at b : ℕ) (byte : b ≡ get_or bytes j 0) (one two rest : List ℕ) (h : HasPair bytes j at one two rest) where
-  pub first_here : HasLine bytes (b % 16) at one (h.q ++ rest)
-  first_here = record {
-    code = h.low;
-    payload = h.p;
-    line_is = h.first_is;
-    number_is = omega (arith, h.byte_is, number_le h.low, number_le h.high);
-    here = h.here;
-    coded = h.first_coded;
-  }
+part-same : (i k n : ℕ) (a b : List ℕ) → i + k ≤ n → take n a ≡ take n b
+    → take k (drop i a) ≡ take k (drop i b)
+part-same i k n a b le e =
+    sym (drop-take i k a)
+    ∙ ap (drop i) (sym (take-take (i + k) n a le) ∙ ap (take (i + k)) e ∙ take-take (i + k) n b le)
+    ∙ drop-take i k b
 
-  pub second_here : (middle : ℕ) → h.q ++ rest ≡ drop middle bytes → HasLine bytes (b / 16) middle two rest
-  second_here middle e = record {
-    code = h.high;
-    payload = h.q;
-    line_is = h.second_is;
-    number_is = omega (arith, h.byte_is, number_le h.low, number_le h.high);
-    here = sym e;
-    coded = h.second_coded;
-  }
+-- the lines depend on their bytes alone
+lines_of-same : (n : ℕ) (a b : List ℕ) → take (128 * n) a ≡ take (128 * n) b
+    → lines_of n a ≡ lines_of n b
+lines_of-same zero a b e = refl
+lines_of-same (suc n) a b e =
+    let first = part-same 0 64 (128 * suc n) a b (omega arith) e in
+    let second = part-same 64 64 (128 * suc n) a b (omega arith) e in
+    let rest = lines_of-same n (drop 128 a) (drop 128 b)
+    (part-same 128 (128 * n) (128 * suc n) a b (omega arith) e) in
+    λ i. first i ∷ second i ∷ rest i
 
-module _ (bytes old mid new : List ℕ) (j at middle next b : ℕ) (byte : b ≡ get_or bytes j 0) (r : IsLineRead bytes (b % 16) at (2 * j) old mid middle) (s : IsLineRead bytes (b / 16) middle (2 * j + 1) mid new next) where
-  only_pair : (one two rest : List ℕ) → HasPair bytes j at one two rest → (one ≡ r.line) × (two ≡ s.line) × (rest ≡ drop next bytes)
-  only_pair one two rest h =
-      let first = r.only one (h.q ++ rest) (first_here bytes j at b byte one two rest h) in
-      let second = s.only two rest (second_here bytes j at b byte one two rest h middle first.1) in
-      (first.0, second.0, second.1)
+-- two lines more were written
+pub lines_of-put : (j : ℕ) (old new f s : List ℕ) → 128 * j ≤ length old → length f ≡ 64
+    → length s ≡ 64 → take (128 * (j + 1)) new ≡ take (128 * j) old ++ (f ++ s)
+    → lines_of (j + 1) new ≡ lines_of j old ++ f ∷ s ∷ []
+lines_of-put j old new f s le lf ls e =
+    let front = take (128 * j) old in
+    let both = front ++ (f ++ s) in
+    let lb : length front ≡ 128 * j = length-take-le (128 * j) old le in
+    let long : length both ≡ 128 * (j + 1) =
+    length-append front (f ++ s) ∙ omega (arith, length-append f s) in
+    let same : take (128 * (j + 1)) new ≡ take (128 * (j + 1)) both =
+    e ∙ sym (take_all (128 * (j + 1)) both (omega arith)) in
+    let before : lines_of j new ≡ lines_of j old =
+    lines_of-same j new old (part-same 0 (128 * j) (128 * (j + 1)) new both (omega arith) same
+    ∙ take_at front (f ++ s) (128 * j) lb) in
+    let first : first_line new j ≡ f =
+    part-same (128 * j) 64 (128 * (j + 1)) new both (omega arith) same
+    ∙ ap (take 64) (drop_at front (f ++ s) (128 * j) lb) ∙ take_at f s 64 lf in
+    let second : second_line new j ≡ s =
+    part-same (128 * j + 64) 64 (128 * (j + 1)) new both (omega arith) same
+    ∙ ap (take 64) (sym (drop-drop 64 (128 * j) both)
+    ∙ ap (drop 64) (drop_at front (f ++ s) (128 * j) lb)
+    ∙ drop_at f s 64 lf)
+    ∙ take_all 64 s (omega arith) in
+    lines_of-more j new ∙ (λ i. before i ++ first i ∷ second i ∷ [])
 
-  pair_lines : take (128 * (j + 1)) new ≡ take (128 * j) old ++ (r.line ++ s.line)
-  pair_lines =
-      ap (λ n. take n new) (let e : 128 * (j + 1) ≡ 64 * (2 * j + 1 + 1) = omega arith in e)
-      ∙ s.lines
-      ∙ ap (λ l. l ++ s.line) (r.lines ∙ ap (λ n. take n old ++ r.line) (let e : 64 * (2 * j) ≡ 128 * j = omega arith in e))
-      ∙ append_assoc (take (128 * j) old) r.line s.line
+pub take_add : (n m : ℕ) (xs : List ℕ) → take (n + m) xs ≡ take n xs ++ take m (drop n xs)
+take_add n m xs =
+    sym (take-append-drop n (take (n + m) xs))
+    ∙ ap (λ l. l ++ drop n (take (n + m) xs)) (take-take n (n + m) xs (omega arith))
+    ∙ ap (λ l. take n xs ++ l) (drop-take n m xs)
 
-  pub pair_read : IsPairRead bytes j at old new next
-  pair_read = record {
-    low = r.code;
-    high = s.code;
-    first = r.line;
-    second = s.line;
-    first_is = r.long;
-    second_is = s.long;
-    byte_is = omega (arith, r.number_is, s.number_is);
-    next_is = s.next_is ∙ ap (λ n. n + size_of s.code) r.next_is;
-    within = s.within;
-    lines = pair_lines;
-    first_coded = r.coded;
-    second_coded = (let P : ℕ → Type 0 = λ n. IsCoded s.line s.code (chunk n (size_of s.code) bytes) in subst P r.next_is s.coded);
-    only = only_pair;
-  }
+pub take_pair : (j : ℕ) (page : List ℕ)
+    → take (128 * (j + 1)) page ≡ take (128 * j) page ++ (first_line page j ++ second_line page j)
+take_pair j page =
+    ap (λ n. take n page) (let e : 128 * (j + 1) ≡ 128 * j + 64 + 64 = omega arith in e)
+    ∙ take_add (128 * j + 64) 64 page
+    ∙ ap (λ l. l ++ second_line page j) (take_add (128 * j) 64 page)
+    ∙ append_assoc (take (128 * j) page) (first_line page j) (second_line page j)
+
+-- ---- codes and payloads
+
+pub codes_of-two : (n : ℕ) (page f s : List ℕ)
+    → codes_of (lines_of n page ++ f ∷ s ∷ [])
+    ≡ codes_of (lines_of n page) ++ (number_in f + 16 * number_in s) ∷ []
+codes_of-two zero page f s = refl
+codes_of-two (suc n) page f s =
+    ap (λ l. (number_in (take 64 page) + 16 * number_in (take 64 (drop 64 page))) ∷ l)
+    (codes_of-two n (drop 128 page) f s)
+
+pub length-codes_of : (n : ℕ) (page : List ℕ) → length (codes_of (lines_of n page)) ≡ n
+length-codes_of zero page = refl
+length-codes_of (suc n) page = ap suc (length-codes_of n (drop 128 page))
+
+pub byte_at : (n j : ℕ) (page r : List ℕ) → j < n
+    → get_or (codes_of (lines_of n page) ++ r) j 0
+    ≡ number_in (first_line page j) + 16 * number_in (second_line page j)
+byte_at zero j page r lt = absurd (omega arith)
+byte_at (suc n) zero page r lt = refl
+byte_at (suc n) (suc j) page r lt =
+    byte_at n j (drop 128 page) r (omega arith)
+    ∙ (λ i. number_in (first_line-drop j page i) + 16 * number_in (second_line-drop j page i))
+
+pub payloads_of-two : (ls : List (List ℕ)) (f s : List ℕ)
+    → payloads_of (ls ++ f ∷ s ∷ []) ≡ payloads_of ls ++ (payload_of f ++ payload_of s)
+payloads_of-two ls f s =
+    flat_map-append payload_of ls (f ∷ s ∷ [])
+    ∙ ap (λ l. payloads_of ls ++ (payload_of f ++ l)) (append-nil (payload_of s))

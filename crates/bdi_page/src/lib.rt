@@ -3,13 +3,15 @@
 //! line 2j + 1 in its high four bits.
 //!
 //! Bytes are unpacked only where they are a page's packing, so each page has one packing, and each
-//! packing one page.
+//! packing one page. Bytes that are known to be a packing are decoded, without these checks.
 #![tactic(auto)]
 
+mod laws;
 mod reader;
 mod writer;
 
-pub use reader::unpack;
+pub use laws::pages_have_one_packing;
+pub use reader::{decode, unpack};
 pub use writer::pack;
 
 #[cfg(test)]

@@ -1,16 +1,16 @@
 //! Pages with packings of known lengths, and damaged packings.
 ghost use Rattle.std.specs.Prelude.{◌≡◌, ◌+◌, ◌≤◌, length};
 
-use super::{pack, unpack};
+use super::{decode, pack, unpack};
 use arrayvec::ArrayVec;
 use std::process::Abort;
 use std::simd::prelude::*;
 use zr_base::Page;
 
-/// The fractional part of the golden ratio: lines of its multiples fit no code.
+// The fractional part of the golden ratio: lines of its multiples fit no code.
 const GOLD: u64 = 0x9e37_79b9_7f4a_7c15;
 
-/// Writes `base`, `base + step` and so on from word `first` on.
+// Writes `base`, `base + step` and so on from word `first` on.
 fn put_seq(bytes: &mut [u8], first: usize, words: usize, base: u64, step: u64)
     requires size { length bytes.old ≡ 4096 }
     requires within { first + words ≤ 512 }
@@ -22,7 +22,7 @@ fn put_seq(bytes: &mut [u8], first: usize, words: usize, base: u64, step: u64)
     }
 }
 
-/// The length of the page's packing, which unpacks to the page.
+// The length of the page's packing, which unpacks to the page.
 fn packed_len(rt: &impl Abort, bytes: &[u8; 4096]) -> usize {
     let mut page = Page::zero();
     page.put_bytes(bytes);
@@ -31,6 +31,9 @@ fn packed_len(rt: &impl Abort, bytes: &[u8; 4096]) -> usize {
     let mut again = Page::zero();
     assert!(rt; unpack(out.as_slice(), &mut again));
     assert_eq!(rt; *again.bytes(), *bytes);
+    let mut known = Page::zero();
+    decode(out.as_slice(), &mut known);
+    assert_eq!(rt; *known.bytes(), *bytes);
     out.len()
 }
 
@@ -60,7 +63,7 @@ fn packs_pages(rt: HostRuntime) {
     assert_eq!(rt; packed_len(&rt, &bytes), 3257);
 }
 
-/// Whether 32 bytes of codes, of which only the first isn't 0, and this payload are a packing.
+// Whether 32 bytes of codes, of which only the first isn't 0, and this payload are a packing.
 fn is_packing(code: u8, payload: &[u8], page: &mut Page) -> bool
     requires { length payload.now ≤ 64 }
 {

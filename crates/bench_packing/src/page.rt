@@ -5,10 +5,10 @@ ghost use Rattle.std.specs.Prelude.{◌≡◌, ◌+◌, ◌*◌, ◌≤◌, leng
 use std::simd::prelude::*;
 use zr_base::Page;
 
-/// The fractional part of the golden ratio: lines of its multiples fit no code.
+// The fractional part of the golden ratio: lines of its multiples fit no code.
 const GOLD: u64 = 0x9e37_79b9_7f4a_7c15;
 
-/// For each code a line of words that rise by a step from a base, as (base, step).
+// For each code a line of words that rise by a step from a base, as (base, step).
 const LINES: [(u64, u64); 9] = [
     (0, 0),
     (0x1234_5678_9abc_def0, 0),
@@ -21,7 +21,7 @@ const LINES: [(u64, u64); 9] = [
     (0, GOLD),
 ];
 
-/// Writes `base`, `base + step` and so on from word `first` on.
+// Writes `base`, `base + step` and so on from word `first` on.
 fn put_seq(bytes: &mut [u8], first: usize, words: usize, base: u64, step: u64)
     requires size { length bytes.old ≡ 4096 }
     requires within { first + words ≤ 512 }

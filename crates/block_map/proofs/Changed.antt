@@ -8,7 +8,7 @@ use Rattle.std.proofs.Math.ListN.{length-set}
 use Rattle.block_map.specs.declared.state.BlockState.{BlockState}
 use Rattle.block_map.specs.declared.state.BlockState.TheVariants.{Free, Held, Owned, Left}
 use Rattle.block_map.specs.BlockMap.{owned_of, owned_blocks}
-use Rattle.block_map.specs.Tree.{HasLeaves, HasOwnNumbers, KeepsLeavesBut, number_of}
+use Rattle.block_map.specs.Tree.{HasLeaves, HasOwnNumbers, KeepsLeavesBut, block_number}
 
 -- The count of owned blocks
 
@@ -58,7 +58,7 @@ owned_blocks-set states b s was owned gone come within is there left put =
 -- the leaves after one block's change
 pub HasLeaves-set : (tree changed : List ℕ) (states : List BlockState) (b : ℕ) (s : BlockState)
     → HasLeaves tree states → b < length states
-    → slice_index changed (length states + b) ≡ number_of s b
+    → slice_index changed (length states + b) ≡ block_number s b
     → KeepsLeavesBut tree changed (length states) b
     → HasLeaves changed (set states b s)
 HasLeaves-set tree changed states b s leaves within here others c inside =

@@ -1,17 +1,16 @@
 -- The root of the tournament is the least free block.
 use Rattle.std.proofs.Common.{◌≡◌, ℕ, zero, suc, ◌+◌, ◌-◌, ◌*◌, ◌/◌, ◌<◌, ◌≤◌, ◌⊎◌, inl, inr, List, length, get_or, Option, None, Some, IfSome, IfNone, slice_get, slice_index, arith, ◌∙◌, refl, ap, subst}
 use Rattle.std.proofs.lemmas.Bool.{cases_eq, cases_lt}
-use Rattle.std.proofs.lemmas.Grind.{common_steps}
-use Rattle.std.proofs.lemmas.Option.{slice_get-get_or, get_or_from_slice_get, slice_get_cases}
+use Rattle.std.proofs.lemmas.Option.{slice_get-get_or, get_or_from_slice_get, slice_get_within}
 use Rattle.block_map.specs.declared.state.BlockState.{BlockState}
 use Rattle.block_map.specs.declared.state.BlockState.TheVariants.{Free, Held, Owned, Left}
 use Rattle.block_map.specs.declared.tree.TheConstants.{NONE}
 use Rattle.block_map.specs.BlockMap.{IsLeastFree, HasNoFree}
-use Rattle.block_map.specs.Tree.{IsTree, IsRoot, HasLeaves, number_of}
+use Rattle.block_map.specs.Tree.{IsBlockTree, IsRoot, HasLeaves, block_number}
 
 -- The root's number is at most that of each place
 
-lesser_than_child : (tree : List ℕ) (n k p : ℕ) → IsTree tree n → p ≡ k / 2 → 0 < p → k < 2 * n
+lesser_than_child : (tree : List ℕ) (n k p : ℕ) → IsBlockTree tree n → p ≡ k / 2 → 0 < p → k < 2 * n
     → slice_index tree p ≤ slice_index tree k
 lesser_than_child tree n k p t half above within =
     let lesser = t.lesser p above (omega arith) in
@@ -20,7 +19,7 @@ lesser_than_child tree n k p t half above within =
       | inr odd ↦ let after : k ≡ 2 * p + 1 = omega arith in rw after (omega (arith, lesser))
     ]
 
-root_least_by : (tree : List ℕ) (n fuel k : ℕ) → IsTree tree n → k ≤ fuel → 0 < k → k < 2 * n
+root_least_by : (tree : List ℕ) (n fuel k : ℕ) → IsBlockTree tree n → k ≤ fuel → 0 < k → k < 2 * n
     → slice_index tree 1 ≤ slice_index tree k
 root_least_by tree n zero k t few above within = absurd (omega arith)
 root_least_by tree n (suc fuel) k t few above within =
@@ -32,7 +31,7 @@ root_least_by tree n (suc fuel) k t few above within =
       | inr first ↦ let root : k ≡ 1 = omega arith in rw root (omega arith)
     ]
 
-pub root_least : (tree : List ℕ) (n k : ℕ) → IsTree tree n → 0 < k → k < 2 * n
+pub root_least : (tree : List ℕ) (n k : ℕ) → IsBlockTree tree n → 0 < k → k < 2 * n
     → slice_index tree 1 ≤ slice_index tree k
 root_least tree n k t above within = root_least_by tree n k k t (omega arith) above within
 
@@ -41,7 +40,7 @@ root_least tree n k t above within = root_least_by tree n k k t (omega arith) ab
 abbrev IsOfLeaf : List ℕ → ℕ → ℕ → Type 0
 IsOfLeaf tree n j = (b : ℕ) × (b < n) × (slice_index tree j ≡ slice_index tree (n + b))
 
-of_leaf_by : (tree : List ℕ) (n fuel j : ℕ) → IsTree tree n → 2 * n ≤ j + fuel → 0 < j → j < 2 * n
+of_leaf_by : (tree : List ℕ) (n fuel j : ℕ) → IsBlockTree tree n → 2 * n ≤ j + fuel → 0 < j → j < 2 * n
     → IsOfLeaf tree n j
 of_leaf_by tree n zero j t enough above within = absurd (omega arith)
 of_leaf_by tree n (suc fuel) j t enough above within =
@@ -63,20 +62,17 @@ of_leaf_by tree n (suc fuel) j t enough above within =
 
 -- Numbers of leaves
 
-slice_get_within : {X : Type 0} (xs : List X) (i : ℕ) (x : X) → slice_get xs i ≡ Some x → i < length xs
-slice_get_within xs i x there = grind (arith, common_steps, slice_get_cases xs i)
-
-below_none_free : (s : BlockState) (b : ℕ) → number_of s b < NONE → s ≡ Free
+below_none_free : (s : BlockState) (b : ℕ) → block_number s b < NONE → s ≡ Free
 below_none_free Free b h = refl
 below_none_free Held b h = absurd (omega arith)
 below_none_free Owned b h = absurd (omega arith)
 below_none_free Left b h = absurd (omega arith)
 
-own_number : (s : BlockState) (b : ℕ) → s ≡ Free → number_of s b ≡ b
-own_number s b free = ap (λ (t : BlockState). number_of t b) free
+own_number : (s : BlockState) (b : ℕ) → s ≡ Free → block_number s b ≡ b
+own_number s b free = ap (λ (t : BlockState). block_number t b) free
 
 -- no free block has a number below the root's
-pub root_below : (tree : List ℕ) (states : List BlockState) (c : ℕ) → IsTree tree (length states)
+pub root_below : (tree : List ℕ) (states : List BlockState) (c : ℕ) → IsBlockTree tree (length states)
     → HasLeaves tree states
     → slice_get states c ≡ Some Free → (c < length states) × (slice_index tree 1 ≤ c)
 root_below tree states c t leaves free =
@@ -93,7 +89,7 @@ root_below tree states c t leaves free =
     )
 
 -- a root that isn't NONE is the least free block
-pub least_free : (tree : List ℕ) (states : List BlockState) → IsTree tree (length states)
+pub least_free : (tree : List ℕ) (states : List BlockState) → IsBlockTree tree (length states)
     → HasLeaves tree states
     → 1 < length tree → slice_index tree 1 < NONE → IsLeastFree states (slice_index tree 1)
 least_free tree states t leaves some small =
@@ -102,7 +98,7 @@ least_free tree states t leaves some small =
     (omega arith) in
     let state = get_or states leaf.0 Left in
     let there : slice_get states leaf.0 ≡ Some state = slice_get-get_or states leaf.0 Left leaf.1 in
-    let number : slice_index tree (length states + leaf.0) ≡ number_of state leaf.0 = leaves leaf.0
+    let number : slice_index tree (length states + leaf.0) ≡ block_number state leaf.0 = leaves leaf.0
     leaf.1 in
     let is_free : state ≡ Free = below_none_free state leaf.0 (omega (arith, leaf.2, number)) in
     let own = own_number state leaf.0 is_free in
@@ -112,7 +108,7 @@ least_free tree states t leaves some small =
     )
 
 -- a root that is NONE leaves no block free
-pub none_free : (tree : List ℕ) (states : List BlockState) → IsTree tree (length states)
+pub none_free : (tree : List ℕ) (states : List BlockState) → IsBlockTree tree (length states)
     → HasLeaves tree states
     → length states ≤ NONE → (NONE ≤ slice_index tree 1) ⊎ (length tree ≤ 1) → HasNoFree states
 none_free tree states t leaves few root b free =
@@ -125,7 +121,7 @@ none_free tree states t leaves few root b free =
 -- What the search in the tree answers
 
 pub least_found : (tree : List ℕ) (states : List BlockState) (found : Option ℕ)
-    → IsTree tree (length states) → HasLeaves tree states
+    → IsBlockTree tree (length states) → HasLeaves tree states
     → IfSome found (IsRoot tree)
     → IfSome found (IsLeastFree states)
 least_found tree states None t leaves told = tt
@@ -134,7 +130,7 @@ least_found tree states (Some b) t leaves told =
     rw told.0 (least_free tree states t leaves told.2 small)
 
 pub none_found : (tree : List ℕ) (states : List BlockState) (found : Option ℕ)
-    → IsTree tree (length states) → HasLeaves tree states
+    → IsBlockTree tree (length states) → HasLeaves tree states
     → length states ≤ NONE → IfNone found ((NONE ≤ slice_index tree 1) ⊎ (length tree ≤ 1))
     → IfNone found (HasNoFree states)
 none_found tree states None t leaves few told = none_free tree states t leaves few told

@@ -1,6 +1,5 @@
 -- A map of blocks: who has each one, and how many writes are left.
-use Rattle.std.specs.Prelude.{◌≡◌, ℕ, ◌-◌, ◌<◌, Bool, List, ◌⊎◌, Some, IsTrue, slice_get, slice_set, sum_by, if◌then◌else◌}
-use Rattle.std.specs.Prelude.{Option}
+use Rattle.std.specs.Prelude.{◌≡◌, ℕ, ◌-◌, ◌<◌, Bool, List, ◌⊎◌, Option, Some, IsTrue, slice_get, slice_set, sum_by, if◌then◌else◌}
 use Rattle.block_map.specs.declared.state.BlockState.{BlockState}
 use Rattle.block_map.specs.declared.state.BlockState.TheVariants.{Free, Held, Owned, Left}
 use Rattle.block_map.specs.declared.blocks.Reserve.{Reserve}

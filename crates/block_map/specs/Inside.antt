@@ -4,11 +4,11 @@ use Rattle.std.specs.Prelude.{◌≡◌, ◌≤◌, length}
 use Rattle.block_map.specs.declared.blocks.Blocks.TheInside.{Inside}
 use Rattle.block_map.specs.declared.tree.TheConstants.{NONE}
 use Rattle.block_map.specs.BlockMap.{BlockMap, owned_blocks}
-use Rattle.block_map.specs.Tree.{IsTree, HasLeaves}
+use Rattle.block_map.specs.Tree.{IsBlockTree, HasLeaves}
 
 pub record IsInside (a : Inside) : Type 0 where
   pub few : length a.states.items ≤ NONE
-  pub tree : IsTree a.tree.items (length a.states.items)
+  pub tree : IsBlockTree a.tree.items (length a.states.items)
   pub leaves : HasLeaves a.tree.items a.states.items
   pub owned : a.owned ≡ owned_blocks a.states.items
 

@@ -19,7 +19,7 @@ pub enum BlockState {
 
 impl BlockState {
     ghost use Rattle.block_map.specs.BlockMap.{owned_of};
-    ghost use Rattle.block_map.specs.Tree.{number_of};
+    ghost use Rattle.block_map.specs.Tree.{block_number};
 
     /// 1 where a page owns the block, else 0.
     pub fn owned(self) -> u32
@@ -33,7 +33,7 @@ impl BlockState {
 
     /// The number at the block's place in the tree of free blocks.
     pub fn number(self, block: u32) -> u32
-        ensures { result ≡ number_of self block }
+        ensures { result ≡ block_number self block }
     {
         match self {
             BlockState::Free => block,

@@ -11,7 +11,7 @@
 //! ```
 
 ghost use Rattle.std.specs.Prelude.{◌≡◌, ◌≢◌, ℕ, ◌+◌, ◌-◌, ◌*◌, ◌^◌, ◌<◌, ◌≤◌, length, slice_index, vec_len, IfOk, IfSome, IfNone, ◌⊎◌};
-ghost use Rattle.block_map.specs.Tree.{IsTree, IsRoot, HasOwnNumbers, KeepsLeavesBut};
+ghost use Rattle.block_map.specs.Tree.{IsBlockTree, IsRoot, HasOwnNumbers, KeepsLeavesBut};
 
 use std::alloc::{AllocError, Global};
 
@@ -20,7 +20,7 @@ pub const NONE: u32 = u32::MAX;
 
 /// The tree of `blocks` blocks, all of them free.
 pub fn all_free(alloc: Global, blocks: u32) -> Result<Vec<u32>, AllocError>
-    ensures tree { IfOk result (λ tree. IsTree tree.items blocks) }
+    ensures tree { IfOk result (λ tree. IsBlockTree tree.items blocks) }
     ensures leaves { IfOk result (λ tree. HasOwnNumbers tree.items blocks) }
 {
     let mut tree = leaves(alloc, blocks)?;
@@ -51,7 +51,7 @@ fn leaves(alloc: Global, blocks: u32) -> Result<Vec<u32>, AllocError>
 // Settles all places above the leaves, from the last one up.
 fn settle(tree: &mut [u32], blocks: usize)
     requires { length tree.old ≡ 2 * blocks }
-    ensures tree { IsTree tree.new blocks }
+    ensures tree { IsBlockTree tree.new blocks }
     ensures leaves { (k : ℕ) → blocks ≤ k → slice_index tree.new k ≡ slice_index tree.old k }
 {
     for at in (1..blocks).rev() {
@@ -61,9 +61,9 @@ fn settle(tree: &mut [u32], blocks: usize)
 
 /// Puts a number at a block's place, and settles the places above it.
 pub fn put(tree: &mut [u32], blocks: usize, block: usize, number: u32)
-    requires tree { IsTree tree.old blocks }
+    requires tree { IsBlockTree tree.old blocks }
     requires block { block < blocks }
-    ensures tree { IsTree tree.new blocks }
+    ensures tree { IsBlockTree tree.new blocks }
     ensures leaf { slice_index tree.new (blocks + block) ≡ number }
     ensures others { KeepsLeavesBut tree.old tree.new blocks block }
 {

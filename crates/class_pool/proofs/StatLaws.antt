@@ -1,15 +1,13 @@
 -- Counting zspages and their fullness groups, one zspage at a time.
-use Rattle.std.proofs.Common.{◌≡◌, ℕ, ◌+◌, ◌<◌, ◌≤◌, List, [], ◌∷◌, ◌++◌, Option, None, Some, true, false, length, take, get_or, slice_index, count_by, refl, sym, ◌∙◌, ap, inl, inr, arith}
+use Rattle.std.proofs.Common.{◌≡◌, ℕ, ◌+◌, ◌<◌, ◌≤◌, List, Option, None, Some, true, false, length, take, get_or, slice_index, count_by, refl, sym, ◌∙◌, ap, inl, inr, arith}
 use Rattle.std.proofs.Common.{get_or-set_same, get_or-set_other}
 use Rattle.std.proofs.Math.ListN.{set}
-use Rattle.std.proofs.lemmas.List.{take_more, length-take-le}
-use Rattle.std.proofs.lemmas.List.Sums.{count_by_more_yes, count_by_more_no, count_by-le-length}
+use Rattle.std.proofs.lemmas.List.Sums.{count_by_more_yes, count_by_more_no}
 use Rattle.std.proofs.lemmas.Bool.{cases_eq, eq-eqb, ne_eqb}
 use Rattle.size_class.specs.Groups.{group_of}
 use Rattle.zspage.specs.Cells.{used_of, entry}
 use Rattle.class_pool.specs.Zspages.{Cells, used_in}
 use Rattle.class_pool.specs.Pool.{is_in_group}
-use Rattle.class_pool.proofs.SumLaws.{one_of}
 
 -- ---- what the count of used cells tells
 
@@ -18,54 +16,29 @@ pub there : (o : Option Cells) (used : ℕ) → used ≡ used_in o → 0 < used
 there None used is some = absurd (omega arith)
 there (Some cells) used is some = (cells, refl, is)
 
-pub not_there : (o : Option Cells) (used : ℕ) → used ≡ used_in o → used ≤ 0 → ((cells : Cells) → o ≡ Some cells
+pub not_there : (o : Option Cells) (used : ℕ) → used ≡ used_in o → used ≤ 0
+    → ((cells : Cells) → o ≡ Some cells
     → 1 ≤ used_of cells) → o ≡ None
 not_there None used is none filled = refl
 not_there (Some cells) used is none filled = absurd (omega (arith, filled cells refl))
 
--- ---- the count of zspages
-
-there_append : (xs ys : List (Option Cells)) → used_of (xs ++ ys) ≡ used_of xs + used_of ys
-there_append [] ys = omega arith
-there_append (None ∷ xs) ys = there_append xs ys
-there_append (Some x ∷ xs) ys = omega (arith, there_append xs ys)
-
-there_alone : (o : Option Cells) → used_of (o ∷ []) ≡ one_of o
-there_alone None = refl
-there_alone (Some cells) = refl
-
-pub there_more : (zs : List (Option Cells)) (i : ℕ) → i < length zs
-    → used_of (take (i + 1) zs) ≡ used_of (take i zs) + one_of (entry zs i)
-there_more zs i low =
-    ap used_of (take_more zs i None low) ∙ there_append (take i zs) (entry zs i ∷ [])
-    ∙ ap (λ n. used_of (take i zs) + n) (there_alone (entry zs i))
-
-there_most : (zs : List (Option Cells)) → used_of zs ≤ length zs
-there_most [] = omega arith
-there_most (None ∷ zs) = omega (arith, there_most zs)
-there_most (Some cells ∷ zs) = omega (arith, there_most zs)
-
-pub there_few : (zs : List (Option Cells)) (i : ℕ) → i ≤ length zs → used_of (take i zs) ≤ i
-there_few zs i low = omega (arith, there_most (take i zs), length-take-le i zs low)
-
 -- ---- the counts of the groups
-
-pub in_group_few : (per g i : ℕ) (zs : List (Option Cells)) → i ≤ length zs
-    → count_by (is_in_group per g) (take i zs) ≤ i
-in_group_few per g i zs low = omega (arith, count_by-le-length (is_in_group per g) (take i zs), length-take-le i zs low)
 
 -- a zspage of a group adds one to its count
 pub group_more : (per place i : ℕ) (zs : List (Option Cells)) (cells : Cells) (groups : List ℕ)
-    → i < length zs → entry zs i ≡ Some cells → group_of (used_of cells) per ≡ place + 1 → length groups ≡ 11
+    → i < length zs → entry zs i ≡ Some cells → group_of (used_of cells) per ≡ place + 1
+    → length groups ≡ 11
     → place < 11
     → ((g : ℕ) → g < 11 → slice_index groups g ≡ count_by (is_in_group per (g + 1)) (take i zs))
     → (g : ℕ) → g < 11
-    → slice_index (set groups place (slice_index groups place + 1)) g ≡ count_by (is_in_group per (g + 1)) (take (i + 1) zs)
+    → slice_index (set groups place (slice_index groups place + 1)) g ≡ count_by
+    (is_in_group per (g + 1)) (take (i + 1) zs)
 group_more per place i zs cells groups low at group long small so_far g few =
     elim (cases_eq g place) [
       | inl e ↦
           let yes : is_in_group per (g + 1) (get_or zs i None) ≡ true =
-          ap (is_in_group per (g + 1)) at ∙ eq-eqb (group_of (used_of cells) per) (g + 1) (omega arith) in
+          ap (is_in_group per (g + 1)) at ∙ eq-eqb (group_of (used_of cells) per) (g + 1)
+          (omega arith) in
           let within : place < length groups = omega arith in
           ap (λ n. slice_index (set groups place (slice_index groups place + 1)) n) e
           ∙ rw get_or-set_same
@@ -85,5 +58,6 @@ pub group_same : (per i : ℕ) (zs : List (Option Cells)) (groups : List ℕ)
     → ((g : ℕ) → g < 11 → slice_index groups g ≡ count_by (is_in_group per (g + 1)) (take i zs))
     → (g : ℕ) → g < 11 → slice_index groups g ≡ count_by (is_in_group per (g + 1)) (take (i + 1) zs)
 group_same per i zs groups low at so_far g few =
-    let no_match : is_in_group per (g + 1) (get_or zs i None) ≡ false = ap (is_in_group per (g + 1)) at in
+    let no_match : is_in_group per (g + 1) (get_or zs i None) ≡ false =
+    ap (is_in_group per (g + 1)) at in
     so_far g few ∙ sym (count_by_more_no (is_in_group per (g + 1)) zs i None low no_match)

@@ -2,8 +2,13 @@
 use Rattle.std.specs.Prelude.{ℕ, ◌≡◌, ◌+◌, ◌*◌, ◌<◌, ◌≤◌, ◌^◌, List, Option, Some, length}
 use Rattle.zspage.specs.Cells.{UsedCell, used_of, entry}
 use Rattle.class_pool.specs.declared.places.Place.{Place}
-use Rattle.class_pool.specs.Zspages.{Cells, ZspagesState, use_at}
-use Rattle.class_pool.specs.Pool.{used_cells}
+use Rattle.class_pool.specs.Zspages.{Cells, ZspagesState, AreFilled, AreWhole, use_at}
+use Rattle.class_pool.specs.Pool.{PoolState, used_cells}
+
+-- the pool of a class with these zspages
+abbrev pub pool_of : ℕ → ZspagesState → PoolState
+pool_of class z =
+    record { class = class; size = z.size; chain = z.chain; per = z.per; zspages = z.zspages }
 
 -- each handle in use has the place of its object, and each used cell is the place of its handle
 pub record IsIndex (zspages : List (Option Cells)) (places : List (Option Place)) : Type 0 where
@@ -12,22 +17,20 @@ pub record IsIndex (zspages : List (Option Cells)) (places : List (Option Place)
   pub listed : (i j : ℕ) (u : UsedCell) → use_at zspages i j ≡ Some u
       → entry places u.handle ≡ Some (record { zspage = i; cell = j })
 
--- the fields of a pool fit one another
-pub record FieldsFit (size chain per used : ℕ) (z : ZspagesState) (places : List (Option Place)) : Type 0 where
-  pub size_is : size ≡ z.size
-  pub chain_is : chain ≡ z.chain
-  pub per_is : per ≡ z.per
-  pub some : 1 ≤ per
-  pub few : per ≤ 2048
+-- the places fit the zspages, and there are as many numbers as cells, but for at most one zspage
+-- more
+pub record Fit (z : ZspagesState) (places : List (Option Place)) : Type 0 where
+  pub some : 1 ≤ z.per
+  pub few : z.per ≤ 2048
   pub index : IsIndex z.zspages places
-  pub whole : (k : ℕ) (cells : Cells) → entry z.zspages k ≡ Some cells → length cells ≡ per
-  pub count : used ≡ length (used_cells z.zspages)
+  pub whole : AreWhole z.per z.zspages
   pub numbers : used_of places ≡ length (used_cells z.zspages)
-  pub enough : per * length z.zspages ≤ length places
-  pub bounded : length places ≤ per * (length z.zspages + 1)
+  pub enough : z.per * length z.zspages ≤ length places
+  pub bounded : length places ≤ z.per * (length z.zspages + 1)
   pub short : length z.zspages < 2 ^ 32
 
--- beside that each zspage has a used cell
-pub record IsPooled (size chain per used : ℕ) (z : ZspagesState) (places : List (Option Place)) : Type 0 where
-  pub fit : FieldsFit size chain per used z places
-  pub filled : (k : ℕ) (cells : Cells) → entry z.zspages k ≡ Some cells → 1 ≤ used_of cells
+-- beside that each zspage has a used cell, and these are counted
+pub record IsPooled (used : ℕ) (z : ZspagesState) (places : List (Option Place)) : Type 0 where
+  pub fit : Fit z places
+  pub count : used ≡ length (used_cells z.zspages)
+  pub filled : AreFilled z.zspages

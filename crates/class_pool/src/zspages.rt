@@ -1,11 +1,12 @@
-//! The zspages of one class by their ids. A tournament of ranks finds the one that takes the next object, and the least
-//! free id, in a time that grows with the logarithm of their number; a second one finds the zspage that gives an object
-//! up when objects are moved together.
+//! The zspages of one class by their ids. A tournament of ranks finds the one that takes the next
+//! object, and the least free id, in a time that grows with the logarithm of their number; a second
+//! one finds the zspage that gives an object up when objects are moved together.
 
 ghost use Rattle.std.specs.Prelude.{◌≡◌, ◌+◌, ◌-◌, ◌*◌, ◌/◌, ◌<◌, ◌≤◌, ◌^◌, ◌++◌, ◌∷◌, ℕ, List, [], length, Some, None, IfOk, OnOk, OnErr, IsTrue, true, false, replicate, slice_set};
-ghost use Rattle.zspage.specs.Cells.{IsStored, Fits, UsedCell, used_of, entry, IsLowestFree, IsHome, IsOut};
+ghost use Rattle.zspage.specs.Cells.{CellState, IsStored, IsCellAt, Fits, UsedCell, used_of, entry, IsLowestFree, IsHome, IsOut};
 ghost use Rattle.class_pool.specs.Zspages.{Cells, used_in, HasRoom, IsFullest, IsLeastAbsent, put_at, rank_of, source_rank};
 ghost use Rattle.class_pool.specs.Rows.{row_at, rows};
+ghost use Rattle.class_pool.specs.Pool.{new_use};
 ghost use Rattle.zs_plan.specs.Plan.{IsFuller, IsEmptier, IsPartial, HasMovable, IsBest};
 
 use std::alloc::{AllocError, Global};
@@ -44,7 +45,12 @@ impl Model for Zspages {
 
     ghost Value = { ZspagesState };
 
-    ghost view = { λ z. record { size = z.size; chain = z.chain; per = z.per; zspages = map cells_of z.items.items } };
+    ghost view = { λ z. record {
+      size = z.size;
+      chain = z.chain;
+      per = z.per;
+      zspages = map cells_of z.items.items;
+    } };
 
     ghost invariant = { λ z. AreZspages z.size z.chain z.per z.items.items z.ranks z.sources };
 }
@@ -67,6 +73,27 @@ impl Zspages {
             ranks: Tournament::new(alloc),
             sources: Tournament::new(alloc),
         }
+    }
+
+    /// The bytes of a cell.
+    pub fn size(&self) -> u32
+        ensures { result ≡ self.now.size }
+    {
+        self.size
+    }
+
+    /// The frames of a chain.
+    pub fn chain(&self) -> u32
+        ensures { result ≡ self.now.chain }
+    {
+        self.chain
+    }
+
+    /// The cells of a zspage.
+    pub fn per(&self) -> u32
+        ensures { result ≡ self.now.per }
+    {
+        self.per
     }
 
     /// The number of ids that are or were in use.
@@ -172,7 +199,9 @@ impl Zspages {
     pub fn add(&mut self, alloc: Global, id: u32) -> Result<(), AllocError>
         requires absent { IsLeastAbsent self.old.zspages id }
         requires short { id + 1 < 2 ^ 32 }
-        ensures ok { OnOk result (self.new ≡ record self.old { zspages = put_at self.old.zspages id (Some (replicate self.old.per None)) }) }
+        ensures ok { OnOk result (self.new ≡ record self.old {
+          zspages = put_at self.old.zspages id (Some (replicate self.old.per None));
+        }) }
         ensures err { OnErr result (self.new ≡ self.old) }
     {
         let zspage = Zspage::new(alloc, id, self.size, self.chain)?;
@@ -196,11 +225,12 @@ impl Zspages {
     pub fn take_cell(&mut self, id: u32, handle: Handle, bytes: &[u8]) -> u32
         requires room { HasRoom (entry self.old.zspages id) }
         requires fits { Fits (length bytes.now) self.old.size }
-        ensures { (cells : Cells) × (cell : List ℕ) × (entry self.old.zspages id ≡ Some cells) × IsLowestFree cells result
-            × IsStored handle.0 bytes.now cell
+        ensures { (cells : Cells) × (cell : CellState)
+            × (entry self.old.zspages id ≡ Some cells) × IsLowestFree cells result
+            × IsStored handle.0 bytes.now cell × IsCellAt self.old.size result cell
             × (self.new ≡ record self.old {
               zspages = slice_set self.old.zspages id
-                  (Some (slice_set cells result (Some (record { handle = handle.0; bytes = bytes.now; cell = cell; out = false }))));
+                  (Some (slice_set cells result (Some (new_use handle.0 bytes.now cell))));
             }) }
     {
         let id = id as usize;
@@ -218,13 +248,19 @@ impl Zspages {
         }
     }
 
-    /// Takes the object of a used cell away, and gives the zspage up where that was its last. Tells whether it was.
+    /// Takes the object of a used cell away, and gives the zspage up where that was its last. Tells
+    /// whether it was.
     pub fn put_cell(&mut self, id: u32, ix: u32) -> bool
         requires { (cells : Cells) × (entry self.old.zspages id ≡ Some cells) × IsHome cells ix }
-        ensures gone { result ≡ true → (cells : Cells) × (entry self.old.zspages id ≡ Some cells) × (used_of cells ≡ 1)
-            × (self.new ≡ record self.old { zspages = slice_set self.old.zspages id None }) }
-        ensures kept { result ≡ false → (cells : Cells) × (entry self.old.zspages id ≡ Some cells) × (2 ≤ used_of cells)
-            × (self.new ≡ record self.old { zspages = slice_set self.old.zspages id (Some (slice_set cells ix None)) }) }
+        ensures gone { (cells : Cells) → entry self.old.zspages id ≡ Some cells → result ≡ true
+            → (used_of cells ≡ 1) × (self.new ≡ record self.old {
+              zspages =
+                  slice_set self.old.zspages id None;
+            }) }
+        ensures kept { (cells : Cells) → entry self.old.zspages id ≡ Some cells → result ≡ false
+            → (2 ≤ used_of cells) × (self.new ≡ record self.old {
+              zspages = slice_set self.old.zspages id (Some (slice_set cells ix None));
+            }) }
     {
         let id = id as usize;
         let slot = &mut self.items[id];
@@ -250,9 +286,14 @@ impl Zspages {
     /// Lends a used cell.
     pub fn lend(&mut self, id: u32, ix: u32) -> Cell
         requires { (cells : Cells) × (entry self.old.zspages id ≡ Some cells) × IsHome cells ix }
-        ensures { (cells : Cells) × (u : UsedCell) × (entry self.old.zspages id ≡ Some cells) × (entry cells ix ≡ Some u)
-            × (u.cell ≡ result) × IsStored u.handle u.bytes result
-            × (self.new ≡ record self.old { zspages = slice_set self.old.zspages id (Some (slice_set cells ix (Some (record u { out = true })))) }) }
+        ensures { (cells : Cells) (u : UsedCell) → entry self.old.zspages id ≡ Some cells
+            → entry cells ix ≡ Some u
+            → (u.cell ≡ result) × IsStored u.handle u.bytes result
+            × IsCellAt self.old.size ix result
+            × (self.new ≡ record self.old {
+              zspages = slice_set self.old.zspages id
+                  (Some (slice_set cells ix (Some (record u { out = true }))));
+            }) }
     {
         let id = id as usize;
         let slot = &mut self.items[id];
@@ -269,9 +310,14 @@ impl Zspages {
 
     /// Takes the cell that was lent back.
     pub fn back(&mut self, id: u32, ix: u32, cell: Cell)
-        requires { (cells : Cells) × (entry self.old.zspages id ≡ Some cells) × IsOut cells ix cell }
-        ensures { (cells : Cells) × (u : UsedCell) × (entry self.old.zspages id ≡ Some cells) × (entry cells ix ≡ Some u)
-            × (self.new ≡ record self.old { zspages = slice_set self.old.zspages id (Some (slice_set cells ix (Some (record u { out = false })))) }) }
+        requires { (cells : Cells) × (entry self.old.zspages id ≡ Some cells)
+            × IsOut cells ix cell }
+        ensures { (cells : Cells) (u : UsedCell) → entry self.old.zspages id ≡ Some cells
+            → entry cells ix ≡ Some u
+            → self.new ≡ record self.old {
+              zspages = slice_set self.old.zspages id
+                  (Some (slice_set cells ix (Some (record u { out = false }))));
+            } }
     {
         let id = id as usize;
         let slot = &mut self.items[id];

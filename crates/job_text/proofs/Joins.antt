@@ -15,14 +15,20 @@ joined_more words before i word is below =
     ap (λ (xs : List ℕ). xs ++ (get_or words i word).now) is
     ∙ sym (
     ap (λ ws. concat (map (λ (word : Bor (List ℕ)). word.now) ws)) (take_more words i word below)
-    ∙ ap concat (map-append (λ (word : Bor (List ℕ)). word.now) (take i words) (get_or words i word ∷ []))
-    ∙ concat-append (map (λ (word : Bor (List ℕ)). word.now) (take i words)) ((get_or words i word).now ∷ [])
-    ∙ ap (λ (xs : List ℕ). concat (map (λ (word : Bor (List ℕ)). word.now) (take i words)) ++ xs) (append-nil (get_or words i word).now)
+    ∙ ap concat (map-append (λ (word : Bor (List ℕ)). word.now) (take i words)
+    (get_or words i word ∷ []))
+    ∙ concat-append (map (λ (word : Bor (List ℕ)). word.now) (take i words))
+    ((get_or words i word).now ∷ [])
+    ∙ ap (λ (xs : List ℕ). concat (map (λ (word : Bor (List ℕ)). word.now) (take i words)) ++ xs)
+    (append-nil (get_or words i word).now)
     )
 
 module _ (words : List (Bor (List ℕ))) (i : ℕ) (d : Bor (List ℕ)) (below : i < length words) where
-  pub turn_at : list_all is_turn (map (λ word. word.now) words) ≡ true → is_turn (get_or words i d).now ≡ true
-  turn_at all = true_from_ne_false _ (λ e. both_ways _ (list_all-map is_turn (λ (word : Bor (List ℕ)). word.now) words ∙ list_all_at (λ (word : Bor (List ℕ)). is_turn word.now) words i d below e) all)
+  pub turn_at : list_all is_turn (map (λ word. word.now) words) ≡ true
+      → is_turn (get_or words i d).now ≡ true
+  turn_at all = true_from_ne_false _
+      (λ e. both_ways _ (list_all-map is_turn (λ (word : Bor (List ℕ)). word.now) words
+      ∙ list_all_at (λ (word : Bor (List ℕ)). is_turn word.now) words i d below e) all)
 
   pub bad_at : may_give (turn_of (get_or words i d).now) ≡ false
       → list_all may_give (map turn_of (map (λ word. word.now) words)) ≡ false

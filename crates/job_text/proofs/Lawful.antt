@@ -9,21 +9,22 @@ use Rattle.std.proofs.lemmas.List.Folds.{list_all_at}
 use Rattle.std.proofs.lemmas.List.FromFn.{length-map-range_with_len, get_or-map-range_with_len}
 use Rattle.zr_base.specs.Plain.{InBounds}
 use Rattle.zr_base.specs.declared.op.Turns.{Turns}
+use Rattle.zr_base.specs.declared.limits.TheConstants.{MOST_PAGES, MOST_SECTORS, MOST_ACTORS}
 use Rattle.job_text.specs.declared.fault.Cause.{Cause}
 use Rattle.job_text.specs.declared.fault.Cause.TheVariants as causes
-use Rattle.job_text.specs.declared.fault.Stop.{Stop}
+use Rattle.job_text.specs.declared.fault.NotTaken.{NotTaken}
 use Rattle.job_text.specs.declared.line.Line.{Line}
-use Rattle.job_text.specs.Numbers.{digit_value, is_number, pages_of, number_of, are_digits, bytes_by, turn_of}
+use Rattle.job_text.specs.Numbers.{digit_value, byte_at, is_number, size_pages, number_of, are_digits, bytes_by, turn_of}
 use Rattle.job_text.specs.Lines.{Form, blank_form, size_form, actor_form, fill_form, seq_form, hex_form, read_form, discard_form, schedule_form, run_form, alone, size_in, read_in, discard_in, fill_in, seq_in, hex_in, stuff_in, write_in, schedule_in, named_in, form_of, fill_sectors, is_malformed, meaning, are_bounds, may_give, has_bad_value, line_with, line_of}
 use Rattle.job_text.specs.Jobs.{MayTurn}
-use Rattle.job_text.specs.Answers.{Answers, IsLine}
+use Rattle.job_text.specs.Answers.{Answers, IsInRange}
 
 -- a fact of what there is, if anything
 abbrev pub IfRead : {A : Type 0} → (A → Type 0) → Result A Cause → Type 0
 IfRead P (Err cause) = Unit {0}
 IfRead P (Ok x) = P x
 
--- a `schedule` has some words behind it
+-- a `schedule` has some words after it
 abbrev HasWords : Form → Type 0
 HasWords blank_form = Unit {0}
 HasWords (size_form size) = Unit {0}
@@ -39,73 +40,92 @@ HasWords run_form = Unit {0}
 bounds : (start count : ℕ) → not (are_bounds start count) ≡ false → InBounds start count
 bounds start count good = grind (arith, nat_tests, not-false (are_bounds start count) good)
 
-may_turn : (turns : List Turns) → list_all may_give turns ≡ true → MayTurn 64 turns
+may_turn : (turns : List Turns) → list_all may_give turns ≡ true → MayTurn MOST_ACTORS turns
 may_turn [] all = tt
 may_turn (t ∷ ts) all =
-    let parts = and_parts (may_give t) (list_all may_give ts) all in
-    (grind (arith, nat_tests, parts.0), grind (arith, nat_tests, parts.0), grind (arith, nat_tests, parts.0), may_turn ts parts.1)
+    let parts = and_parts (may_give t) (list_all may_give ts) all in (
+      grind (arith, nat_tests, parts.0),
+      grind (arith, nat_tests, parts.0),
+      grind (arith, nat_tests, parts.0),
+      may_turn ts parts.1,
+    )
 
 -- the bytes of a request, where its digits are as many as they must be
-filled : (digits : List ℕ) (count : ℕ) → fill_sectors (length digits) count ≡ true → 1 ≤ count → count ≤ 2048
+filled : (digits : List ℕ) (count : ℕ) → fill_sectors (length digits) count ≡ true → 1 ≤ count
+    → count ≤ MOST_SECTORS
     → 512 * count ≤ length (bytes_by digits)
 filled digits count fill some most =
     let n : length digits ≡ 1024 * count = exact (length digits) count fill some most in
-    let l : length (bytes_by digits) ≡ length digits / 2 = length-map-range_with_len (λ k. 16 * digit_value (get_or digits (2 * k) 0) + digit_value (get_or digits (2 * k + 1) 0)) 0 (length digits / 2) in
+    let l = length-map-range_with_len (byte_at digits) 0 (length digits / 2) in
     omega arith
   where
-    exact : (digits count : ℕ) → fill_sectors digits count ≡ true → 1 ≤ count → count ≤ 2048
+    exact : (digits count : ℕ) → fill_sectors digits count ≡ true → 1 ≤ count → count ≤ MOST_SECTORS
         → digits ≡ 1024 * count
     exact digits count fill some most =
         let a : nat_le 1 count ≡ true = le-leb 1 count some in
-        let b : nat_le count 2048 ≡ true = le-leb count 2048 most in
-        let c : not (nat_le 1 count && nat_le count 2048) ≡ false = rw (a, b) refl in
-        eqb-true digits (1024 * count) (let d = ap (λ x. x || digits == 1024 * count) c in sym d ∙ fill)
+        let b : nat_le count MOST_SECTORS ≡ true = le-leb count MOST_SECTORS most in
+        let c : not (nat_le 1 count && nat_le count MOST_SECTORS) ≡ false = rw (a, b) refl in
+        eqb-true digits (1024 * count) (let d = ap (λ x. x || digits == 1024 * count) c in
+        sym d ∙ fill)
 
 -- each of them is a byte
 digit_small : (digits : List ℕ) (i : ℕ) → are_digits 16 digits ≡ true → i < length digits
     → digit_value (get_or digits i 0) < 16
-digit_small digits i are below = ltb-true (digit_value (get_or digits i 0)) 16 (true_from_ne_false _ (λ no.
+digit_small digits i are below =
+    ltb-true (digit_value (get_or digits i 0)) 16 (true_from_ne_false _ (λ no.
     both_ways _ (list_all_at (λ c. nat_lt (digit_value c) 16) digits i 0 below no) are))
 
-bytes_by-small : (digits : List ℕ) → are_digits 16 digits ≡ true → (k : ℕ) → get_or (bytes_by digits) k 0 < 256
+bytes_by-small : (digits : List ℕ) → are_digits 16 digits ≡ true → (k : ℕ)
+    → get_or (bytes_by digits) k 0 < 256
 bytes_by-small digits are k = elim (cases_lt k (length digits / 2)) [
   | inl below ↦
       let high = digit_small digits (2 * k) are (omega arith) in
       let low = digit_small digits (2 * k + 1) are (omega arith) in
-      let e : get_or (bytes_by digits) k 0 ≡ byte k = get_or-map-range_with_len byte 0 (length digits / 2) k k 0 below (omega arith) in
+      let e = get_or-map-range_with_len (byte_at digits) 0 (length digits / 2) k k 0 below
+      (omega arith) in
       omega arith
   | inr past ↦
-      let n : length (bytes_by digits) ≡ length digits / 2 = length-map-range_with_len byte 0 (length digits / 2) in
-      let e : get_or (bytes_by digits) k 0 ≡ 0 = get_or_past (bytes_by digits) k 0 (omega arith) in
+      let n = length-map-range_with_len (byte_at digits) 0 (length digits / 2) in
+      let e = get_or_past (bytes_by digits) k 0 (omega arith) in
       omega arith
 ]
-  where
-    byte : ℕ → ℕ
-    byte k = 16 * digit_value (get_or digits (2 * k) 0) + digit_value (get_or digits (2 * k + 1) 0)
 
-form-lawful : (form : Form) → HasWords form → is_malformed form ≡ false → has_bad_value (meaning form) ≡ false
-    → IsLine (meaning form)
+form-lawful : (form : Form) → HasWords form → is_malformed form ≡ false
+    → has_bad_value (meaning form) ≡ false
+    → IsInRange (meaning form)
 unfolding is_malformed meaning
 form-lawful blank_form has well good = tt
-form-lawful (size_form size) has well good = sized (pages_of size) good
+form-lawful (size_form size) has well good = sized (size_pages size) good
   where
-    sized : (pages : ℕ) → not (nat_le 1 pages && nat_le pages 262144) ≡ false → (1 ≤ pages) × (pages ≤ 262144)
-    sized pages good = grind (arith, nat_tests, not-false (nat_le 1 pages && nat_le pages 262144) good)
+    sized : (pages : ℕ) → not (nat_le 1 pages && nat_le pages MOST_PAGES) ≡ false
+        → (1 ≤ pages) × (pages ≤ MOST_PAGES)
+    sized pages good = grind (
+      arith,
+      nat_tests,
+      not-false (nat_le 1 pages && nat_le pages MOST_PAGES) good,
+    )
 form-lawful actor_form has well good = tt
-form-lawful (fill_form start count word) has well good = (bounds (number_of start) (number_of count) good, tt, tt)
-form-lawful (seq_form start count base step) has well good = (bounds (number_of start) (number_of count) good, tt, tt)
+form-lawful (fill_form start count word) has well good =
+    (bounds (number_of start) (number_of count) good, tt, tt)
+form-lawful (seq_form start count base step) has well good =
+    (bounds (number_of start) (number_of count) good, tt, tt)
 form-lawful (hex_form start count digits) has well good =
     let in_bounds = bounds (number_of start) (number_of count) good in
-    let fill = and_parts (is_number start && is_number count && are_digits 16 (concat digits)) (fill_sectors (length (concat digits)) (number_of count)) (not-false _ well) in
-    let are = and_parts (is_number start && is_number count) (are_digits 16 (concat digits)) fill.0 in (
+    let fill = and_parts (is_number start && is_number count && are_digits 16 (concat digits))
+    (fill_sectors (length (concat digits)) (number_of count)) (not-false _ well) in
+    let are = and_parts (is_number start && is_number count)
+    (are_digits 16 (concat digits)) fill.0 in (
       in_bounds,
       filled (concat digits) (number_of count) fill.1 in_bounds.1 in_bounds.2,
       bytes_by-small (concat digits) are.1,
     )
 form-lawful (read_form start count) has well good = bounds (number_of start) (number_of count) good
-form-lawful (discard_form start count) has well good = bounds (number_of start) (number_of count) good
-form-lawful (schedule_form turns) has well good =
-    (omega (arith, length-map turns turn_of), may_turn (map turn_of turns) (not-false (list_all may_give (map turn_of turns)) good))
+form-lawful (discard_form start count) has well good =
+    bounds (number_of start) (number_of count) good
+form-lawful (schedule_form turns) has well good = (
+  omega (arith, length-map turns turn_of),
+  may_turn (map turn_of turns) (not-false (list_all may_give (map turn_of turns)) good),
+)
 form-lawful run_form has well good = tt
 
 -- ---- the words of a `schedule`
@@ -182,21 +202,23 @@ form-words (name ∷ words) =
 
 line-lawful-by : (form : Form) → HasWords form → (m b : Bool) → is_malformed form ≡ m
     → has_bad_value (meaning form) ≡ b
-    → IfRead IsLine (cond m (Err causes.Number) (cond b (Err causes.Range) (Ok (meaning form))))
+    → IfRead IsInRange (cond m (Err causes.Number) (cond b (Err causes.Range) (Ok (meaning form))))
 line-lawful-by form has true b well good = tt
 line-lawful-by form has false true well good = tt
 line-lawful-by form has false false well good = form-lawful form has well good
 
-pub line-lawful : (words : List (List ℕ)) → IfRead IsLine (line_of words)
+pub line-lawful : (words : List (List ℕ)) → IfRead IsInRange (line_of words)
 line-lawful words = by (form_of words) (form-words words)
   where
-    by : (form : Option Form) → IfForm form → IfRead IsLine (line_with form)
+    by : (form : Option Form) → IfForm form → IfRead IsInRange (line_with form)
     by None has = tt
-    by (Some form) has = line-lawful-by form has (is_malformed form) (has_bad_value (meaning form)) refl refl
+    by (Some form) has = line-lawful-by form has (is_malformed form)
+        (has_bad_value (meaning form)) refl refl
 
 -- what a call that answers for words gives
-pub answered-lawful : (words : List (List ℕ)) (result : Result Line Stop) → Answers (line_of words) result
-    → IfOk result IsLine
-answered-lawful words (Ok line) is = let P : Result Line Cause → Type 0 = IfRead IsLine in
+pub answered-lawful : (words : List (List ℕ)) (result : Result Line NotTaken)
+    → Answers (line_of words) result
+    → IfOk result IsInRange
+answered-lawful words (Ok line) is = let P : Result Line Cause → Type 0 = IfRead IsInRange in
     subst P is (line-lawful words)
 answered-lawful words (Err stop) is = tt

@@ -5,4 +5,5 @@ pub mod Spelling
 pub mod Splits
 pub mod Steps
 pub mod Texts
+pub mod Totals
 pub mod Unspelling

@@ -29,7 +29,8 @@ module _ (p : ℕ → Bool) where
   split-Some xs i e =
       let is = some_is (nat_lt (position_or_len p xs) (length xs)) (position_or_len p xs) i e in
       let inside : position_or_len p xs < length xs = ltb-true _ _ is.0 in
-      slice_split_first p xs 0 inside ∙ ap (λ (n : ℕ). take n xs ∷ slice_split p (drop (n + 1) xs)) is.1
+      slice_split_first p xs 0 inside
+      ∙ ap (λ (n : ℕ). take n xs ∷ slice_split p (drop (n + 1) xs)) is.1
 
   pub split-None : (xs : List ℕ) → position p xs ≡ None → slice_split p xs ≡ xs ∷ []
   split-None xs e = split_whole xs (grind (arith, nat_tests))

@@ -7,24 +7,27 @@ use Rattle.std.proofs.lemmas.Bool.{leb-true, le-leb, ltb-true, eqb-true, and_par
 use Rattle.zr_base.specs.Plain.{IsRequest}
 use Rattle.zr_base.specs.declared.op.Op.{Op}
 use Rattle.zr_base.specs.declared.op.Turns.{Turns}
+use Rattle.zr_base.specs.declared.limits.TheConstants.{MOST_PAGES, MOST_ACTORS}
+use Rattle.job_text.specs.declared.limits.TheConstants.{MOST_TURNS}
 use Rattle.job_text.specs.declared.job.Attr.TheVariants.{DiskPages}
 use Rattle.job_text.specs.declared.job.Item.{Item}
 use Rattle.job_text.specs.declared.job.Item.TheVariants as items
 use Rattle.job_text.specs.declared.begun.Begun.{Begun}
 use Rattle.job_text.specs.Jobs.{Saying, says_disk, says_actor, says_operation, says_turns, says_run, actor_sayings, item_sayings, Used, with_disk, with_phase, with_op, with_ops, with_actors, turns_in, with_turns, with_text, has_phase_left, has_left_for, has_turns_left, MayOperate, MayAct, MayTurn, HasDisk, MayRun, MayFollow}
-use Rattle.job_text.specs.Reading.{is_scheduled, all_actors, items_from}
+use Rattle.job_text.specs.Reading.{is_scheduled, all_actors, text_of, fresh, with_actor, with_operation, with_schedule, items_from}
 
 -- a saying's values are in their range
 abbrev pub IsSaid : Saying → Type 0
-IsSaid (says_disk pages) = (1 ≤ pages) × (pages ≤ 262144)
+IsSaid (says_disk pages) = (1 ≤ pages) × (pages ≤ MOST_PAGES)
 IsSaid says_actor = Unit {0}
 IsSaid (says_operation op) = IsRequest op
-IsSaid (says_turns turns) = (1 ≤ turns.times) × (turns.times ≤ 16777216)
+IsSaid (says_turns turns) = (1 ≤ turns.times) × (turns.times ≤ MOST_TURNS)
 IsSaid says_run = Unit {0}
 
 -- ---- one more
 
-ops_push : (u : Used) (ops : List Op) (op : Op) → with_ops u (ops ++ op ∷ []) ≡ with_op (with_ops u ops) op
+ops_push : (u : Used) (ops : List Op) (op : Op)
+    → with_ops u (ops ++ op ∷ []) ≡ with_op (with_ops u ops) op
 ops_push u [] op = refl
 ops_push u (o ∷ ops) op = ops_push (with_op u o) ops op
 
@@ -33,14 +36,17 @@ actors_push : (u : Used) (actors : List (List Op)) (ops : List Op)
 actors_push u [] ops = refl
 actors_push u (o ∷ more) ops = actors_push (with_ops u o) more ops
 
-turns_push : (turns : List Turns) (t : Turns) → turns_in (turns ++ t ∷ []) ≡ turns_in turns + (t.times + 0)
+turns_push : (turns : List Turns) (t : Turns)
+    → turns_in (turns ++ t ∷ []) ≡ turns_in turns + (t.times + 0)
 turns_push [] t = omega arith
-turns_push (o ∷ more) t = let n : turns_in (more ++ t ∷ []) ≡ turns_in more + (t.times + 0) = turns_push more t in omega arith
+turns_push (o ∷ more) t = let n : turns_in (more ++ t ∷ []) ≡ turns_in more + (t.times + 0) =
+    turns_push more t in omega arith
 
 operate_push : (u : Used) (ops : List Op) (op : Op) → MayOperate u ops → IsRequest op
     → has_left_for (with_ops u ops) op ≡ true → MayOperate u (ops ++ op ∷ [])
 operate_push u [] op may request left = (request, left, tt)
-operate_push u (o ∷ ops) op may request left = (may.0, may.1, operate_push (with_op u o) ops op may.2 request left)
+operate_push u (o ∷ ops) op may request left =
+    (may.0, may.1, operate_push (with_op u o) ops op may.2 request left)
 
 act_push : (u : Used) (actors : List (List Op)) (ops : List Op) → MayAct u actors
     → MayOperate (with_actors u actors) ops → MayAct u (actors ++ ops ∷ [])
@@ -48,47 +54,44 @@ act_push u [] ops may more = (more, tt)
 act_push u (o ∷ actors) ops may more = (may.0, act_push (with_ops u o) actors ops may.1 more)
 
 turn_push : (actors : ℕ) (turns : List Turns) (t : Turns) → MayTurn actors turns → t.actor < actors
-    → (1 ≤ t.times) × (t.times ≤ 16777216) → MayTurn actors (turns ++ t ∷ [])
+    → (1 ≤ t.times) × (t.times ≤ MOST_TURNS) → MayTurn actors (turns ++ t ∷ [])
 turn_push actors [] t may named is = (named, is.0, is.1, tt)
-turn_push actors (o ∷ more) t may named is = (may.0, may.1, may.2, turn_push actors more t may.3 named is)
+turn_push actors (o ∷ more) t may named is =
+    (may.0, may.1, may.2, turn_push actors more t may.3 named is)
 
 -- ---- a phase that has begun
 
 -- what is used with a phase so far
 abbrev used_in : Used → Begun → Used
-used_in before begun = with_turns (with_ops (with_actors (with_phase before) begun.actors) begun.last) begun.schedule
+used_in before begun =
+    with_turns (with_ops (with_actors (with_phase before) begun.actors) begun.last) begun.schedule
 
 pub record InPhase (before u : Used) (begun : Begun) : Type 0 where
   pub used : u ≡ used_in before begun
   pub phase_left : has_phase_left before ≡ true
-  pub few : length begun.actors + 1 ≤ 64
+  pub few : length begun.actors + 1 ≤ MOST_ACTORS
   pub disk : before.disk ≡ true
   pub acted : MayAct (with_phase before) begun.actors
   pub operated : MayOperate (with_actors (with_phase before) begun.actors) begun.last
   pub turned : MayTurn (length begun.actors + 1) begun.schedule
-  pub fits : u.turns ≤ 16777216
+  pub fits : u.turns ≤ MOST_TURNS
 
 abbrev IsIn : Used → Used → Option Begun → Type 0
-IsIn before u None = (u ≡ before) × (u.turns ≤ 16777216)
+IsIn before u None = (u ≡ before) × (u.turns ≤ MOST_TURNS)
 IsIn before u (Some begun) = InPhase before u begun
 
 abbrev begun_sayings : Option Begun → List Saying
 begun_sayings None = []
-begun_sayings (Some begun) = flat_map actor_sayings (all_actors begun) ++ map says_turns begun.schedule
+begun_sayings (Some begun) =
+    flat_map actor_sayings (all_actors begun) ++ map says_turns begun.schedule
 
 no_schedule : (begun : Begun) → is_scheduled begun ≡ false → begun.schedule ≡ []
-no_schedule begun none = nil_from_length begun.schedule (eqb-true _ _ (not-false (length begun.schedule == 0) none))
+no_schedule begun none =
+    nil_from_length begun.schedule (eqb-true _ _ (not-false (length begun.schedule == 0) none))
 
-disk_stays : (u : Used) (actors : List (List Op)) → (with_actors u actors).disk ≡ u.disk
-disk_stays u [] = refl
-disk_stays u (ops ∷ more) = disk_stays (with_ops u ops) more ∙ ops_stay u ops
-  where
-    ops_stay : (u : Used) (ops : List Op) → (with_ops u ops).disk ≡ u.disk
-    ops_stay u [] = refl
-    ops_stay u (op ∷ ops) = ops_stay (with_op u op) ops
-
-begin : (before u : Used) → u ≡ before → u.turns ≤ 16777216 → before.disk ≡ true → has_phase_left before ≡ true
-    → InPhase before (with_phase u) (record { actors = []; last = []; schedule = [] })
+begin : (before u : Used) → u ≡ before → u.turns ≤ MOST_TURNS → before.disk ≡ true
+    → has_phase_left before ≡ true
+    → InPhase before (with_phase u) fresh
 begin before u at fits disk left =
     let none : before.turns ≡ before.turns + 0 = omega arith in
     record {
@@ -103,15 +106,17 @@ begin before u at fits disk left =
     }
 
 next_actor : (before u : Used) (begun : Begun) → InPhase before u begun → is_scheduled begun ≡ false
-    → nat_le (length begun.actors + 1 + 1) 64 ≡ true
-    → InPhase before u (record begun { actors = begun.actors ++ begun.last ∷ []; last = [] })
+    → nat_le (length begun.actors + 1 + 1) MOST_ACTORS ≡ true
+    → InPhase before u (with_actor begun)
 next_actor before u begun at none few =
     let empty = no_schedule begun none in
-    let n : length begun.actors + 1 + 1 ≤ 64 = leb-true _ _ few in
-    let P : List Turns → Type 0 = λ turns. MayTurn (length (begun.actors ++ begun.last ∷ []) + 1) turns in
+    let n : length begun.actors + 1 + 1 ≤ MOST_ACTORS = leb-true _ _ few in
+    let P : List Turns → Type 0 =
+    λ turns. MayTurn (length (begun.actors ++ begun.last ∷ []) + 1) turns in
     record {
       used = at.used
-          ∙ ap (λ v. with_turns v begun.schedule) (sym (actors_push (with_phase before) begun.actors begun.last));
+          ∙ ap (λ v. with_turns v begun.schedule)
+          (sym (actors_push (with_phase before) begun.actors begun.last));
       phase_left = at.phase_left;
       few = omega (arith, length_push begun.actors begun.last);
       disk = at.disk;
@@ -123,10 +128,11 @@ next_actor before u begun at none few =
 
 next_op : (before u : Used) (begun : Begun) (op : Op) → InPhase before u begun → IsRequest op
     → has_left_for u op ≡ true
-    → InPhase before (with_op u op) (record begun { last = begun.last ++ op ∷ [] })
+    → InPhase before (with_op u op) (with_operation begun op)
 next_op before u begun op at request left =
     let v = with_actors (with_phase before) begun.actors in
-    let same : has_left_for (with_ops v begun.last) op ≡ true = ap (λ x. has_left_for x op) (sym at.used)
+    let same : has_left_for (with_ops v begun.last) op ≡ true =
+    ap (λ x. has_left_for x op) (sym at.used)
     ∙ left in
     record {
       used = ap (λ x. with_op x op) at.used
@@ -141,12 +147,13 @@ next_op before u begun op at request left =
     }
 
 next_turns : (before u : Used) (begun : Begun) (t : Turns) → InPhase before u begun
-    → (1 ≤ t.times) × (t.times ≤ 16777216)
+    → (1 ≤ t.times) × (t.times ≤ MOST_TURNS)
     → nat_lt t.actor (length begun.actors + 1) ≡ true → has_turns_left u (t ∷ []) ≡ true
-    → InPhase before (with_turns u (t ∷ [])) (record begun { schedule = begun.schedule ++ t ∷ [] })
+    → InPhase before (with_turns u (t ∷ [])) (with_schedule begun (t ∷ []))
 next_turns before u begun t at is named left =
     let v = with_ops (with_actors (with_phase before) begun.actors) begun.last in
-    let sum : v.turns + turns_in begun.schedule + (t.times + 0) ≡ v.turns + turns_in (begun.schedule ++ t ∷ []) = omega (arith, turns_push begun.schedule t) in
+    let sum : v.turns + turns_in begun.schedule + (t.times + 0)
+    ≡ v.turns + turns_in (begun.schedule ++ t ∷ []) = omega (arith, turns_push begun.schedule t) in
     record {
       used = ap (λ x. with_turns x (t ∷ [])) at.used ∙ ap (λ n. record v { turns = n }) sum;
       phase_left = at.phase_left;
@@ -154,7 +161,8 @@ next_turns before u begun t at is named left =
       disk = at.disk;
       acted = at.acted;
       operated = at.operated;
-      turned = turn_push (length begun.actors + 1) begun.schedule t at.turned (ltb-true _ _ named) is;
+      turned = turn_push (length begun.actors + 1) begun.schedule t at.turned
+          (ltb-true _ _ named) is;
       fits = leb-true _ _ left;
     }
 
@@ -163,11 +171,14 @@ has_disk u [] disk = tt
 has_disk u (ops ∷ more) disk = disk
 
 end_phase : (before u : Used) (begun : Begun) → InPhase before u begun
-    → MayRun before (all_actors begun) begun.schedule × (u ≡ with_text before (all_actors begun) begun.schedule)
+    → MayRun before (all_actors begun) begun.schedule
+    × (u ≡ with_text before (all_actors begun) begun.schedule)
 end_phase before u begun at =
     let same : u ≡ with_text before (all_actors begun) begun.schedule =
-    at.used ∙ ap (λ v. with_turns v begun.schedule) (sym (actors_push (with_phase before) begun.actors begun.last)) in
-    let number : length begun.actors + 1 ≡ length (all_actors begun) = sym (length_push begun.actors begun.last) in
+    at.used ∙ ap (λ v. with_turns v begun.schedule)
+    (sym (actors_push (with_phase before) begun.actors begun.last)) in
+    let number : length begun.actors + 1 ≡ length (all_actors begun) =
+    sym (length_push begun.actors begun.last) in
     let P : ℕ → Type 0 = λ n. MayTurn n begun.schedule in (
       record {
         phase_left = at.phase_left;
@@ -183,19 +194,24 @@ end_phase before u begun at =
 -- ---- the sayings so far, with one more
 
 actor_said : (begun : Begun) (rest : List Saying) → is_scheduled begun ≡ false
-    → begun_sayings (Some (record begun { actors = begun.actors ++ begun.last ∷ []; last = [] })) ++ rest ≡ begun_sayings (Some begun) ++ says_actor ∷ rest
+    → begun_sayings (Some (with_actor begun)) ++ rest ≡ begun_sayings (Some begun)
+    ++ says_actor ∷ rest
 actor_said begun rest none =
     let empty = no_schedule begun none in
     let all = flat_map actor_sayings (all_actors begun) in
-    ap (λ turns. (flat_map actor_sayings (all_actors begun ++ [] ∷ []) ++ map says_turns turns) ++ rest) empty
-    ∙ ap (λ (xs : List Saying). xs ++ rest) (append-nil (flat_map actor_sayings (all_actors begun ++ [] ∷ [])))
-    ∙ ap (λ (xs : List Saying). xs ++ rest) (flat_map-append actor_sayings (all_actors begun) ([] ∷ []))
+    ap (λ turns. (flat_map actor_sayings (all_actors begun ++ [] ∷ []) ++ map says_turns turns)
+    ++ rest) empty
+    ∙ ap (λ (xs : List Saying). xs ++ rest)
+    (append-nil (flat_map actor_sayings (all_actors begun ++ [] ∷ [])))
+    ∙ ap (λ (xs : List Saying). xs ++ rest)
+    (flat_map-append actor_sayings (all_actors begun) ([] ∷ []))
     ∙ append_assoc all (says_actor ∷ []) rest
     ∙ ap (λ (xs : List Saying). xs ++ says_actor ∷ rest) (sym (append-nil all))
     ∙ ap (λ turns. (all ++ map says_turns turns) ++ says_actor ∷ rest) (sym empty)
 
 op_said : (begun : Begun) (op : Op) (rest : List Saying) → is_scheduled begun ≡ false
-    → begun_sayings (Some (record begun { last = begun.last ++ op ∷ [] })) ++ rest ≡ begun_sayings (Some begun) ++ says_operation op ∷ rest
+    → begun_sayings (Some (with_operation begun op)) ++ rest ≡ begun_sayings (Some begun)
+    ++ says_operation op ∷ rest
 op_said begun op rest none =
     let empty = no_schedule begun none in
     let before = flat_map actor_sayings begun.actors in
@@ -204,30 +220,37 @@ op_said begun op rest none =
     → flat_map actor_sayings (begun.actors ++ ops ∷ []) ≡ before ++ actor_sayings ops =
     λ ops. flat_map-append actor_sayings begun.actors (ops ∷ [])
     ∙ ap (λ (xs : List Saying). before ++ xs) (append-nil (actor_sayings ops)) in
-    let more : flat_map actor_sayings (begun.actors ++ (begun.last ++ op ∷ []) ∷ []) ≡ all ++ says_operation op ∷ [] =
+    let more : flat_map actor_sayings (begun.actors ++ (begun.last ++ op ∷ []) ∷ []) ≡ all
+    ++ says_operation op ∷ [] =
     one (begun.last ++ op ∷ [])
-    ∙ ap (λ (xs : List Saying). before ++ says_actor ∷ xs) (map-append says_operation begun.last (op ∷ []))
+    ∙ ap (λ (xs : List Saying). before ++ says_actor ∷ xs)
+    (map-append says_operation begun.last (op ∷ []))
     ∙ sym (append_assoc before (actor_sayings begun.last) (says_operation op ∷ []))
     ∙ ap (λ (xs : List Saying). xs ++ says_operation op ∷ []) (sym (one begun.last)) in
-    ap (λ turns. (flat_map actor_sayings (begun.actors ++ (begun.last ++ op ∷ []) ∷ []) ++ map says_turns turns) ++ rest) empty
-    ∙ ap (λ (xs : List Saying). xs ++ rest) (append-nil (flat_map actor_sayings (begun.actors ++ (begun.last ++ op ∷ []) ∷ [])))
+    ap (λ turns. (flat_map actor_sayings (begun.actors ++ (begun.last ++ op ∷ []) ∷ [])
+    ++ map says_turns turns) ++ rest) empty
+    ∙ ap (λ (xs : List Saying). xs ++ rest)
+    (append-nil (flat_map actor_sayings (begun.actors ++ (begun.last ++ op ∷ []) ∷ [])))
     ∙ ap (λ (xs : List Saying). xs ++ rest) more
     ∙ append_assoc all (says_operation op ∷ []) rest
     ∙ ap (λ (xs : List Saying). xs ++ says_operation op ∷ rest) (sym (append-nil all))
     ∙ ap (λ turns. (all ++ map says_turns turns) ++ says_operation op ∷ rest) (sym empty)
 
 turns_said : (begun : Begun) (t : Turns) (rest : List Saying)
-    → begun_sayings (Some (record begun { schedule = begun.schedule ++ t ∷ [] })) ++ rest ≡ begun_sayings (Some begun) ++ says_turns t ∷ rest
+    → begun_sayings (Some (with_schedule begun (t ∷ []))) ++ rest ≡ begun_sayings (Some begun)
+    ++ says_turns t ∷ rest
 turns_said begun t rest =
     let all = flat_map actor_sayings (all_actors begun) in
     ap (λ (xs : List Saying). (all ++ xs) ++ rest) (map-append says_turns begun.schedule (t ∷ []))
-    ∙ ap (λ (xs : List Saying). xs ++ rest) (sym (append_assoc all (map says_turns begun.schedule) (says_turns t ∷ [])))
+    ∙ ap (λ (xs : List Saying). xs ++ rest)
+    (sym (append_assoc all (map says_turns begun.schedule) (says_turns t ∷ [])))
     ∙ append_assoc (all ++ map says_turns begun.schedule) (says_turns t ∷ []) rest
 
 -- ---- all sayings
 
 module _ {A : Type 0} where
-  pub free_of : (b : Bool) (x : Option A) (y : A) → cond b None x ≡ Some y → (b ≡ false) × (x ≡ Some y)
+  pub free_of : (b : Bool) (x : Option A) (y : A) → cond b None x ≡ Some y
+      → (b ≡ false) × (x ≡ Some y)
   free_of true x y e = cc
   free_of false x y e = (refl, e)
 
@@ -235,16 +258,19 @@ module _ {A : Type 0} where
   kept_by true x y e = (refl, e)
   kept_by false x y e = cc
 
-  mapped : (f : A → A) (x : Option A) (y : A) → option_map f x ≡ Some y → (z : A) × (x ≡ Some z) × (f z ≡ y)
+  mapped : (f : A → A) (x : Option A) (y : A) → option_map f x ≡ Some y
+      → (z : A) × (x ≡ Some z) × (f z ≡ y)
   mapped f None y e = cc
   mapped f (Some z) y e = (z, refl, cc)
 
 abbrev Spelled : Used → Option Begun → List Saying → List Item → Type 0
-Spelled before begun said job = (flat_map item_sayings job ≡ begun_sayings begun ++ said) × MayFollow before job
+Spelled before begun said job = (flat_map item_sayings job ≡ begun_sayings begun ++ said)
+    × MayFollow before job
 
 pub unspelled : (before u : Used) (begun : Option Begun) (said : List Saying) (job : List Item)
     → IsIn before u begun
-    → AllByRecursion IsSaid said → items_from u begun said ≡ Some job → Spelled before begun said job
+    → AllByRecursion IsSaid said → items_from u begun said ≡ Some job
+    → Spelled before begun said job
 unspelled before u None [] job at are e =
     let P : List Item → Type 0 = λ j. Spelled before None [] j in
     let none : [] ≡ job = cc in
@@ -252,54 +278,79 @@ unspelled before u None [] job at are e =
 unspelled before u (Some begun) [] job at are e = cc
 unspelled before u None (says_disk pages ∷ said) job at are e =
     let free = free_of u.disk _ job e in
-    let more = mapped (λ later. items.Attr (DiskPages pages) ∷ later) (items_from (with_disk u) None said) job free.1 in
+    let more = mapped (λ later. items.Attr (DiskPages pages) ∷ later)
+    (items_from (with_disk u) None said) job free.1 in
     let rest = unspelled (with_disk u) (with_disk u) None said more.0 (refl, at.1) are.1 more.1 in
     let P : List Item → Type 0 = λ j. Spelled u None (says_disk pages ∷ said) j in
     let Q : Used → Type 0 = λ b. Spelled b None (says_disk pages ∷ said) job in
-    subst Q at.0 (subst P more.2 (ap (λ (xs : List Saying). says_disk pages ∷ xs) rest.0, (free.0, are.0.0, are.0.1, rest.1)))
+    subst Q at.0 (subst P more.2
+    (ap (λ (xs : List Saying). says_disk pages ∷ xs) rest.0, (free.0, are.0.0, are.0.1, rest.1)))
 unspelled before u (Some begun) (says_disk pages ∷ said) job at are e = cc
 unspelled before u None (says_actor ∷ said) job at are e =
     let kept = kept_by (u.disk && has_phase_left u) _ job e in
     let parts = and_parts u.disk (has_phase_left u) kept.0 in
     let disk : before.disk ≡ true = ap (λ (x : Used). x.disk) (sym at.0) ∙ parts.0 in
     let left : has_phase_left before ≡ true = ap has_phase_left (sym at.0) ∙ parts.1 in
-    unspelled before (with_phase u) (Some (record { actors = []; last = []; schedule = [] })) said job (begin before u at.0 at.1 disk left) are.1 kept.1
+    unspelled before (with_phase u) (Some fresh) said job
+    (begin before u at.0 at.1 disk left) are.1 kept.1
 unspelled before u (Some begun) (says_actor ∷ said) job at are e =
-    let kept = kept_by (not (is_scheduled begun) && u.disk && nat_le (length begun.actors + 1 + 1) 64) _ job e in
-    let parts = and_parts (not (is_scheduled begun) && u.disk) (nat_le (length begun.actors + 1 + 1) 64) kept.0 in
-    let none : is_scheduled begun ≡ false = not-true _ (and_parts (not (is_scheduled begun)) u.disk parts.0).0 in
-    let rest = unspelled before u (Some (record begun { actors = begun.actors ++ begun.last ∷ []; last = [] })) said job (next_actor before u begun at none parts.1) are.1 kept.1 in
+    let kept = kept_by (not (is_scheduled begun) && u.disk
+    && nat_le (length begun.actors + 1 + 1) MOST_ACTORS) _ job e in
+    let parts = and_parts (not (is_scheduled begun) && u.disk)
+    (nat_le (length begun.actors + 1 + 1) MOST_ACTORS) kept.0 in
+    let none : is_scheduled begun ≡ false =
+    not-true _ (and_parts (not (is_scheduled begun)) u.disk parts.0).0 in
+    let rest = unspelled before u (Some (with_actor begun)) said job
+    (next_actor before u begun at none parts.1) are.1 kept.1 in
     (rest.0 ∙ actor_said begun said none, rest.1)
 unspelled before u None (says_operation op ∷ said) job at are e = cc
 unspelled before u (Some begun) (says_operation op ∷ said) job at are e =
     let kept = kept_by (not (is_scheduled begun) && has_left_for u op) _ job e in
     let parts = and_parts (not (is_scheduled begun)) (has_left_for u op) kept.0 in
-    let rest = unspelled before (with_op u op) (Some (record begun { last = begun.last ++ op ∷ [] })) said job (next_op before u begun op at are.0 parts.1) are.1 kept.1 in
+    let rest = unspelled before (with_op u op) (Some (with_operation begun op)) said job
+    (next_op before u begun op at are.0 parts.1) are.1 kept.1 in
     (rest.0 ∙ op_said begun op said (not-true _ parts.0), rest.1)
 unspelled before u None (says_turns t ∷ said) job at are e = cc
 unspelled before u (Some begun) (says_turns t ∷ said) job at are e =
-    let kept = kept_by (nat_lt t.actor (length begun.actors + 1) && has_turns_left u (t ∷ [])) _ job e in
-    let parts = and_parts (nat_lt t.actor (length begun.actors + 1)) (has_turns_left u (t ∷ [])) kept.0 in
-    let rest = unspelled before (with_turns u (t ∷ [])) (Some (record begun { schedule = begun.schedule ++ t ∷ [] })) said job (next_turns before u begun t at are.0 parts.0 parts.1) are.1 kept.1 in
+    let kept = kept_by (nat_lt t.actor (length begun.actors + 1) && has_turns_left u (t ∷ []))
+    _ job e in
+    let parts = and_parts (nat_lt t.actor (length begun.actors + 1))
+    (has_turns_left u (t ∷ [])) kept.0 in
+    let rest = unspelled before (with_turns u (t ∷ []))
+    (Some (with_schedule begun (t ∷ []))) said job
+    (next_turns before u begun t at are.0 parts.0 parts.1) are.1 kept.1 in
     (rest.0 ∙ turns_said begun t said, rest.1)
 unspelled before u None (says_run ∷ said) job at are e =
     let kept = kept_by (has_phase_left u) _ job e in
-    let more = mapped (λ later. items.Phase (record { actors = []; schedule = [] }) ∷ later) (items_from (with_phase u) None said) job kept.1 in
+    let more = mapped (λ later. items.Phase (text_of None) ∷ later)
+    (items_from (with_phase u) None said) job kept.1 in
     let rest = unspelled (with_phase u) (with_phase u) None said more.0 (refl, at.1) are.1 more.1 in
     let none : u.turns ≡ u.turns + 0 = omega arith in
     let P : List Item → Type 0 = λ j. Spelled u None (says_run ∷ said) j in
     let Q : Used → Type 0 = λ b. Spelled b None (says_run ∷ said) job in
     let F : ℕ → Type 0 = λ n. MayFollow (record (with_phase u) { turns = n }) more.0 in
-    let left : has_turns_left (with_phase u) [] ≡ true = le-leb (u.turns + 0) 16777216 (omega (arith, at.1)) in
-    let run : MayRun u [] [] = record { phase_left = kept.0; few_actors = omega arith; has_disk = tt; may_act = tt; may_turn = tt; turns_left = left } in
-    subst Q at.0 (subst P more.2 (ap (λ (xs : List Saying). says_run ∷ xs) rest.0, (run, subst F none rest.1)))
+    let left : has_turns_left (with_phase u) [] ≡ true =
+    le-leb (u.turns + 0) MOST_TURNS (omega (arith, at.1)) in
+    let run : MayRun u [] [] =
+    record {
+      phase_left = kept.0;
+      few_actors = omega arith;
+      has_disk = tt;
+      may_act = tt;
+      may_turn = tt;
+      turns_left = left;
+    } in
+    subst Q at.0 (subst P more.2
+    (ap (λ (xs : List Saying). says_run ∷ xs) rest.0, (run, subst F none rest.1)))
 unspelled before u (Some begun) (says_run ∷ said) job at are e =
-    let more = mapped (λ later. items.Phase (record { actors = all_actors begun; schedule = begun.schedule }) ∷ later) (items_from u None said) job e in
+    let more = mapped (λ later. items.Phase (text_of (Some begun)) ∷ later)
+    (items_from u None said) job e in
     let end = end_phase before u begun at in
     let rest = unspelled u u None said more.0 (refl, at.fits) are.1 more.1 in
     let P : List Item → Type 0 = λ j. Spelled before (Some begun) (says_run ∷ said) j in
     let F : Used → Type 0 = λ b. MayFollow b more.0 in
-    let spelled : (begun_sayings (Some begun) ++ says_run ∷ []) ++ flat_map item_sayings more.0 ≡ begun_sayings (Some begun) ++ says_run ∷ said =
+    let spelled : (begun_sayings (Some begun) ++ says_run ∷ []) ++ flat_map item_sayings more.0
+    ≡ begun_sayings (Some begun) ++ says_run ∷ said =
     append_assoc (begun_sayings (Some begun)) (says_run ∷ []) (flat_map item_sayings more.0)
     ∙ ap (λ (xs : List Saying). begun_sayings (Some begun) ++ says_run ∷ xs) rest.0 in
     subst P more.2 (spelled, (end.0, subst F end.1 rest.1))

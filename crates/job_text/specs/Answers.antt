@@ -2,10 +2,11 @@
 use Rattle.std.specs.Prelude.{◌≡◌, ℕ, ◌+◌, ◌-◌, ◌/◌, ◌^◌, ◌==◌, ◌≤◌, min, List, length, map, position, Option, Result, Ok, Err, if◌then◌else◌}
 use Rattle.std.specs.List.{list_all}
 use Rattle.zr_base.specs.declared.op.Turns.{Turns}
+use Rattle.zr_base.specs.declared.limits.TheConstants.{MOST_PAGES, MOST_ACTORS}
 use Rattle.job_text.specs.declared.fault.Cause.{Cause}
 use Rattle.job_text.specs.declared.fault.Cause.TheVariants as causes
-use Rattle.job_text.specs.declared.fault.Stop.{Stop}
-use Rattle.job_text.specs.declared.fault.Stop.TheVariants as stops
+use Rattle.job_text.specs.declared.fault.NotTaken.{NotTaken}
+use Rattle.job_text.specs.declared.fault.NotTaken.TheVariants as untaken
 use Rattle.zr_base.specs.Plain.{IsRequest}
 use Rattle.job_text.specs.declared.line.Line.{Line}
 use Rattle.job_text.specs.declared.line.Line.TheVariants.{Blank, Disk, Actor, Operation, Schedule, Run}
@@ -31,21 +32,23 @@ hash_in line = position (λ c. c == 35) line
 
 -- ---- answers
 
--- a call has answered what there was to answer, or memory was wanting
-abbrev pub Answers : {A : Type 0} → Result A Cause → Result A Stop → Type 0
+-- a call has answered what there was to answer, or memory was refused
+abbrev pub Answers : {A : Type 0} → Result A Cause → Result A NotTaken → Type 0
 Answers told (Ok value) = told ≡ Ok value
-Answers told (Err (stops.Told cause)) = told ≡ Err cause
-Answers told (Err (stops.Memory e)) = Unit {0}
+Answers told (Err (untaken.Faulty cause)) = told ≡ Err cause
+Answers told (Err (untaken.Memory e)) = Unit {0}
 
 -- the turns that words give, where all may be given
 abbrev pub turns_with : List (List ℕ) → Result (List Turns) Cause
-turns_with words = if list_all may_give (map turn_of words) then Ok (map turn_of words) else Err causes.Range
+turns_with words =
+    if list_all may_give (map turn_of words) then Ok (map turn_of words)
+    else Err causes.Range
 
 -- what a line says is in its range
-abbrev pub IsLine : Line → Type 0
-IsLine Blank = Unit {0}
-IsLine (Disk pages) = (1 ≤ pages) × (pages ≤ 262144)
-IsLine Actor = Unit {0}
-IsLine (Operation op) = IsRequest op
-IsLine (Schedule turns) = (1 ≤ length turns) × MayTurn 64 turns
-IsLine Run = Unit {0}
+abbrev pub IsInRange : Line → Type 0
+IsInRange Blank = Unit {0}
+IsInRange (Disk pages) = (1 ≤ pages) × (pages ≤ MOST_PAGES)
+IsInRange Actor = Unit {0}
+IsInRange (Operation op) = IsRequest op
+IsInRange (Schedule turns) = (1 ≤ length turns) × MayTurn MOST_ACTORS turns
+IsInRange Run = Unit {0}

@@ -1,6 +1,8 @@
 -- The first faulty line of a text, and its cause.
 use Rattle.std.specs.Prelude.{ℕ, ◌+◌, Bool, true, false, not, ◌||◌, nat_lt, nat_le, List, [], ◌∷◌, length, Option, Some, None, if◌then◌else◌}
 use Rattle.std.specs.List.{list_all}
+use Rattle.zr_base.specs.declared.limits.TheConstants.{MOST_ACTORS}
+use Rattle.job_text.specs.declared.limits.TheConstants.{MOST_BYTES}
 use Rattle.job_text.specs.declared.fault.Cause.{Cause}
 use Rattle.job_text.specs.declared.fault.Cause.TheVariants as causes
 use Rattle.job_text.specs.declared.fault.JobFault.{JobFault}
@@ -9,7 +11,8 @@ use Rattle.job_text.specs.declared.line.Line.TheVariants.{Blank, Disk, Actor, Op
 use Rattle.job_text.specs.Lines.{Form, words_of, form_of, is_malformed, meaning, has_bad_value}
 use Rattle.job_text.specs.Jobs.{Used, nothing_used, with_disk, with_phase, with_op, with_turns, has_phase_left, has_left_for, has_turns_left, text_lines}
 
--- A phase that has begun: the line of its first `actor`, its actors so far, and whether it has a `schedule` already.
+-- A phase that has begun: the line of its first `actor`, its actors so far, and whether it has a
+-- `schedule` already.
 pub record Phase : Type 0 where
   pub first : ℕ
   pub actors : ℕ
@@ -24,11 +27,12 @@ names_no_actor phase (Disk pages) = false
 names_no_actor phase Actor = false
 names_no_actor phase (Operation op) = false
 names_no_actor None (Schedule turns) = true
-names_no_actor (Some phase) (Schedule turns) = not (list_all (λ t. nat_lt t.actor phase.actors) turns)
+names_no_actor (Some phase) (Schedule turns) =
+    not (list_all (λ t. nat_lt t.actor phase.actors) turns)
 names_no_actor phase Run = false
 
--- The disk's size is given once, outside a phase. Operations and turns belong to a phase that has begun, and behind a
--- `schedule` come only more of it and the `run`.
+-- The disk's size is given once, outside a phase. Operations and turns belong to a phase that has
+-- begun, and after a `schedule` come only more of it and the `run`.
 abbrev pub is_misplaced : Used → Option Phase → Line → Bool
 is_misplaced u phase Blank = false
 is_misplaced u None (Disk pages) = u.disk
@@ -50,12 +54,13 @@ lacks_disk u (Operation op) = false
 lacks_disk u (Schedule turns) = false
 lacks_disk u Run = false
 
--- A limit is passed. A phase begins at its first `actor`, or at its `run` where it has none, and has at most 64 actors.
+-- A limit is passed. A phase begins at its first `actor`, or at its `run` where it has none, and
+-- has at most 64 actors.
 abbrev pub passes_limit : Used → Option Phase → Line → Bool
 passes_limit u phase Blank = false
 passes_limit u phase (Disk pages) = false
 passes_limit u None Actor = not (has_phase_left u)
-passes_limit u (Some phase) Actor = not (nat_le (phase.actors + 1) 64)
+passes_limit u (Some phase) Actor = not (nat_le (phase.actors + 1) MOST_ACTORS)
 passes_limit u phase (Operation op) = not (has_left_for u op)
 passes_limit u phase (Schedule turns) = not (has_turns_left u turns)
 passes_limit u None Run = not (has_phase_left u)
@@ -72,13 +77,15 @@ abbrev pub cause_in : Used → Option Phase → Option Form → Option Cause
 cause_in u phase None = Some causes.Word
 cause_in u phase (Some form) =
     if is_malformed form then Some causes.Number
-    else if has_bad_value (meaning form) || names_no_actor phase (meaning form) then Some causes.Range
+    else if has_bad_value (meaning form) || names_no_actor phase (meaning form)
+    then Some causes.Range
     else if is_misplaced u phase (meaning form) then Some causes.Order
     else if lacks_disk u (meaning form) then Some causes.NoDisk
     else if passes_limit u phase (meaning form) then Some causes.TooMany
     else None
 
--- the first of the causes that a line of these words has, behind what was counted and in this phase, if it has one
+-- the first of the causes that a line of these words has, after what was counted and in this
+-- phase, if it has one
 abbrev pub cause_of : Used → Option Phase → List (List ℕ) → Option Cause
 cause_of u phase words = cause_in u phase (form_of words)
 
@@ -95,7 +102,7 @@ used_with u phase (Schedule turns) = with_turns u turns
 used_with u None Run = with_phase u
 used_with u (Some phase) Run = u
 
--- the phase behind the line of this number, if it has no cause
+-- the phase after the line of this number, if it has no cause
 abbrev pub phase_with : ℕ → Option Phase → Line → Option Phase
 phase_with number phase Blank = phase
 phase_with number phase (Disk pages) = phase
@@ -111,16 +118,19 @@ abbrev pub fault_at : ℕ → Option Cause → Option JobFault → Option JobFau
 fault_at number (Some cause) later = Some (record { line = number; cause = cause })
 fault_at number None later = later
 
--- The first fault in lines that are counted from a number on, and in their end: there no phase is left without a `run`.
+-- The first fault in lines that are counted from a number on, and in their end: there no phase is
+-- left without a `run`.
 abbrev pub first_fault_from : Used → Option Phase → ℕ → List (List ℕ) → Option JobFault
 first_fault_from u None number [] = None
-first_fault_from u (Some phase) number [] = Some (record { line = phase.first; cause = causes.Order })
+first_fault_from u (Some phase) number [] =
+    Some (record { line = phase.first; cause = causes.Order })
 first_fault_from u phase number (line ∷ lines) =
     (let said = said_in (form_of (words_of line)) in
-    fault_at number (cause_of u phase (words_of line)) (first_fault_from (used_with u phase said) (phase_with number phase said) (number + 1) lines))
+    fault_at number (cause_of u phase (words_of line))
+    (first_fault_from (used_with u phase said) (phase_with number phase said) (number + 1) lines))
 
 -- the first fault of a text, if it has one
 abbrev pub first_fault : List ℕ → Option JobFault
 first_fault bytes =
-    if nat_lt 16777216 (length bytes) then Some (record { line = 0; cause = causes.TooMany })
+    if nat_lt MOST_BYTES (length bytes) then Some (record { line = 0; cause = causes.TooMany })
     else first_fault_from nothing_used None 1 (text_lines bytes)

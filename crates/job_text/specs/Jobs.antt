@@ -1,11 +1,13 @@
 -- The job that a text is.
 use Rattle.std.specs.Prelude.{◌≡◌, ℕ, ◌+◌, ◌<◌, ◌≤◌, Bool, true, false, ◌==◌, ◌&&◌, nat_le, List, [], ◌∷◌, ◌++◌, length, map, Option, Some, None, Result, Ok, Err, ⊤}
 use Rattle.std.specs.List.{slice_split, flat_map}
-use Rattle.zr_base.specs.Plain.{IsRequest, start_of, count_of}
-use Rattle.zr_base.specs.Pieces.{pages_touched}
+use Rattle.zr_base.specs.Plain.{IsRequest}
+use Rattle.zr_base.specs.Pieces.{pages_of}
 use Rattle.zr_base.specs.declared.op.Op.{Op}
 use Rattle.zr_base.specs.declared.op.Op.TheVariants.{Write, Read, Discard}
 use Rattle.zr_base.specs.declared.op.Turns.{Turns}
+use Rattle.zr_base.specs.declared.limits.TheConstants.{MOST_PAGES, MOST_ACTORS, MOST_OPERATIONS}
+use Rattle.job_text.specs.declared.limits.TheConstants.{MOST_BYTES, MOST_PHASES, MOST_PIECES, MOST_SECTORS_READ, MOST_TURNS}
 use Rattle.job_text.specs.declared.fault.Cause.{Cause}
 use Rattle.job_text.specs.declared.job.Attr.TheVariants.{DiskPages}
 use Rattle.job_text.specs.declared.job.Item.{Item}
@@ -55,12 +57,13 @@ actor_sayings ops = says_actor ∷ map says_operation ops
 -- what the lines say that stand for an item
 abbrev pub item_sayings : Item → List Saying
 item_sayings (items.Attr (DiskPages pages)) = says_disk pages ∷ []
-item_sayings (items.Phase text) = flat_map actor_sayings text.actors ++ map says_turns text.schedule ++ says_run ∷ []
+item_sayings (items.Phase text) =
+    flat_map actor_sayings text.actors ++ map says_turns text.schedule ++ says_run ∷ []
 
 -- ---- the limits
 
--- What of a job's limits is used: whether the disk's size was given, how many phases have begun, and how many operations,
--- pieces of requests, sectors to read and turns there were.
+-- What of a job's limits is used: whether the disk's size was given, how many phases have begun,
+-- and how many operations, pieces of requests, sectors to read and turns there were.
 pub record Used : Type 0 where
   pub disk : Bool
   pub phases : ℕ
@@ -71,11 +74,14 @@ pub record Used : Type 0 where
 
 -- the start of a job
 abbrev pub nothing_used : Used
-nothing_used = record { disk = false; phases = 0; operations = 0; pieces = 0; sectors = 0; turns = 0 }
-
--- the pieces of an operation
-abbrev pub pieces_in : Op → ℕ
-pieces_in op = pages_touched (start_of op) (count_of op)
+nothing_used = record {
+  disk = false;
+  phases = 0;
+  operations = 0;
+  pieces = 0;
+  sectors = 0;
+  turns = 0;
+}
 
 -- the sectors that an operation reads
 abbrev pub sectors_to_read : Op → ℕ
@@ -88,7 +94,7 @@ abbrev pub turns_in : List Turns → ℕ
 turns_in [] = 0
 turns_in (turns ∷ more) = turns.times + turns_in more
 
--- behind the disk's size
+-- after the disk's size
 abbrev pub with_disk : Used → Used
 with_disk u = record u { disk = true }
 
@@ -100,7 +106,7 @@ with_phase u = record u { phases = u.phases + 1 }
 abbrev pub with_op : Used → Op → Used
 with_op u op = record u {
   operations = u.operations + 1;
-  pieces = u.pieces + pieces_in op;
+  pieces = u.pieces + pages_of op;
   sectors = u.sectors + sectors_to_read op;
 }
 
@@ -118,21 +124,24 @@ with_actors u (ops ∷ more) = with_actors (with_ops u ops) more
 abbrev pub with_turns : Used → List Turns → Used
 with_turns u turns = record u { turns = u.turns + turns_in turns }
 
--- a job has at most 1,000 phases
+-- the limit on phases leaves one more
 abbrev pub has_phase_left : Used → Bool
-has_phase_left u = nat_le (u.phases + 1) 1000
+has_phase_left u = nat_le (u.phases + 1) MOST_PHASES
 
--- at most 1,000,000 operations, 1,048,576 pieces of requests and 262,144 sectors to read
+-- the limits on operations, on pieces of requests and on sectors to read leave an operation
 abbrev pub has_left_for : Used → Op → Bool
-has_left_for u op = nat_le (u.operations + 1) 1000000 && nat_le (u.pieces + pieces_in op) 1048576 && nat_le (u.sectors + sectors_to_read op) 262144
+has_left_for u op =
+    nat_le (u.operations + 1) MOST_OPERATIONS
+    && nat_le (u.pieces + pages_of op) MOST_PIECES
+    && nat_le (u.sectors + sectors_to_read op) MOST_SECTORS_READ
 
--- at most 16,777,216 turns in all schedules
+-- the limit on turns leaves those of a schedule
 abbrev pub has_turns_left : Used → List Turns → Bool
-has_turns_left u turns = nat_le (u.turns + turns_in turns) 16777216
+has_turns_left u turns = nat_le (u.turns + turns_in turns) MOST_TURNS
 
 -- ---- the order of items
 
--- operations behind those that were counted
+-- operations after those that were counted
 abbrev pub MayOperate : Used → List Op → Type 0
 MayOperate u [] = ⊤
 MayOperate u (op ∷ ops) = IsRequest op × (has_left_for u op ≡ true) × MayOperate (with_op u op) ops
@@ -142,12 +151,13 @@ abbrev pub MayAct : Used → List (List Op) → Type 0
 MayAct u [] = ⊤
 MayAct u (ops ∷ more) = MayOperate u ops × MayAct (with_ops u ops) more
 
--- each turn of a schedule is one of so many actors, and is given 1 to 16,777,216 times
+-- each turn of a schedule is one of so many actors, and is given once at least
 abbrev pub MayTurn : ℕ → List Turns → Type 0
 MayTurn actors [] = ⊤
-MayTurn actors (turns ∷ more) = (turns.actor < actors) × (1 ≤ turns.times) × (turns.times ≤ 16777216) × MayTurn actors more
+MayTurn actors (turns ∷ more) =
+    (turns.actor < actors) × (1 ≤ turns.times) × (turns.times ≤ MOST_TURNS) × MayTurn actors more
 
--- a phase's actors stand behind a disk's size
+-- a phase's actors stand after a disk's size
 abbrev pub HasDisk : Used → List (List Op) → Type 0
 HasDisk u [] = ⊤
 HasDisk u (ops ∷ more) = u.disk ≡ true
@@ -156,23 +166,25 @@ HasDisk u (ops ∷ more) = u.disk ≡ true
 abbrev pub with_text : Used → List (List Op) → List Turns → Used
 with_text u actors schedule = with_turns (with_actors (with_phase u) actors) schedule
 
--- A phase that may stand behind what was counted, with at most 64 actors.
+-- A phase that may stand after what was counted: with few enough actors, after the disk's size.
 pub record MayRun (u : Used) (actors : List (List Op)) (schedule : List Turns) : Type 0 where
   pub phase_left : has_phase_left u ≡ true
-  pub few_actors : length actors ≤ 64
+  pub few_actors : length actors ≤ MOST_ACTORS
   pub has_disk : HasDisk u actors
   pub may_act : MayAct (with_phase u) actors
   pub may_turn : MayTurn (length actors) schedule
   pub turns_left : has_turns_left (with_actors (with_phase u) actors) schedule ≡ true
 
--- the items of a job behind others: at most one disk's size, of 1 to 262,144 pages, and phases within the limits
+-- the items of a job after others: at most one disk's size, and phases within the limits
 abbrev pub MayFollow : Used → List Item → Type 0
 MayFollow u [] = ⊤
-MayFollow u (items.Attr (DiskPages pages) ∷ more) = (u.disk ≡ false) × (1 ≤ pages) × (pages ≤ 262144) × MayFollow (with_disk u) more
-MayFollow u (items.Phase text ∷ more) = MayRun u text.actors text.schedule × MayFollow (with_text u text.actors text.schedule) more
+MayFollow u (items.Attr (DiskPages pages) ∷ more) =
+    (u.disk ≡ false) × (1 ≤ pages) × (pages ≤ MOST_PAGES) × MayFollow (with_disk u) more
+MayFollow u (items.Phase text ∷ more) =
+    MayRun u text.actors text.schedule × MayFollow (with_text u text.actors text.schedule) more
 
 -- the bytes are the text of the job
 pub record IsJob (bytes : List ℕ) (job : List Item) : Type 0 where
-  pub size : length bytes ≤ 16777216
+  pub size : length bytes ≤ MOST_BYTES
   pub lines : sayings (text_lines bytes) ≡ Some (flat_map item_sayings job)
   pub lawful : MayFollow nothing_used job

@@ -4,3 +4,4 @@ pub mod Jobs
 pub mod Lines
 pub mod Numbers
 pub mod Reading
+pub mod Totals

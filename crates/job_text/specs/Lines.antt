@@ -6,17 +6,20 @@ use Rattle.zr_base.specs.declared.op.Op.TheVariants.{Write, Read, Discard}
 use Rattle.zr_base.specs.declared.op.Stuff.TheVariants.{Fill, Seq, Hex}
 use Rattle.zr_base.specs.declared.op.Turns.{Turns}
 use Rattle.zr_base.specs.Plain.{start_of, count_of}
+use Rattle.zr_base.specs.declared.limits.TheConstants.{MOST_PAGES, MOST_SECTORS, MOST_ACTORS}
+use Rattle.job_text.specs.declared.limits.TheConstants.{MOST_TURNS}
 use Rattle.job_text.specs.declared.line.Line.{Line}
 use Rattle.job_text.specs.declared.line.Line.TheVariants.{Blank, Disk, Actor, Operation, Schedule, Run}
 use Rattle.job_text.specs.declared.fault.Cause.{Cause}
 use Rattle.job_text.specs.declared.fault.Cause.TheVariants as causes
-use Rattle.job_text.specs.Numbers.{are_digits, is_number, number_of, is_word, word_of, bytes_by, is_size, pages_of, is_turn, turn_of}
+use Rattle.job_text.specs.Numbers.{are_digits, is_number, number_of, is_word, word_of, bytes_by, is_size, size_pages, is_turn, turn_of}
 
 -- ---- the words
 
 -- a line without the byte 0d at its end, if there is one
 abbrev pub without_return : List ℕ → List ℕ
-without_return line = if get_or line (length line - 1) 0 == 13 then take (length line - 1) line else line
+without_return line =
+    if get_or line (length line - 1) 0 == 13 then take (length line - 1) line else line
 
 -- the part of a line before its first `#`
 abbrev pub before_comment : List ℕ → List ℕ
@@ -28,7 +31,9 @@ is_blank c = c == 32 || c == 9
 
 -- the parts of a line between blanks, its comment left out
 abbrev pub words_of : List ℕ → List (List ℕ)
-words_of line = filter (λ word. not (length word == 0)) (slice_split is_blank (before_comment (without_return line)))
+words_of line =
+    filter (λ word. not (length word == 0))
+    (slice_split is_blank (before_comment (without_return line)))
 
 -- ---- the forms of lines
 
@@ -45,42 +50,42 @@ pub data Form : Type 0 where
   schedule_form : (turns : List (List ℕ)) → Form
   run_form : Form
 
--- a form with no word behind the first
+-- a form with no word after the first
 abbrev pub alone : Form → List (List ℕ) → Option Form
 alone form [] = Some form
 alone form (word ∷ words) = None
 
--- what stands behind `disksize`
+-- what stands after `disksize`
 abbrev pub size_in : List (List ℕ) → Option Form
 size_in (size ∷ []) = Some (size_form size)
 size_in words = None
 
--- what stands behind `read`
+-- what stands after `read`
 abbrev pub read_in : List (List ℕ) → Option Form
 read_in (start ∷ count ∷ []) = Some (read_form start count)
 read_in words = None
 
--- what stands behind `discard`
+-- what stands after `discard`
 abbrev pub discard_in : List (List ℕ) → Option Form
 discard_in (start ∷ count ∷ []) = Some (discard_form start count)
 discard_in words = None
 
--- what stands behind `write START COUNT fill`
+-- what stands after `write START COUNT fill`
 abbrev pub fill_in : List ℕ → List ℕ → List (List ℕ) → Option Form
 fill_in start count (word ∷ []) = Some (fill_form start count word)
 fill_in start count words = None
 
--- what stands behind `write START COUNT seq`
+-- what stands after `write START COUNT seq`
 abbrev pub seq_in : List ℕ → List ℕ → List (List ℕ) → Option Form
 seq_in start count (base ∷ step ∷ []) = Some (seq_form start count base step)
 seq_in start count words = None
 
--- what stands behind `write START COUNT hex`, at least one word
+-- what stands after `write START COUNT hex`, at least one word
 abbrev pub hex_in : List ℕ → List ℕ → List (List ℕ) → Option Form
 hex_in start count [] = None
 hex_in start count (digits ∷ more) = Some (hex_form start count (digits ∷ more))
 
--- what stands behind `write START COUNT`
+-- what stands after `write START COUNT`
 unfoldable pub stuff_in : List ℕ → List ℕ → List ℕ → List (List ℕ) → Option Form
 stuff_in start count kind words =
     if bytes_eq kind (codes "fill") then fill_in start count words
@@ -88,17 +93,17 @@ stuff_in start count kind words =
     else if bytes_eq kind (codes "hex") then hex_in start count words
     else None
 
--- what stands behind `write`
+-- what stands after `write`
 abbrev pub write_in : List (List ℕ) → Option Form
 write_in (start ∷ count ∷ kind ∷ words) = stuff_in start count kind words
 write_in words = None
 
--- what stands behind `schedule`, at least one word
+-- what stands after `schedule`, at least one word
 abbrev pub schedule_in : List (List ℕ) → Option Form
 schedule_in [] = None
 schedule_in (turn ∷ more) = Some (schedule_form (turn ∷ more))
 
--- what stands behind a line's first word
+-- what stands after a line's first word
 unfoldable pub named_in : List ℕ → List (List ℕ) → Option Form
 named_in name words =
     if bytes_eq name (codes "disksize") then size_in words
@@ -110,7 +115,8 @@ named_in name words =
     else if bytes_eq name (codes "run") then alone run_form words
     else None
 
--- the form of a line of these words, if it has one: else a word isn't known, or there are too few or too many
+-- the form of a line of these words, if it has one: else a word isn't known, or there are too few
+-- or too many
 abbrev pub form_of : List (List ℕ) → Option Form
 form_of [] = Some blank_form
 form_of (name ∷ words) = named_in name words
@@ -119,7 +125,8 @@ form_of (name ∷ words) = named_in name words
 
 -- whether so many digits are those of so many sectors, where the sectors are a request's
 abbrev pub fill_sectors : ℕ → ℕ → Bool
-fill_sectors digits count = not (nat_le 1 count && nat_le count 2048) || digits == 1024 * count
+fill_sectors digits count =
+    not (nat_le 1 count && nat_le count MOST_SECTORS) || digits == 1024 * count
 
 -- a word isn't of its form, or there are too few or too many digits
 unfoldable pub is_malformed : Form → Bool
@@ -127,9 +134,11 @@ is_malformed blank_form = false
 is_malformed (size_form size) = not (is_size size)
 is_malformed actor_form = false
 is_malformed (fill_form start count word) = not (is_number start && is_number count && is_word word)
-is_malformed (seq_form start count base step) = not (is_number start && is_number count && is_word base && is_word step)
+is_malformed (seq_form start count base step) =
+    not (is_number start && is_number count && is_word base && is_word step)
 is_malformed (hex_form start count digits) =
-    not (is_number start && is_number count && are_digits 16 (concat digits) && fill_sectors (length (concat digits)) (number_of count))
+    not (is_number start && is_number count && are_digits 16 (concat digits)
+    && fill_sectors (length (concat digits)) (number_of count))
 is_malformed (read_form start count) = not (is_number start && is_number count)
 is_malformed (discard_form start count) = not (is_number start && is_number count)
 is_malformed (schedule_form turns) = not (list_all is_turn turns)
@@ -138,28 +147,34 @@ is_malformed run_form = false
 -- what a line says whose words are of their forms
 unfoldable pub meaning : Form → Line
 meaning blank_form = Blank
-meaning (size_form size) = Disk (pages_of size)
+meaning (size_form size) = Disk (size_pages size)
 meaning actor_form = Actor
-meaning (fill_form start count word) = Operation (Write (number_of start) (number_of count) (Fill (word_of word)))
-meaning (seq_form start count base step) = Operation (Write (number_of start) (number_of count) (Seq (word_of base) (word_of step)))
-meaning (hex_form start count digits) = Operation (Write (number_of start) (number_of count) (Hex (bytes_by (concat digits))))
+meaning (fill_form start count word) =
+    Operation (Write (number_of start) (number_of count) (Fill (word_of word)))
+meaning (seq_form start count base step) =
+    Operation (Write (number_of start) (number_of count) (Seq (word_of base) (word_of step)))
+meaning (hex_form start count digits) =
+    Operation (Write (number_of start) (number_of count) (Hex (bytes_by (concat digits))))
 meaning (read_form start count) = Operation (Read (number_of start) (number_of count))
 meaning (discard_form start count) = Operation (Discard (number_of start) (number_of count))
 meaning (schedule_form turns) = Schedule (map turn_of turns)
 meaning run_form = Run
 
--- a request's sectors begin below 2 ^ 32, and are 1 to 2048
+-- a request's sectors begin below 2 ^ 32, and are 1 to the most that a request has
 abbrev pub are_bounds : ℕ → ℕ → Bool
-are_bounds start count = nat_lt start (2 ^ 32) && nat_le 1 count && nat_le count 2048
+are_bounds start count = nat_lt start (2 ^ 32) && nat_le 1 count && nat_le count MOST_SECTORS
 
--- a phase has at most 64 actors, and a turn is given 1 to 16777216 times
+-- a turn of an actor that a phase may have, given once at least and no more often than a job's
+-- limit
 abbrev pub may_give : Turns → Bool
-may_give turns = nat_lt turns.actor 64 && nat_le 1 turns.times && nat_le turns.times 16777216
+may_give turns =
+    nat_lt turns.actor MOST_ACTORS && nat_le 1 turns.times
+    && nat_le turns.times MOST_TURNS
 
 -- a value that is never allowed
 abbrev pub has_bad_value : Line → Bool
 has_bad_value Blank = false
-has_bad_value (Disk pages) = not (nat_le 1 pages && nat_le pages 262144)
+has_bad_value (Disk pages) = not (nat_le 1 pages && nat_le pages MOST_PAGES)
 has_bad_value Actor = false
 has_bad_value (Operation op) = not (are_bounds (start_of op) (count_of op))
 has_bad_value (Schedule turns) = not (list_all may_give turns)

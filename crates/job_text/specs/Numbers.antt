@@ -40,14 +40,19 @@ is_word word = not (length word == 0) && nat_le (length word) 16 && are_digits 1
 abbrev pub word_of : List ℕ → ℕ
 word_of word = value_from 16 0 word
 
+-- the byte of the k-th two hexadecimal digits
+abbrev pub byte_at : List ℕ → ℕ → ℕ
+byte_at digits k =
+    16 * digit_value (get_or digits (2 * k) 0) + digit_value (get_or digits (2 * k + 1) 0)
+
 -- the bytes that hexadecimal digits stand for, two for each
 abbrev pub bytes_by : List ℕ → List ℕ
-bytes_by digits =
-    map (λ k. 16 * digit_value (get_or digits (2 * k) 0) + digit_value (get_or digits (2 * k + 1) 0)) (range_with_len 0 (length digits / 2))
+bytes_by digits = map (byte_at digits) (range_with_len 0 (length digits / 2))
 
 -- ---- sizes
 
--- what the last letter of a size, K, M or G of either case, multiplies by, where there is such a letter
+-- what the last letter of a size, K, M or G of either case, multiplies by, where there is such a
+-- letter
 abbrev pub factor_of : ℕ → Option ℕ
 factor_of letter =
     if letter == 75 || letter == 107 then Some (2 ^ 10)
@@ -78,8 +83,8 @@ abbrev pub bytes_of : List ℕ → ℕ
 bytes_of word = bytes_with (factor_of (last_of word)) word
 
 -- a size in whole pages of 4096 bytes, rounded up
-abbrev pub pages_of : List ℕ → ℕ
-pages_of word = (bytes_of word + 4095) / 4096
+abbrev pub size_pages : List ℕ → ℕ
+size_pages word = (bytes_of word + 4095) / 4096
 
 -- ---- turns
 
@@ -99,7 +104,8 @@ is_turn word = is_turn_at (star_in word) word
 -- the turns that a word gives whose star stands there, or nowhere
 abbrev pub turn_at : Option ℕ → List ℕ → Turns
 turn_at None word = record { actor = number_of word; times = 1 }
-turn_at (Some star) word = record { actor = number_of (take star word); times = number_of (drop (star + 1) word) }
+turn_at (Some star) word =
+    record { actor = number_of (take star word); times = number_of (drop (star + 1) word) }
 
 -- the turns that a word gives: one, where no number of them is written
 abbrev pub turn_of : List ℕ → Turns

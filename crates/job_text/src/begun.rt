@@ -2,13 +2,15 @@
 
 ghost use Rattle.std.specs.Prelude.{◌≡◌, ℕ, ◌+◌, ◌≤◌, List, [], ◌∷◌, ◌++◌, length, OnOk, nat_le, nat_lt, if◌then◌else◌};
 ghost use Rattle.std.specs.List.{list_all};
+ghost use Rattle.zr_base.specs.declared.limits.TheConstants.{MOST_ACTORS};
+ghost use Rattle.job_text.specs.declared.limits.TheConstants.{MOST_TURNS};
 ghost use Rattle.job_text.specs.Jobs.{turns_in, MayTurn};
 ghost use Rattle.job_text.specs.Reading.{text_of};
 
-use crate::job::{ActorList, PhaseText, TurnList};
-use crate::turns::push_turns;
+use crate::job::{ActorList, PhaseText, TurnList, push};
+use crate::limits::MOST_TURNS;
 use std::alloc::{AllocError, Global};
-use zr_base::{ActorOps, Op, Turns};
+use zr_base::{ActorOps, Turns};
 
 /// A phase that has begun: its actors but the last, the last actor's operations, and its turns.
 #[derive(Drop)]
@@ -18,30 +20,12 @@ pub(crate) struct Begun {
     pub(crate) schedule: TurnList,
 }
 
-fn push_actor(actors: &mut ActorList, ops: ActorOps) -> Result<(), AllocError>
-    ensures { OnOk result (actors.new ≡ actors.old ++ ops ∷ []) }
-{
-    match actors.push(ops) {
-        Ok(()) => Ok(()),
-        Err(_) => Err(AllocError),
-    }
-}
-
-pub(crate) fn push_op(ops: &mut ActorOps, op: Op) -> Result<(), AllocError>
-    ensures { OnOk result (ops.new ≡ ops.old ++ op ∷ []) }
-{
-    match ops.push(op) {
-        Ok(()) => Ok(()),
-        Err(_) => Err(AllocError),
-    }
-}
-
-/// Puts turns behind those of a schedule.
+/// Puts turns after those of a schedule.
 pub(crate) fn push_all(schedule: &mut TurnList, turns: &[Turns]) -> Result<(), AllocError>
     ensures { OnOk result (schedule.new ≡ schedule.old ++ turns.now) }
 {
     for given in turns {
-        push_turns(schedule, *given)?;
+        push(schedule, *given)?;
     }
     Ok(())
 }
@@ -55,14 +39,15 @@ pub(crate) fn names_actors(turns: &[Turns], actors: usize) -> bool
 
 /// The turns so far with those of a schedule, where a job may have so many.
 pub(crate) fn more_turns(so_far: u32, turns: &[Turns]) -> Option<u32>
-    requires some { so_far ≤ 16777216 }
-    requires each { MayTurn 64 turns.now }
-    ensures { result ≡ (if nat_le (so_far + turns_in turns.now) 16777216 then Some (so_far + turns_in turns.now) else None) }
+    requires some { so_far ≤ MOST_TURNS }
+    requires each { MayTurn MOST_ACTORS turns.now }
+    ensures { result ≡ (if nat_le (so_far + turns_in turns.now) MOST_TURNS
+        then Some (so_far + turns_in turns.now) else None) }
 {
     let mut total = so_far;
     for given in turns {
         total += given.times;
-        if total > 16_777_216 {
+        if total > MOST_TURNS {
             return None;
         }
     }
@@ -80,7 +65,7 @@ pub(crate) fn empty_phase(alloc: Global) -> PhaseText
 
 impl Begun {
     ghost use Rattle.std.specs.Prelude.{◌≡◌, ℕ, ◌+◌, [], length, not, ◌==◌, Some, IfOk};
-    ghost use Rattle.job_text.specs.Reading.{is_scheduled, all_actors, text_of};
+    ghost use Rattle.job_text.specs.Reading.{is_scheduled, fresh, with_actor, text_of};
 
     pub(crate) fn is_scheduled(&self) -> bool
         ensures { result ≡ is_scheduled self.now }
@@ -97,7 +82,7 @@ impl Begun {
 
     /// A phase of one actor.
     pub(crate) fn new(alloc: Global) -> Begun
-        ensures { result ≡ record { actors = []; last = []; schedule = [] } }
+        ensures { result ≡ fresh }
     {
         Begun {
             actors: ActorList::new(alloc),
@@ -108,10 +93,10 @@ impl Begun {
 
     /// The same with one more actor.
     pub(crate) fn next_actor(self, alloc: Global) -> Result<Begun, AllocError>
-        ensures { IfOk result (λ begun. begun ≡ record self { actors = all_actors self; last = [] }) }
+        ensures { IfOk result (λ begun. begun ≡ with_actor self) }
     {
         let mut actors = self.actors;
-        push_actor(&mut actors, self.last)?;
+        push(&mut actors, self.last)?;
         Ok(Begun {
             actors,
             last: ActorOps::new(alloc),
@@ -123,7 +108,7 @@ impl Begun {
         ensures { IfOk result (λ text. text ≡ text_of (Some self)) }
     {
         let mut actors = self.actors;
-        push_actor(&mut actors, self.last)?;
+        push(&mut actors, self.last)?;
         Ok(PhaseText {
             actors,
             schedule: self.schedule,

@@ -7,7 +7,7 @@ use std::alloc::AllocError;
 pub enum Cause {
     /// Its first word names no line, it has too few or too many words, or a fixed word isn't there.
     Word,
-    /// A word isn't of its form, or there are too few or too many digits behind `hex`.
+    /// A word isn't of its form, or there are too few or too many digits after `hex`.
     Number,
     /// A value isn't allowed.
     Range,
@@ -19,7 +19,8 @@ pub enum Cause {
     Order,
 }
 
-/// The first faulty line, counted from 1, and its cause. A text that is too long is `TooMany` at line 0.
+/// The first faulty line, counted from 1, and its cause. A text that is too long is `TooMany` at
+/// line 0.
 #[derive(Clone, Copy, PartialEq, Eq, Debug)]
 pub struct JobFault {
     pub line: u32,
@@ -31,37 +32,37 @@ pub struct JobFault {
 pub enum ReadFault {
     /// The bytes are no job.
     Bad(JobFault),
-    /// Memory was wanting.
+    /// Memory was refused.
     Memory(AllocError),
 }
 
 /// Why a line wasn't taken.
 #[derive(Clone, Copy, PartialEq, Eq, Debug)]
-pub(crate) enum Stop {
+pub(crate) enum NotTaken {
     /// It is faulty.
-    Told(Cause),
-    /// Memory was wanting.
+    Faulty(Cause),
+    /// Memory was refused.
     Memory(AllocError),
 }
 
-impl From<AllocError> for Stop {
+impl From<AllocError> for NotTaken {
     ghost use Rattle.std.specs.Prelude.{◌≡◌};
-    ghost use Rattle.job_text.specs.declared.fault.Stop.TheVariants.{Memory};
+    ghost use Rattle.job_text.specs.declared.fault.NotTaken.TheVariants.{Memory};
 
-    ghost from_gives = { λ e stop. stop ≡ Memory e };
+    ghost from_gives = { λ e n. n ≡ Memory e };
 
-    fn from(e: AllocError) -> Stop {
-        Stop::Memory(e)
+    fn from(e: AllocError) -> NotTaken {
+        NotTaken::Memory(e)
     }
 }
 
-impl From<Cause> for Stop {
+impl From<Cause> for NotTaken {
     ghost use Rattle.std.specs.Prelude.{◌≡◌};
-    ghost use Rattle.job_text.specs.declared.fault.Stop.TheVariants.{Told};
+    ghost use Rattle.job_text.specs.declared.fault.NotTaken.TheVariants.{Faulty};
 
-    ghost from_gives = { λ cause stop. stop ≡ Told cause };
+    ghost from_gives = { λ cause n. n ≡ Faulty cause };
 
-    fn from(cause: Cause) -> Stop {
-        Stop::Told(cause)
+    fn from(cause: Cause) -> NotTaken {
+        NotTaken::Faulty(cause)
     }
 }

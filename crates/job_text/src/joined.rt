@@ -1,9 +1,10 @@
-//! The digits behind `hex`, of several words joined.
+//! The digits after `hex`, of several words joined.
 
 ghost use Rattle.std.specs.Prelude.{◌≡◌, ℕ, ◌+◌, ◌*◌, ◌<◌, map, IfOk, true, OnOk, ◌++◌, [], ◌∷◌};
 ghost use Rattle.std.specs.List.{concat};
 ghost use Rattle.job_text.specs.Numbers.{digit_value, are_digits, bytes_by};
 
+use crate::job::push;
 use crate::number::digit;
 use std::alloc::{AllocError, Global};
 use zr_base::Bytes;
@@ -34,15 +35,6 @@ fn byte(high: u8, low: u8) -> u8
     (16 * digit(high) + digit(low)) as u8
 }
 
-fn push_byte(bytes: &mut Bytes, byte: u8) -> Result<(), AllocError>
-    ensures { OnOk result (bytes.new ≡ bytes.old ++ byte ∷ []) }
-{
-    match bytes.push(byte) {
-        Ok(()) => Ok(()),
-        Err(_) => Err(AllocError),
-    }
-}
-
 /// The bytes of digits, two for each.
 pub(crate) fn bytes(alloc: Global, digits: &[u8]) -> Result<Bytes, AllocError>
     requires { are_digits 16 digits.now ≡ true }
@@ -50,7 +42,7 @@ pub(crate) fn bytes(alloc: Global, digits: &[u8]) -> Result<Bytes, AllocError>
 {
     let mut bytes = Bytes::new(alloc);
     for k in 0..digits.len() / 2 {
-        push_byte(&mut bytes, byte(digits[2 * k], digits[2 * k + 1]))?;
+        push(&mut bytes, byte(digits[2 * k], digits[2 * k + 1]))?;
     }
     Ok(bytes)
 }

@@ -1,10 +1,17 @@
-//! The reader of job texts.
+//! The reader of job texts. A text is read once, from its bytes to a job:
+//!
+//! - a line's words stand for values (`number`, `turns`, `joined`), and together for a `Line`: what
+//!   it says by itself, or the first cause that its words have (`line`);
+//! - the lines so far stand for a `Reading`: the items that have ended, the phase that has begun
+//!   (`begun`), and what of a job's limits is used (`reading`);
+//! - the text stands for a job, or for its first faulty line with its cause (`reader`).
 #![tactic(auto)]
 
 mod begun;
 mod fault;
 mod job;
 mod joined;
+mod limits;
 mod line;
 mod number;
 mod reader;
@@ -13,8 +20,9 @@ mod turns;
 
 pub use fault::{Cause, JobFault, ReadFault};
 pub use job::{ActorList, Attr, Item, Job, PhaseText, TurnList};
+pub use limits::{MOST_BYTES, MOST_PHASES, MOST_PIECES, MOST_SECTORS_READ, MOST_TURNS};
 pub use line::Line;
-pub use reader::{MOST_BYTES, read_job};
+pub use reader::read_job;
 
 #[cfg(test)]
 mod tests;

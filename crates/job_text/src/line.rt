@@ -4,15 +4,15 @@ ghost use Rattle.std.specs.Prelude.{◌≡◌, ℕ, List, map, IfOk, if◌then�
 ghost use Rattle.job_text.specs.Lines.{without_return, before_comment, words_of, line_by, line_with, line_of, are_bounds, fill_sectors};
 ghost use Rattle.job_text.specs.Lines.{Form, size_form, actor_form, fill_form, seq_form, hex_form, read_form, discard_form, schedule_form, run_form};
 ghost use Rattle.job_text.specs.Lines.{alone, size_in, read_in, discard_in, fill_in, seq_in, hex_in, stuff_in, write_in, schedule_in, named_in};
-ghost use Rattle.job_text.specs.Answers.{Answers, IsLine, hash_in};
+ghost use Rattle.job_text.specs.Answers.{Answers, IsInRange, hash_in};
 
-use crate::fault::{Cause, Stop};
+use crate::fault::{Cause, NotTaken};
 use crate::job::TurnList;
 use crate::joined::{are_hex, bytes, joined};
 use crate::number::{number, pages, word64};
 use crate::turns::{are_turns, turns};
 use std::alloc::{AllocError, Global};
-use zr_base::{Op, Stuff};
+use zr_base::{MOST_PAGES, MOST_SECTORS, Op, Stuff};
 
 /// What a line says.
 #[derive(Drop)]
@@ -68,7 +68,7 @@ pub(crate) fn words(alloc: Global, line: &[u8]) -> Result<Vec<&[u8]>, AllocError
 fn in_bounds(start: u64, count: u64) -> Result<u32, Cause>
     ensures { result ≡ (if are_bounds start count then Ok count else Err Cause.Range) }
 {
-    if start < 1 << 32 && 1 <= count && count <= 2048 {
+    if start < 1 << 32 && 1 <= count && count <= MOST_SECTORS as u64 {
         Ok(count as u32)
     } else {
         Err(Cause::Range)
@@ -78,7 +78,7 @@ fn in_bounds(start: u64, count: u64) -> Result<u32, Cause>
 fn fills(digits: usize, count: u64) -> bool
     ensures { result ≡ fill_sectors digits count }
 {
-    !(1 <= count && count <= 2048) || digits as u64 == 1024 * count
+    !(1 <= count && count <= MOST_SECTORS as u64) || digits as u64 == 1024 * count
 }
 
 #[tactic(auto, unfolding(crate::specs::Lines::is_malformed, crate::specs::Lines::meaning))]
@@ -86,7 +86,7 @@ fn disk_size(size: &[u8]) -> Result<Line, Cause>
     ensures { result ≡ line_by (size_form size.now) }
 {
     let pages = pages(size)?;
-    if 1 <= pages && pages <= 262_144 {
+    if 1 <= pages && pages <= MOST_PAGES as u64 {
         Ok(Line::Disk(pages as u32))
     } else {
         Err(Cause::Range)
@@ -146,14 +146,15 @@ fn seq(start: &[u8], count: &[u8], base: &[u8], step: &[u8]) -> Result<Line, Cau
 }
 
 #[tactic(auto, unfolding(crate::specs::Lines::is_malformed, crate::specs::Lines::meaning))]
-fn hex(alloc: Global, start: &[u8], count: &[u8], words: &[&[u8]]) -> Result<Line, Stop>
-    ensures { Answers (line_by (hex_form start.now count.now (map (λ word. word.now) words.now))) result }
+fn hex(alloc: Global, start: &[u8], count: &[u8], words: &[&[u8]]) -> Result<Line, NotTaken>
+    ensures { Answers (line_by (hex_form start.now count.now
+        (map (λ word. word.now) words.now))) result }
 {
     let start = number(start)?;
     let count = number(count)?;
     let digits = joined(alloc, words)?;
     if !are_hex(&digits) || !fills(digits.len(), count) {
-        return Err(Stop::Told(Cause::Number));
+        return Err(NotTaken::Faulty(Cause::Number));
     }
     let count = in_bounds(start, count)?;
     let stuff = Stuff::Hex(bytes(alloc, &digits)?);
@@ -165,85 +166,88 @@ fn hex(alloc: Global, start: &[u8], count: &[u8], words: &[&[u8]]) -> Result<Lin
 }
 
 #[tactic(auto, unfolding(crate::specs::Lines::is_malformed, crate::specs::Lines::meaning))]
-fn schedule(alloc: Global, words: &[&[u8]]) -> Result<Line, Stop>
+fn schedule(alloc: Global, words: &[&[u8]]) -> Result<Line, NotTaken>
     ensures { Answers (line_by (schedule_form (map (λ word. word.now) words.now))) result }
 {
     if !are_turns(words) {
-        return Err(Stop::Told(Cause::Number));
+        return Err(NotTaken::Faulty(Cause::Number));
     }
     Ok(Line::Schedule(turns(alloc, words)?))
 }
 
 #[tactic(auto, unfolding(crate::specs::Lines::is_malformed, crate::specs::Lines::meaning))]
-fn actor_line(words: &[&[u8]]) -> Result<Line, Stop>
+fn actor_line(words: &[&[u8]]) -> Result<Line, NotTaken>
     ensures { Answers (line_with (alone actor_form (map (λ word. word.now) words.now))) result }
 {
     match words {
         [] => Ok(Line::Actor),
-        _ => Err(Stop::Told(Cause::Word)),
+        _ => Err(NotTaken::Faulty(Cause::Word)),
     }
 }
 
 #[tactic(auto, unfolding(crate::specs::Lines::is_malformed, crate::specs::Lines::meaning))]
-fn run_line(words: &[&[u8]]) -> Result<Line, Stop>
+fn run_line(words: &[&[u8]]) -> Result<Line, NotTaken>
     ensures { Answers (line_with (alone run_form (map (λ word. word.now) words.now))) result }
 {
     match words {
         [] => Ok(Line::Run),
-        _ => Err(Stop::Told(Cause::Word)),
+        _ => Err(NotTaken::Faulty(Cause::Word)),
     }
 }
 
-fn size_line(words: &[&[u8]]) -> Result<Line, Stop>
+fn size_line(words: &[&[u8]]) -> Result<Line, NotTaken>
     ensures { Answers (line_with (size_in (map (λ word. word.now) words.now))) result }
 {
     match words {
         [size] => Ok(disk_size(size)?),
-        _ => Err(Stop::Told(Cause::Word)),
+        _ => Err(NotTaken::Faulty(Cause::Word)),
     }
 }
 
-fn read_line(words: &[&[u8]]) -> Result<Line, Stop>
+fn read_line(words: &[&[u8]]) -> Result<Line, NotTaken>
     ensures { Answers (line_with (read_in (map (λ word. word.now) words.now))) result }
 {
     match words {
         [start, count] => Ok(read(start, count)?),
-        _ => Err(Stop::Told(Cause::Word)),
+        _ => Err(NotTaken::Faulty(Cause::Word)),
     }
 }
 
-fn discard_line(words: &[&[u8]]) -> Result<Line, Stop>
+fn discard_line(words: &[&[u8]]) -> Result<Line, NotTaken>
     ensures { Answers (line_with (discard_in (map (λ word. word.now) words.now))) result }
 {
     match words {
         [start, count] => Ok(discard(start, count)?),
-        _ => Err(Stop::Told(Cause::Word)),
+        _ => Err(NotTaken::Faulty(Cause::Word)),
     }
 }
 
-fn fill_line(start: &[u8], count: &[u8], words: &[&[u8]]) -> Result<Line, Stop>
-    ensures { Answers (line_with (fill_in start.now count.now (map (λ word. word.now) words.now))) result }
+fn fill_line(start: &[u8], count: &[u8], words: &[&[u8]]) -> Result<Line, NotTaken>
+    ensures { Answers (line_with (fill_in start.now count.now
+        (map (λ word. word.now) words.now))) result }
 {
     match words {
         [word] => Ok(fill(start, count, word)?),
-        _ => Err(Stop::Told(Cause::Word)),
+        _ => Err(NotTaken::Faulty(Cause::Word)),
     }
 }
 
-fn seq_line(start: &[u8], count: &[u8], words: &[&[u8]]) -> Result<Line, Stop>
-    ensures { Answers (line_with (seq_in start.now count.now (map (λ word. word.now) words.now))) result }
+fn seq_line(start: &[u8], count: &[u8], words: &[&[u8]]) -> Result<Line, NotTaken>
+    ensures { Answers (line_with (seq_in start.now count.now
+        (map (λ word. word.now) words.now))) result }
 {
     match words {
         [base, step] => Ok(seq(start, count, base, step)?),
-        _ => Err(Stop::Told(Cause::Word)),
+        _ => Err(NotTaken::Faulty(Cause::Word)),
     }
 }
 
-fn hex_line(alloc: Global, start: &[u8], count: &[u8], words: &[&[u8]]) -> Result<Line, Stop>
-    ensures { Answers (line_with (hex_in start.now count.now (map (λ word. word.now) words.now))) result }
+fn hex_line(alloc: Global, start: &[u8], count: &[u8], words: &[&[u8]]) -> Result<Line, NotTaken>
+    ensures { Answers (line_with (hex_in start.now count.now
+        (map (λ word. word.now) words.now))) result }
 {
     match words {
-        [] => Err(Stop::Told(Cause::Word)),
+        [] => Err(NotTaken::Faulty(Cause::Word)),
         _ => hex(alloc, start, count, words),
     }
 }
@@ -255,8 +259,9 @@ fn stuff_line(
     count: &[u8],
     kind: &[u8],
     words: &[&[u8]],
-) -> Result<Line, Stop>
-    ensures { Answers (line_with (stuff_in start.now count.now kind.now (map (λ word. word.now) words.now))) result }
+) -> Result<Line, NotTaken>
+    ensures { Answers (line_with (stuff_in start.now count.now kind.now
+        (map (λ word. word.now) words.now))) result }
 {
     if kind == b"fill".as_slice() {
         fill_line(start, count, words)
@@ -265,30 +270,30 @@ fn stuff_line(
     } else if kind == b"hex".as_slice() {
         hex_line(alloc, start, count, words)
     } else {
-        Err(Stop::Told(Cause::Word))
+        Err(NotTaken::Faulty(Cause::Word))
     }
 }
 
-fn write_line(alloc: Global, words: &[&[u8]]) -> Result<Line, Stop>
+fn write_line(alloc: Global, words: &[&[u8]]) -> Result<Line, NotTaken>
     ensures { Answers (line_with (write_in (map (λ word. word.now) words.now))) result }
 {
     match words {
         [start, count, kind, rest @ ..] => stuff_line(alloc, start, count, kind, rest),
-        _ => Err(Stop::Told(Cause::Word)),
+        _ => Err(NotTaken::Faulty(Cause::Word)),
     }
 }
 
-fn schedule_line(alloc: Global, words: &[&[u8]]) -> Result<Line, Stop>
+fn schedule_line(alloc: Global, words: &[&[u8]]) -> Result<Line, NotTaken>
     ensures { Answers (line_with (schedule_in (map (λ word. word.now) words.now))) result }
 {
     match words {
-        [] => Err(Stop::Told(Cause::Word)),
+        [] => Err(NotTaken::Faulty(Cause::Word)),
         _ => schedule(alloc, words),
     }
 }
 
 #[tactic(auto, unfolding(crate::specs::Lines::named_in))]
-fn named_line(alloc: Global, name: &[u8], words: &[&[u8]]) -> Result<Line, Stop>
+fn named_line(alloc: Global, name: &[u8], words: &[&[u8]]) -> Result<Line, NotTaken>
     ensures { Answers (line_with (named_in name.now (map (λ word. word.now) words.now))) result }
 {
     if name == b"disksize".as_slice() {
@@ -306,14 +311,14 @@ fn named_line(alloc: Global, name: &[u8], words: &[&[u8]]) -> Result<Line, Stop>
     } else if name == b"run".as_slice() {
         run_line(words)
     } else {
-        Err(Stop::Told(Cause::Word))
+        Err(NotTaken::Faulty(Cause::Word))
     }
 }
 
 /// What a line of these words says.
 #[tactic(auto, unfolding(crate::specs::Lines::is_malformed, crate::specs::Lines::meaning))]
-pub(crate) fn line_by_words(alloc: Global, words: &[&[u8]]) -> Result<Line, Stop>
-    ensures lawful { IfOk result IsLine }
+pub(crate) fn line_by_words(alloc: Global, words: &[&[u8]]) -> Result<Line, NotTaken>
+    ensures lawful { IfOk result IsInRange }
     ensures said { Answers (line_of (map (λ word. word.now) words.now)) result }
 {
     match words {

@@ -23,7 +23,8 @@ pub(crate) fn digit(c: u8) -> u64
 fn digits(base: u64, word: &[u8]) -> Result<u64, Cause>
     requires low { 1 ≤ base }
     requires high { base ≤ 16 }
-    ensures { result ≡ (if are_digits base word.now then Ok (saturated (value_from base 0 word.now)) else Err Cause.Number) }
+    ensures { result ≡ (if are_digits base word.now
+        then Ok (saturated (value_from base 0 word.now)) else Err Cause.Number) }
 {
     let mut value: u64 = 0;
     for c in word {
@@ -38,7 +39,8 @@ fn digits(base: u64, word: &[u8]) -> Result<u64, Cause>
 
 /// A number of one or more decimal digits.
 pub(crate) fn number(word: &[u8]) -> Result<u64, Cause>
-    ensures { result ≡ (if is_number word.now then Ok (saturated (number_of word.now)) else Err Cause.Number) }
+    ensures { result ≡ (if is_number word.now
+        then Ok (saturated (number_of word.now)) else Err Cause.Number) }
 {
     if word.is_empty() {
         return Err(Cause::Number);
@@ -58,7 +60,8 @@ pub(crate) fn word64(word: &[u8]) -> Result<u64, Cause>
 
 /// A size in pages of 4096 bytes, rounded up.
 pub(crate) fn pages(word: &[u8]) -> Result<u64, Cause>
-    ensures { result ≡ (if is_size word.now then Ok (saturated_pages (bytes_of word.now)) else Err Cause.Number) }
+    ensures { result ≡ (if is_size word.now
+        then Ok (saturated_pages (bytes_of word.now)) else Err Cause.Number) }
 {
     let bytes = match word {
         [front @ .., b'K' | b'k'] => number(front)?.saturating_mul(1 << 10),
@@ -77,7 +80,8 @@ fn star(word: &[u8]) -> Option<usize>
 
 /// The number of an actor, and how many turns it gets.
 pub(crate) fn turn(word: &[u8]) -> Result<(u64, u64), Cause>
-    ensures { result ≡ (if is_turn word.now then Ok (saturated_turn (turn_of word.now)) else Err Cause.Number) }
+    ensures { result ≡ (if is_turn word.now
+        then Ok (saturated_turn (turn_of word.now)) else Err Cause.Number) }
 {
     match star(word) {
         None => Ok((number(word)?, 1)),

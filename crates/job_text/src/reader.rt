@@ -2,19 +2,17 @@
 
 ghost use Rattle.std.specs.Prelude.{◌≡◌, ℕ, ◌+◌, ◌<◌, ◌≤◌, List, ◌∷◌, Some, Err, IfOk, IfErr, OnOk, length, ◌==◌, position};
 ghost use Rattle.job_text.specs.declared.job.Item.{Item as JobItem};
-ghost use Rattle.job_text.specs.Lines.{words_of};
 ghost use Rattle.job_text.specs.Jobs.{IsJob, text_lines};
-ghost use Rattle.job_text.specs.Faults.{cause_of, first_fault};
-ghost use Rattle.job_text.specs.Reading.{IsStop, used_by, phase_of, job_of, lines_behind, bytes_behind, items_behind, fault_behind};
+ghost use Rattle.job_text.specs.Totals.{IsWithinLimits};
+ghost use Rattle.job_text.specs.Faults.{first_fault};
+ghost use Rattle.job_text.specs.Reading.{IsNotTaken, cause_at, KeepsFault, KeepsItems, HasFault, job_of, lines_left, bytes_left};
 
-use crate::fault::{Cause, JobFault, ReadFault, Stop};
+use crate::fault::{Cause, JobFault, NotTaken, ReadFault};
 use crate::job::Job;
+use crate::limits::MOST_BYTES;
 use crate::line::{line_by_words, words};
 use crate::reading::Reading;
 use std::alloc::Global;
-
-/// The greatest text of a job, in bytes.
-pub const MOST_BYTES: usize = 16_777_216;
 
 // Where the first line of a text ends, if another follows.
 fn line_end(text: &[u8]) -> Option<usize>
@@ -23,10 +21,10 @@ fn line_end(text: &[u8]) -> Option<usize>
     text.iter().position(|byte| *byte == b'\n')
 }
 
-// The first line of a text, and the text behind it.
+// The first line of a text, and the text after it.
 fn first_line(text: &[u8]) -> (&[u8], Option<&[u8]>)
-    ensures lines { text_lines text.now ≡ result.0.now ∷ lines_behind result.1 }
-    ensures shorter { bytes_behind result.1 < length text.now + 1 }
+    ensures lines { text_lines text.now ≡ result.0.now ∷ lines_left result.1 }
+    ensures shorter { bytes_left result.1 < length text.now + 1 }
 {
     match line_end(text) {
         Some(at) => (&text[..at], Some(&text[at + 1..])),
@@ -35,10 +33,10 @@ fn first_line(text: &[u8]) -> (&[u8], Option<&[u8]>)
 }
 
 // The line of this number is taken.
-fn take_line(reading: &mut Reading, alloc: Global, number: u32, line: &[u8]) -> Result<(), Stop>
-    ensures fault { IfErr result (IsStop (cause_of (used_by reading.old) (phase_of reading.old) (words_of line.now))) }
-    ensures faultless { OnOk result ((rest : List (List ℕ)) → fault_behind reading.old number (line.now ∷ rest) ≡ fault_behind reading.new (number + 1) rest) }
-    ensures goes_on { OnOk result ((rest : List (List ℕ)) → items_behind reading.old (line.now ∷ rest) ≡ items_behind reading.new rest) }
+fn take_line(reading: &mut Reading, alloc: Global, number: u32, line: &[u8]) -> Result<(), NotTaken>
+    ensures fault { IfErr result (IsNotTaken (cause_at reading.old line.now)) }
+    ensures faultless { OnOk result (KeepsFault reading.old number line.now reading.new) }
+    ensures goes_on { OnOk result (KeepsItems reading.old line.now reading.new) }
 {
     let words = words(alloc, line)?;
     let line = line_by_words(alloc, &words)?;
@@ -47,24 +45,26 @@ fn take_line(reading: &mut Reading, alloc: Global, number: u32, line: &[u8]) -> 
 
 // The same, with the line told where it is faulty.
 fn numbered(reading: &mut Reading, alloc: Global, number: u32, line: &[u8]) -> Result<(), ReadFault>
-    ensures bad { (fault : JobFault) → result ≡ Err (ReadFault.Bad fault) → (rest : List (List ℕ)) → fault_behind reading.old number (line.now ∷ rest) ≡ Some fault }
-    ensures faultless { OnOk result ((rest : List (List ℕ)) → fault_behind reading.old number (line.now ∷ rest) ≡ fault_behind reading.new (number + 1) rest) }
-    ensures goes_on { OnOk result ((rest : List (List ℕ)) → items_behind reading.old (line.now ∷ rest) ≡ items_behind reading.new rest) }
+    ensures bad { (fault : JobFault) → result ≡ Err (ReadFault.Bad fault)
+        → HasFault reading.old number line.now fault }
+    ensures faultless { OnOk result (KeepsFault reading.old number line.now reading.new) }
+    ensures goes_on { OnOk result (KeepsItems reading.old line.now reading.new) }
 {
     match take_line(reading, alloc, number, line) {
         Ok(()) => Ok(()),
-        Err(Stop::Told(cause)) => Err(ReadFault::Bad(JobFault {
+        Err(NotTaken::Faulty(cause)) => Err(ReadFault::Bad(JobFault {
             line: number,
             cause,
         })),
-        Err(Stop::Memory(e)) => Err(ReadFault::Memory(e)),
+        Err(NotTaken::Memory(e)) => Err(ReadFault::Memory(e)),
     }
 }
 
 // The same as `read_job`, by the function that the reader is.
 fn read_exact(alloc: Global, bytes: &[u8]) -> Result<Job, ReadFault>
     ensures found { IfOk result (λ job. job_of bytes.now ≡ Some job) }
-    ensures bad { (fault : JobFault) → result ≡ Err (ReadFault.Bad fault) → first_fault bytes.now ≡ Some fault }
+    ensures bad { (fault : JobFault) → result ≡ Err (ReadFault.Bad fault)
+        → first_fault bytes.now ≡ Some fault }
 {
     if bytes.len() > MOST_BYTES {
         return Err(ReadFault::Bad(JobFault {
@@ -87,12 +87,17 @@ fn read_exact(alloc: Global, bytes: &[u8]) -> Result<Job, ReadFault>
     }
 }
 
-/// The job that a text is, or its first faulty line with the first of the causes that this line has.
+/// The job that a text is, or its first faulty line with the first of the causes that this line
+/// has.
 pub fn read_job(alloc: Global, bytes: &[u8]) -> Result<Job, ReadFault>
     ensures found { IfOk result (λ job. IsJob bytes.now job) }
-    ensures only { IfOk result (λ job. (other : List JobItem) → IsJob bytes.now other → other ≡ job) }
-    ensures bad { (fault : JobFault) → result ≡ Err (ReadFault.Bad fault) → first_fault bytes.now ≡ Some fault }
-    ensures no_job { (fault : JobFault) → result ≡ Err (ReadFault.Bad fault) → (job : List JobItem) → IsJob bytes.now job → ⊥ }
+    ensures only { IfOk result (λ job. (other : List JobItem) → IsJob bytes.now other
+        → other ≡ job) }
+    ensures within { IfOk result IsWithinLimits }
+    ensures bad { (fault : JobFault) → result ≡ Err (ReadFault.Bad fault)
+        → first_fault bytes.now ≡ Some fault }
+    ensures no_job { (fault : JobFault) → result ≡ Err (ReadFault.Bad fault)
+        → (job : List JobItem) → IsJob bytes.now job → ⊥ }
 {
     read_exact(alloc, bytes)
 }

@@ -1,4 +1,4 @@
-//! The words behind `schedule`.
+//! The words after `schedule`.
 
 ghost use Rattle.std.specs.Prelude.{◌≡◌, ℕ, map, true, false, IfOk, IfErr, OnOk, ◌++◌, [], ◌∷◌};
 ghost use Rattle.std.specs.List.{list_all};
@@ -6,11 +6,12 @@ ghost use Rattle.job_text.specs.Numbers.{is_turn, turn_of};
 ghost use Rattle.job_text.specs.Lines.{may_give};
 ghost use Rattle.job_text.specs.Answers.{Answers, turns_with};
 
-use crate::fault::{Cause, Stop};
-use crate::job::TurnList;
+use crate::fault::{Cause, NotTaken};
+use crate::job::{TurnList, push};
+use crate::limits::MOST_TURNS;
 use crate::number::turn;
-use std::alloc::{AllocError, Global};
-use zr_base::Turns;
+use std::alloc::Global;
+use zr_base::{MOST_ACTORS, Turns};
 
 fn has_turn(word: &[u8]) -> bool
     ensures { result ≡ is_turn word.now }
@@ -28,10 +29,11 @@ pub(crate) fn are_turns(words: &[&[u8]]) -> bool
 fn allowed(word: &[u8]) -> Result<Turns, Cause>
     requires { is_turn word.now ≡ true }
     ensures given { IfOk result (λ turns. (turns ≡ turn_of word.now) × (may_give turns ≡ true)) }
-    ensures range { IfErr result (λ cause. (cause ≡ Cause.Range) × (may_give (turn_of word.now) ≡ false)) }
+    ensures range { IfErr result (λ cause. (cause ≡ Cause.Range)
+        × (may_give (turn_of word.now) ≡ false)) }
 {
     let (actor, times) = turn(word)?;
-    if actor < 64 && 1 <= times && times <= 16_777_216 {
+    if actor < MOST_ACTORS as u64 && 1 <= times && times <= MOST_TURNS as u64 {
         Ok(Turns {
             actor: actor as u32,
             times: times as u32,
@@ -41,24 +43,15 @@ fn allowed(word: &[u8]) -> Result<Turns, Cause>
     }
 }
 
-pub(crate) fn push_turns(list: &mut TurnList, turns: Turns) -> Result<(), AllocError>
-    ensures { OnOk result (list.new ≡ list.old ++ turns ∷ []) }
-{
-    match list.push(turns) {
-        Ok(()) => Ok(()),
-        Err(_) => Err(AllocError),
-    }
-}
-
 /// The turns that words give.
-pub(crate) fn turns(alloc: Global, words: &[&[u8]]) -> Result<TurnList, Stop>
+pub(crate) fn turns(alloc: Global, words: &[&[u8]]) -> Result<TurnList, NotTaken>
     requires { list_all is_turn (map (λ word. word.now) words.now) ≡ true }
     ensures { Answers (turns_with (map (λ word. word.now) words.now)) result }
 {
     let mut list = TurnList::new(alloc);
     for word in words {
         let turns = allowed(word)?;
-        push_turns(&mut list, turns)?;
+        push(&mut list, turns)?;
     }
     Ok(list)
 }

@@ -82,13 +82,13 @@ IsCounted c (Packed len) = (1 ≤ c.packed) × (len ≤ c.packed_bytes)
 IsCounted c Huge = 1 ≤ c.huge
 IsCounted c Back = 1 ≤ c.back
 
--- the counters without a page of this weight
-abbrev pub without : Counters → Weight → Counters
-without c Empty = c
-without c Same = record c { same = c.same - 1 }
-without c (Packed len) = record c { packed = c.packed - 1; packed_bytes = c.packed_bytes - len }
-without c Huge = record c { huge = c.huge - 1 }
-without c Back = record c { back = c.back - 1 }
+-- the counters without_one a page of this weight
+abbrev pub without_one : Counters → Weight → Counters
+without_one c Empty = c
+without_one c Same = record c { same = c.same - 1 }
+without_one c (Packed len) = record c { packed = c.packed - 1; packed_bytes = c.packed_bytes - len }
+without_one c Huge = record c { huge = c.huge - 1 }
+without_one c Back = record c { back = c.back - 1 }
 
 -- the counters with one page more, of this weight
 abbrev pub with_one : Counters → Weight → Counters
@@ -100,7 +100,7 @@ with_one c Back = record c { back = c.back + 1 }
 
 -- the counters after a piece of news
 abbrev pub counted : Counters → Delta → Counters
-counted c (Kept old new) = with_one (without c old) new
+counted c (Kept old new) = with_one (without_one c old) new
 counted c FailedRead = record c { failed_reads = at_most_end (c.failed_reads + 1) }
 counted c FailedWrite = record c { failed_writes = at_most_end (c.failed_writes + 1) }
 counted c InvalidIo = record c { invalid_io = at_most_end (c.invalid_io + 1) }

@@ -1,8 +1,6 @@
 -- The counters as sums over the disk's pages.
 use Rattle.std.specs.Prelude.{◌≡◌, ℕ, List, ◌∷◌, ◌++◌, sum_by}
-use Rattle.std.proofs.Common.{arith}
-use Rattle.std.proofs.lemmas.Grind.{common_steps}
-use Rattle.mem_account.specs.Counters.{Counters, IsCounted}
+use Rattle.mem_account.specs.Counters.{Counters}
 use Rattle.mem_account.specs.declared.weight.Weight.{Weight}
 use Rattle.mem_account.specs.declared.weight.Weight.TheVariants.{Empty, Same, Packed, Huge, Back}
 use Rattle.mem_account.specs.declared.weight.Delta.{Delta}
@@ -65,12 +63,3 @@ KeepsTally c d FailedWrite = (pages : List Weight) → IsTally c pages → IsTal
 KeepsTally c d InvalidIo = (pages : List Weight) → IsTally c pages → IsTally d pages
 KeepsTally c d NotifyFree = (pages : List Weight) → IsTally c pages → IsTally d pages
 KeepsTally c d (Compacted frames) = (pages : List Weight) → IsTally c pages → IsTally d pages
-
--- a page among those that the counters sum up is counted
-pub IsTally-counted : (c : Counters) (front rest : List Weight) (old : Weight)
-    → IsTally c (front ++ old ∷ rest) → IsCounted c old
-IsTally-counted c front rest Empty t = tt
-IsTally-counted c front rest Same t = grind (arith, common_steps, t.same)
-IsTally-counted c front rest (Packed len) t = grind (arith, common_steps, t.packed, t.packed_bytes)
-IsTally-counted c front rest Huge t = grind (arith, common_steps, t.huge)
-IsTally-counted c front rest Back t = grind (arith, common_steps, t.back)

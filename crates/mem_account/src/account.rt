@@ -1,4 +1,10 @@
 //! The counters behind one lock, and what changes them.
+//!
+//! | Call | Frames charged | Pages by form | What happened |
+//! |---|---|---|---|
+//! | `charge`, `give_back` | up, or refused at the limit; down | | |
+//! | `count` of `Kept` | | one page goes over | `huge_since`, where it is huge |
+//! | `count` of other news | | | its own count |
 
 ghost use Rattle.std.specs.Prelude.{◌≡◌, ℕ, ◌+◌, ◌-◌, ◌*◌, ◌^◌, ◌<◌, ◌≤◌, ◌↔◌};
 
@@ -84,8 +90,7 @@ impl Model for Account {
 }
 
 impl Account {
-    ghost use Rattle.mem_account.specs.Counters.{no_counts, IsPastLimit, IsWithinLimit, AnswersCharge, charged};
-    ghost use Rattle.mem_account.specs.Counters.{without, with_one, counted, IsCounted, IsOldCounted, HasFittingSizes};
+    ghost use Rattle.mem_account.specs.Counters.{no_counts, IsPastLimit, IsWithinLimit, AnswersCharge, charged, without_one, with_one, counted, IsCounted, IsOldCounted, HasFittingSizes};
     ghost use Rattle.mem_account.specs.Stat.{mm_stat_of, io_stat_of};
     ghost use Rattle.mem_account.specs.Tally.{KeepsTally};
 
@@ -171,7 +176,7 @@ impl Account {
 
     fn remove(&mut self, weight: Weight)
         requires { IsCounted self.old weight }
-        ensures { self.new ≡ without self.old weight }
+        ensures { self.new ≡ without_one self.old weight }
     {
         match weight {
             Weight::Empty => {}

@@ -7,9 +7,11 @@
 #![tactic(auto)]
 
 mod account;
+mod laws;
 #[cfg(test)]
 mod tests;
 mod weight;
 
 pub use account::{Account, Charge, IoStat, MmStat};
+pub use laws::tallied_pages_are_counted;
 pub use weight::{Delta, Weight};

@@ -3,12 +3,16 @@ use Rattle.std.proofs.Common.{◌≡◌, ℕ, ◌+◌, ◌-◌, ◌<◌, ◌≤�
 use Rattle.std.proofs.lemmas.List.{take-append-drop, drop-drop, drop_all}
 use Rattle.std.proofs.Math.Seq.{take-append_seam}
 
-module _ (bytes into part : List ℕ) (at n : ℕ) (inside : at ≤ length bytes) (n_is : n ≡ min (length into) (length bytes - at)) (part_is : part ≡ take (at + n - at) (drop at bytes)) where
+module _ (bytes into part : List ℕ) (at n : ℕ) (inside : at ≤ length bytes)
+    (n_is : n ≡ min (length into) (length bytes - at))
+    (part_is : part ≡ take (at + n - at) (drop at bytes)) where
   part_take : part ≡ take n (drop at bytes)
-  part_take = part_is ∙ ap (λ (k : ℕ). take k (drop at bytes)) (let k : at + n - at ≡ n = omega arith in k)
+  part_take =
+      part_is ∙ ap (λ (k : ℕ). take k (drop at bytes)) (let k : at + n - at ≡ n = omega arith in k)
 
   part_size : length part ≡ n
-  part_size = ap length part_take ∙ length-take-le n (drop at bytes) (omega (arith, length-drop at bytes))
+  part_size =
+      ap length part_take ∙ length-take-le n (drop at bytes) (omega (arith, length-drop at bytes))
 
   pub read_consumes : drop at bytes ≡ take n (part ++ drop n into) ++ drop (at + n) bytes
   read_consumes =
@@ -23,7 +27,8 @@ module _ (bytes into part : List ℕ) (at n : ℕ) (inside : at ≤ length bytes
 
   pub read_ends : n ≡ 0 → 0 < length (part ++ drop n into) → drop (at + n) bytes ≡ []
   read_ends none some =
-      let given : length (part ++ drop n into) ≡ length part + length (drop n into) = length-append part (drop n into) in
+      let given : length (part ++ drop n into) ≡ length part + length (drop n into) =
+      length-append part (drop n into) in
       let kept : length (drop n into) ≡ length into - n = length-drop n into in
       let size : length part ≡ n = part_size in
       drop_all (at + n) bytes (omega arith)

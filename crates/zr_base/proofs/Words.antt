@@ -7,15 +7,18 @@ use Rattle.zr_base.specs.Plain.{words_from}
 use Rattle.zr_base.proofs.Ranges.{flat_map-range_push}
 use mathlib.Core.Path.{fun_ext}
 
--- word i was put behind those before it, into a sector
-module _ (f : ℕ → ℕ) (from i : ℕ) (out bytes : List ℕ) (size : length out ≡ 512) (below : i < 64) (here : bytes ≡ to_le_bytes w64 (f (from + i))) where
+-- word i was put after those before it, into a sector
+module _ (f : ℕ → ℕ) (from i : ℕ) (out bytes : List ℕ) (size : length out ≡ 512) (below : i < 64)
+    (here : bytes ≡ to_le_bytes w64 (f (from + i))) where
   width : length bytes ≡ 8
   width = ap length here ∙ refl
 
   pub words_put : take (8 * i) out ≡ words_from f from i
-      → take (8 * (i + 1)) (put_mid (8 * i) (8 * i + 8 - 8 * i) out bytes) ≡ words_from f from (i + 1)
+      → take (8 * (i + 1)) (put_mid (8 * i) (8 * i + 8 - 8 * i) out bytes)
+      ≡ words_from f from (i + 1)
   words_put before =
-      take-put_mid (8 * i) (8 * i + 8 - 8 * i) out bytes (8 * (i + 1)) (omega (arith, width)) (omega arith)
+      take-put_mid (8 * i) (8 * i + 8 - 8 * i) out bytes (8 * (i + 1))
+      (omega (arith, width)) (omega arith)
       ∙ ap (λ (xs : List ℕ). xs ++ bytes) before
       ∙ ap (λ (xs : List ℕ). words_from f from i ++ xs) here
       ∙ sym (flat_map-range_push (λ j. to_le_bytes w64 (f j)) from i (from + i) refl)
@@ -28,7 +31,8 @@ module _ (f : ℕ → ℕ) (from i : ℕ) (out bytes : List ℕ) (size : length 
       ∙ size
 
 -- words of one value
-pub words-fill : (word from n : ℕ) → word < 2 ^ 64 → words_from (λ j. (word + j * 0) % 2 ^ 64) from n ≡ words_from (λ j. word) from n
+pub words-fill : (word from n : ℕ) → word < 2 ^ 64
+    → words_from (λ j. (word + j * 0) % 2 ^ 64) from n ≡ words_from (λ j. word) from n
 words-fill word from n fits =
     ap (λ (f : ℕ → ℕ). words_from f from n) (fun_ext (λ j. same j))
   where

@@ -10,6 +10,7 @@ pub record HasCause {T E : Type 0} (before now : ℕ) (result : Result T E) : Ty
 abbrev pub TookNone : {E : Type 0} → Result ℕ E → List ℕ → Type 0
 TookNone result bytes = (result ≡ Ok 0) × (0 < length bytes)
 
--- The next call fails: its number, counted from 1, is planned. No call fails at the number at which counting stands still.
+-- The next call fails: its number, counted from 1, is planned. No call fails at the number at which
+-- counting stands still.
 abbrev pub FailsNext : ℕ → List ℕ → Type 0
 FailsNext calls failing = (calls + 1 < 2 ^ 64 - 1) × Contains failing (calls + 1)

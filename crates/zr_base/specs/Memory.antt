@@ -8,8 +8,8 @@ pub record Supply : Type 0 where
   pub failing : List ℕ
   pub faults : ℕ
 
--- the bytes written, how many more fit, the calls made, the numbers of the calls that fail, the faults so far,
--- and whether a call took nothing of some bytes
+-- the bytes written, how many more fit, the calls made, the numbers of the calls that fail, the
+-- faults so far, and whether a call took nothing of some bytes
 pub record Store : Type 0 where
   pub written : List ℕ
   pub room : ℕ

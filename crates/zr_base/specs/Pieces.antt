@@ -1,4 +1,5 @@
--- The pieces of a request: for each page that it touches, in rising order, the request's sectors there.
+-- The pieces of a request: for each page that it touches, in rising order, the request's sectors
+-- there.
 use Rattle.std.specs.Prelude.{◌≡◌, ℕ, ◌+◌, ◌-◌, ◌*◌, ◌/◌, ◌<◌, ◌≤◌, ◌==◌, ◌&&◌, nat_le, nat_lt, min, max, List, map, if◌then◌else◌}
 use Rattle.std.specs.List.{range_with_len}
 use Rattle.zr_base.specs.declared.op.Piece.{Piece}
@@ -36,7 +37,9 @@ pub record IsPieceOf (start count page : ℕ) (piece : Piece) : Type 0 where
   pub page_is : piece.page.0 ≡ page
   pub some_sector : 1 ≤ piece.count
   pub within : piece.first + piece.count ≤ 8
-  pub sectors : (k : ℕ) → k < 8 → covers start count (8 * page + k) ≡ (nat_le piece.first k && nat_lt k (piece.first + piece.count))
+  pub sectors : (k : ℕ) → k < 8
+      → covers start count (8 * page + k)
+      ≡ (nat_le piece.first k && nat_lt k (piece.first + piece.count))
 
 -- the pages that a request touches are those from its first one on
 pub record IsTouched (start count page : ℕ) : Type 0 where

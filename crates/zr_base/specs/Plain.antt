@@ -1,4 +1,5 @@
--- What a job's calls do to a plain disk: a list of sectors, and for each page the order of the calls on it.
+-- What a job's calls do to a plain disk: a list of sectors, and for each page the order of the
+-- calls on it.
 use Rattle.std.specs.Prelude.{◌≡◌, ℕ, ◌+◌, ◌-◌, ◌*◌, ◌<◌, ◌≤◌, ◌^◌, ◌/◌, ◌%◌, Bool, true, false, ◌&&◌, nat_lt, nat_le, ◌==◌, List, [], ◌∷◌, length, take, drop, get_or, replicate, count_by, Option, Some, None, option_and_then, slice_get, if◌then◌else◌}
 use Rattle.std.specs.List.{flat_map, range_with_len, AllByRecursion}
 use Rattle.std.specs.Int.{w64, to_le_bytes}
@@ -47,7 +48,8 @@ covers start count s = nat_le start s && nat_lt s (start + count)
 
 -- whether a request has a sector of a page
 abbrev pub touches : ℕ → ℕ → ℕ → Bool
-touches start count page = nat_lt 0 count && (nat_lt start (8 * page + 8) && nat_lt (8 * page) (start + count))
+touches start count page =
+    nat_lt 0 count && (nat_lt start (8 * page + 8) && nat_lt (8 * page) (start + count))
 
 -- whether a request has all sectors of a page
 abbrev pub has_whole : ℕ → ℕ → ℕ → Bool
@@ -77,7 +79,8 @@ IsRequest (Discard start count) = InBounds start count
 abbrev pub is_beyond : ℕ → Op → Bool
 is_beyond pages op = nat_lt (8 * pages) (start_of op + count_of op)
 
--- whether an operation's piece on a page is carried out: that of a discard only where it has the whole page
+-- whether an operation's piece on a page is carried out: that of a discard only where it has the
+-- whole page
 abbrev pub has_event : Op → ℕ → Bool
 has_event (Write start count stuff) page = true
 has_event (Read start count) page = true
@@ -87,9 +90,11 @@ has_event (Discard start count) page = has_whole start count page
 
 -- the sector that held these bytes, after an operation
 abbrev pub sector_after : Op → ℕ → List ℕ → List ℕ
-sector_after (Write start count stuff) s old = if covers start count s then stuff_sector stuff (s - start) else old
+sector_after (Write start count stuff) s old =
+    if covers start count s then stuff_sector stuff (s - start) else old
 sector_after (Read start count) s old = old
-sector_after (Discard start count) s old = if has_whole start count (s / 8) then zero_sector else old
+sector_after (Discard start count) s old =
+    if has_whole start count (s / 8) then zero_sector else old
 
 -- the operation that a tag names
 abbrev pub named : List (List Op) → Tag → Option Op
@@ -102,7 +107,8 @@ sector_after_named (Some op) s old = sector_after op s old
 -- the sector that held these bytes, after the operations of an order, one after the other
 abbrev pub content : List (List Op) → ℕ → List ℕ → List Tag → List ℕ
 content actors s old [] = old
-content actors s old (tag ∷ tags) = content actors s (sector_after_named (named actors tag) s old) tags
+content actors s old (tag ∷ tags) =
+    content actors s (sector_after_named (named actors tag) s old) tags
 
 -- ---- orders
 
@@ -119,7 +125,8 @@ stands_named None end page = false
 -- whether the operation that a tag names stands in the order of a page
 abbrev pub is_noted : List (List Op) → List (List OpEnd) → ℕ → Tag → Bool
 is_noted actors ends page tag =
-    stands_named (named actors tag) (option_and_then (λ es. slice_get es tag.op) (slice_get ends tag.actor)) page
+    stands_named (named actors tag)
+    (option_and_then (λ es. slice_get es tag.op) (slice_get ends tag.actor)) page
 
 abbrev pub same_tag : Tag → Tag → Bool
 same_tag s t = s.actor == t.actor && s.op == t.op
@@ -127,11 +134,16 @@ same_tag s t = s.actor == t.actor && s.op == t.op
 -- the operations of each actor rise
 abbrev pub Rises : List Tag → Type 0
 Rises [] = Unit {0}
-Rises (tag ∷ tags) = AllByRecursion (λ later. tag.actor ≡ later.actor → tag.op < later.op) tags × Rises tags
+Rises (tag ∷ tags) =
+    AllByRecursion (λ later. tag.actor ≡ later.actor → tag.op < later.op) tags × Rises tags
 
--- The order of a page has the tag of each operation that stands in it once, no other tag, and each actor's in turn.
-pub record IsOrder (actors : List (List Op)) (ends : List (List OpEnd)) (page : ℕ) (order : List Tag) : Type 0 where
-  pub once : (tag : Tag) → count_by (same_tag tag) order ≡ (if is_noted actors ends page tag then 1 else 0)
+-- The order of a page has the tag of each operation that stands in it once, no other tag, and each
+-- actor's in turn.
+pub record IsOrder
+    (actors : List (List Op)) (ends : List (List OpEnd)) (page : ℕ) (order : List Tag)
+    : Type 0 where
+  pub once : (tag : Tag)
+      → count_by (same_tag tag) order ≡ (if is_noted actors ends page tag then 1 else 0)
   pub rises : Rises order
 
 -- the part of an order before a tag

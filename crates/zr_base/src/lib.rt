@@ -1,5 +1,5 @@
-//! The words that every layer speaks: pages and their sectors, operations with their pieces and ends,
-//! and the errors of whatever is handed in.
+//! The words that every layer speaks: pages and their sectors, operations with their pieces and
+//! ends, and the errors of whatever is handed in.
 #![tactic(auto)]
 
 mod limits;

@@ -1,4 +1,5 @@
-//! Lists that contracts see as lists: the one form in which layers hand on operations, bytes and turns.
+//! Lists that contracts see as lists: the one form in which layers hand on operations, bytes and
+//! turns.
 
 ghost use Rattle.std.specs.Prelude.{◌≡◌, [], ◌∷◌, ◌++◌, OnOk, OnErr, IfErr};
 

@@ -6,7 +6,8 @@ ghost use Rattle.zr_base.specs.Plain.{words_from};
 use crate::list::List;
 use crate::page::PageIx;
 
-/// Names an operation: the actor's number in its phase, and the operation's number among the actor's, both from 0.
+/// Names an operation: the actor's number in its phase, and the operation's number among the
+/// actor's, both from 0.
 #[derive(Clone, Copy, PartialEq, Eq, Debug)]
 pub struct Tag {
     pub actor: u32,

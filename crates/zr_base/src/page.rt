@@ -13,7 +13,8 @@ pub struct PageIx(pub u32);
 #[derive(Clone, Copy, PartialEq, Eq, Debug)]
 pub struct Handle(pub u64);
 
-/// A call of a source, a sink or a device failed. Whatever answers it has raised its count of faults in that call.
+/// A call of a source, a sink or a device failed. Whatever answers it has raised its count of
+/// faults in that call.
 #[derive(Clone, Copy, PartialEq, Eq, Debug)]
 pub struct Failed;
 
@@ -72,7 +73,8 @@ impl Page {
         requires { at < 8 }
         ensures size { length self.new ≡ 4096 }
         ensures put { page_sector self.new at ≡ from.now }
-        ensures others { (k : ℕ) → k < 8 → ¬ (k ≡ at) → page_sector self.new k ≡ page_sector self.old k }
+        ensures others { (k : ℕ) → k < 8 → ¬ (k ≡ at)
+            → page_sector self.new k ≡ page_sector self.old k }
     {
         let from_byte = 512 * at as usize;
         self.bytes[from_byte..from_byte + 512].copy_from_slice(from);

@@ -5,7 +5,8 @@ ghost use Rattle.zr_base.specs.Faults.{FailsNext};
 
 use std::alloc::{AllocError, Global};
 
-/// The calls made so far, and those that fail by their numbers from 1. Each count stands still at `2^64 - 1`.
+/// The calls made so far, and those that fail by their numbers from 1. Each count stands still at
+/// `2^64 - 1`.
 #[derive(Drop)]
 pub(crate) struct Planned {
     pub(crate) failing: Vec<u64>,
@@ -16,7 +17,8 @@ pub(crate) struct Planned {
 
 impl Planned {
     pub(crate) fn new(alloc: Global, failing: &[u64]) -> Result<Planned, AllocError>
-        ensures { IfOk result (λ p. (p.failing.items ≡ failing.now) × (p.calls ≡ 0) × (p.faults ≡ 0)) }
+        ensures { IfOk result (λ p. (p.failing.items ≡ failing.now)
+            × (p.calls ≡ 0) × (p.faults ≡ 0)) }
     {
         Ok(Planned {
             failing: failing.to_vec(alloc)?,

@@ -1,4 +1,5 @@
-//! The arithmetic of requests: the pages that an operation touches, and its sectors on each of them.
+//! The arithmetic of requests: the pages that an operation touches, and its sectors on each of
+//! them.
 
 ghost use Rattle.std.specs.Prelude.{◌≡◌, ◌+◌, ◌≤◌, ◌<◌, ◌^◌, IsTrue};
 ghost use Rattle.zr_base.specs.Plain.{start_of, count_of, touches, is_beyond, has_event, IsRequest};
@@ -60,7 +61,8 @@ impl Op {
         8 * (pages as u64) < self.end()
     }
 
-    /// Whether the piece on a page is carried out: that of a discard only where it has the whole page.
+    /// Whether the piece on a page is carried out: that of a discard only where it has the whole
+    /// page.
     pub fn has_event(&self, page: u32) -> bool
         requires { IsRequest self.now }
         ensures { result ≡ has_event self.now page }

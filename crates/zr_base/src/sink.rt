@@ -28,14 +28,16 @@ pub trait Sink {
         ensures bound { WritesAtMost result from.now }
         ensures bytes { WriteAppends (written self.old) (written self.new) result from.now }
         ensures cause { HasCause (fault_count self.old) (fault_count self.new) result }
-        ensures stops { IsTrue (has_stopped self.new) ↔ (IsTrue (has_stopped self.old) ⊎ TookNone result from.now) };
+        ensures stops { IsTrue (has_stopped self.new)
+            ↔ (IsTrue (has_stopped self.old) ⊎ TookNone result from.now) };
 
     /// The count of faults.
     fn faults(&self) -> u64
         ensures { result ≡ fault_count self.now };
 }
 
-/// A sink in memory that takes so many bytes in all and then 0, and whose calls with planned numbers fail.
+/// A sink in memory that takes so many bytes in all and then 0, and whose calls with planned
+/// numbers fail.
 #[derive(Drop)]
 pub struct MemSink {
     bytes: Vec<u8>,
@@ -50,16 +52,31 @@ impl Model for MemSink {
 
     ghost Value = { Store };
 
-    ghost view = { λ s. record { written = s.bytes.items; room = s.room; calls = s.planned.calls; failing = s.planned.failing.items; faults = s.planned.faults; stopped = s.stopped } };
+    ghost view = { λ s. record {
+      written = s.bytes.items;
+      room = s.room;
+      calls = s.planned.calls;
+      failing = s.planned.failing.items;
+      faults = s.planned.faults;
+      stopped = s.stopped;
+    } };
 
     ghost invariant = { λ s. vec_len s.bytes + s.room ≤ vec_capacity s.bytes };
 }
 
 impl MemSink {
-    /// A sink that takes `room` bytes in all; the calls with the numbers in `failing`, from 1, fail.
-    /// It takes the memory of all bytes here. Err is want of memory.
+    /// A sink that takes `room` bytes in all; the calls with the numbers in `failing`, from 1,
+    /// fail.
+    /// It takes the memory of all bytes here. Err is refused memory.
     pub fn new(alloc: Global, room: usize, failing: &[u64]) -> Result<MemSink, AllocError>
-        ensures { IfOk result (λ s. s ≡ record { written = []; room = room; calls = 0; failing = failing.now; faults = 0; stopped = false }) }
+        ensures { IfOk result (λ s. s ≡ record {
+          written = [];
+          room = room;
+          calls = 0;
+          failing = failing.now;
+          faults = 0;
+          stopped = false;
+        }) }
     {
         Ok(MemSink {
             bytes: Vec::with_capacity(alloc, room)?,
@@ -91,16 +108,19 @@ impl Sink for MemSink {
 
     fn write(&mut self, from: &[u8]) -> Result<usize, Failed>
         ensures bound { WritesAtMost result from.now }
-        ensures bytes { WriteAppends (Some self.old.written) (Some self.new.written) result from.now }
+        ensures bytes { WriteAppends (Some self.old.written) (Some self.new.written)
+            result from.now }
         ensures cause { HasCause self.old.faults self.new.faults result }
-        ensures stops { IsTrue self.new.stopped ↔ (IsTrue self.old.stopped ⊎ TookNone result from.now) }
+        ensures stops { IsTrue self.new.stopped
+            ↔ (IsTrue self.old.stopped ⊎ TookNone result from.now) }
 
         // It fails exactly at the planned calls, and else takes all that there is room for.
         ensures planned { IsErr result ↔ FailsNext self.old.calls self.old.failing }
         ensures calls { self.new.calls ≡ min (self.old.calls + 1) (2 ^ 64 - 1) }
         ensures failing { self.new.failing ≡ self.old.failing }
         ensures faults { self.new.faults ≡ self.old.faults + cond (is_err result) 1 0 }
-        ensures most { IfOk result (λ n. (n ≡ min (length from.now) self.old.room) × (self.new.room ≡ self.old.room - n)) }
+        ensures most { IfOk result (λ n. n ≡ min (length from.now) self.old.room) }
+        ensures room_shrinks { IfOk result (λ n. self.new.room ≡ self.old.room - n) }
         ensures room_stays { OnErr result (self.new.room ≡ self.old.room) }
     {
         if self.planned.fails() {
@@ -121,7 +141,8 @@ impl Sink for MemSink {
     }
 }
 
-/// A sink over a writer of std. It tells no bytes. Each error of the writer raises the count of faults.
+/// A sink over a writer of std. It tells no bytes. Each error of the writer raises the count of
+/// faults.
 #[derive(Drop)]
 pub struct StdSink<W> {
     inner: W,

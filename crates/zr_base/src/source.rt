@@ -45,15 +45,26 @@ impl Model for MemSource {
 
     ghost Value = { Supply };
 
-    ghost view = { λ s. record { left = drop s.at s.bytes.items; calls = s.planned.calls; failing = s.planned.failing.items; faults = s.planned.faults } };
+    ghost view = { λ s. record {
+      left = drop s.at s.bytes.items;
+      calls = s.planned.calls;
+      failing = s.planned.failing.items;
+      faults = s.planned.faults;
+    } };
 
     ghost invariant = { λ s. s.at ≤ vec_len s.bytes };
 }
 
 impl MemSource {
-    /// A source of these bytes; the calls with the numbers in `failing`, from 1, fail. Err is want of memory.
+    /// A source of these bytes; the calls with the numbers in `failing`, from 1, fail. Err is want
+    /// of memory.
     pub fn new(alloc: Global, bytes: &[u8], failing: &[u64]) -> Result<MemSource, AllocError>
-        ensures { IfOk result (λ s. s ≡ record { left = bytes.now; calls = 0; failing = failing.now; faults = 0 }) }
+        ensures { IfOk result (λ s. s ≡ record {
+          left = bytes.now;
+          calls = 0;
+          failing = failing.now;
+          faults = 0;
+        }) }
     {
         Ok(MemSource {
             bytes: bytes.to_vec(alloc)?,
@@ -99,7 +110,8 @@ impl Source for MemSource {
     }
 }
 
-/// A source over a reader of std. It tells no bytes. Each error of the reader raises the count of faults.
+/// A source over a reader of std. It tells no bytes. Each error of the reader raises the count of
+/// faults.
 #[derive(Drop)]
 pub struct StdSource<R> {
     inner: R,

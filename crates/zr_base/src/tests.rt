@@ -1,4 +1,5 @@
-//! Vectors of pieces and words, the planned faults of the forms in memory, and the adapters over std.
+//! Vectors of pieces and words, the planned faults of the forms in memory, and the adapters over
+//! std.
 
 use crate::{
     Failed, MemSink, MemSource, PageIx, Piece, Sink, Source, StdSink, StdSource, Stuff, pieces,

@@ -29,8 +29,8 @@ impl Model for PieceWalk {
     ghost invariant = { λ w. w.to < 2 ^ 33 };
 }
 
-/// The pieces of the request of `count` sectors from sector `start` on: the request's sectors on each
-/// page that it touches.
+/// The pieces of the request of `count` sectors from sector `start` on: the request's sectors on
+/// each page that it touches.
 pub fn pieces(start: u64, count: u32) -> PieceWalk
     requires start { start < 2 ^ 32 }
     requires count { count ≤ MOST_SECTORS }

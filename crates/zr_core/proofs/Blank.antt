@@ -1,5 +1,5 @@
 -- The row of a new disk.
-use Rattle.std.proofs.Common.{◌≡◌, ℕ, zero, suc, ◌+◌, ◌<◌, List, [], ◌∷◌, ◌++◌, length, Option, Some, slice_get, refl, sym, ap, ◌∙◌, subst, arith, ⊎_elim}
+use Rattle.std.proofs.Common.{◌≡◌, ℕ, zero, suc, ◌+◌, ◌<◌, List, [], ◌∷◌, ◌++◌, length, Option, Some, None, slice_get, refl, sym, ap, ◌∙◌, subst, arith, ⊎_elim}
 use Rattle.std.proofs.lemmas.Bool.{cases_lt}
 use Rattle.std.proofs.lemmas.List.{length_push}
 use Rattle.lock_row.specs.declared.names.LockNo.{LockNo}
@@ -8,6 +8,8 @@ use Rattle.lock_row.specs.Rows.{Row, place_in, cell, at_home}
 use Rattle.slot_entry.specs.declared.entry.Kept.TheVariants.{Empty}
 use Rattle.slot_entry.specs.Entries.{EntryState}
 use Rattle.zr_core.specs.Steps.{DiskHeld, slot}
+use Rattle.std.proofs.lemmas.Option.{get_or_from_slice_get}
+use Rattle.zr_core.specs.Machines.{order_in}
 use Rattle.zr_core.specs.States.{slots_of, IsBlank, IsAtRest}
 use Rattle.std.proofs.lemmas.List.FromFn.{map-range_with_len_more}
 use Rattle.zr_core.proofs.States.{slot_place}
@@ -59,5 +61,12 @@ value_at r size page names lt c e =
     ap at_home (ap (slice_get r.cells) (ap (λ ks. place_in ks (slot page)) names
     ∙ slot_place size page lt) ∙ e)
 
-pub blank_rest : (n : ℕ) (cells : List (Option DiskHeld)) → IsBlank n cells → IsAtRest n cells
-blank_rest n cells b = record { size = b.size; each = λ p lt. let x = b.each p lt in (x.0, x.1) }
+pub blank_rest : (n : ℕ) (cells : List (Option DiskHeld)) → IsBlank n cells → IsAtRest n [] cells
+blank_rest n cells b = record {
+  entries = record { size = b.size; each = λ p lt. let x = b.each p lt in (x.0, x.1) };
+  orders = record {
+    listed = record { rising = tt; within = tt };
+    others = λ p lt off. let x = b.each p lt in
+        ap order_in (get_or_from_slice_get cells p (Some (holds.Slot x.0)) None x.1) ∙ x.3;
+  };
+}

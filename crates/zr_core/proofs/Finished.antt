@@ -1,7 +1,7 @@
 -- A state with the joint rule in which all actors are finished prints a phase that the plain disk
 -- allows.
-use Rattle.std.proofs.Common.{◌≡◌, ℕ, zero, suc, ◌+◌, ◌*◌, ◌/◌, ◌%◌, ◌<◌, List, [], ◌∷◌, map, length, Option, Some, None, slice_get, refl, sym, ap, ◌∙◌, subst, arith}
-use Rattle.std.proofs.lemmas.Bool.{and_from, eq-eqb}
+use Rattle.std.proofs.Common.{◌≡◌, ℕ, zero, suc, ◌+◌, ◌*◌, ◌/◌, ◌%◌, ◌<◌, ◌≤◌, Bool, false, cond, eqb, ◌&&◌, inl, inr, List, [], ◌∷◌, map, length, Option, Some, None, slice_get, refl, sym, ap, ◌∙◌, subst, arith}
+use Rattle.std.proofs.lemmas.Bool.{and_from, eq-eqb, cases_Bool}
 use Rattle.std.proofs.lemmas.List.{length-map}
 use Rattle.std.proofs.lemmas.Option.{get_or_from_slice_get}
 use Rattle.zr_base.specs.declared.op.Op.{Op}
@@ -9,7 +9,10 @@ use Rattle.zr_base.specs.Sectors.{page_sector}
 use Rattle.plain_disk.specs.Phases.{Given, held_after, nth_order, IsPhase}
 use Rattle.call_history.specs.declared.part.Part.{Part}
 use Rattle.call_history.specs.declared.part.Done.{Done}
-use Rattle.call_history.specs.Parts.{program, Follows, stands_so, noted_on, ops_of}
+use Rattle.call_history.specs.declared.part.PartEnd.{PartEnd}
+use Rattle.call_history.specs.declared.part.PartEnd.TheVariants.{Carried}
+use Rattle.zr_base.specs.declared.op.Tag.{Tag}
+use Rattle.call_history.specs.Parts.{program, Follows, left_by, is_on, stands_so, noted_on, ops_of}
 use Rattle.call_history.specs.Shows.{ShowsPage, IsTold}
 use Rattle.call_history.specs.Histories.{history, HasSomeEach, Agree}
 use Rattle.call_history.specs.Laws.{TellsPhase}
@@ -21,7 +24,9 @@ use Rattle.lock_row.specs.declared.names.Plan.TheVariants.{Finished}
 use Rattle.lock_row.specs.declared.names.State.{State}
 use Rattle.slot_entry.specs.Entries.{EntryState, page_of}
 use Rattle.zr_core.specs.Steps.{DiskHeld, Here, plan_at}
-use Rattle.zr_core.specs.Joint.{dones, Shows, locks_at, Joint}
+use Rattle.zr_core.specs.Joint.{done_by, dones, Shows, locks_at, pieces_on, Joint}
+use Rattle.zr_core.specs.Preparing.{pieces_each}
+use Rattle.zr_core.specs.Noted.{order_at}
 use Rattle.zr_core.proofs.Places.{there_is}
 use Rattle.zr_core.specs.Machines.{AllFinished, order_in, page_in, orders_of, sector_in, histories, printed}
 
@@ -54,6 +59,48 @@ local_of : (ls : List Here) (a : ℕ) (done : List Done) → slice_get (historie
 local_of [] a done e = absurd (cc)
 local_of (l ∷ ls) zero done e = (l, refl, (let h : Some l.done ≡ Some done = e in cc))
 local_of (l ∷ ls) (suc a) done e = local_of ls a done e
+
+-- ---- a page on which no piece has events
+
+module _ (p : ℕ) where
+  left_fewer : (end : PartEnd) (nr : ℕ) (ps : List Part)
+      → pieces_on p (left_by end nr ps) ≤ pieces_on p ps
+  left_fewer Carried nr ps = omega arith
+
+  -- what is over of such a program has no tag there
+  none_noted : (ps : List Part) (ds : List Done) (todo : List Part) → Follows ps ds todo
+      → pieces_on p ps ≡ 0 → noted_on p ds ≡ []
+  none_noted ps [] todo f none = refl
+  none_noted [] (d ∷ ds) todo f none = absurd f
+  none_noted (q ∷ qs) (d ∷ ds) todo f none = elim (cases_Bool (eqb q.page p)) [
+    | inl on ↦ absurd
+        (let e = ap (λ (b : Bool). cond b 1 0 + pieces_on p qs) on in let no : ⊥ = omega arith in
+        no)
+    | inr off ↦ (let e = ap (λ (b : Bool). cond b 1 0 + pieces_on p qs) off in
+        let is : is_on p d ≡ false =
+        ap (λ (x : Part). eqb x.page p && stands_so d.part.op d.end) f.0
+        ∙ ap (λ (b : Bool). b && stands_so d.part.op d.end) off in
+        let fewer = left_fewer d.end q.nr qs in
+        ap (λ (b : Bool). cond b (d.part.nr ∷ noted_on p ds) (noted_on p ds)) is
+        ∙ none_noted (left_by d.end q.nr qs) ds todo f.2 (omega arith))
+  ]
+
+  each_none : (size : ℕ) (actors : List (List Op)) (a : ℕ) (ops : List Op)
+      → pieces_each size actors p ≡ 0
+      → slice_get actors a ≡ Some ops → pieces_on p (program size 0 ops) ≡ 0
+  each_none size [] a ops none e = absurd (cc)
+  each_none size (x ∷ xs) zero ops none e =
+      let q : x ≡ ops = (let h : Some x ≡ Some ops = e in cc) in
+      ap (λ (os : List Op). pieces_on p (program size 0 os)) (sym q) ∙ (omega arith)
+  each_none size (x ∷ xs) (suc a) ops none e = each_none size xs a ops (omega arith) e
+
+no_tags : (order : List Tag) → ((a : ℕ) → ops_of a order ≡ []) → order ≡ []
+no_tags [] none = refl
+no_tags (t ∷ ts) none =
+    let q : t.op ∷ ops_of t.actor ts ≡ [] =
+    sym (ap (λ (b : Bool). cond b (t.op ∷ ops_of t.actor ts) (ops_of t.actor ts))
+    (eq-eqb t.actor t.actor refl))
+    ∙ none t.actor in absurd (cc)
 
 module _ (g : Given) (w : State DiskHeld) (j : Joint g w) (fin : AllFinished w) where
   no_todo : (a : ℕ) (l : Here) → slice_get w.locals a ≡ Some l → l.todo ≡ []
@@ -140,3 +187,15 @@ module _ (g : Given) (w : State DiskHeld) (j : Joint g w) (fin : AllFinished w) 
       → IsPhase g (printed g w) (sector_in w.row)
   finished_prints tells some =
       tells g (histories w.locals) (orders_of w.row) (sector_in w.row) some agree holds_now
+
+  -- a page without pieces has no order
+  pub no_order : (p : ℕ) → p < g.size → pieces_each g.size g.actors p ≡ 0 → order_at w.row p ≡ []
+  no_order p lt none =
+      let x = page p lt in
+      ap order_in (get_or_from_slice_get w.row p (Some (holds.Slot x.entry)) None x.there)
+      ∙ no_tags x.entry.order (λ a. x.shows.turns a ∙ nothing a (slice_get w.locals a) refl) where
+        nothing : (a : ℕ) (o : Option Here) → slice_get w.locals a ≡ o → noted_on p (done_by o) ≡ []
+        nothing a None e = refl
+        nothing a (Some l) e = let h = j.told.actors a l e in
+            none_noted p (program g.size 0 h.ops) l.done l.todo h.follows
+            (each_none p g.size g.actors a h.ops none h.named)

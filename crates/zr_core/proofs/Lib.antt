@@ -20,3 +20,4 @@ pub mod Preparing
 pub mod Counts
 pub mod Prepared
 pub mod Beginners
+pub mod Noted

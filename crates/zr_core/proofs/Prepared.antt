@@ -1,9 +1,10 @@
 -- A phase that is set up: the state before its first turn.
-use Rattle.std.proofs.Common.{◌≡◌, ℕ, zero, suc, ◌+◌, ◌*◌, ◌/◌, ◌%◌, ◌<◌, List, [], ◌∷◌, length, get_or, Option, Some, None, slice_get, refl, sym, ap, ◌∙◌, subst, arith}
+use Rattle.std.proofs.Common.{◌≡◌, ℕ, zero, suc, ◌+◌, ◌*◌, ◌/◌, ◌%◌, ◌<◌, ◌≢◌, ⊎_elim, Bool, true, false, ◌||◌, List, [], ◌∷◌, ◌++◌, inl, inr, length, get_or, Option, Some, None, slice_get, refl, sym, ap, ◌∙◌, subst, arith}
 use mathlib.Core.Logic.{dite}
 use native.Mathlib.Decide.{ℕ_discrete}
 use Rattle.std.proofs.lemmas.Option.{slice_get_within, get_or_from_slice_get}
 use Rattle.std.proofs.lemmas.List.{length-map}
+use Rattle.std.proofs.lemmas.Bool.{cases_Bool}
 use Rattle.zr_base.specs.declared.op.Op.{Op}
 use Rattle.zr_base.specs.Sectors.{page_sector}
 use Rattle.call_history.specs.declared.part.Done.{Done}
@@ -15,12 +16,14 @@ use Rattle.zr_core.specs.declared.worker.Worker.{Worker}
 use Rattle.zr_core.specs.Steps.{DiskHeld, Here}
 use Rattle.zr_core.specs.Joint.{pieces_on, owed}
 use Rattle.zr_core.specs.Places.{todo_at}
-use Rattle.zr_core.specs.Machines.{page_in, sector_in, Starts, IsFresh, IsStart}
+use Rattle.zr_core.specs.Machines.{order_in, page_in, sector_in, Starts, IsFresh, IsStart}
 use Rattle.zr_core.specs.Workers.{at_of, held_by, here, Keeps}
 use Rattle.zr_core.specs.Laws.{StartHasJoint}
-use Rattle.zr_core.specs.States.{heres, state, Playing, given_on, IsAtRest, IsPrepared, AreKept, HasJoint, CanGoOn}
+use Rattle.zr_core.specs.States.{heres, state, Playing, given_on, HasEntries, IsAtRest, IsPrepared, AreKept, HasJoint, CanGoOn}
 use Rattle.zr_core.specs.Runs.{nothing_over}
-use Rattle.zr_core.specs.Preparing.{count_at, pieces_each, IsReserved, AreReserved, AreNewWorkers}
+use Rattle.zr_core.specs.Preparing.{count_at, pieces_each, IsReserved, KeepsPage, AreReserved, AreNewWorkers}
+use Rattle.zr_core.specs.Noted.{is_in, order_at, AreCounted}
+use Rattle.zr_core.proofs.Noted.{was_in, wasn_t_in, or_false}
 use Rattle.zr_core.proofs.Places.{there_is}
 
 -- ---- the row
@@ -30,8 +33,7 @@ same_entry : (e f : EntryState) (c : Option (Option DiskHeld)) → c ≡ Some (S
 same_entry e f c p q = let r : c ≡ Some (Some (holds.Slot f)) = q in cc
 
 pub reserved_none : (size : ℕ) (counts : List ℕ) (cells : List (Option DiskHeld))
-    → IsAtRest size cells
-    → AreReserved 0 counts cells cells
+    → HasEntries size cells → AreReserved (is_in []) counts cells cells
 reserved_none size counts cells rest = record {
   size = refl;
   each = λ p lt. let e = rest.each p (let s = rest.size in omega arith) in record {
@@ -40,15 +42,16 @@ reserved_none size counts cells rest = record {
     before = e.1;
     after = e.1;
     kept = refl;
-    order = λ none. absurd (omega arith);
-    room = λ none. absurd (omega arith);
+    order = λ none. absurd (cc);
+    room = λ none. absurd (cc);
+    same = λ off. refl;
   };
 }
 
-pub reserved_more : (counts : List ℕ) (page n : ℕ) (old mid new : List (Option DiskHeld))
-    → n ≡ count_at counts page → AreReserved page counts old mid → IsReserved page n mid new
-    → AreReserved (page + 1) counts old new
-reserved_more counts page n old mid new count r x = record {
+pub reserved_more : (counts xs : List ℕ) (page n : ℕ) (old mid new : List (Option DiskHeld))
+    → n ≡ count_at counts page → AreReserved (is_in xs) counts old mid → IsReserved page n mid new
+    → AreReserved (is_in (xs ++ page ∷ [])) counts old new
+reserved_more counts xs page n old mid new count r x = record {
   size = x.size ∙ r.size;
   each = λ p lt. let k = r.each p lt in dite (ℕ_discrete p page)
       (λ s.
@@ -60,8 +63,9 @@ reserved_more counts page n old mid new count r x = record {
         before = k.before;
         after = ap (slice_get new) s ∙ x.after;
         kept = x.kept ∙ ap (λ (e : EntryState). e.kept) mine ∙ k.kept;
-        order = λ below. x.order;
-        room = λ below. let q = x.room in let t = ap (count_at counts) s in omega arith;
+        order = λ done. x.order;
+        room = λ done. let q = x.room in let t = ap (count_at counts) s in omega arith;
+        same = λ off. absurd ((wasn_t_in xs page p off).1 s);
       })
       (λ ne. record {
         was = k.was;
@@ -69,44 +73,115 @@ reserved_more counts page n old mid new count r x = record {
         before = k.before;
         after = x.others p ne ∙ k.after;
         kept = k.kept;
-        order = λ below. k.order (omega arith);
-        room = λ below. k.room (omega arith);
+        order = λ done. k.order (before_it p ne done);
+        room = λ done. k.room (before_it p ne done);
+        same = λ off. k.same (wasn_t_in xs page p off).0;
       });
+} where
+  before_it : (p : ℕ) → p ≢ page → is_in (xs ++ page ∷ []) p ≡ true → is_in xs p ≡ true
+  before_it p ne done = elim (was_in xs page p done) [ inl old ↦ old | inr same ↦ absurd (ne same) ]
+
+-- one after the other
+pub reserved_both : (d e : ℕ → Bool) (counts : List ℕ) (old mid new : List (Option DiskHeld))
+    → AreReserved d counts old mid → AreReserved e counts mid new
+    → AreReserved (λ p. e p || d p) counts old new
+reserved_both d e counts old mid new r s = record {
+  size = s.size ∙ r.size;
+  each = λ p lt. both p lt (e p) refl;
+} where
+  both : (p : ℕ) → p < length old → (b : Bool) → e p ≡ b
+      → KeepsPage (λ q. e q || d q) counts p old new
+  both p lt b is =
+      let k = r.each p lt in
+      let l = s.each p (let q = r.size in omega arith) in
+      let mine = same_entry l.was k.is (slice_get mid p) l.before k.after in record {
+        was = k.was;
+        is = l.is;
+        before = k.before;
+        after = l.after;
+        kept = l.kept ∙ ap (λ (x : EntryState). x.kept) mine ∙ k.kept;
+        order = λ done. elim (cases_Bool (e p)) [
+          | inl on ↦ l.order on
+          | inr off ↦ ap (λ (x : EntryState). x.order) (l.same off ∙ mine)
+              ∙ k.order (sym (ap (λ (c : Bool). c || d p) off) ∙ done)
+        ];
+        room = λ done. elim (cases_Bool (e p)) [
+          | inl on ↦ l.room on
+          | inr off ↦ (let q = k.room (sym (ap (λ (c : Bool). c || d p) off) ∙ done) in
+              let t = ap (λ (x : EntryState). x.room) (l.same off ∙ mine) in omega arith)
+        ];
+        same = λ off. let o = or_false (e p) (d p) off in l.same o.0 ∙ mine ∙ k.same o.1;
+      }
+
+pub reserved_rest : (size : ℕ) (d : ℕ → Bool) (counts : List ℕ) (old new : List (Option DiskHeld))
+    → HasEntries size old → AreReserved d counts old new → HasEntries size new
+reserved_rest size d counts old new rest r = record {
+  size = r.size ∙ rest.size;
+  each = λ p lt. let k = r.each p (let s = rest.size in omega arith) in (k.is, k.after);
 }
 
-pub reserved_any : (n : ℕ) (counts : List ℕ) (old new : List (Option DiskHeld))
-    → AreReserved n counts old new
-    → AreReserved 0 counts old new
-reserved_any n counts old new r = record {
-  size = r.size;
-  each = λ p lt. let k = r.each p lt in record {
+order_of : (cells : List (Option DiskHeld)) (p : ℕ) (e : EntryState)
+    → slice_get cells p ≡ Some (Some (holds.Slot e)) → order_at cells p ≡ e.order
+order_of cells p e at = ap order_in (get_or_from_slice_get cells p (Some (holds.Slot e)) None at)
+
+-- a page without an order has none after it
+pub reserved_orders : (size : ℕ) (d : ℕ → Bool) (counts noted : List ℕ)
+    (old new : List (Option DiskHeld))
+    → IsAtRest size noted old → AreReserved d counts old new → IsAtRest size noted new
+reserved_orders size d counts noted old new rest r = record {
+  entries = reserved_rest size d counts old new rest.entries r;
+  orders = record { listed = rest.orders.listed; others = none };
+} where
+  none : (p : ℕ) → p < size → is_in noted p ≡ false → order_at new p ≡ []
+  none p lt off =
+      let k = r.each p (let s = rest.entries.size in omega arith) in
+      order_of new p k.is k.after ∙ elim (cases_Bool (d p)) [
+        | inl on ↦ k.order on
+        | inr not ↦ ap (λ (x : EntryState). x.order) (k.same not)
+            ∙ sym (order_of old p k.was k.before)
+            ∙ rest.orders.others p lt off
+      ]
+
+-- all pages have no order and their room, where those with an order and those with pieces are done
+pub all_reserved : (size : ℕ) (counts noted pages : List ℕ) (old mid new : List (Option DiskHeld))
+    → IsAtRest size noted old → AreCounted size counts pages
+    → AreReserved (is_in noted) counts old mid
+    → AreReserved (is_in pages) counts mid new → AreReserved (λ p. true) counts old new
+all_reserved size counts noted pages old mid new rest c r s = record {
+  size = both.size;
+  each = λ p lt. let k = both.each p lt in record {
     was = k.was;
     is = k.is;
     before = k.before;
     after = k.after;
     kept = k.kept;
-    order = λ none. absurd (omega arith);
-    room = λ none. absurd (omega arith);
+    order = λ on. elim (cases_Bool (is_in pages p || is_in noted p)) [
+      | inl done ↦ k.order done
+      | inr off ↦ ap (λ (x : EntryState). x.order) (k.same off)
+          ∙ sym (order_of old p k.was k.before)
+          ∙ rest.orders.others p (let n = rest.entries.size in omega arith)
+          (or_false (is_in pages p) (is_in noted p) off).1
+    ];
+    room = λ on. elim (cases_Bool (is_in pages p || is_in noted p)) [
+      | inl done ↦ k.room done
+      | inr off ↦ (let z = c.others p (let n = rest.entries.size in omega arith)
+          (or_false (is_in pages p) (is_in noted p) off).0 in omega arith)
+    ];
+    same = λ off. absurd (cc);
   };
-}
-
-pub reserved_rest : (size n : ℕ) (counts : List ℕ) (old new : List (Option DiskHeld))
-    → IsAtRest size old
-    → AreReserved n counts old new → IsAtRest size new
-reserved_rest size n counts old new rest r = record {
-  size = r.size ∙ rest.size;
-  each = λ p lt. let k = r.each p (let s = rest.size in omega arith) in (k.is, k.after);
-}
+} where
+  both : AreReserved (λ p. is_in pages p || is_in noted p) counts old new
+  both = reserved_both (is_in noted) (is_in pages) counts old mid new r s
 
 page_at : (cells : List (Option DiskHeld)) (p : ℕ) (e : EntryState)
     → slice_get cells p ≡ Some (Some (holds.Slot e))
     → page_in (get_or cells p None) ≡ page_of e.kept
 page_at cells p e at = ap page_in (get_or_from_slice_get cells p (Some (holds.Slot e)) None at)
 
-pub reserved_holds : (size n : ℕ) (counts : List ℕ) (old new : List (Option DiskHeld))
-    → IsAtRest size old
-    → AreReserved n counts old new → (s : ℕ) → s < 8 * size → sector_in new s ≡ sector_in old s
-reserved_holds size n counts old new rest r s lt =
+pub reserved_holds : (size : ℕ) (d : ℕ → Bool) (counts : List ℕ) (old new : List (Option DiskHeld))
+    → HasEntries size old
+    → AreReserved d counts old new → (s : ℕ) → s < 8 * size → sector_in new s ≡ sector_in old s
+reserved_holds size d counts old new rest r s lt =
     let k = r.each (s / 8) (let e = rest.size in omega arith) in
     ap (λ (page : List ℕ). page_sector page (s % 8))
     (page_at new (s / 8) k.is k.after ∙ ap page_of k.kept
@@ -170,8 +245,8 @@ owed_is size p (ops ∷ more) (w ∷ ws) e todo =
 module _ (size : ℕ) (actors : List (List Op)) (cells cells' : List (Option DiskHeld))
     (ws : List Worker) (counts : List ℕ) (new : AreNewWorkers size actors ws)
     (counted : (p : ℕ) → p < size
-    → count_at counts p ≡ pieces_each size actors p) (rest : IsAtRest size cells)
-    (r : AreReserved size counts cells cells') where
+    → count_at counts p ≡ pieces_each size actors p) (rest : HasEntries size cells)
+    (r : AreReserved (λ p. true) counts cells cells') where
   kept : AreKept ws (nothing_over ws)
   kept = record {
     count = length-map ws (λ (w : Worker). (let ds : List Done = [] in ds));
@@ -183,8 +258,8 @@ module _ (size : ℕ) (actors : List (List Op)) (cells cells' : List (Option Dis
     };
   }
 
-  abbrev now : Playing
-  now = record { size = size; actors = actors; cells = cells'; workers = ws }
+  abbrev now : List ℕ → Playing
+  now noted = record { size = size; noted = noted; actors = actors; cells = cells'; workers = ws }
 
   abbrev locals : List Here
   locals = heres size actors ws (nothing_over ws)
@@ -200,7 +275,7 @@ module _ (size : ℕ) (actors : List (List Op)) (cells cells' : List (Option Dis
       (let q : Some (Some (holds.Slot k.is)) ≡ Some c = sym k.after
       ∙ e in cc) in
       subst (IsFresh (given_on size actors cells) locals p) is (
-        k.order lt,
+        k.order refl,
         (λ j small.
             ap (λ (kept : Kept). page_sector (page_of kept) j) k.kept
             ∙ sym (ap (λ (x : ℕ × ℕ). page_sector (page_in (get_or cells x.0 None)) x.1)
@@ -211,7 +286,7 @@ module _ (size : ℕ) (actors : List (List Op)) (cells cells' : List (Option Dis
             ∙ ap (λ (page : List ℕ). page_sector page j) (page_at cells p k.was k.before))),
         (let o = owed_is size p actors ws new.count
             (λ a ops w named there. (new.each a ops w named there).todo) in let m = counted p lt in
-            let room = k.room lt in omega arith),
+            let room = k.room refl in omega arith),
       )
 
   starts : (a : ℕ) (l : Here) → slice_get locals a ≡ Some l
@@ -241,8 +316,9 @@ module _ (size : ℕ) (actors : List (List Op)) (cells cells' : List (Option Dis
   pub prepared : IsPrepared (given_on size actors cells) cells' ws
   prepared = record { dones = nothing_over ws; kept = kept; start = first_state }
 
-  pub has_joint : StartHasJoint → HasJoint (given_on size actors cells) now
-  has_joint start = record {
+  pub has_joint : StartHasJoint → (noted : List ℕ)
+      → HasJoint (given_on size actors cells) (now noted)
+  has_joint start noted = record {
     pages = refl;
     ops = refl;
     dones = nothing_over ws;
@@ -251,13 +327,19 @@ module _ (size : ℕ) (actors : List (List Op)) (cells cells' : List (Option Dis
         (state size actors cells' ws (nothing_over ws)) first_state;
   }
 
-  pub may_go_on : StartHasJoint → CanGoOn now
-  may_go_on start = record {
+  pub may_go_on : StartHasJoint → (noted : List ℕ) → AreCounted size counts noted
+      → CanGoOn (now noted)
+  may_go_on start noted c = record {
+    pieces = record {
+      listed = c.listed;
+      others = λ p lt off. sym (counted p lt)
+          ∙ c.others p lt off;
+    };
     fit = record {
       count = new.count;
       each =
           λ a ops w named there. (new.each a ops w named there).fit;
     };
     given = given_on size actors cells;
-    joint = has_joint start;
+    joint = has_joint start noted;
   }

@@ -5,7 +5,7 @@ use Rattle.lock_row.specs.declared.names.Held.TheVariants as holds
 use Rattle.lock_row.specs.Rows.{Row, IsIn, place_in, cell, with_cell, at_home}
 use Rattle.slot_entry.specs.Entries.{EntryState}
 use Rattle.zr_core.specs.Steps.{DiskHeld, slot}
-use Rattle.zr_core.specs.States.{slots_of, IsAtRest}
+use Rattle.zr_core.specs.States.{slots_of, HasEntries}
 use Rattle.zr_core.specs.Preparing.{IsReserved}
 use Rattle.zr_core.proofs.States.{set_same, slot_place}
 
@@ -52,7 +52,8 @@ module _ (size page : ℕ) (lt : page < size) where
       ap (λ (p : ℕ). slice_set r.cells p x) (ap (λ ks. place_in ks (slot page)) names
       ∙ slot_place size page lt)
 
-  module _ (r : Row DiskHeld) (names : r.names ≡ slots_of size) (rest : IsAtRest size r.cells) where
+  module _ (r : Row DiskHeld) (names : r.names ≡ slots_of size)
+      (rest : HasEntries size r.cells) where
     pub entry_in_row : IsIn r (slot page)
     entry_in_row = let e = rest.each page lt in (Some (holds.Slot e.0), cell_at r names ∙ e.1)
 
@@ -102,14 +103,3 @@ module _ (size page : ℕ) (lt : page < size) where
           order = order;
           room = room;
         }
-
--- a value that is seen at home is there
-home_at : (o : Option (Option DiskHeld)) (v : DiskHeld) → at_home o ≡ Some v → o ≡ Some (Some v)
-home_at None v e = absurd (cc)
-home_at (Some x) v e = ap (λ (y : Option DiskHeld). Some y) e
-
-pub seen_at_home : (size page : ℕ) → page < size → (r : Row DiskHeld) → r.names ≡ slots_of size
-    → (v : DiskHeld)
-    → at_home (cell r (slot page)) ≡ Some v → slice_get r.cells page ≡ Some (Some v)
-seen_at_home size page lt r names v e =
-    home_at (slice_get r.cells page) v (ap at_home (sym (cell_at size page lt r names)) ∙ e)

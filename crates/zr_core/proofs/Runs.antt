@@ -258,7 +258,7 @@ module _ (x : Playing) (can : CanGoOn x) (busy : IsBusy x.actors x.workers) wher
       let a = left_same x.size x.actors x.workers j.dones j.kept.count in
       let b = left_same y.size y.actors y.workers r.0 r.1.count in omega arith
 
--- where all workers are behind their operations, all actors are finished
+-- where all workers are past their operations, all actors are finished
 pub all_finished : (size : ℕ) (actors : List (List Op)) (cells : List (Option DiskHeld))
     (ws : List Worker) (dones : List (List Done)) → AllOver actors ws
     → AllFinished (state size actors cells ws dones)
@@ -365,9 +365,11 @@ idle zero a w n (turn.Waited m) not is = is.4
 idle zero a w n turn.Finished not is = is.3
 idle (suc k) a w n (turn.Waited m) not is =
     (w, missed is.0 m is.1 is.2 is.3 refl, idle k a w n (turn.Waited m) not is)
-idle (suc k) a w n turn.Finished not is = (w, finished is.0 is.1 is.2 refl, idle k a w n turn.Finished not is)
+idle (suc k) a w n turn.Finished not is =
+    (w, finished is.0 is.1 is.2 refl, idle k a w n turn.Finished not is)
 
-pub plays_idle : (k a : ℕ) (x y : Playing) (t : WasTurn) → t ≢ turn.Went → y.size ≡ x.size → CanGoOn y
+pub plays_idle : (k a : ℕ) (x y : Playing) (t : WasTurn) → t ≢ turn.Went → y.size ≡ x.size
+    → CanGoOn y
     → ((dones : List (List Done)) → AreKept x.workers dones → TurnsOnce a x y t dones)
     → Plays (replicate k a) x y
 plays_idle k a x y t not pages can once = record {
@@ -384,7 +386,8 @@ module _ (x y z : Playing) where
       (plays_on (replicate n a) (a ∷ []) x y z before more)
 
   -- all turns of an actor, where the last of those made changed nothing
-  pub then_idle : (n m a : ℕ) → n ≤ m → Plays (replicate n a) x y → ((k : ℕ) → Plays (replicate k a) y z)
+  pub then_idle : (n m a : ℕ) → n ≤ m → Plays (replicate n a) x y
+      → ((k : ℕ) → Plays (replicate k a) y z)
       → Plays (replicate m a) x z
   then_idle n m a le before more =
       subst (λ (ts : List ℕ). Plays ts x z)

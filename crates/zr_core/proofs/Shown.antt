@@ -22,10 +22,12 @@ use Rattle.zr_core.specs.Joint.{Joint}
 use Rattle.zr_core.specs.Places.{AreRequests}
 use Rattle.zr_core.specs.Machines.{histories, orders_of, sector_in, printed, Turns, AllFinished, IsStart, PhaseSteps}
 use Rattle.zr_core.specs.Workers.{Keeps, ReplyFits, IsFit}
-use Rattle.zr_core.specs.States.{heres, state, ends_shown, sectors_shown, IsAtRest, IsPrepared, AreFit, AreKept}
+use Rattle.zr_core.specs.States.{heres, state, ends_shown, sectors_shown, HasEntries, IsPrepared, AreFit, AreKept}
 use Rattle.zr_core.proofs.Places.{in_bounds, there_is}
 use Rattle.zr_core.specs.Laws.{PrintsPhase}
-use Rattle.zr_core.proofs.Finished.{entry_home}
+use Rattle.zr_core.specs.Noted.{HasAllOrders, HasAllPieces}
+use Rattle.zr_core.specs.Preparing.{pieces_each}
+use Rattle.zr_core.proofs.Finished.{entry_home, no_order}
 
 step_is : (end : PartEnd) (n : ℕ) (later : OpEnd) → end_step end n later ≡ later
 step_is Carried n later = refl
@@ -225,11 +227,24 @@ module _ (size : ℕ) (actors : List (List Op)) (cells : List (Option DiskHeld))
 
   pub shows_rest : Joint g (state size actors cells ws dones)
       → AllFinished (state size actors cells ws dones)
-      → IsAtRest size cells
+      → HasEntries size cells
   shows_rest j fin = record {
     size = j.told.row ∙ pages;
     each = λ p lt. entry_home g (state size actors cells ws dones) j fin p
         (let q = pages in omega arith);
+  }
+
+  -- a page that isn't noted has no order
+  pub shows_orders : Joint g (state size actors cells ws dones)
+      → AllFinished (state size actors cells ws dones) → (noted : List ℕ)
+      → HasAllPieces size noted actors
+      → HasAllOrders size noted cells
+  shows_orders j fin noted pieces = record {
+    listed = pieces.listed;
+    others = λ p lt off. no_order g (state size actors cells ws dones) j fin p
+        (let q = pages in omega arith)
+        (ap (λ (x : ℕ × List (List Op)). pieces_each x.0 x.1 p) (λ i. (pages i, named i))
+        ∙ pieces.others p lt off);
   }
 
   -- a whole phase by its turns

@@ -99,11 +99,12 @@ module _ (size : ℕ) (actors : List (List Op)) (cells : List (Option DiskHeld))
       (w' : Worker) (res : Turn) (all : (done : List Done) → Keeps w done
       → Advanced takes misses gives size ops w h w' g res done) where
     abbrev was : Playing
-    was = record { size = size; actors = actors; cells = cells; workers = ws }
+    was = record { size = size; noted = []; actors = actors; cells = cells; workers = ws }
 
     abbrev is_now : Playing
     is_now = record {
       size = size;
+      noted = [];
       actors = actors;
       cells = (row_of g).cells;
       workers =

@@ -10,3 +10,4 @@ pub mod Preparing
 pub mod Values
 pub mod Playing
 pub mod Laws
+pub mod Noted

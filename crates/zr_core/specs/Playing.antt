@@ -11,6 +11,7 @@ use Rattle.zr_core.specs.States.{Playing, ends_shown, sectors_shown}
 abbrev pub playing : World → Phase → List (List Op) → Playing
 playing world phase actors = record {
   size = world.pages;
+  noted = world.noted.items;
   actors = actors;
   cells = world.row.cells;
   workers = phase.workers.items;

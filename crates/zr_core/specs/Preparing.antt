@@ -1,6 +1,6 @@
 -- What setting a phase up makes: the pieces counted for each page, entries without calls and with
 -- room, and workers before their first turn.
-use Rattle.std.specs.Prelude.{◌≡◌, ◌≢◌, ℕ, ◌+◌, ◌<◌, ◌≤◌, List, [], ◌∷◌, length, get_or, Option, Some, None, slice_get, vec_len, vec_capacity, if◌then◌else◌}
+use Rattle.std.specs.Prelude.{◌≡◌, ◌≢◌, ℕ, ◌+◌, ◌<◌, ◌≤◌, Bool, true, false, List, [], ◌∷◌, length, get_or, Option, Some, None, slice_get, vec_len, vec_capacity, if◌then◌else◌}
 use Rattle.zr_base.specs.declared.op.Op.{Op}
 use Rattle.zr_base.specs.declared.op.Op.TheVariants.{Write, Read, Discard}
 use Rattle.zr_base.specs.declared.op.OpEnd.TheVariants as ends
@@ -37,22 +37,26 @@ pub record IsReserved (page n : ℕ) (old new : List (Option DiskHeld)) : Type 0
   pub order : is.order ≡ []
   pub room : n ≤ is.room
 
--- A page's entry keeps its page; where it is among the first n, it has no calls and room for those
--- that are counted.
-pub record KeepsPage (n : ℕ) (counts : List ℕ) (page : ℕ)
+-- A page's entry keeps its page; where it is done, it has no calls and room for those that are
+-- counted,
+-- else it is as before.
+pub record KeepsPage (done : ℕ → Bool) (counts : List ℕ) (page : ℕ)
     (old new : List (Option DiskHeld)) : Type 0 where
   pub was : EntryState
   pub is : EntryState
   pub before : slice_get old page ≡ Some (Some (holds.Slot was))
   pub after : slice_get new page ≡ Some (Some (holds.Slot is))
   pub kept : is.kept ≡ was.kept
-  pub order : page < n → is.order ≡ []
-  pub room : page < n → count_at counts page ≤ is.room
+  pub order : done page ≡ true → is.order ≡ []
+  pub room : done page ≡ true → count_at counts page ≤ is.room
+  pub same : done page ≡ false → is ≡ was
 
--- All entries keep their pages, and the first n have no calls and room for those that are counted.
-pub record AreReserved (n : ℕ) (counts : List ℕ) (old new : List (Option DiskHeld)) : Type 0 where
+-- All entries keep their pages, and those that are done have no calls and room for those that are
+-- counted.
+pub record AreReserved (done : ℕ → Bool) (counts : List ℕ)
+    (old new : List (Option DiskHeld)) : Type 0 where
   pub size : length new ≡ length old
-  pub each : (page : ℕ) → page < length old → KeepsPage n counts page old new
+  pub each : (page : ℕ) → page < length old → KeepsPage done counts page old new
 
 -- the sectors that an operation will tell
 abbrev pub sectors_due : ℕ → Op → ℕ

@@ -20,6 +20,7 @@ use Rattle.zr_core.specs.Steps.{DiskHeld, Here, slot, spot, plan, took, Works}
 use Rattle.zr_core.specs.Joint.{Joint}
 use Rattle.zr_core.specs.Machines.{sector_in, IsStart, IsReached}
 use Rattle.zr_core.specs.Workers.{here, Keeps, IsFit}
+use Rattle.zr_core.specs.Noted.{HasAllOrders, HasAllPieces}
 
 -- the names of a disk's locks: the slots of its pages, in rising order
 abbrev pub slots_of : ℕ → List LockNo
@@ -67,10 +68,11 @@ pub record IsPrepared (g : Given) (cells : List (Option DiskHeld)) (ws : List Wo
   pub kept : AreKept ws dones
   pub start : IsStart g (state g.size g.actors cells ws dones)
 
--- A phase between two turns: the pages of the disk, the actors' operations, the row and the
--- workers.
+-- A phase between two turns: the pages of the disk and those that may have an order, the actors'
+-- operations, the row and the workers.
 pub record Playing : Type 0 where
   pub size : ℕ
+  pub noted : List ℕ
   pub actors : List (List Op)
   pub cells : List (Option DiskHeld)
   pub workers : List Worker
@@ -93,9 +95,12 @@ pub record IsReachedFrom (start : State DiskHeld) (x : Playing) : Type 0 where
   pub kept : AreKept x.workers dones
   pub reached : IsReached start (state_of x dones)
 
--- Each worker is fit for its operations, and the joint rule holds for some start.
+-- Each worker is fit for its operations, no piece has events on a page that isn't noted, and the
+-- joint
+-- rule holds for some start.
 pub record CanGoOn (x : Playing) : Type 0 where
   pub fit : AreFit x.size x.actors x.workers
+  pub pieces : HasAllPieces x.size x.noted x.actors
   pub given : Given
   pub joint : HasJoint given x
 
@@ -128,11 +133,16 @@ of_op all actor op = option_and_then (λ xs. slice_get xs op) (slice_get all act
 abbrev pub HasEnded : List Worker → ℕ → ℕ → Type 0
 HasEnded ws actor op = (w : Worker) × (slice_get ws actor ≡ Some w) × (op < w.place.nr)
 
--- Each page has its entry at home, as between two phases.
-pub record IsAtRest (pages : ℕ) (cells : List (Option DiskHeld)) : Type 0 where
+-- Each page has its entry at home.
+pub record HasEntries (pages : ℕ) (cells : List (Option DiskHeld)) : Type 0 where
   pub size : length cells ≡ pages
   pub each : (p : ℕ) → p < pages
       → (e : EntryState) × (slice_get cells p ≡ Some (Some (holds.Slot e)))
+
+-- Each page has its entry at home, and each with an order is noted, as between two phases.
+pub record IsAtRest (pages : ℕ) (noted : List ℕ) (cells : List (Option DiskHeld)) : Type 0 where
+  pub entries : HasEntries pages cells
+  pub orders : HasAllOrders pages noted cells
 
 -- Each page has an entry at home, with nothing kept and no calls.
 pub record IsBlank (pages : ℕ) (cells : List (Option DiskHeld)) : Type 0 where

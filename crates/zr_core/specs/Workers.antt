@@ -88,7 +88,7 @@ ReplyFits size pl k (Read start count) r =
     × (is_beyond size (Read start count) ≡ true → r.sectors.items ≡ [])
 ReplyFits size pl k (Discard start count) r = r.sectors.items ≡ []
 
--- The worker is at a piece with events, or behind all of them, with room for what is left to do.
+-- The worker is at a piece with events, or past all of them, with room for what is left to do.
 pub record IsFit (size : ℕ) (ops : List Op) (w : Worker) : Type 0 where
   pub requests : AreRequests ops
   pub few : length ops < 2 ^ 32

@@ -17,6 +17,8 @@ pub struct World {
     pub(crate) alloc: Global,
     pub(crate) pages: u32,
     pub(crate) row: SimRow<DiskHeld>,
+    // the pages that may have an order, in rising order
+    pub(crate) noted: Vec<u32>,
     ghost slots: { row.names ≡ slots_of pages },
 }
 
@@ -25,12 +27,13 @@ impl World {
     pub fn new(alloc: Global) -> World
         ensures pages { result.pages ≡ 0 }
         ensures cells { result.row.cells ≡ [] }
-        ensures rest { IsAtRest result.pages result.row.cells }
+        ensures rest { IsAtRest result.pages result.noted.items result.row.cells }
     {
         World {
             alloc,
             pages: 0,
             row: SimRow::empty(alloc),
+            noted: Vec::new(alloc),
         }
     }
 
@@ -41,7 +44,7 @@ impl World {
         requires most { pages ≤ MOST_PAGES }
         ensures pages { OnOk result (self.new.pages ≡ pages) }
         ensures blank { OnOk result (IsBlank pages self.new.row.cells) }
-        ensures rest { OnOk result (IsAtRest self.new.pages self.new.row.cells) }
+        ensures rest { OnOk result (IsAtRest self.new.pages self.new.noted.items self.new.row.cells) }
         ensures err { OnErr result ((self.new.pages ≡ 0) × (self.new.row ≡ self.old.row)) }
     {
         let mut names = Vec::with_capacity(self.alloc, pages as usize)?;
@@ -52,6 +55,7 @@ impl World {
         }
         self.row = SimRow::new(names, cells);
         self.pages = pages;
+        self.noted.clear();
         Ok(())
     }
 
@@ -60,6 +64,13 @@ impl World {
         ensures { result ≡ self.now.pages }
     {
         self.pages
+    }
+
+    /// The pages that may have an order, in rising order: between two phases no other page has one.
+    pub fn noted(&self) -> &[u32]
+        ensures { result.now ≡ self.now.noted.items }
+    {
+        &self.noted
     }
 
     /// The entry of a page that is at home.

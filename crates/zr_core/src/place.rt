@@ -86,7 +86,7 @@ fn passed(size: u32, ops: &[Op], place: Place) -> Place
     }
 }
 
-/// The next page that has a piece with events, or the place behind all operations.
+/// The next page that has a piece with events, or the place past all operations.
 pub fn settled(size: u32, ops: &[Op], from: Place) -> Place
     requires requests { AreRequests ops.now }
     requires place { IsPlace size ops.now from }

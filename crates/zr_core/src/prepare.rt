@@ -1,19 +1,17 @@
 //! How a phase is set up: its pieces are counted for each page, the entries' orders are emptied and
 //! get room for them, and each actor gets a worker with room for what its reads will tell.
 
-ghost use Rattle.std.specs.Prelude.{◌≡◌, ℕ, ◌+◌, ◌<◌, ◌≤◌, ◌^◌, [], length, slice_get, Some, IfOk, OnOk, OnErr};
-ghost use Rattle.std.specs.Bool.{OnTrue};
+ghost use Rattle.std.specs.Prelude.{◌≡◌, ℕ, ◌+◌, ◌<◌, ◌≤◌, ◌^◌, Bool, true, [], length, slice_get, Some, IfOk, OnOk, OnErr};
 ghost use Rattle.zr_base.specs.Plain.{IsRequest};
-ghost use Rattle.lock_row.specs.declared.names.Held.TheVariants as holds;
-ghost use Rattle.slot_entry.specs.Entries.{EntryState};
 ghost use Rattle.call_history.specs.Parts.{parts, program};
 ghost use Rattle.zr_core.specs.Joint.{pieces_on};
 ghost use Rattle.zr_core.specs.Places.{AreRequests, IsWork};
-ghost use Rattle.zr_core.specs.States.{slots_of, IsAtRest};
+ghost use Rattle.zr_core.specs.Noted.{is_in, ArePages, AreCounted};
+ghost use Rattle.zr_core.specs.States.{slots_of, HasEntries, IsAtRest};
 ghost use Rattle.zr_core.specs.Preparing.{count_at, pieces_each, IsReserved, AreReserved, IsNewReply, AreNewReplies, IsNewWorker, AreNewWorkers};
 
 use crate::place::{first_piece, pages_to_do, settled};
-use crate::worker::{DiskHeld, Reply, Worker, entry_in, entry_of};
+use crate::worker::{DiskHeld, Reply, Worker, entry_of};
 use lock_row::{Hand, Held, LockNo, SimRow, Still};
 use std::alloc::{AllocError, Global};
 use zr_base::{ActorOps, Op, OpEnd, PageIx};
@@ -68,32 +66,40 @@ pub(crate) fn count_pieces(
     Ok(counts)
 }
 
-// Whether a page's entry has no calls.
-fn is_unused(row: &SimRow<DiskHeld>, size: u32, page: u32) -> bool
-    requires names { row.now.names ≡ slots_of size }
-    requires page { page < size }
-    ensures { OnTrue result
-        ((e : EntryState) × (slice_get row.now.cells page ≡ Some (Some (holds.Slot e)))
-        × (e.order ≡ [])) }
+// Notes the next page, if it has pieces.
+fn note_page(counts: &[u32], page: u32, noted: &mut Vec<u32>) -> Result<(), AllocError>
+    requires page { page < length counts.now }
+    requires so_far { AreCounted page counts.now noted.old.items }
+    ensures { OnOk result (AreCounted (page + 1) counts.now noted.new.items) }
 {
-    match row.value(LockNo::Slot(PageIx(page))) {
-        None => false,
-        Some(value) => entry_in(value).order().is_empty(),
+    if counts[page as usize] == 0 {
+        return Ok(());
     }
+    noted.push(page)?;
+    Ok(())
+}
+
+/// The pages that have pieces, in rising order.
+pub(crate) fn noted_pages(alloc: Global, size: u32, counts: &[u32]) -> Result<Vec<u32>, AllocError>
+    requires { length counts.now ≡ size }
+    ensures { IfOk result (λ noted. AreCounted size counts.now noted.items) }
+{
+    let mut noted = Vec::new(alloc);
+    for page in 0..size {
+        note_page(counts, page, &mut noted)?;
+    }
+    Ok(noted)
 }
 
 // Empties the order of a page's entry, and makes its room. On Err nothing changed.
 fn reserve(row: &mut SimRow<DiskHeld>, size: u32, page: u32, count: u32) -> Result<(), AllocError>
     requires names { row.old.names ≡ slots_of size }
-    requires rest { IsAtRest size row.old.cells }
+    requires rest { HasEntries size row.old.cells }
     requires page { page < size }
     ensures names { row.new.names ≡ row.old.names }
     ensures reserved { OnOk result (IsReserved page count row.old.cells row.new.cells) }
     ensures err { OnErr result (row.new.cells ≡ row.old.cells) }
 {
-    if count == 0 && is_unused(row, size, page) {
-        return Ok(());
-    }
     let slot = LockNo::Slot(PageIx(page));
     let mut hand = row.hand(0);
     let Some(value) = hand.try_take::<Still>(slot) else {
@@ -105,22 +111,49 @@ fn reserve(row: &mut SimRow<DiskHeld>, size: u32, page: u32, count: u32) -> Resu
     reserved
 }
 
-/// Empties all orders, and makes room for what is counted. On Err each page is as before.
+// Empties the orders of these pages, and makes room for what is counted. On Err each page is as
+// before, and so is
+// its order, or it is empty.
+fn reserve_pages(
+    row: &mut SimRow<DiskHeld>,
+    size: u32,
+    counts: &[u32],
+    pages: &[u32],
+) -> Result<(), AllocError>
+    requires names { row.old.names ≡ slots_of size }
+    requires rest { HasEntries size row.old.cells }
+    requires counts { length counts.now ≡ size }
+    requires pages { ArePages size pages.now }
+    ensures names { row.new.names ≡ row.old.names }
+    ensures reserved { OnOk result (AreReserved (is_in pages.now) counts.now row.old.cells row.new.cells) }
+    ensures kept { (done : ℕ → Bool) × AreReserved done counts.now row.old.cells row.new.cells }
+{
+    for page in pages {
+        reserve(row, size, *page, counts[*page as usize])?;
+    }
+    Ok(())
+}
+
+/// Empties all orders, and makes room for what is counted. `before` has the pages with an order,
+/// and `noted` those
+/// with a count. On Err each page is as before, and so is its order, or it is empty.
 pub(crate) fn reserve_all(
     row: &mut SimRow<DiskHeld>,
     size: u32,
     counts: &[u32],
+    before: &[u32],
+    noted: &[u32],
 ) -> Result<(), AllocError>
     requires names { row.old.names ≡ slots_of size }
-    requires rest { IsAtRest size row.old.cells }
+    requires rest { IsAtRest size before.now row.old.cells }
     requires counts { length counts.now ≡ size }
+    requires counted { AreCounted size counts.now noted.now }
     ensures names { row.new.names ≡ row.old.names }
-    ensures reserved { OnOk result (AreReserved size counts.now row.old.cells row.new.cells) }
-    ensures kept { AreReserved 0 counts.now row.old.cells row.new.cells }
+    ensures reserved { OnOk result (AreReserved (λ p. true) counts.now row.old.cells row.new.cells) }
+    ensures kept { (done : ℕ → Bool) × AreReserved done counts.now row.old.cells row.new.cells }
 {
-    for page in 0..size {
-        reserve(row, size, page, counts[page as usize])?;
-    }
+    reserve_pages(row, size, counts, before)?;
+    reserve_pages(row, size, counts, noted)?;
     Ok(())
 }
 

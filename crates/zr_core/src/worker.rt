@@ -1,12 +1,10 @@
 //! An actor of a phase: its place among its operations, the entry in its hand, and its replies. Its
 //! steps are written for any hand.
 //!
-//! | Stage | The actor has | Next event | Function | The event's work | Next stage |
-//! |---|---|---|---|---|---|
-//! | start | no lock (`entry` is none) | takes the slot of the piece's page | `enter` | none |
-//! entered |
-//! | entered | that slot's entry | gives the slot back | `leave` | the piece is carried out, and
-//! its tag noted | start of the next piece |
+//! | Stage | Holds | Next event | Function | The event's work |
+//! |---|---|---|---|---|
+//! | start | no lock | takes the slot of the page | `enter` | none |
+//! | entered | that slot's entry | gives the slot back | `leave` | carries the piece out, and notes its tag |
 //!
 //! Between `enter` and `leave` no other actor has the entry, so what a partial write puts back is
 //! the page that

@@ -24,7 +24,7 @@ ghost use Rattle.zr_core.specs.States.{given_on, IsAtRest, IsPrepared, AreKept, 
 use crate::disk::World;
 use crate::laws::{phases_are_legal, turns_keep};
 use crate::phase::Phase;
-use crate::prepare::{count_pieces, new_workers, reserve_all};
+use crate::prepare::{count_pieces, new_workers, noted_pages, reserve_all};
 use crate::worker::{DiskHeld, Turn};
 use lock_row::sums_move;
 use std::alloc::AllocError;
@@ -35,20 +35,22 @@ impl World {
     /// memory for what its reads will tell. On Err the contents are as before, and the orders are
     /// unspecified until a call that succeeds.
     pub fn prepare(&mut self, actors: &[ActorOps]) -> Result<Phase, AllocError>
-        requires rest { IsAtRest self.old.pages self.old.row.cells }
+        requires rest { IsAtRest self.old.pages self.old.noted.items self.old.row.cells }
         requires work { IsWork actors.now }
         ensures pages { self.new.pages ≡ self.old.pages }
         ensures can { IfOk result (λ phase. CanGoOn (playing self.new phase actors.now)) }
         ensures start { IfOk result (λ phase. IsPrepared (given_on self.old.pages actors.now self.old.row.cells)
             self.new.row.cells phase.workers.items) }
-        ensures rest { OnErr result (IsAtRest self.new.pages self.new.row.cells) }
+        ensures rest { OnErr result (IsAtRest self.new.pages self.new.noted.items self.new.row.cells) }
         ensures contents { OnErr result ((s : ℕ) → s < 8 * self.old.pages
             → sector_in self.new.row.cells s ≡ sector_in self.old.row.cells s) }
     {
         turns_keep();
         let counts = count_pieces(self.alloc, self.pages, actors)?;
         let workers = new_workers(self.alloc, self.pages, actors)?;
-        reserve_all(&mut self.row, self.pages, &counts)?;
+        let noted = noted_pages(self.alloc, self.pages, &counts)?;
+        reserve_all(&mut self.row, self.pages, &counts, &self.noted, &noted)?;
+        self.noted = noted;
         Ok(Phase { workers })
     }
 
@@ -104,7 +106,8 @@ impl World {
         }
     }
 
-    // So many turns of an actor. After one that changes nothing the rest change nothing either: they cost nothing.
+    // So many turns of an actor. After one that changes nothing the rest change nothing either:
+    // they cost nothing.
     fn repeat(&mut self, phase: &mut Phase, actors: &[ActorOps], turns: Turns)
         requires actor { turns.actor < length actors.now }
         requires can { CanGoOn (playing self.old phase.old actors.now) }
@@ -157,7 +160,7 @@ impl World {
             → RunsOut (turns_of schedule.now) (playing self.old phase.old actors.now)
             (playing self.new phase.new actors.now) dones }
         ensures over { AllOver actors.now phase.new.workers.items }
-        ensures rest { IsAtRest self.new.pages self.new.row.cells }
+        ensures rest { IsAtRest self.new.pages self.new.noted.items self.new.row.cells }
 
         // For the same start.
         ensures joint { (g : _) → HasJoint g (playing self.old phase.old actors.now)

@@ -1,34 +1,42 @@
 -- A cell with what is known of its object, as the code keeps it.
 use Rattle.std.specs.Prelude.{ℕ, ◌≡◌, ◌<◌, ◌^◌, map, slice_index, slice_index_or, List, Option, None, Some, Bool, true, false, length}
-use Rattle.zspage.specs.Cells.{UsedCell, object_in, IsStored, used_of, home_of}
+use Rattle.zspage.specs.Cells.{CellState, IsWhole, UsedCell, object_in, IsStored, used_of, home_of}
 use Rattle.zspage.specs.declared.spot.Stored.{Stored}
 
--- a cell's size, and its object where it has one
+-- a cell's number and size, and its object where it has one
 pub record SpotState : Type 0 where
+  pub number : ℕ
   pub size : ℕ
   pub use_of : Option UsedCell
 
-abbrev pub used_cell : Stored → List ℕ → Bool → UsedCell
-used_cell o cell out = record { handle = o.handle.0; bytes = object_in o.len cell; cell = cell; out = out }
+-- the use of a cell by the object in it
+abbrev pub used_cell : Stored → CellState → Bool → UsedCell
+used_cell o cell out =
+    record { handle = o.handle.0; bytes = object_in o.len cell.bytes; cell = cell; out = out }
 
--- what contracts see: the cell is at hand, or it was lent as it was then
-abbrev pub seen : Option Stored → Option (List ℕ) → List ℕ → Option UsedCell
+-- the cell is at hand, or it was lent as it was then
+abbrev pub which : Option CellState → CellState → CellState
+which (Some cell) lent = cell
+which None lent = lent
+
+-- what contracts see of the use of a cell that is at hand or lent
+abbrev pub seen : Option Stored → Option CellState → CellState → Option UsedCell
 seen None cell lent = None
 seen (Some o) (Some cell) lent = Some (used_cell o cell false)
 seen (Some o) None lent = Some (used_cell o lent true)
 
--- the cell has the size and the object
-pub record Holds (size : ℕ) (o : Stored) (cell : List ℕ) : Type 0 where
-  pub long : length cell ≡ size
-  pub whole : length (object_in o.len cell) ≡ o.len
-  pub stored : IsStored o.handle.0 (object_in o.len cell) cell
+-- the cell has its size and the object
+pub record Holds (o : Stored) (cell : CellState) : Type 0 where
+  pub long : IsWhole cell
+  pub whole : length (object_in o.len cell.bytes) ≡ o.len
+  pub stored : IsStored o.handle.0 (object_in o.len cell.bytes) cell
 
 -- a cell without an object is at hand
-abbrev pub IsSound : ℕ → Option Stored → Option (List ℕ) → List ℕ → Type 0
-IsSound size None None lent = ⊥
-IsSound size None (Some cell) lent = length cell ≡ size
-IsSound size (Some o) None lent = Holds size o lent
-IsSound size (Some o) (Some cell) lent = Holds size o cell
+abbrev pub IsSound : Option Stored → Option CellState → CellState → Type 0
+IsSound None None lent = ⊥
+IsSound None (Some cell) lent = IsWhole cell
+IsSound (Some o) None lent = Holds o lent
+IsSound (Some o) (Some cell) lent = Holds o cell
 
 -- the cells of a zspage, from its spots
 abbrev pub uses : List SpotState → List (Option UsedCell)
@@ -39,11 +47,17 @@ abbrev pub rank_of : Option UsedCell → ℕ
 rank_of None = 1
 rank_of (Some u) = 0
 
--- the cells have one size, the counts of used cells and of those at home are right, and each cell has its rank
+-- the spot of the cell with this number and size, which has this rank
+pub record IsSpot (number size rank : ℕ) (s : SpotState) : Type 0 where
+  pub numbered : s.number ≡ number
+  pub sized : s.size ≡ size
+  pub ranked : rank ≡ rank_of s.use_of
+
+-- each cell has its number, size and rank, and the counts of used cells and of those at home are right
 pub record IsZspage (size used home : ℕ) (spots : List SpotState) (free : List ℕ) : Type 0 where
-  pub sizes : (k : ℕ) (d : SpotState) → k < length spots → (slice_index_or spots k d).size ≡ size
   pub count : used ≡ used_of (uses spots)
   pub home_is : home ≡ home_of (uses spots)
   pub few : length spots < 2 ^ 32
   pub ranked : length free ≡ length spots
-  pub ranks : (k : ℕ) (d : SpotState) → k < length spots → slice_index free k ≡ rank_of (slice_index_or spots k d).use_of
+  pub each : (k : ℕ) (d : SpotState) → k < length spots
+      → IsSpot k size (slice_index free k) (slice_index_or spots k d)

@@ -2,7 +2,7 @@
 //! number.
 
 ghost use Rattle.std.specs.Prelude.{◌≡◌, ◌+◌, ◌*◌, ◌/◌, ◌<◌, ◌≤◌, ◌↔◌, ℕ, List, length, Some, None, IfOk, IsTrue, true, false, replicate, slice_set};
-ghost use Rattle.zspage.specs.Cells.{IsStored, Fits, UsedCell, used_of, home_of, entry, IsLowestFree, IsHome, IsOut};
+ghost use Rattle.zspage.specs.Cells.{CellState, IsStored, IsCellAt, Fits, UsedCell, used_of, home_of, entry, IsLowestFree, IsHome, IsOut};
 
 use crate::cell::Cell;
 use crate::spot::Spot;
@@ -37,7 +37,12 @@ impl Model for Zspage {
 
     ghost Value = { ZspageState };
 
-    ghost view = { λ z. record { id = z.id; size = z.size; frames = z.frames; cells = uses z.spots.items } };
+    ghost view = { λ z. record {
+      id = z.id;
+      size = z.size;
+      frames = z.frames;
+      cells = uses z.spots.items;
+    } };
 
     ghost invariant = { λ z. IsZspage z.size z.used z.home z.spots.items z.free };
 }
@@ -49,13 +54,18 @@ impl Zspage {
         requires large { size ≤ 4096 }
         requires some { 1 ≤ chain }
         requires few { chain ≤ 16 }
-        ensures { IfOk result (λ z. z ≡ record { id = id; size = size; frames = chain; cells = replicate (chain * 4096 / size) None }) }
+        ensures { IfOk result (λ z. z ≡ record {
+          id = id;
+          size = size;
+          frames = chain;
+          cells = replicate (chain * 4096 / size) None;
+        }) }
     {
         let per = chain * FRAME / size;
         let mut spots = Vec::new(alloc);
         let mut free = Tournament::new(alloc);
-        for _ in 0..per {
-            spots.push(Spot::new(alloc, size)?)?;
+        for number in 0..per {
+            spots.push(Spot::new(Cell::zeros(alloc, number, size)?))?;
             free.push(FREE)?;
         }
         Ok(Zspage {
@@ -118,7 +128,8 @@ impl Zspage {
         requires fits { Fits (length bytes.now) self.old.size }
         ensures lowest { IsLowestFree self.old.cells result }
         ensures used { used_of self.new.cells ≡ used_of self.old.cells + 1 }
-        ensures after { (cell : List ℕ) × IsStored handle.0 bytes.now cell
+        ensures after { (cell : CellState) × IsStored handle.0 bytes.now cell
+            × IsCellAt self.old.size result cell
             × (self.new ≡ record self.old {
               cells = slice_set self.old.cells result
                   (Some (record { handle = handle.0; bytes = bytes.now; cell = cell; out = false }));
@@ -151,8 +162,11 @@ impl Zspage {
     pub fn lend(&mut self, ix: u32) -> Cell
         requires { IsHome self.old.cells ix }
         ensures used { used_of self.new.cells ≡ used_of self.old.cells }
-        ensures after { (u : UsedCell) × (entry self.old.cells ix ≡ Some u) × (u.cell ≡ result) × IsStored u.handle u.bytes result
-            × (self.new ≡ record self.old { cells = slice_set self.old.cells ix (Some (record u { out = true })) }) }
+        ensures after { (u : UsedCell) × (entry self.old.cells ix ≡ Some u) × (u.cell ≡ result)
+            × IsStored u.handle u.bytes result × IsCellAt self.old.size ix result
+            × (self.new ≡ record self.old {
+              cells = slice_set self.old.cells ix (Some (record u { out = true }));
+            }) }
     {
         let spot = &mut self.spots[ix as usize];
         let cell = spot.lend();
@@ -165,7 +179,9 @@ impl Zspage {
         requires { IsOut self.old.cells ix cell }
         ensures used { used_of self.new.cells ≡ used_of self.old.cells }
         ensures after { (u : UsedCell) × (entry self.old.cells ix ≡ Some u)
-            × (self.new ≡ record self.old { cells = slice_set self.old.cells ix (Some (record u { out = false })) }) }
+            × (self.new ≡ record self.old {
+              cells = slice_set self.old.cells ix (Some (record u { out = false }));
+            }) }
     {
         let spot = &mut self.spots[ix as usize];
         spot.back(cell);

@@ -8,7 +8,8 @@ use Rattle.same_fill.proofs.all_are.Goals as goal
 
 pub returns : goal.returns
 returns c =
-    let mask = bitmask_splat w64 (λ a b. not (eqb a b)) c.args.words 8 c.args.word c.fits-words.0 (lit≤ tt) in
+    let mask = bitmask_splat w64 (λ a b. not (eqb a b)) c.args.words 8 c.args.word c.fits-words.0
+    (lit≤ tt) in
     let lanes = all_lanes c.args.word c.args.words c.fits-words.0 in (
       (λ t. lanes.0 (sym mask ∙ eqb-true _ 0 t)),
       λ same. eq-eqb _ 0 (mask ∙ lanes.1 same),

@@ -1,7 +1,7 @@
--- The words before word k are written.
+-- The sectors before this one are put.
 use Rattle.std.proofs.Common.{◌≡◌, ℕ, ◌<◌}
-use Rattle.same_fill.specs.Filled.{word_at}
+use Rattle.zr_base.specs.Sectors.{page_sector}
 use Rattle.same_fill.proofs.fill.Given as goal
 
-abbrev pub invariant-loop-k : goal.invariant-loop-k
-invariant-loop-k l = (j : ℕ) → j < l.k → word_at l.bytes j ≡ l.word
+abbrev pub invariant-loop-at : goal.invariant-loop-at
+invariant-loop-at l = (k : ℕ) → k < l.at → page_sector l.page k ≡ l.sector

@@ -10,9 +10,13 @@ use Rattle.bdi_line.proofs.pack.put_b4d2.Goals as goal
 
 pub returns-clause-written : goal.returns-clause-written
 returns-clause-written g c _ =
-    written b4d2 c.args.values c.in-Some.split.marks c.in-Some.split.base c.in-Some.split.deltas
+    let vs = c.args.values in
+    written b4d2 vs c.in-Some.split.marks c.in-Some.split.base c.in-Some.split.deltas
     c.args.out.now.items c.put.new.out.items c.put-2.new.out.items c.put-3.new.out.items _ _ _
     c.in-Some.ensures.some c.put.ensures.items c.put-2.ensures.items c.put-3.ensures.items
-    (c.to_le_bytes.ensures ∙ le_digits 2 (bit_and c.in-Some.split.marks (2 ^ 16 - 1)) ∙ ap (digits_l 256 2) (and_mask c.in-Some.split.marks 16 ∙ mod-eq_of_lt (marks_fit 16 _ c.args.values c.in-Some.split.marks c.fits-values.0 c.in-Some.ensures.some.marks_is)))
+    (c.to_le_bytes.ensures ∙ le_digits 2 (bit_and c.in-Some.split.marks (2 ^ 16 - 1))
+    ∙ ap (digits_l 256 2) (and_mask c.in-Some.split.marks 16
+    ∙ mod-eq_of_lt (marks_fit 16 _ vs c.in-Some.split.marks c.fits-values.0
+    c.in-Some.ensures.some.marks_is)))
     (c.to_le_bytes-2.ensures ∙ le_digits 4 c.in-Some.split.base)
     c.low_2_of_halves.ensures

@@ -8,11 +8,15 @@ use Rattle.bdi_line.proofs.quarters.base_of_quarters.Goals as goal
 
 pub returns-then-first-lt32 : goal.returns-then-first-lt32
 returns-then-first-lt32 c =
+    let vs = c.args.values in
     c.index.ensures
-    ∙ get_or_default_zero c.args.values _ c.index.result.now (omega (arith, c.fits-values.0))
-    ∙ base_at c.args.half (2 ^ 16) c.args.values c.args.marks (omega (arith, c.fits-values.0)) c.requires
+    ∙ get_or_default_zero vs _ c.index.result.now (omega (arith, c.fits-values.0))
+    ∙ base_at c.args.bound (2 ^ 16) vs c.args.marks (omega (arith, c.fits-values.0)) c.requires
 
 pub returns-else-first-lt32 : goal.returns-else-first-lt32
 returns-else-first-lt32 c =
-    sym (get_or_past c.args.values (count_trailing_zeros 64 c.args.marks) 0 (omega (arith, c.fits-values.0)))
-    ∙ base_at c.args.half (2 ^ 16) c.args.values c.args.marks (omega (arith, c.fits-values.0)) c.requires
+    let vs = c.args.values in
+    let none = get_or_past vs (count_trailing_zeros 64 c.args.marks) 0
+    (omega (arith, c.fits-values.0)) in
+    sym none
+    ∙ base_at c.args.bound (2 ^ 16) vs c.args.marks (omega (arith, c.fits-values.0)) c.requires

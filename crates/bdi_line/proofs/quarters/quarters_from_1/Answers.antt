@@ -10,4 +10,7 @@ pub returns : goal.returns
 returns c =
     let bytes = chunk 0 32 c.args.bytes.now in
     map-id bytes
-    ∙ sym (ap (λ k. digits_l 256 k (number_l 256 bytes)) (sym (length-chunk 0 32 c.args.bytes.now c.requires)) ∙ digits-number 256 bytes (below_from_Fits w8 bytes (chunk-fits w8 0 32 c.args.bytes.now c.type_inv.bytes)))
+    ∙ sym (ap (λ k. digits_l 256 k (number_l 256 bytes))
+    (sym (length-chunk 0 32 c.args.bytes.now c.requires))
+    ∙ digits-number 256 bytes (below_from_Fits w8 bytes
+    (chunk-fits w8 0 32 c.args.bytes.now c.type_inv.bytes)))

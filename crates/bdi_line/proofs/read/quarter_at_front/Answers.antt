@@ -9,4 +9,5 @@ use Rattle.bdi_line.proofs.read.quarter_at_front.Goals as goal
 pub returns : goal.returns
 returns c =
     c.index.ensures
-    ∙ mod-eq_of_lt (number_of_bytes 0 2 c.args.bytes.now (below_from_Fits w8 _ (chunk-fits w8 0 2 c.args.bytes.now c.type_inv.bytes)) c.requires)
+    ∙ mod-eq_of_lt (number_of_bytes 0 2 c.args.bytes.now
+    (below_from_Fits w8 _ (chunk-fits w8 0 2 c.args.bytes.now c.type_inv.bytes)) c.requires)

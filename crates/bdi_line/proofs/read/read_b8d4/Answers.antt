@@ -9,9 +9,13 @@ use Rattle.bdi_line.proofs.read.read_b8d4.Goals as goal
 pub returns : goal.returns
 returns c line split =
     let p = c.args.payload.now in
-    values_read b8d4 (values 8 8 line) p split 2147483648 4294967296 4294967295 (2 ^ 64) refl refl refl refl refl refl (length-values 8 8 line) (values_below 8 8 line (lit< tt)) (lit< tt)
-    (get_or p 0 0) c.word_at_front-base.result c.words_from_4-low.result c.signed_words.result c.based_words.result
+    values_read 2147483648 4294967296 4294967295 (2 ^ 64) b8d4 (values 8 8 line) p split refl refl
+    refl refl refl
+    (length-values 8 8 line) (values_below 8 8 line (lit< tt)) (lit< tt)
+    (get_or p 0 0) c.word_at_front-base.result c.words_from_4-low.result
+    c.signed_words.result c.based_words.result
     (first_byte p (omega (arith, c.requires)))
     (c.word_at_front-base.ensures ∙ ap (number_l 256) (chunk_tail 8 1 p))
-    (c.words_from_4-low.ensures ∙ ap (λ l. digits_l 4294967296 8 (number_l 256 l)) (chunk_tail 32 9 p))
+    (c.words_from_4-low.ensures
+    ∙ ap (λ l. digits_l 4294967296 8 (number_l 256 l)) (chunk_tail 32 9 p))
     c.signed_words.ensures c.based_words.ensures.len c.based_words.ensures.lanes

@@ -4,7 +4,8 @@ use Rattle.bdi_line.proofs.words.based_words.Given as goal
 
 pub record IsBased (deltas values : List ℕ) (marks base j : ℕ) : Type 0 where
   pub len : length values ≡ 8
-  pub before : (k : ℕ) → k < j → get_or values k 0 ≡ cond (eqb (marks / 2 ^ k % 2) 1) ((get_or deltas k 0 + base) % 2 ^ 64) (get_or deltas k 0)
+  pub before : (k : ℕ) → k < j → get_or values k 0 ≡ cond (eqb (marks / 2 ^ k % 2) 1)
+      ((get_or deltas k 0 + base) % 2 ^ 64) (get_or deltas k 0)
   pub after : (k : ℕ) → j ≤ k → get_or values k 0 ≡ get_or deltas k 0
 
 abbrev pub invariant-loop-j : goal.invariant-loop-j

@@ -8,5 +8,9 @@ use Rattle.bdi_line.proofs.words.low_4_of_words.Goals as goal
 
 pub returns : goal.returns
 returns c =
-    pick_l_left 0 (digits_l 256 64 (number_l (2 ^ 64) c.args.deltas)) (digits_l 256 64 (number_l (2 ^ 64) c.args.deltas)) 64 (places 8 4 8 0) (length-digits 256 64 (number_l (2 ^ 64) c.args.deltas)) tt
-    ∙ low_bytes_picked (2 ^ 64) 8 64 c.args.deltas refl (below_from_Fits w64 c.args.deltas c.fits-deltas.1) 4 8 0 (lit≤ tt) (lit≤ tt) (sym c.fits-deltas.0)
+    let bytes = digits_l 256 64 (number_l (2 ^ 64) c.args.deltas) in
+    pick_l_left 0 bytes bytes 64 (places 8 4 8 0)
+    (length-digits 256 64 (number_l (2 ^ 64) c.args.deltas)) tt
+    ∙ low_bytes_picked (2 ^ 64) 8 64 c.args.deltas refl
+    (below_from_Fits w64 c.args.deltas c.fits-deltas.1) 4 8 0 (lit≤ tt) (lit≤ tt)
+    (sym c.fits-deltas.0)

@@ -1,4 +1,4 @@
--- The mask of the lanes that reach `whole` once `half` is added.
+-- The mask of the lanes that reach `span` once `bound` is added.
 use Rattle.std.proofs.Common.{◌<◌, ◌^◌, ℕ, ap, ◌∙◌, lit≤, arith}
 use Rattle.std.specs.Simd.Lanes.{mask_l}
 use Rattle.std.specs.Int.{w64}
@@ -9,6 +9,8 @@ use Rattle.bdi_line.proofs.words.marks_of_words.Goals as goal
 
 pub returns : goal.returns
 returns c =
-    reached_mask w64 8 c.args.half c.args.whole c.args.values c.fits-values.0 (lit≤ tt)
-    ∙ ap mask_l (same_on (λ (v : ℕ). v < 2 ^ 64) _ _ c.args.values (below_from_Fits w64 c.args.values c.fits-values.1) (λ v lt.
-    large_by_lanes c.args.half c.args.whole (2 ^ 64) v c.requires.positive c.requires.whole (omega (arith, c.ranges.whole.fits)) lt))
+    reached_mask w64 8 c.args.bound c.args.span c.args.values c.fits-values.0 (lit≤ tt)
+    ∙ ap mask_l (same_on (λ (v : ℕ). v < 2 ^ 64) _ _ c.args.values
+    (below_from_Fits w64 c.args.values c.fits-values.1)
+    (λ v lt. large_by_lanes c.args.bound c.args.span (2 ^ 64) v c.requires.positive c.requires.span
+    (omega (arith, c.ranges.span.fits)) lt))

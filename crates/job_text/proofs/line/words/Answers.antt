@@ -10,7 +10,8 @@ returns c =
     (YieldsList-from_filter _ (λ word. not (length word == 0))
     (YieldsList-at c.filter.ensures.source
     (YieldsList-from_slice_split _ is_blank (before_comment (without_return c.args.line.now))
-    (c.split.ensures.rest ∙ c.line_before_comment.ensures ∙ ap before_comment c.line_before_return.ensures)
+    (c.split.ensures.rest ∙ c.line_before_comment.ensures
+    ∙ ap before_comment c.line_before_return.ensures)
     c.split.ensures.done c.split.ensures.closure
     (λ x b q k. search (rules, tests))))
     c.filter.ensures.closure (λ x b q k. search (rules, tests)))

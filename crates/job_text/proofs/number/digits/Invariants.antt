@@ -7,4 +7,5 @@ abbrev pub invariant-loop-c : goal.invariant-loop-c
 invariant-loop-c l =
     (l.value < 2 ^ 64)
     × (are_digits l.base l.word ≡ are_digits l.base (drop l.c-index l.word))
-    × (saturated (value_from l.base 0 l.word) ≡ saturated (value_from l.base l.value (drop l.c-index l.word)))
+    × (saturated (value_from l.base 0 l.word)
+    ≡ saturated (value_from l.base l.value (drop l.c-index l.word)))

@@ -1,10 +1,10 @@
 use Rattle.std.proofs.Common.{map, Result, Ok, Err, OnOk, sym, ap, ◌∙◌}
-use Rattle.job_text.specs.declared.fault.Stop.{Stop}
+use Rattle.job_text.specs.declared.fault.NotTaken.{NotTaken}
 use Rattle.job_text.specs.Lines.{line_of}
 use Rattle.job_text.proofs.Steps.{goes_on}
 use Rattle.job_text.proofs.reader.take_line.Goals as goal
 
-on_ok : (P Q : Type 0) (r : Result (Unit {0}) Stop) → (P → Q) → OnOk r P → OnOk r Q
+on_ok : (P Q : Type 0) (r : Result (Unit {0}) NotTaken) → (P → Q) → OnOk r P → OnOk r Q
 on_ok P Q (Ok x) f h = f h
 on_ok P Q (Err stop) f h = tt
 
@@ -12,5 +12,6 @@ pub returns-clause-goes_on : goal.returns-clause-goes_on
 returns-clause-goes_on c =
     let words = ap (map (λ word. word.now)) c.deref.ensures.value ∙ c.in_ok-words.ensures in
     on_ok _ _ c.take.result
-    (goes_on c.args.reading.now c.take.new.self c.args.number c.args.line.now c.in_ok-line.line (ap line_of (sym words) ∙ c.in_ok-line.ensures.said) c.in_ok-line.ensures.lawful)
+    (goes_on c.args.reading.now c.take.new.self c.args.number c.args.line.now c.in_ok-line.line
+    (ap line_of (sym words) ∙ c.in_ok-line.ensures.said) c.in_ok-line.ensures.lawful)
     c.take.ensures.taken

@@ -7,5 +7,6 @@ use Rattle.job_text.proofs.turns.are_turns.Goals as goal
 
 pub returns : goal.returns
 returns c =
-    all_from_yields_List (λ word. is_turn word.now) _ _ _ c.all.ensures.ran (YieldsList-from_slice c.args.words.now c.iter.ensures.rest) (λ x b q k. search (rules, tests))
+    all_from_yields_List (λ word. is_turn word.now) _ _ _ c.all.ensures.ran
+    (YieldsList-from_slice c.args.words.now c.iter.ensures.rest) (λ x b q k. search (rules, tests))
     ∙ sym (list_all-map is_turn (λ word. word.now) c.args.words.now)

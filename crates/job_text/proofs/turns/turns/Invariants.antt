@@ -6,4 +6,5 @@ use Rattle.job_text.proofs.turns.turns.Given as goal
 
 abbrev pub invariant-loop-word : goal.invariant-loop-word
 invariant-loop-word l =
-    (l.list ≡ map turn_of (map (λ word. word.now) (take l.word-index l.words))) × (list_all may_give l.list ≡ true)
+    (l.list ≡ map turn_of (map (λ word. word.now) (take l.word-index l.words)))
+    × (list_all may_give l.list ≡ true)

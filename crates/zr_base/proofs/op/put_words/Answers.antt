@@ -9,14 +9,20 @@ use Rattle.zr_base.proofs.op.put_words.Goals as goal
 pub loop-i-preserved : goal.loop-i-preserved
 loop-i-preserved c =
     let f : ℕ → ℕ = λ j. (c.args.base + j * c.args.step) % 2 ^ 64 in
-    let here : c.copy_from_slice.new.self ≡ to_le_bytes w64 (f (c.args.from + c.loop-i.i)) =
-    c.copy_from_slice.ensures.after ∙ c.to_le_bytes.ensures ∙ ap (to_le_bytes w64) (add-mod-mod _ _ _) in (
-      length_put f c.args.from c.loop-i.i c.loop-i.out c.copy_from_slice.new.self c.loop-i.invariant.0 c.loop-i-test.true here,
-      words_put f c.args.from c.loop-i.i c.loop-i.out c.copy_from_slice.new.self c.loop-i.invariant.0 c.loop-i-test.true here c.loop-i.invariant.1,
+    let l = c.loop-i in
+    let bytes = c.copy_from_slice.new.self in
+    let here : bytes ≡ to_le_bytes w64 (f (c.args.from + l.i)) =
+    c.copy_from_slice.ensures.after ∙ c.to_le_bytes.ensures
+    ∙ ap (to_le_bytes w64) (add-mod-mod _ _ _) in
+    let below = c.loop-i-test.true in (
+      length_put f c.args.from l.i l.out bytes l.invariant.0 below here,
+      words_put f c.args.from l.i l.out bytes l.invariant.0 below here l.invariant.1,
     )
 
 pub returns : goal.returns
 returns c =
     let all : c.loop-i.i ≡ 64 = omega arith in
-    let P : ℕ → Type 0 = λ n. take (8 * n) c.loop-i.out ≡ words_from (λ j. (c.args.base + j * c.args.step) % 2 ^ 64) c.args.from n in
-    sym (take_all 512 c.loop-i.out (omega (arith, c.loop-i.invariant.0))) ∙ subst P all c.loop-i.invariant.1
+    let f : ℕ → ℕ = λ j. (c.args.base + j * c.args.step) % 2 ^ 64 in
+    let P : ℕ → Type 0 = λ n. take (8 * n) c.loop-i.out ≡ words_from f c.args.from n in
+    sym (take_all 512 c.loop-i.out (omega (arith, c.loop-i.invariant.0)))
+    ∙ subst P all c.loop-i.invariant.1

@@ -1,4 +1,4 @@
-use Rattle.std.proofs.Common.{◌≡◌, ℕ, ◌+◌, ◌-◌, sym, subst, arith}
+use Rattle.std.proofs.Common.{◌≡◌, ℕ, ◌+◌, ◌-◌, List, sym, subst, arith}
 use Rattle.std.specs.List.{AllByRecursion}
 use Rattle.zr_base.specs.declared.op.Piece.{Piece}
 use Rattle.zr_base.specs.Pieces.{pieces_of, IsPieceOf}
@@ -13,5 +13,6 @@ pub returns-clause-sectors : goal.returns-clause-sectors
 returns-clause-sectors c =
     let a = c.args.start in
     let n : a + c.args.count - a ≡ c.args.count = omega arith in
-    let P : ℕ → Type 0 = λ n. AllByRecursion (λ (p : Piece). IsPieceOf a c.args.count p.page.0 p) (pieces_of a n) in
-    subst P (sym n) (pieces_of-each a c.args.count)
+    let Each : List Piece → Type 0 =
+    AllByRecursion (λ (p : Piece). IsPieceOf a c.args.count p.page.0 p) in
+    subst (λ (n : ℕ). Each (pieces_of a n)) (sym n) (pieces_of-each a c.args.count)

@@ -11,5 +11,7 @@ pub returns-in-Discard-clause-holds : goal.returns-in-Discard-clause-holds
 returns-in-Discard-clause-holds c k lt =
     let old = page_sector (page_of c.args.entry.now.kept) k in
     ap (λ (kept : Kept). page_sector (page_of kept) k) c.put.ensures.kept
-    ∙ discarded c.in-Discard.start c.in-Discard.count c.args.page k old (subst (λ (op : Op). has_event op c.args.page ≡ true) c.in-Discard.is c.requires.piece.event) lt
+    ∙ discarded c.in-Discard.start c.in-Discard.count c.args.page k old
+    (subst (λ (op : Op). has_event op c.args.page ≡ true) c.in-Discard.is
+    c.requires.piece.event) lt
     ∙ sym (ap (λ (op : Op). sector_after op (8 * c.args.page + k) old) c.in-Discard.is)

@@ -1,4 +1,4 @@
--- A failure was planned for this call, so one planned number more is due.
+-- A failure was planned for this call, so one planned number more is due_at.
 use Rattle.std.proofs.Common.{◌≤◌, arith, refl}
 use Rattle.backing_dev.specs.PlanInside.{calls_of}
 use Rattle.backing_dev.proofs.Due.{due_until-le, due_until-mono, due_until-call}

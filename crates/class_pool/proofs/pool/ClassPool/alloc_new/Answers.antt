@@ -1,206 +1,151 @@
 -- A new zspage takes the object in its first cell.
-use Rattle.std.proofs.Common.{◌+◌, ◌<◌, ◌≤◌, ◌^◌, Some, None, length, replicate, refl, ap, sum_by, sym, ◌∙◌, subst, arith}
+use Rattle.std.proofs.Common.{◌≡◌, ◌+◌, Some, None, length, replicate, refl, ap, sum_by, map, sym, ◌∙◌, subst, Contains}
 use Rattle.std.proofs.Math.ListN.{set}
-use Rattle.zspage.specs.Cells.{UsedCell, entry}
-use Rattle.class_pool.specs.Zspages.{HasRoom, IsLeastAbsent, put_at}
-use Rattle.class_pool.specs.Pool.{IsFresh, IsAtHome, used_cells, objects, object_of, new_use}
-use Rattle.class_pool.specs.Index.{FieldsFit}
-use Rattle.class_pool.proofs.SumLaws.{least_few}
-use Rattle.class_pool.proofs.PoolLaws.{Grows, grown_fits, added_fits, filled_beside, new_room, made_zspages, made_object, stored_fits, number_free, fresh_is, among_after, free_low, pool_is, pool_made}
-use Rattle.class_pool.proofs.HomeLaws.{stored_stay, made_stay}
+use Rattle.zspage.specs.Cells.{UsedCell, IsLowestFree, IsCellAt}
+use Rattle.class_pool.specs.Zspages.{AreFilled, IsLeastAbsent, put_at}
+use Rattle.class_pool.specs.Pool.{PoolState, IsFresh, IsAtHome, IsLent, used_cells, objects, object_of, new_use}
+use Rattle.class_pool.specs.Index.{pool_of, IsPooled}
+use Rattle.class_pool.proofs.PoolLaws.{Made, made, made_zspages, first_cell, Stored, stored, pool_is, fresh_is}
+use Rattle.class_pool.proofs.HomeLaws.{Keeps, stays_home, stays_lent}
 use Rattle.class_pool.proofs.pool.ClassPool.alloc_new.Goals as goal
+use Rattle.class_pool.proofs.pool.ClassPool.alloc_new.Goals.{After-from_residual, In_ok-id, After-store-handle}
 
 -- ---- want of memory: some free numbers may have been made
 
+same : (c : After-from_residual) → IsPooled c.self.inside.used c.make_zspage.new.zspages
+    c.make_zspage.new.places
+same c =
+    let err = c.in_err-id.ensures.err in
+    record {
+      fit = c.in_err-id.ensures.fit;
+      count = c.self.invariant.count ∙ ap (λ z. length (used_cells z.zspages)) (sym err);
+      filled = subst (λ z. AreFilled z.zspages) (sym err) c.self.invariant.filled;
+    }
+
 pub invariant_of-self : goal.invariant_of-self
-invariant_of-self c =
-    let grows : Grows c.self.inside.per c.least_absent-id.result c.self.inside.places c.grow.new.self =
-    record { more = c.grow.ensures.more; bound = c.grow.ensures.bound; stays = c.grow.ensures.stays } in
-    let fit : FieldsFit c.self.inside.size c.self.inside.chain c.self.inside.per c.self.inside.used c.self.inside.zspages c.grow.new.self =
-    grown_fits _ _ _ _ _ _ _ _ c.self.invariant.fit c.least_absent-id.ensures.within grows in
-    record { fit = fit; filled = c.self.invariant.filled }
+invariant_of-self c = same (goal.at.invariant_of-self c).After-from_residual
 
-pub returns-in_err-grow-clause-pool : goal.returns-in_err-grow-clause-pool
-returns-in_err-grow-clause-pool c =
-    let grows : Grows c.self.inside.per c.least_absent-id.result c.self.inside.places c.grow.new.self =
-    record { more = c.grow.ensures.more; bound = c.grow.ensures.bound; stays = c.grow.ensures.stays } in
-    let fit : FieldsFit c.self.inside.size c.self.inside.chain c.self.inside.per c.self.inside.used c.self.inside.zspages c.grow.new.self =
-    grown_fits _ _ _ _ _ _ _ _ c.self.invariant.fit c.least_absent-id.ensures.within grows in
-    pool_is c.self.inside.class c.self.inside.size c.self.inside.chain c.self.inside.per _ c.self.inside.zspages c.grow.new.self
-    (record { fit = fit; filled = c.self.invariant.filled })
+pub returns-in_err-id-clause-pool : goal.returns-in_err-id-clause-pool
+returns-in_err-id-clause-pool c =
+    pool_is c.self.inside.class _ _ _ (same
+    (goal.at.returns-in_err-id-clause-pool c).After-from_residual)
 
-pub invariant_of-self-in_err-add : goal.invariant_of-self-in_err-add
-invariant_of-self-in_err-add c =
-    let grows : Grows c.self.inside.per c.least_absent-id.result c.self.inside.places c.grow.new.self =
-    record { more = c.grow.ensures.more; bound = c.grow.ensures.bound; stays = c.grow.ensures.stays } in
-    let fit : FieldsFit c.self.inside.size c.self.inside.chain c.self.inside.per c.self.inside.used c.self.inside.zspages c.grow.new.self =
-    grown_fits _ _ _ _ _ _ _ _ c.self.invariant.fit c.least_absent-id.ensures.within grows in
-    rw c.in_err-add.ensures.err (record { fit = fit; filled = c.self.invariant.filled })
+-- ---- the object in the new zspage
 
-pub returns-in_err-add-clause-pool : goal.returns-in_err-add-clause-pool
-returns-in_err-add-clause-pool c =
-    let grows : Grows c.self.inside.per c.least_absent-id.result c.self.inside.places c.grow.new.self =
-    record { more = c.grow.ensures.more; bound = c.grow.ensures.bound; stays = c.grow.ensures.stays } in
-    let fit : FieldsFit c.self.inside.size c.self.inside.chain c.self.inside.per c.self.inside.used c.self.inside.zspages c.grow.new.self =
-    grown_fits _ _ _ _ _ _ _ _ c.self.invariant.fit c.least_absent-id.ensures.within grows in
-    rw c.in_err-add.ensures.err
-    (pool_is c.self.inside.class c.self.inside.size c.self.inside.chain c.self.inside.per _ c.self.inside.zspages c.grow.new.self
-    (record { fit = fit; filled = c.self.invariant.filled }))
-
--- ---- the new zspage
-
-pub add-requires-clause-short : goal.add-requires-clause-short
-add-requires-clause-short c =
-    let small : c.least_absent-id.result + 1 < 2 ^ 32 =
-    omega (
-      arith,
-      least_few _ _ c.least_absent-id.ensures c.self.invariant.filled,
-      ap (λ p. length (used_cells p.zspages)) c.self.view_is,
-      c.requires.few,
-    ) in
-    small
+new : (c : In_ok-id) → Made c.self.inside.zspages c.make_zspage.new.zspages c.in_ok-id.id
+new c =
+    made _ _ c.in_ok-id.id c.self.invariant.fit.some c.self.invariant.filled
+    c.in_ok-id.ensures.least
+    c.in_ok-id.ensures.after
 
 pub store-handle-requires-clause-room : goal.store-handle-requires-clause-room
 store-handle-requires-clause-room c =
-    let some : 1 ≤ c.self.inside.zspages.per = omega (arith, c.self.invariant.fit.some, c.self.invariant.fit.per_is) in
-    let room : HasRoom (entry c.add.new.self.zspages c.least_absent-id.result) =
-    new_room _ _ _ c.least_absent-id.ensures some c.in_ok-add.ensures.ok in
-    room
+    (new (goal.at.store-handle-requires-clause-room c).In_ok-id).room
 
-pub store-handle-requires-clause-index : goal.store-handle-requires-clause-index
-store-handle-requires-clause-index c =
-    let grows : Grows c.self.inside.per c.least_absent-id.result c.self.inside.places c.grow.new.self =
-    record { more = c.grow.ensures.more; bound = c.grow.ensures.bound; stays = c.grow.ensures.stays } in
-    let fit : FieldsFit c.self.inside.size c.self.inside.chain c.self.inside.per c.self.inside.used c.self.inside.zspages c.grow.new.self =
-    grown_fits _ _ _ _ _ _ _ _ c.self.invariant.fit c.least_absent-id.ensures.within grows in
-    let small : c.least_absent-id.result + 1 < 2 ^ 32 =
-    omega (
-      arith,
-      least_few _ _ c.least_absent-id.ensures c.self.invariant.filled,
-      ap (λ p. length (used_cells p.zspages)) c.self.view_is,
-      c.requires.few,
-    ) in
-    let made : FieldsFit c.self.inside.size c.self.inside.chain c.self.inside.per c.self.inside.used c.add.new.self c.grow.new.self =
-    added_fits _ _ _ _ _ _ _ _ fit c.least_absent-id.ensures small c.in_ok-grow.ensures.ok c.in_ok-add.ensures.ok in
-    made.index
+-- the use of the cell from now on
+abbrev used : After-store-handle → UsedCell
+used c = new_use c.store-handle.result.0 c.args.bytes.now c.store-handle.ensures.after.2
 
-pub store-handle-requires-clause-numbers : goal.store-handle-requires-clause-numbers
-store-handle-requires-clause-numbers c =
-    let grows : Grows c.self.inside.per c.least_absent-id.result c.self.inside.places c.grow.new.self =
-    record { more = c.grow.ensures.more; bound = c.grow.ensures.bound; stays = c.grow.ensures.stays } in
-    let fit : FieldsFit c.self.inside.size c.self.inside.chain c.self.inside.per c.self.inside.used c.self.inside.zspages c.grow.new.self =
-    grown_fits _ _ _ _ _ _ _ _ c.self.invariant.fit c.least_absent-id.ensures.within grows in
-    let small : c.least_absent-id.result + 1 < 2 ^ 32 =
-    omega (
-      arith,
-      least_few _ _ c.least_absent-id.ensures c.self.invariant.filled,
-      ap (λ p. length (used_cells p.zspages)) c.self.view_is,
-      c.requires.few,
-    ) in
-    let made : FieldsFit c.self.inside.size c.self.inside.chain c.self.inside.per c.self.inside.used c.add.new.self c.grow.new.self =
-    added_fits _ _ _ _ _ _ _ _ fit c.least_absent-id.ensures small c.in_ok-grow.ensures.ok c.in_ok-add.ensures.ok in
-    let some : 1 ≤ c.self.inside.zspages.per = omega (arith, c.self.invariant.fit.some, c.self.invariant.fit.per_is) in
-    let room : HasRoom (entry c.add.new.self.zspages c.least_absent-id.result) =
-    new_room _ _ _ c.least_absent-id.ensures some c.in_ok-add.ensures.ok in
-    number_free _ _ _ _ c.least_absent-id.result _ _ made room
+left : (c : After-store-handle) → Stored c.make_zspage.new.zspages c.store-handle.new.zspages
+    (used c)
+left c =
+    let after = c.store-handle.ensures.after in
+    stored _ _ _ _ _ (used c)
+    (new (goal.at.After-store-handle c).In_ok-id).beside after.3 after.4.free after.7
 
--- ---- the object in it
+pooled : (c : After-store-handle)
+    → IsPooled (c.self.inside.used + 1) c.store-handle.new.zspages c.store-handle.new.places
+pooled c = record {
+  fit = c.store-handle.ensures.fit;
+  count = ap (λ n. n + 1) (c.self.invariant.count
+      ∙ ap length (sym (new (goal.at.After-store-handle c).In_ok-id).used))
+      ∙ sym (left c).count;
+  filled = (left c).filled;
+}
 
 pub invariant_of-self-2 : goal.invariant_of-self-2
-invariant_of-self-2 c =
-    let grows : Grows c.self.inside.per c.least_absent-id.result c.self.inside.places c.grow.new.self =
-    record { more = c.grow.ensures.more; bound = c.grow.ensures.bound; stays = c.grow.ensures.stays } in
-    let fit : FieldsFit c.self.inside.size c.self.inside.chain c.self.inside.per c.self.inside.used c.self.inside.zspages c.grow.new.self =
-    grown_fits _ _ _ _ _ _ _ _ c.self.invariant.fit c.least_absent-id.ensures.within grows in
-    let small : c.least_absent-id.result + 1 < 2 ^ 32 =
-    omega (
-      arith,
-      least_few _ _ c.least_absent-id.ensures c.self.invariant.filled,
-      ap (λ p. length (used_cells p.zspages)) c.self.view_is,
-      c.requires.few,
-    ) in
-    let made : FieldsFit c.self.inside.size c.self.inside.chain c.self.inside.per c.self.inside.used c.add.new.self c.grow.new.self =
-    added_fits _ _ _ _ _ _ _ _ fit c.least_absent-id.ensures small c.in_ok-grow.ensures.ok c.in_ok-add.ensures.ok in
-    let stored = c.store-handle.ensures.after in
-    let u : UsedCell = new_use c.store-handle.result.0 c.args.bytes.now stored.2 in
-    stored_fits _ _ _ _ c.add.new.self c.store-handle.new.zspages c.grow.new.self c.store-handle.new.places
-    c.least_absent-id.result stored.0 stored.1 u made
-    (filled_beside _ _ _ c.least_absent-id.ensures c.self.invariant.filled c.in_ok-add.ensures.ok)
-    stored.3 stored.4.free c.store-handle.ensures.within c.store-handle.ensures.free stored.6 stored.7 c.store-handle.ensures.index
+invariant_of-self-2 c = pooled (goal.at.invariant_of-self-2 c).After-store-handle
+
+pub returns-clause-pool : goal.returns-clause-pool
+returns-clause-pool c = pool_is c.self.inside.class _ _ _
+    (pooled (goal.at.returns-clause-pool c).After-store-handle)
+
+-- the used cells before are among those of the new zspages
+among_new : (c : After-store-handle) (u : UsedCell)
+    → Contains (used_cells c.self.inside.zspages.zspages) u
+    → Contains (used_cells c.make_zspage.new.zspages.zspages) u
+among_new c u among =
+    subst (λ us. Contains us u) (sym (new (goal.at.After-store-handle c).In_ok-id).used) among
+
+fresh : (c : After-store-handle) → IsFresh (pool_of c.self.inside.class c.self.inside.zspages)
+    c.store-handle.result.0
+fresh c u among =
+    fresh_is _ _ _ c.in_ok-id.ensures.fit.index c.store-handle.ensures.free u (among_new c u among)
+
+keep : (c : After-store-handle)
+    → Keeps c.self.inside.zspages.zspages c.store-handle.new.zspages.zspages c.store-handle.result.0
+keep c u other among = (left c).keeps u other (among_new c u among)
 
 pub returns-clause-fresh : goal.returns-clause-fresh
 returns-clause-fresh c =
-    let grows : Grows c.self.inside.per c.least_absent-id.result c.self.inside.places c.grow.new.self =
-    record { more = c.grow.ensures.more; bound = c.grow.ensures.bound; stays = c.grow.ensures.stays } in
-    let fit : FieldsFit c.self.inside.size c.self.inside.chain c.self.inside.per c.self.inside.used c.self.inside.zspages c.grow.new.self =
-    grown_fits _ _ _ _ _ _ _ _ c.self.invariant.fit c.least_absent-id.ensures.within grows in
     subst (λ p. IsFresh p c.store-handle.result.0) c.self.view_is
-    (fresh_is _ _ _ fit.index c.store-handle.ensures.free)
+    (fresh (goal.at.returns-clause-fresh c).After-store-handle)
 
 pub returns-clause-object : goal.returns-clause-object
 returns-clause-object c f =
-    let stored = c.store-handle.ensures.after in
-    let u : UsedCell = new_use c.store-handle.result.0 c.args.bytes.now stored.2 in
-    made_object c.self.inside.zspages c.add.new.self c.store-handle.new.zspages c.least_absent-id.result stored.0 stored.1 u
-    c.least_absent-id.ensures c.in_ok-add.ensures.ok stored.3 stored.4.free stored.6 f
-    ∙ ap (λ p. sum_by f (objects p) + f (object_of u)) c.self.view_is
-
-pub returns-clause-place : goal.returns-clause-place
-returns-clause-place c =
-    let some : 1 ≤ c.self.inside.zspages.per = omega (arith, c.self.invariant.fit.some, c.self.invariant.fit.per_is) in
-    let stored = c.store-handle.ensures.after in
-    let u : UsedCell = new_use c.store-handle.result.0 c.args.bytes.now stored.2 in (
-      c.least_absent-id.result,
-      stored.2,
-      record {
-        least = subst (λ p. IsLeastAbsent p.zspages c.least_absent-id.result) c.self.view_is c.least_absent-id.ensures;
-        stored = stored.5;
-        after = rw (← c.self.view_is)
-            (ap (λ zs. pool_made c.self.inside.class c.self.inside.size c.self.inside.chain c.self.inside.per zs)
-            (made_zspages c.self.inside.zspages c.add.new.self c.store-handle.new.zspages c.least_absent-id.result stored.0 stored.1 u
-            c.least_absent-id.ensures some c.in_ok-add.ensures.ok stored.3 stored.4 stored.6
-            ∙ ap (λ n. put_at c.self.inside.zspages.zspages c.least_absent-id.result (Some (set (replicate n None) 0 (Some u))))
-            (sym c.self.invariant.fit.per_is)));
-      },
-    )
-
-pub returns-clause-pool : goal.returns-clause-pool
-returns-clause-pool c =
-    let grows : Grows c.self.inside.per c.least_absent-id.result c.self.inside.places c.grow.new.self =
-    record { more = c.grow.ensures.more; bound = c.grow.ensures.bound; stays = c.grow.ensures.stays } in
-    let fit : FieldsFit c.self.inside.size c.self.inside.chain c.self.inside.per c.self.inside.used c.self.inside.zspages c.grow.new.self =
-    grown_fits _ _ _ _ _ _ _ _ c.self.invariant.fit c.least_absent-id.ensures.within grows in
-    let small : c.least_absent-id.result + 1 < 2 ^ 32 =
-    omega (
-      arith,
-      least_few _ _ c.least_absent-id.ensures c.self.invariant.filled,
-      ap (λ p. length (used_cells p.zspages)) c.self.view_is,
-      c.requires.few,
-    ) in
-    let made : FieldsFit c.self.inside.size c.self.inside.chain c.self.inside.per c.self.inside.used c.add.new.self c.grow.new.self =
-    added_fits _ _ _ _ _ _ _ _ fit c.least_absent-id.ensures small c.in_ok-grow.ensures.ok c.in_ok-add.ensures.ok in
-    let stored = c.store-handle.ensures.after in
-    let u : UsedCell = new_use c.store-handle.result.0 c.args.bytes.now stored.2 in
-    pool_is c.self.inside.class c.self.inside.size c.self.inside.chain c.self.inside.per _ c.store-handle.new.zspages c.store-handle.new.places
-    (stored_fits _ _ _ _ c.add.new.self c.store-handle.new.zspages c.grow.new.self c.store-handle.new.places
-    c.least_absent-id.result stored.0 stored.1 u made
-    (filled_beside _ _ _ c.least_absent-id.ensures c.self.invariant.filled c.in_ok-add.ensures.ok)
-    stored.3 stored.4.free c.store-handle.ensures.within c.store-handle.ensures.free stored.6 stored.7 c.store-handle.ensures.index)
+    let steps = goal.at.returns-clause-object c in
+    let here = steps.After-store-handle in
+    (left here).object f
+    ∙ ap (λ us. sum_by f (map object_of us) + f (object_of (used here))) (new steps.In_ok-id).used
+    ∙ ap (λ p. sum_by f (objects p) + f (object_of (used here))) c.self.view_is
 
 pub returns-clause-home : goal.returns-clause-home
 returns-clause-home c =
-    let stored = c.store-handle.ensures.after in (
-      new_use c.store-handle.result.0 c.args.bytes.now stored.2,
-      among_after c.add.new.self c.store-handle.new.zspages c.least_absent-id.result stored.0 stored.1 _
-          stored.3 (free_low _ _ stored.4.free) stored.6,
-      refl,
-      refl,
-    )
+    let here = (goal.at.returns-clause-home c).After-store-handle in
+    (used here, (left here).here, refl, refl)
 
 pub returns-clause-others : goal.returns-clause-others
 returns-clause-others c h among =
-    let stored = c.store-handle.ensures.after in
-    stored_stay h c.add.new.self c.store-handle.new.zspages c.least_absent-id.result stored.0 stored.1
-    (new_use c.store-handle.result.0 c.args.bytes.now stored.2) stored.3 stored.4.free stored.6
-    (made_stay h c.self.inside.zspages c.add.new.self c.least_absent-id.result c.least_absent-id.ensures
-    c.in_ok-add.ensures.ok (subst (λ p. IsAtHome p h) (sym c.self.view_is) among))
+    let here = (goal.at.returns-clause-others c).After-store-handle in
+    let was = subst (λ p. IsAtHome p h) (sym c.self.view_is) among in
+    stays_home (pool_of c.self.inside.class c.self.inside.zspages)
+    (pool_of c.self.inside.class c.store-handle.new.zspages) _ h
+    (keep here) (λ e. fresh here was.0 was.1 (was.2 ∙ e)) was
+
+pub returns-clause-others_lent : goal.returns-clause-others_lent
+returns-clause-others_lent c h cell among =
+    let here = (goal.at.returns-clause-others_lent c).After-store-handle in
+    let was = subst (λ p. IsLent p h cell) (sym c.self.view_is) among in
+    stays_lent (pool_of c.self.inside.class c.self.inside.zspages)
+    (pool_of c.self.inside.class c.store-handle.new.zspages) _ h
+    cell (keep here) (λ e. fresh here was.0 was.1 (was.2 ∙ e)) was
+
+pub returns-clause-place : goal.returns-clause-place
+returns-clause-place c =
+    let steps = goal.at.returns-clause-place c in
+    let after = c.store-handle.ensures.after in
+    let is = c.in_ok-id.ensures.after in
+    let u : UsedCell = used steps.After-store-handle in
+    let both : Some after.1 ≡ Some (replicate c.self.inside.zspages.per None) = sym after.3
+    ∙ (new steps.In_ok-id).there in
+    let all : after.1 ≡ replicate c.self.inside.zspages.per None = cc in
+    let first = first_cell _ after.0 c.self.invariant.fit.some
+    (subst (λ cs. IsLowestFree cs after.0) all after.4) in
+    let size = ap (λ z. z.size) is ∙ ap (λ p. p.size) c.self.view_is in (
+      c.in_ok-id.id,
+      after.2,
+      record {
+        least = subst (λ p. IsLeastAbsent p.zspages c.in_ok-id.id)
+            c.self.view_is c.in_ok-id.ensures.least;
+        stored = after.5;
+        at = subst (λ n. IsCellAt n 0 after.2) size
+            (subst (λ n. IsCellAt c.make_zspage.new.zspages.size n after.2) first after.6);
+        after = ap (pool_of c.self.inside.class)
+            (made_zspages _ _ _ c.in_ok-id.id after.0 after.1 u
+            c.in_ok-id.ensures.least is all first after.7)
+            ∙ ap (λ (p : PoolState). record p {
+              zspages = put_at p.zspages c.in_ok-id.id
+                  (Some (set (replicate p.per None) 0 (Some u)));
+            }) c.self.view_is;
+      },
+    )

@@ -1,116 +1,115 @@
 -- The cell at the object's place is free again.
-use Rattle.std.proofs.Common.{◌≡◌, ◌≢◌, ◌≤◌, ◌+◌, ◌-◌, None, Some, map, sum_by, ap, sym, ◌∙◌, subst, slice_set, inl, inr, Contains}
-use Rattle.zspage.specs.Cells.{used_of, entry}
-use Rattle.class_pool.specs.Pool.{used_cells, objects, object_of, IsPlace, IsAtHome}
-use Rattle.class_pool.specs.Index.{IsPooled}
-use Rattle.class_pool.proofs.PoolLaws.{IsFound, IsAt, Outcome, locate, at_place, outcome, freed_fits, freed_object, same_cells, pool_is, pool_made}
-use Rattle.class_pool.proofs.HomeLaws.{freed_remain}
+use Rattle.std.proofs.Common.{◌≡◌, ◌+◌, ◌-◌, Bool, true, false, None, Some, refl, sum_by, ap, sym, ◌∙◌, subst, inl, inr, ◌⊎◌}
+use Rattle.std.proofs.Math.ListN.{set}
+use Rattle.zspage.specs.Cells.{entry}
+use Rattle.class_pool.specs.Pool.{PoolState, objects, IsAtHome, IsLent, with_cells}
+use Rattle.class_pool.specs.Index.{pool_of, IsPooled}
+use Rattle.class_pool.proofs.PoolLaws.{IsAt, Freed, listed, located, freed, pool_is}
+use Rattle.class_pool.proofs.HomeLaws.{stays_home, stays_lent}
 use Rattle.class_pool.proofs.pool.ClassPool.free.Goals as goal
-use Rattle.class_pool.proofs.pool.ClassPool.free.Goals.{then-gone, else-gone}
+use Rattle.class_pool.proofs.pool.ClassPool.free.Goals.{After-place-place, After-put_cell-gone, then-gone, else-gone}
 
 pub place-place-requires : goal.place-place-requires
 place-place-requires c =
-    let found : IsFound c.self.inside.zspages.zspages c.self.inside.places c.args.handle.0 c.requires.0 =
-    locate _ _ _ c.requires.0 c.self.invariant.fit.index
-    (subst (λ p. Contains (used_cells p.zspages) c.requires.0) (sym c.self.view_is) c.requires.1) c.requires.2 in
-    (found.place_is, found.listed)
+    let found =
+    listed _ _ _ _ c.requires.0 (ap (λ p. p.zspages) c.self.view_is)
+    c.self.invariant.fit.index c.requires.1 c.requires.2 in
+    (found.0, found.1)
+
+at : (c : After-place-place) → IsAt c.self.inside.zspages.zspages c.place-place.result c.requires.0
+at c =
+    located _ _ _ _ c.requires.0 c.place-place.result (ap (λ p. p.zspages) c.self.view_is)
+    c.self.invariant.fit.index
+    c.requires.1 c.requires.2 c.place-place.ensures
 
 pub put_cell-gone-requires : goal.put_cell-gone-requires
 put_cell-gone-requires c =
-    let found : IsFound c.self.inside.zspages.zspages c.self.inside.places c.args.handle.0 c.requires.0 =
-    locate _ _ _ c.requires.0 c.self.invariant.fit.index
-    (subst (λ p. Contains (used_cells p.zspages) c.requires.0) (sym c.self.view_is) c.requires.1) c.requires.2 in
-    let at : IsAt c.self.inside.zspages.zspages c.place-place.result c.requires.0 = at_place _ _ _ _ _ found c.place-place.ensures in
-    (at.cells, at.zspage, (c.requires.0, at.cell, c.requires.3))
+    let here = at (goal.at.put_cell-gone-requires c).After-place-place in
+    (here.cells, here.zspage, (c.requires.0, here.cell, c.requires.3))
+
+decided : {A B : Type 0} (b : Bool) → (b ≡ true → A) → (b ≡ false → B) → A ⊎ B
+decided true f g = inl (f refl)
+decided false f g = inr (g refl)
+
+left : (c : After-put_cell-gone)
+    → Freed c.self.inside.used c.self.inside.zspages c.put_cell-gone.new.self c.self.inside.places
+    c.requires.0
+left c =
+    let here = at (goal.at.After-put_cell-gone c).After-place-place in
+    freed _ _ _ _ _ _ here c.self.invariant
+    (decided c.put_cell-gone.result (c.put_cell-gone.ensures.gone here.cells here.zspage)
+    (c.put_cell-gone.ensures.kept here.cells here.zspage))
 
 pub invariant_of-self : goal.invariant_of-self
 invariant_of-self c =
-    let found : IsFound c.self.inside.zspages.zspages c.self.inside.places c.args.handle.0 c.requires.0 =
-    locate _ _ _ c.requires.0 c.self.invariant.fit.index
-    (subst (λ p. Contains (used_cells p.zspages) c.requires.0) (sym c.self.view_is) c.requires.1) c.requires.2 in
-    let at : IsAt c.self.inside.zspages.zspages c.place-place.result c.requires.0 = at_place _ _ _ _ _ found c.place-place.ensures in
-    let way : Outcome c.self.inside.zspages c.put_cell-gone.new.self c.place-place.result.zspage c.place-place.result.cell =
-    outcome _ _ _ _ c.put_cell-gone.result c.put_cell-gone.ensures.gone c.put_cell-gone.ensures.kept in
-    subst (λ ps. IsPooled c.self.inside.size c.self.inside.chain c.self.inside.per (c.self.inside.used - 1) c.put_cell-gone.new.self ps)
-    (ap (λ h. slice_set c.self.inside.places h None) c.requires.2 ∙ sym c.clear.ensures)
-    (freed_fits _ _ _ _ _ _ _ _ _ c.self.invariant at way)
+    subst (IsPooled (c.self.inside.used - 1) c.put_cell-gone.new.self)
+    (ap (λ h. set c.self.inside.places h None) c.requires.2 ∙ sym c.clear.ensures)
+    (left (goal.at.invariant_of-self c).After-put_cell-gone).pooled
+
+pub returns-clause-pool : goal.returns-clause-pool
+returns-clause-pool c =
+    pool_is c.self.inside.class _ _ _ (left
+    (goal.at.returns-clause-pool c).After-put_cell-gone).pooled
 
 pub returns-clause-object : goal.returns-clause-object
-returns-clause-object c =
-    let found : IsFound c.self.inside.zspages.zspages c.self.inside.places c.args.handle.0 c.requires.0 =
-    locate _ _ _ c.requires.0 c.self.invariant.fit.index
-    (subst (λ p. Contains (used_cells p.zspages) c.requires.0) (sym c.self.view_is) c.requires.1) c.requires.2 in
-    let at : IsAt c.self.inside.zspages.zspages c.place-place.result c.requires.0 = at_place _ _ _ _ _ found c.place-place.ensures in
-    let way : Outcome c.self.inside.zspages c.put_cell-gone.new.self c.place-place.result.zspage c.place-place.result.cell =
-    outcome _ _ _ _ c.put_cell-gone.result c.put_cell-gone.ensures.gone c.put_cell-gone.ensures.kept in (
-      c.requires.0.bytes,
-      λ f.
-          ap (λ p. sum_by f (objects p)) (sym c.self.view_is)
-          ∙ freed_object c.self.inside.zspages c.put_cell-gone.new.self c.place-place.result c.requires.0 at way f
-          ∙ ap (λ h. sum_by f (map object_of (used_cells c.put_cell-gone.new.self.zspages)) + f (record { handle = h; bytes = c.requires.0.bytes })) c.requires.2,
-    )
+returns-clause-object c = (
+  c.requires.0.bytes,
+  λ f.
+      ap (λ p. sum_by f (objects p)) (sym c.self.view_is)
+      ∙ (left (goal.at.returns-clause-object c).After-put_cell-gone).object f
+      ∙ ap (λ h. sum_by f (objects (pool_of c.self.inside.class c.put_cell-gone.new.self))
+      + f (record { handle = h; bytes = c.requires.0.bytes })) c.requires.2,
+)
+
+pub returns-clause-others : goal.returns-clause-others
+returns-clause-others c h other among =
+    stays_home (pool_of c.self.inside.class c.self.inside.zspages)
+    (pool_of c.self.inside.class c.put_cell-gone.new.self) _ h
+    (left (goal.at.returns-clause-others c).After-put_cell-gone).keeps
+    (λ e. other (e ∙ c.requires.2))
+    (subst (λ p. IsAtHome p h) (sym c.self.view_is) among)
+
+pub returns-clause-others_lent : goal.returns-clause-others_lent
+returns-clause-others_lent c h cell other among =
+    stays_lent (pool_of c.self.inside.class c.self.inside.zspages)
+    (pool_of c.self.inside.class c.put_cell-gone.new.self) _ h
+    cell (left (goal.at.returns-clause-others_lent c).After-put_cell-gone).keeps
+    (λ e. other (e ∙ c.requires.2))
+    (subst (λ p. IsLent p h cell) (sym c.self.view_is) among)
 
 pub returns-clause-place : goal.returns-clause-place
 returns-clause-place c =
-    let found : IsFound c.self.inside.zspages.zspages c.self.inside.places c.args.handle.0 c.requires.0 =
-    locate _ _ _ c.requires.0 c.self.invariant.fit.index
-    (subst (λ p. Contains (used_cells p.zspages) c.requires.0) (sym c.self.view_is) c.requires.1) c.requires.2 in
-    let at : IsAt c.self.inside.zspages.zspages c.place-place.result c.requires.0 = at_place _ _ _ _ _ found c.place-place.ensures in
-    let at_place_is : IsPlace c.args.self.now c.args.handle.0 c.place-place.result.zspage c.place-place.result.cell at.cells c.requires.0 =
-    record {
-      zspage = subst (λ p. entry p.zspages c.place-place.result.zspage ≡ Some at.cells) c.self.view_is at.zspage;
-      cell = at.cell;
-      handle_is = c.requires.2;
-    } in (
-      c.place-place.result.zspage,
-      c.place-place.result.cell,
-      at.cells,
+    let here = at (goal.at.returns-clause-place c).After-place-place in
+    let id = c.place-place.result.zspage in
+    let ix = c.place-place.result.cell in (
+      id,
+      ix,
+      here.cells,
       c.requires.0,
-      at_place_is,
+      record {
+        zspage = subst (λ p. entry p.zspages id ≡ Some here.cells) c.self.view_is here.zspage;
+        cell = here.cell;
+        handle_is = c.requires.2;
+      },
       c.requires.3,
       elim c.if-gone.branch [
         | then-gone w ↦
-            let case = c.put_cell-gone.ensures.gone w.if-gone.true in
-            let one : case.0 ≡ at.cells = same_cells c.self.inside.zspages.zspages c.place-place.result.zspage case.0 at.cells case.1 at.zspage in
+            let case = c.put_cell-gone.ensures.gone here.cells here.zspage w.if-gone.true in
             inl (
-              subst (λ cs. used_of cs ≡ 1) one case.2,
-              rw (← c.self.view_is) (ap (λ z. pool_made c.self.inside.class c.self.inside.size c.self.inside.chain c.self.inside.per z.zspages) case.3),
-              w.result-is ∙ ap (λ p. p.chain) c.self.view_is,
+              case.0,
+              ap (pool_of c.self.inside.class) case.1
+                  ∙ ap (λ (p : PoolState). record p { zspages = set p.zspages id None })
+                  c.self.view_is,
+              w.result-is ∙ w.chain.ensures ∙ ap (λ z. z.chain) case.1
+                  ∙ ap (λ p. p.chain) c.self.view_is,
             )
         | else-gone w ↦
-            let case = c.put_cell-gone.ensures.kept w.if-gone.false in
-            let one : case.0 ≡ at.cells = same_cells c.self.inside.zspages.zspages c.place-place.result.zspage case.0 at.cells case.1 at.zspage in
+            let case = c.put_cell-gone.ensures.kept here.cells here.zspage w.if-gone.false in
             inr (
-              subst (λ cs. 2 ≤ used_of cs) one case.2,
-              rw (← c.self.view_is)
-                  (ap (λ z. pool_made c.self.inside.class c.self.inside.size c.self.inside.chain c.self.inside.per z.zspages) case.3
-                  ∙ ap (λ cs. pool_made c.self.inside.class c.self.inside.size c.self.inside.chain c.self.inside.per
-                  (slice_set c.self.inside.zspages.zspages c.place-place.result.zspage (Some (slice_set cs c.place-place.result.cell None)))) one),
+              case.0,
+              ap (pool_of c.self.inside.class) case.1
+                  ∙ ap (λ p. with_cells p id (set here.cells ix None)) c.self.view_is,
               w.result-is,
             )
       ],
     )
-
-pub returns-clause-pool : goal.returns-clause-pool
-returns-clause-pool c =
-    let found : IsFound c.self.inside.zspages.zspages c.self.inside.places c.args.handle.0 c.requires.0 =
-    locate _ _ _ c.requires.0 c.self.invariant.fit.index
-    (subst (λ p. Contains (used_cells p.zspages) c.requires.0) (sym c.self.view_is) c.requires.1) c.requires.2 in
-    let at : IsAt c.self.inside.zspages.zspages c.place-place.result c.requires.0 = at_place _ _ _ _ _ found c.place-place.ensures in
-    let way : Outcome c.self.inside.zspages c.put_cell-gone.new.self c.place-place.result.zspage c.place-place.result.cell =
-    outcome _ _ _ _ c.put_cell-gone.result c.put_cell-gone.ensures.gone c.put_cell-gone.ensures.kept in
-    pool_is c.self.inside.class _ _ c.self.inside.per (c.self.inside.used - 1) _ _
-    (subst (λ ps. IsPooled c.self.inside.size c.self.inside.chain c.self.inside.per (c.self.inside.used - 1) c.put_cell-gone.new.self ps)
-    (ap (λ h. slice_set c.self.inside.places h None) c.requires.2 ∙ sym c.clear.ensures)
-    (freed_fits _ _ _ _ _ _ _ _ _ c.self.invariant at way))
-
-pub returns-clause-others : goal.returns-clause-others
-returns-clause-others c h other among =
-    let found : IsFound c.self.inside.zspages.zspages c.self.inside.places c.args.handle.0 c.requires.0 =
-    locate _ _ _ c.requires.0 c.self.invariant.fit.index
-    (subst (λ p. Contains (used_cells p.zspages) c.requires.0) (sym c.self.view_is) c.requires.1) c.requires.2 in
-    let at : IsAt c.self.inside.zspages.zspages c.place-place.result c.requires.0 = at_place _ _ _ _ _ found c.place-place.ensures in
-    let way : Outcome c.self.inside.zspages c.put_cell-gone.new.self c.place-place.result.zspage c.place-place.result.cell =
-    outcome _ _ _ _ c.put_cell-gone.result c.put_cell-gone.ensures.gone c.put_cell-gone.ensures.kept in
-    freed_remain h c.self.inside.zspages c.put_cell-gone.new.self c.place-place.result c.requires.0 at way
-    (subst (λ k. h ≢ k) (sym c.requires.2) other) (subst (λ p. IsAtHome p h) (sym c.self.view_is) among)

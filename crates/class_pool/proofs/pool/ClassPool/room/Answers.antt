@@ -6,4 +6,4 @@ use Rattle.class_pool.proofs.pool.ClassPool.room.Goals as goal
 
 pub returns-clause-pool : goal.returns-clause-pool
 returns-clause-pool c =
-    subst (λ p. IsPool p) c.self.view_is (pool_is c.self.inside.class _ _ c.self.inside.per _ _ _ c.self.invariant)
+    subst IsPool c.self.view_is (pool_is c.self.inside.class _ _ _ c.self.invariant)

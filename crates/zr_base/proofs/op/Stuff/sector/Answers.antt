@@ -13,4 +13,6 @@ returns-in-Seq c = c.put_words.ensures ∙ sym (ap (λ s. stuff_sector s c.args.
 pub returns-in-Hex : goal.returns-in-Hex
 unfolding stuff_sector
 returns-in-Hex c =
-    c.put_bytes.ensures ∙ ap (λ bs. take 512 (drop (512 * c.args.k) bs)) c.as_slice.ensures ∙ sym (ap (λ s. stuff_sector s c.args.k) c.in-Hex.is)
+    c.put_bytes.ensures
+    ∙ ap (λ bs. take 512 (drop (512 * c.args.k) bs)) c.as_slice.ensures
+    ∙ sym (ap (λ s. stuff_sector s c.args.k) c.in-Hex.is)

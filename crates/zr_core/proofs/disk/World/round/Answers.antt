@@ -2,6 +2,7 @@ use Rattle.std.proofs.Common.{◌≡◌, ℕ, length, refl, sym, ap, ◌∙◌, 
 use Rattle.std.specs.List.{range_with_len}
 use Rattle.zr_core.specs.Playing.{playing}
 use Rattle.zr_core.specs.Runs.{Plays}
+use Rattle.zr_core.specs.States.{state_of}
 use Rattle.zr_core.proofs.Runs.{plays_none, plays_once, then_turn, turn_more, round_none, round_left}
 use Rattle.zr_core.proofs.disk.World.round.Goals as goal
 
@@ -17,7 +18,10 @@ loop-actor-preserved c =
     let t = c.step-turn.ensures in record {
       plays = then_turn _ _ _ c.loop-actor.actor i.plays
           (plays_once c.loop-actor.actor _ _ c.step-turn.result t.pages t.can t.turn);
-      falls = λ dones kept. turn_more c.sums_move.ensures.moves _ _ _ c.loop-actor.actor
+      falls = λ dones kept. turn_more c.sums_move.ensures.moves
+          (state_of (playing c.args.self.now c.args.phase.now c.args.actors.now) dones)
+          (playing c.loop-actor.self c.loop-actor.phase c.args.actors.now)
+          (playing c.step-turn.new.self c.step-turn.new.phase c.args.actors.now) c.loop-actor.actor
           c.step-turn.result
           (i.falls dones kept) t.turn;
     }
@@ -35,6 +39,8 @@ pub returns-clause-falls : goal.returns-clause-falls
 returns-clause-falls c busy =
     let i = c.loop-actor.invariant in
     let j = c.requires.can.joint in
-    round_left _ c.requires.can busy c.sums_move.ensures.moves _ i.plays.pages refl
+    round_left (playing c.args.self.now c.args.phase.now c.args.actors.now) c.requires.can busy
+    c.sums_move.ensures.moves
+    (playing c.loop-actor.self c.loop-actor.phase c.args.actors.now) i.plays.pages refl
     c.loop-actor.actor
     (let t = c.loop-actor-test.false in omega arith) (i.falls j.dones j.kept)

@@ -6,7 +6,7 @@ use Rattle.zr_core.specs.Playing.{playing}
 use Rattle.zr_core.specs.Runs.{turns_of, Plays}
 use Rattle.zr_core.specs.States.{state, Playing, state_of, HasJoint}
 use Rattle.zr_core.proofs.Runs.{plays_on, plays_joint, plays_reached, runs_out, all_finished}
-use Rattle.zr_core.proofs.Shown.{shows_phase, shows_rest, shows_steps}
+use Rattle.zr_core.proofs.Shown.{shows_phase, shows_rest, shows_orders, shows_steps}
 use Rattle.zr_core.proofs.disk.World.run.Goals as goal
 use Rattle.zr_core.proofs.disk.World.run.Goals.{After-finish}
 
@@ -53,9 +53,14 @@ pub returns-clause-rest : goal.returns-clause-rest
 returns-clause-rest c =
     let a = (goal.at.returns-clause-rest c).After-finish in
     let x = last a in
-    let j = joint_now a c.requires.can.given c.requires.can.joint in
-    shows_rest x.size x.actors x.cells x.workers j.dones c.requires.can.given j.pages j.ops j.joint
-    (finished a j.dones)
+    let g = c.requires.can.given in
+    let j = joint_now a g c.requires.can.joint in
+    let fin = finished a j.dones in record {
+      entries = shows_rest x.size x.actors x.cells x.workers j.dones g j.pages j.ops j.joint fin;
+      orders = shows_orders x.size x.actors x.cells x.workers j.dones g j.pages j.ops j.joint fin
+          x.noted
+          c.finish.ensures.plays.1.can.pieces;
+    }
 
 pub returns-clause-legal : goal.returns-clause-legal
 returns-clause-legal c g old =

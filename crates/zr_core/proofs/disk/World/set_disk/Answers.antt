@@ -2,7 +2,7 @@ use Rattle.std.proofs.Common.{◌≡◌, ℕ, ◌+◌, List, Option, sym, ap, �
 use Rattle.lock_row.specs.declared.names.LockNo.{LockNo}
 use Rattle.lock_row.specs.Rows.{IsDistinct}
 use Rattle.zr_core.specs.Steps.{DiskHeld}
-use Rattle.zr_core.specs.States.{IsBlank}
+use Rattle.zr_core.specs.States.{IsBlank, IsAtRest}
 use Rattle.zr_core.proofs.States.{slots_distinct}
 use Rattle.zr_core.proofs.Blank.{more_names, more_blank, blank_rest}
 use Rattle.zr_core.proofs.disk.World.set_disk.Goals as goal
@@ -29,7 +29,9 @@ new-requires-2-clause-distinct c =
 pub returns-clause-rest : goal.returns-clause-rest
 returns-clause-rest c =
     let all : c.loop-page.page ≡ c.args.pages = (let t = c.loop-page-test.false in omega arith) in
-    blank_rest c.args.pages c.new-2.result.cells
+    subst (λ (noted : List ℕ). IsAtRest c.args.pages noted c.new-2.result.cells)
+    (sym c.clear.ensures.items)
+    (blank_rest c.args.pages c.new-2.result.cells
     (subst (λ (x : ℕ × List (Option DiskHeld)). IsBlank x.0 x.1)
     (λ i. (all i, sym c.new-2.ensures.cells i))
-    c.loop-page.invariant.blank)
+    c.loop-page.invariant.blank))

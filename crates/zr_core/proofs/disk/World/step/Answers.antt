@@ -113,6 +113,7 @@ before c = playing c.args.self.now c.args.phase.now c.args.actors.now
 abbrev after : After-advance → Playing
 after c = record {
   size = c.args.self.now.pages;
+  noted = c.args.self.now.noted.items;
   actors = c.args.actors.now;
   cells = c.advance.new.hand.row.now.cells;
   workers = slice_set c.args.phase.now.workers.items c.args.actor c.advance.new.self;
@@ -167,6 +168,7 @@ returns-clause-can c =
           c.as_slice.result.now c.index_mut-worker.result.now c.advance.new.self c.requires.can.fit
           (ops_at s)
           (worker_at s) c.advance.ensures.fit;
+      pieces = c.requires.can.pieces;
       given = c.requires.can.given;
       joint = joint_on (before a) (after a) refl refl c.args.actor c.advance.result
           (turned a (facts s))

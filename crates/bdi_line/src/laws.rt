@@ -1,0 +1,13 @@
+//! What follows of the definitions alone, for those who pack lines one after another.
+
+ghost use Rattle.std.specs.Prelude.{◌≡◌, ◌≤◌, ℕ, List, length};
+ghost use Rattle.bdi_line.specs.Coded.{code_number};
+ghost use Rattle.bdi_line.specs.Packed.{HasOneCoding};
+ghost use Rattle.bdi_line.specs.declared.codes.Code.{Code};
+
+/// Each line has one code and one payload, and a code's number fits four bits.
+#[inline]
+pub fn lines_have_one_coding()
+    ensures one { (line : List ℕ) → length line ≡ 64 → HasOneCoding line }
+    ensures few { (code : Code) → code_number code ≤ 8 }
+{}

@@ -1,0 +1,17 @@
+//! The limits of a job that the reader alone counts; those that lower layers rest on too are
+//! `zr_base`'s.
+
+/// The most bytes of a job's text.
+pub const MOST_BYTES: usize = 16_777_216;
+
+/// The most phases of a job.
+pub const MOST_PHASES: u32 = 1000;
+
+/// The most pieces of the requests of a job: for each request, the pages that it touches.
+pub const MOST_PIECES: u32 = 1_048_576;
+
+/// The most sectors that the operations of a job read.
+pub const MOST_SECTORS_READ: u32 = 262_144;
+
+/// The most turns in all schedules of a job.
+pub const MOST_TURNS: u32 = 16_777_216;

@@ -1,0 +1,42 @@
+-- The pages that have an order, as a list, so that no other page need be looked at.
+use Rattle.std.specs.Prelude.{◌≡◌, ℕ, ◌<◌, Bool, true, false, ◌==◌, ◌||◌, List, [], ◌∷◌, get_or, Option, None, ⊤}
+use Rattle.std.specs.List.{AllByRecursion}
+use Rattle.zr_base.specs.declared.op.Op.{Op}
+use Rattle.zr_base.specs.declared.op.Tag.{Tag}
+use Rattle.zr_core.specs.Steps.{DiskHeld}
+use Rattle.zr_core.specs.Machines.{order_in}
+use Rattle.zr_core.specs.Preparing.{count_at, pieces_each}
+
+-- whether a page is in a list
+abbrev pub is_in : List ℕ → ℕ → Bool
+is_in [] page = false
+is_in (p ∷ ps) page = p == page || is_in ps page
+
+-- each page is above those before it
+abbrev pub IsRising : List ℕ → Type 0
+IsRising [] = ⊤
+IsRising (p ∷ ps) = AllByRecursion (λ q. p < q) ps × IsRising ps
+
+-- the order of a page that is at home
+abbrev pub order_at : List (Option DiskHeld) → ℕ → List Tag
+order_at cells page = order_in (get_or cells page None)
+
+-- The list has pages of the disk, in rising order.
+pub record ArePages (pages : ℕ) (noted : List ℕ) : Type 0 where
+  pub rising : IsRising noted
+  pub within : AllByRecursion (λ p. p < pages) noted
+
+-- The list has just those of the first n pages that have a count.
+pub record AreCounted (n : ℕ) (counts : List ℕ) (noted : List ℕ) : Type 0 where
+  pub listed : ArePages n noted
+  pub others : (p : ℕ) → p < n → is_in noted p ≡ false → count_at counts p ≡ 0
+
+-- Every page with an order is in the list.
+pub record HasAllOrders (pages : ℕ) (noted : List ℕ) (cells : List (Option DiskHeld)) : Type 0 where
+  pub listed : ArePages pages noted
+  pub others : (p : ℕ) → p < pages → is_in noted p ≡ false → order_at cells p ≡ []
+
+-- Every page on which a piece of these actors has events is in the list.
+pub record HasAllPieces (pages : ℕ) (noted : List ℕ) (actors : List (List Op)) : Type 0 where
+  pub listed : ArePages pages noted
+  pub others : (p : ℕ) → p < pages → is_in noted p ≡ false → pieces_each pages actors p ≡ 0

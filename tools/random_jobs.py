@@ -1,0 +1,182 @@
+"""Random jobs, valid and faulty, of every line of docs/JOBS.md: what tools/generate and tools/compare share.
+
+The jobs are weighted to where programs go wrong: disks of few pages, requests that begin or end at the edge of a page
+or of the disk, several actors on one page, and schedules that stop an actor half way. Each builder draws its choices
+from one source of chance, so a seed gives one text.
+"""
+from __future__ import annotations
+
+from random import Random
+from typing import Callable
+
+EDGES = (0, 1, 7, 8, 9, 15, 16)
+COUNTS = (1, 1, 2, 3, 4, 7, 8, 8, 8, 9, 16, 16, 24)
+WORDS = ("0", "1", "ab", "FF", "1a2b3c4d", "ffffffffffffffff", "0000000000000001", "DeadBeef")
+STEPS = ("0", "1", "ff", "100000000", "ffffffffffffffff", "9e3779b97f4a7c15")
+
+# Words that are wrong, or wrong in most places.
+STRANGE = (
+    "", "x", "-1", "+1", "1.5", "0x1", "0", "00", "007", "2048", "2049", "4294967295", "4294967296",
+    "18446744073709551616", "123456789012345678901234567890", "1K", "1k", "K", "4M", "1G", "1T", "262145", "0*1", "1*0",
+    "*", "0*", "*1", "0*1*1", "0*16777217", "0*16777216", "63", "64", "99999999999999999", "00000000000000001", "fill",
+    "seq", "hex", "FILL", "read", "write", "discard", "run", "RUN", "actor", "disksize", "schedule", "idle", "all",
+    "\x0b", "\x0c", "\xa0", "\r", "\0", "\xff", "#", "run#", "a" * 60,
+)
+# Whole lines that are wrong in most places.
+STRANGE_LINES = (
+    "run", "actor", "disksize 8K", "disksize 0", "disksize 1G1", "schedule 0", "schedule 3", "schedule", "read 0 1",
+    "write 0 1 fill 1", "write 0 1 hex 00", "write 4294967296 1 hex 00", "write 0 2049 hex 00", "discard 0 8", "idle 5",
+    "compact", "writeback idle", "read 4294967295 2048", "read 0 0", "write 0 1 seq 1", "write 0 1 fill 1 2", "run run",
+)
+
+
+class Maker:
+    """A random job in the making."""
+
+    def __init__(self, seed: str) -> None:
+        self.chance = Random(seed)
+        self.sectors = 8
+
+    def one_in(self, times: int) -> bool:
+        """True once in so many times."""
+        return self.chance.randrange(times) == 0
+
+    def disk(self) -> str:
+        """A disk, mostly of one to three pages."""
+        pages = self.chance.randrange(1, 4) if not self.one_in(8) else self.chance.randrange(4, 40)
+        self.sectors = 8 * pages
+        bytes_ = 4096 * pages
+        less = bytes_ - self.chance.randrange(4096)
+        forms = (f"{4 * pages}K", f"{4 * pages}k", f"{bytes_}", f"{less}", f"0{bytes_}")
+        return f"disksize {self.chance.choice(forms)}"
+
+    def request(self) -> tuple[int, int]:
+        """A first sector and a count, mostly on the disk and at edges."""
+        start = self.chance.choice(EDGES) if not self.one_in(4) else self.chance.randrange(self.sectors + 2)
+        count = self.chance.choice(COUNTS)
+        if start + count > self.sectors and not self.one_in(6):
+            start = start % self.sectors
+            count = min(count, self.sectors - start)
+        return start, count
+
+    def operation(self) -> str:
+        """A read, a write or a discard."""
+        start, count = self.request()
+        word = self.chance.choice(("write", "write", "write", "read", "read", "discard"))
+        return f"{word} {start} {count}" + (f" {self.stuff(count)}" if word == "write" else "")
+
+    def stuff(self, count: int) -> str:
+        """What a write puts."""
+        kind = self.chance.randrange(8)
+        if kind == 0 and count <= 4:
+            return "hex " + self.digits(count)
+        if kind <= 2:
+            return f"seq {self.chance.choice(WORDS)} {self.chance.choice(STEPS)}"
+        return f"fill {self.chance.choice(WORDS)}"
+
+    def digits(self, count: int) -> str:
+        """The digits of so many sectors, in one or more words; often of a sector whose words are equal."""
+        text = "".join(f"{self.chance.getrandbits(64):016x}" * (64 if self.one_in(2) else 1) for _ in range(64 * count))
+        text = text[:1024 * count]
+        cut = self.chance.randrange(1, len(text))
+        return text if self.one_in(2) else text[:cut] + " " + text[cut:].upper()
+
+    def schedule(self, actors: int) -> list[str]:
+        """Lines of turns, which often leave an actor half way."""
+        lines = []
+        for _ in range(2 if self.one_in(6) else 1):
+            turns = []
+            for _ in range(self.chance.randrange(1, 9)):
+                times = self.chance.randrange(1, 5)
+                turns.append(f"{self.chance.randrange(actors)}" + (f"*{times}" if times > 1 or self.one_in(9) else ""))
+            if self.one_in(20):
+                turns.append(f"{self.chance.randrange(actors)}*{10 ** self.chance.randrange(7)}")
+            lines.append("schedule " + " ".join(turns))
+        return lines
+
+    def phase(self) -> list[str]:
+        """A phase, mostly of two or three actors."""
+        if self.one_in(15):
+            return ["run"]
+        lines = []
+        actors = 1 + self.chance.randrange(3) if not self.one_in(12) else self.chance.randrange(4, 9)
+        for _ in range(actors):
+            lines.append("actor")
+            lines.extend(self.operation() for _ in range(self.chance.randrange(4)))
+        if not self.one_in(4):
+            lines.extend(self.schedule(actors))
+        return lines + ["run"]
+
+    def read_back(self) -> list[str]:
+        """A phase that reads the whole of a small disk."""
+        return ["actor", f"read 0 {min(self.sectors, 64)}", "run"]
+
+    def valid(self) -> list[str]:
+        """The lines of a job."""
+        lines = [self.disk()]
+        for _ in range(self.chance.randrange(1, 4)):
+            lines.extend(self.phase())
+        return lines + (self.read_back() if not self.one_in(3) else [])
+
+    def dressed(self, line: str) -> str:
+        """A line that says the same, with blanks, comments and the byte 0d."""
+        line = line.replace(" ", self.chance.choice((" ", "\t", "  ", " \t "))) if self.one_in(4) else line
+        tail = self.chance.choice(("", " ", "\t", " # schedule 0", "#", "\r", "\t\r", " # run\r"))
+        line = self.chance.choice(("", " ", "\t")) + line + tail
+        return line + self.chance.choice(("", "\n", "\n# actor\n \t", "\n\r"))
+
+    def spoil(self, lines: list[str]) -> None:
+        """Changes one place of a job; it may still be one."""
+        place = self.chance.randrange(len(lines))
+        changes: tuple[Callable[[list[str], int], None], ...] = (
+            self.drop, self.repeat, self.insert, self.insert, self.replace_word, self.replace_word, self.replace_word,
+            self.drop_word, self.swap, self.pass_limit)
+        self.chance.choice(changes)(lines, place)
+
+    def drop(self, lines: list[str], place: int) -> None:
+        """Leaves a line out."""
+        del lines[place]
+        lines.append("")
+
+    def repeat(self, lines: list[str], place: int) -> None:
+        """Says a line twice."""
+        lines.insert(place, lines[place])
+
+    def insert(self, lines: list[str], place: int) -> None:
+        """Puts a strange line in."""
+        lines.insert(place, self.chance.choice(STRANGE_LINES))
+
+    def replace_word(self, lines: list[str], place: int) -> None:
+        """Puts a strange word in place of one."""
+        words = lines[place].split(" ")
+        words[min(self.chance.randrange(1, 8), len(words) - 1)] = self.chance.choice(STRANGE)
+        lines[place] = " ".join(words)
+
+    def drop_word(self, lines: list[str], place: int) -> None:
+        """Leaves a word out."""
+        words = lines[place].split(" ")
+        del words[self.chance.randrange(len(words))]
+        lines[place] = " ".join(words)
+
+    def pass_limit(self, lines: list[str], place: int) -> None:
+        """Puts lines in that come up to a limit, or pass it."""
+        lines[place:place] = self.chance.choice((
+            ["actor"] * 62, ["run"] * 997, ["schedule 0*16777216"], ["actor"] + ["read 0 2048"] * 128))
+
+    def swap(self, lines: list[str], place: int) -> None:
+        """Exchanges two lines."""
+        other = self.chance.randrange(len(lines))
+        lines[place], lines[other] = lines[other], lines[place]
+
+
+def random_job(seed: str) -> bytes:
+    """The job of a seed. Two in three are written as valid ones, and half of all are dressed."""
+    maker = Maker(seed)
+    lines = maker.valid()
+    if maker.one_in(3):
+        for _ in range(maker.chance.randrange(1, 3)):
+            maker.spoil(lines)
+    if maker.one_in(2):
+        lines = [maker.dressed(line) for line in lines]
+    text = "\n".join(lines) + maker.chance.choice(("\n", "\n", "\n", "", "\r", "\n\n"))
+    return text.encode("latin-1")
