@@ -6,6 +6,7 @@ use Rattle.std.proofs.lemmas.Option.{slice_get_within}
 use Rattle.zr_base.specs.declared.op.Op.{Op}
 use Rattle.zr_base.specs.declared.op.Turns.{Turns}
 use Rattle.zr_base.specs.Plain.{IsRequest}
+use Rattle.zr_base.specs.declared.limits.TheConstants.{MOST_ACTORS, MOST_OPERATIONS}
 use Rattle.zr_core.specs.Places.{AreRequests, IsWork, operations}
 use Rattle.job_text.specs.declared.job.Attr.TheVariants.{DiskPages}
 use Rattle.job_text.specs.declared.job.Item.{Item}
@@ -34,12 +35,12 @@ disk_by_ops u (op ∷ ops) = disk_by_ops (with_op u op) ops
 
 -- there are none, or the limit leaves room for the last of them
 few : (u : Used) (ops : List Op) → MayOperate u ops → (length ops ≡ 0)
-    ⊎ (u.operations + length ops ≤ 1000000)
+    ⊎ (u.operations + length ops ≤ MOST_OPERATIONS)
 few u [] may = inl refl
 few u (op ∷ ops) may = inr (by (few (with_op u op) ops may.2))
   where
-    by : (length ops ≡ 0) ⊎ (u.operations + 1 + length ops ≤ 1000000)
-        → u.operations + suc (length ops) ≤ 1000000
+    by : (length ops ≡ 0) ⊎ (u.operations + 1 + length ops ≤ MOST_OPERATIONS)
+        → u.operations + suc (length ops) ≤ MOST_OPERATIONS
     by (inl none) = grind (arith, nat_tests, may.1, none)
     by (inr fits) = omega (arith, fits)
 
@@ -54,14 +55,14 @@ requests_each u (mine ∷ more) may (suc a) ops is = requests_each
     (with_ops u mine) more may.1 a ops is
 
 few_all : (u : Used) (actors : List (List Op)) → MayAct u actors
-    → (operations actors ≡ 0) ⊎ (u.operations + operations actors ≤ 1000000)
+    → (operations actors ≡ 0) ⊎ (u.operations + operations actors ≤ MOST_OPERATIONS)
 few_all u [] may = inl refl
 few_all u (ops ∷ more) may = by (few u ops may.0) (few_all (with_ops u ops) more may.1)
   where
-    by : (length ops ≡ 0) ⊎ (u.operations + length ops ≤ 1000000)
-        → (operations more ≡ 0) ⊎ ((with_ops u ops).operations + operations more ≤ 1000000)
+    by : (length ops ≡ 0) ⊎ (u.operations + length ops ≤ MOST_OPERATIONS)
+        → (operations more ≡ 0) ⊎ ((with_ops u ops).operations + operations more ≤ MOST_OPERATIONS)
         → (length ops + operations more ≡ 0)
-        ⊎ (u.operations + (length ops + operations more) ≤ 1000000)
+        ⊎ (u.operations + (length ops + operations more) ≤ MOST_OPERATIONS)
     by (inl none) (inl nothing) = inl (omega (arith, none, nothing))
     by (inr fits) (inl nothing) = inr (omega (arith, fits, nothing))
     by some (inr fits) = inr (omega (arith, fits, counted u ops))
@@ -70,7 +71,7 @@ disk_by : (u : Used) (actors : List (List Op)) → (with_actors u actors).disk �
 disk_by u [] = refl
 disk_by u (ops ∷ more) = disk_by (with_ops u ops) more ∙ disk_by_ops u ops
 
-pub work_by : (u : Used) (actors : List (List Op)) → length actors ≤ 64 → MayAct u actors
+pub work_by : (u : Used) (actors : List (List Op)) → length actors ≤ MOST_ACTORS → MayAct u actors
     → IsWork actors
 work_by u actors size may = record {
   few = size;
@@ -78,8 +79,8 @@ work_by u actors size may = record {
   requests = requests_each u actors may;
 }
   where
-    by : (operations actors ≡ 0) ⊎ (u.operations + operations actors ≤ 1000000)
-        → operations actors ≤ 1000000
+    by : (operations actors ≡ 0) ⊎ (u.operations + operations actors ≤ MOST_OPERATIONS)
+        → operations actors ≤ MOST_OPERATIONS
     by (inl none) = omega (arith, none)
     by (inr fits) = omega (arith, fits)
 

@@ -1,13 +1,11 @@
 -- Lines one after the other, and the lines of operations, actors and pages from a place on.
-use Rattle.std.proofs.Common.{◌≡◌, ℕ, zero, suc, ◌+◌, ◌<◌, ◌≤◌, Bool, true, false, ◌||◌, List, [], ◌∷◌, ◌++◌, length, map, drop, get_or, Option, Some, slice_get, refl, sym, ap, ◌∙◌}
+use Rattle.std.proofs.Common.{◌≡◌, ℕ, zero, suc, ◌+◌, ◌<◌, ◌≤◌, Bool, true, false, ◌||◌, List, [], ◌∷◌, ◌++◌, length, map, drop, get_or, Some, slice_get, refl, sym, ap, ◌∙◌}
 use Rattle.std.proofs.Math.ListN.{drop_of_length-le}
 use Rattle.std.proofs.lemmas.List.{drop_more}
 use Rattle.std.proofs.lemmas.Option.{get_or_from_slice_get, slice_get_within}
 use Rattle.zr_base.specs.declared.op.Tag.{Tag}
 use Rattle.zr_base.specs.declared.op.OpEnd.{OpEnd}
-use Rattle.plain_disk.specs.Output.{OutLine, ended, sector, op_lines, actor_lines, actors_lines, order_line, order_lines, is_refusal, any_refusal}
-use Rattle.zr_core.specs.Steps.{DiskHeld}
-use Rattle.zr_core.specs.Machines.{orders_of, order_in}
+use Rattle.plain_disk.specs.Output.{OutLine, ended, sector, op_lines, actor_lines, actors_lines, order_line, is_refusal, any_refusal}
 use Rattle.zr_core.specs.States.{of_op}
 
 -- ---- refusals
@@ -86,19 +84,3 @@ pub no_actor : (actor : ℕ) (es : List (List OpEnd)) (gots : List (List (List (
     → actors_lines actor (drop actor es) (drop actor gots) ≡ []
 no_actor actor es gots past = λ i. actors_lines actor (drop_of_length-le es past i)
     (drop actor gots)
-
--- those of the pages
-pub next_page : (page : ℕ) (cells : List (Option DiskHeld)) (cell : Option DiskHeld)
-    (order : List Tag)
-    → slice_get cells page ≡ Some cell → order ≡ order_in cell
-    → order_lines page (orders_of (drop page cells))
-    ≡ order_line page order ++ order_lines (page + 1) (orders_of (drop (page + 1) cells))
-next_page page cells cell order is of =
-    ap (λ (cs : List (Option DiskHeld)). order_lines page (orders_of cs))
-    (drop_at cells page cell is)
-    ∙ ap (λ (tags : List Tag). order_line page tags ++ order_lines (page + 1)
-    (orders_of (drop (page + 1) cells))) (sym of)
-
-pub no_page : (page : ℕ) (cells : List (Option DiskHeld)) → length cells ≤ page
-    → order_lines page (orders_of (drop page cells)) ≡ []
-no_page page cells past = λ i. order_lines page (orders_of (drop_of_length-le cells past i))

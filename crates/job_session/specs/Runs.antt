@@ -7,6 +7,7 @@ use Rattle.plain_disk.specs.Output.{OutLine, any_refusal}
 use Rattle.job_text.specs.declared.fault.JobFault.{JobFault}
 use Rattle.job_text.specs.declared.job.Item.{Item}
 use Rattle.job_text.specs.Faults.{first_fault}
+use Rattle.job_text.specs.declared.limits.TheConstants.{MOST_BYTES}
 use Rattle.job_text.specs.Jobs.{IsJob}
 use Rattle.job_session.specs.declared.sim.Status.{Status}
 use Rattle.job_session.specs.declared.sim.Status.TheVariants as statuses
@@ -113,5 +114,5 @@ pub record IsNoJob (Writes : List ℕ → Type 0) (bytes : List ℕ) : Type 0 wh
 pub record IsRefused (left left_after : Option (List ℕ)) (Writes : List ℕ → Type 0) : Type 0 where
   pub bytes : List ℕ
   pub taken : Consumes left left_after bytes
-  pub whole : (16777216 < length bytes) ⊎ IsAtEnd left_after
+  pub whole : (MOST_BYTES < length bytes) ⊎ IsAtEnd left_after
   pub refusal : IsNoJob Writes bytes

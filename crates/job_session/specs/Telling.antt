@@ -3,6 +3,7 @@ use Rattle.std.specs.Prelude.{◌≡◌, ◌⊎◌, ◌≤◌, ◌<◌, ℕ, Boo
 use Rattle.std.specs.Io.KnownBytes.{Appends, Consumes}
 use Rattle.plain_disk.specs.Output.{OutLine, any_refusal}
 use Rattle.job_text.specs.declared.job.Item.{Item}
+use Rattle.job_text.specs.declared.limits.TheConstants.{MOST_BYTES}
 use Rattle.job_text.specs.Jobs.{Used, MayFollow}
 use Rattle.job_session.specs.declared.sim.Status.{Status}
 use Rattle.job_session.specs.declared.sim.Status.TheVariants as statuses
@@ -23,7 +24,7 @@ StopCause before now stopped stops.Write = WriteCause before now stopped
 
 -- more bytes were read than a job has at most
 abbrev pub IsLong : Option (List ℕ) → Option (List ℕ) → Type 0
-IsLong before after = (bytes : List ℕ) × Consumes before after bytes × (16777216 < length bytes)
+IsLong before after = (bytes : List ℕ) × Consumes before after bytes × (MOST_BYTES < length bytes)
 
 -- why no text was read
 abbrev pub ReadCause : Option (List ℕ) → Option (List ℕ) → ℕ → ℕ → NoText → Type 0

@@ -20,7 +20,8 @@ fn set_attr(world: &mut World, attr: Attr) -> Result<(), AllocError>
     requires { MayStand world.old.pages (items.Attr attr ∷ []) }
     ensures stepped { OnOk result
         (Stepped (disk_of world.old) (items.Attr attr ∷ []) [] [] (disk_of world.new)) }
-    ensures rest { OnOk result (IsAtRest world.new.pages world.new.row.cells) }
+    ensures rest { OnOk result
+        (IsAtRest world.new.pages world.new.noted.items world.new.row.cells) }
 {
     match attr {
         Attr::DiskPages(pages) => world.set_disk(pages),
@@ -34,10 +35,11 @@ fn run_phase<K: Sink>(
     text: &PhaseText,
 ) -> Result<(), Stop>
     requires may { MayStand world.old.pages (items.Phase text.now ∷ []) }
-    requires rest { IsAtRest world.old.pages world.old.row.cells }
+    requires rest { IsAtRest world.old.pages world.old.noted.items world.old.row.cells }
     ensures item { ItemsTold (disk_of world.old) (items.Phase text.now ∷ []) (disk_of world.new)
         out.old out.new result }
-    ensures rest { OnOk result (IsAtRest world.new.pages world.new.row.cells) }
+    ensures rest { OnOk result
+        (IsAtRest world.new.pages world.new.noted.items world.new.row.cells) }
 {
     let actors = text.actors.as_slice();
     let schedule = text.schedule.as_slice();
@@ -49,10 +51,11 @@ fn run_phase<K: Sink>(
 // An item, with its lines.
 fn run_item<K: Sink>(out: &mut Output<'_, K>, world: &mut World, item: &Item) -> Result<(), Stop>
     requires may { MayStand world.old.pages (item.now ∷ []) }
-    requires rest { IsAtRest world.old.pages world.old.row.cells }
+    requires rest { IsAtRest world.old.pages world.old.noted.items world.old.row.cells }
     ensures item { ItemsTold (disk_of world.old) (item.now ∷ []) (disk_of world.new)
         out.old out.new result }
-    ensures rest { OnOk result (IsAtRest world.new.pages world.new.row.cells) }
+    ensures rest { OnOk result
+        (IsAtRest world.new.pages world.new.noted.items world.new.row.cells) }
 {
     match item {
         Item::Attr(attr) => {

@@ -2,6 +2,7 @@
 //! pages.
 
 ghost use Rattle.std.specs.Prelude.{◌≡◌, ℕ, ◌<◌, ◌≤◌, [], length, get_or};
+ghost use Rattle.zr_base.specs.declared.limits.TheConstants.{MOST_ACTORS};
 ghost use Rattle.plain_disk.specs.Output.{order_lines, actor_lines, actors_lines};
 ghost use Rattle.zr_core.specs.Machines.{orders_of};
 ghost use Rattle.zr_core.specs.Playing.{playing, lines_shown};
@@ -41,7 +42,7 @@ fn tell_actors<K: Sink>(
     phase: &Phase,
     actors: &[ActorOps],
 ) -> Result<(), Stop>
-    requires few { length actors.now ≤ 64 }
+    requires few { length actors.now ≤ MOST_ACTORS }
     requires fit { (size : ℕ) × AreFit size actors.now phase.now.workers.items }
     requires over { AllOver actors.now phase.now.workers.items }
     ensures { Tells out.old out.new result (actors_lines 0
@@ -54,13 +55,14 @@ fn tell_actors<K: Sink>(
     Ok(())
 }
 
-// The orders of all pages.
+// The orders of all pages: only those that are noted can have one.
 fn tell_orders<K: Sink>(out: &mut Output<'_, K>, world: &World) -> Result<(), Stop>
-    requires { IsAtRest world.now.pages world.now.row.cells }
+    requires { IsAtRest world.now.pages world.now.noted.items world.now.row.cells }
     ensures { Tells out.old out.new result (order_lines 0 (orders_of world.now.row.cells)) }
 {
-    for page in 0..world.pages() {
-        out.tell_order(page, world.entry(PageIx(page)).order())?;
+    let noted = world.noted();
+    for page in noted {
+        out.tell_order(*page, world.entry(PageIx(*page)).order())?;
     }
     Ok(())
 }
@@ -72,10 +74,10 @@ pub(crate) fn tell_phase<K: Sink>(
     phase: &Phase,
     actors: &[ActorOps],
 ) -> Result<(), Stop>
-    requires few { length actors.now ≤ 64 }
+    requires few { length actors.now ≤ MOST_ACTORS }
     requires can { CanGoOn (playing world.now phase.now actors.now) }
     requires over { AllOver actors.now phase.now.workers.items }
-    requires rest { IsAtRest world.now.pages world.now.row.cells }
+    requires rest { IsAtRest world.now.pages world.now.noted.items world.now.row.cells }
     ensures { Tells out.old out.new result (lines_shown (playing world.now phase.now actors.now)) }
 {
     tell_actors(out, phase, actors)?;

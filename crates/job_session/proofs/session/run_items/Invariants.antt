@@ -8,5 +8,5 @@ abbrev pub invariant-loop-item : goal.invariant-loop-item
 invariant-loop-item g l = record {
   told : ItemsTold without_pages (take l.item-index l.job) (disk_of l.world) l.fn.out l.out (Ok tt);
   may : MayStand l.world.pages (drop l.item-index l.job);
-  rest : IsAtRest l.world.pages l.world.row.cells;
+  rest : IsAtRest l.world.pages l.world.noted.items l.world.row.cells;
 }

@@ -26,13 +26,15 @@ pub returns-in_err-tell_op : goal.returns-in_err-tell_op
 returns-in_err-tell_op g c =
     let p = err_from_is_err_and c.from_residual.result c.from_residual.ensures.1 in
     rw (p.1, p.2) (SoFar-cut _ _ _ _ _ c.loop-op.invariant _ _ _
-    (next_op (ends_shown c.args.phase.now.workers.items) (sectors_shown c.args.phase.now.workers.items)
+    (next_op (ends_shown c.args.phase.now.workers.items)
+    (sectors_shown c.args.phase.now.workers.items)
     c.args.actor c.loop-op.op _ _ c.end-end.ensures.end c.sectors.ensures.sectors)
     c.in_err-tell_op.ensures)
 
 pub loop-op-preserved : goal.loop-op-preserved
 loop-op-preserved g c = SoFar-more _ _ _ _ _ c.loop-op.invariant _ _
-    (next_op (ends_shown c.args.phase.now.workers.items) (sectors_shown c.args.phase.now.workers.items)
+    (next_op (ends_shown c.args.phase.now.workers.items)
+    (sectors_shown c.args.phase.now.workers.items)
     c.args.actor c.loop-op.op _ _ c.end-end.ensures.end c.sectors.ensures.sectors)
     c.in_ok-tell_op.ensures
 
