@@ -1,92 +1,132 @@
--- What a lawful job asks of its items.
-use Rattle.std.proofs.Common.{◌≡◌, ℕ, zero, suc, ◌+◌, ◌<◌, ◌≤◌, false, List, [], ◌∷◌, length, Some, slice_get, unwrap_or, refl, sym, ◌∙◌, subst, arith}
+-- What a lawful job asks of its phases.
+use Rattle.std.proofs.Common.{◌≡◌, ◌⊎◌, ℕ, zero, suc, ◌+◌, ◌<◌, ◌≤◌, Bool, true, false, List, [], ◌∷◌, ◌++◌, length, Some, slice_get, unwrap_or, refl, sym, ap, ◌∙◌, subst, inl, inr, arith}
 use Rattle.std.proofs.lemmas.Bool.{true≢false}
 use Rattle.std.proofs.lemmas.Bool.Decides.{nat_tests}
 use Rattle.std.proofs.lemmas.Option.{slice_get_within}
 use Rattle.zr_base.specs.declared.op.Op.{Op}
 use Rattle.zr_base.specs.declared.op.Turns.{Turns}
 use Rattle.zr_base.specs.Plain.{IsRequest}
+use Rattle.zr_base.specs.declared.limits.TheConstants.{MOST_ACTORS, MOST_OPERATIONS}
 use Rattle.zr_core.specs.Places.{AreRequests, IsWork, operations}
 use Rattle.job_text.specs.declared.job.Attr.TheVariants.{DiskPages}
 use Rattle.job_text.specs.declared.job.Item.{Item}
 use Rattle.job_text.specs.declared.job.Item.TheVariants as items
-use Rattle.job_text.specs.Jobs.{Used, nothing_used, with_disk, with_phase, with_op, with_ops, with_actors, with_text, MayOperate, MayAct, MayTurn, MayFollow}
-use Rattle.job_session.specs.Runs.{NamesActors, MayStandAll}
+use Rattle.job_text.specs.Jobs.{Used, with_disk, with_phase, with_op, with_ops, with_actors, with_text, MayOperate, MayAct, MayTurn, MayRun, MayFollow}
+use Rattle.job_session.specs.Telling.{MayStand}
 
-no_item : {A : Type 0} (k : ℕ) (x : A) → slice_get [] k ≡ Some x → ⊥
+pub no_item : {A : Type 0} (k : ℕ) (x : A) → slice_get [] k ≡ Some x → ⊥
 no_item k x is = let lt : k < 0 = slice_get_within [] k x is in omega arith
 
--- ---- an actor's operations
+-- ---- operations
 
 requests : (u : Used) (ops : List Op) → MayOperate u ops → AreRequests ops
 requests u [] may k op is = absurd (no_item k op is)
 requests u (o ∷ ops) may zero op is = subst IsRequest (λ i. unwrap_or (is i) o) may.0
 requests u (o ∷ ops) may (suc k) op is = requests (with_op u o) ops may.2 k op is
 
+-- the operations are counted, and give no disk
 counted : (u : Used) (ops : List Op) → (with_ops u ops).operations ≡ u.operations + length ops
 counted u [] = omega arith
 counted u (op ∷ ops) = let rest = counted (with_op u op) ops in omega arith
 
-few : (u : Used) (ops : List Op) → MayOperate u ops → u.operations ≤ 1000000
-    → (with_ops u ops).operations ≤ 1000000
-few u [] may fits = fits
-few u (op ∷ ops) may fits = few (with_op u op) ops may.2 (grind (arith, nat_tests, may.1))
-
--- operations give no disk
 disk_by_ops : (u : Used) (ops : List Op) → (with_ops u ops).disk ≡ u.disk
 disk_by_ops u [] = refl
 disk_by_ops u (op ∷ ops) = disk_by_ops (with_op u op) ops
+
+-- there are none, or the limit leaves room for the last of them
+few : (u : Used) (ops : List Op) → MayOperate u ops → (length ops ≡ 0)
+    ⊎ (u.operations + length ops ≤ MOST_OPERATIONS)
+few u [] may = inl refl
+few u (op ∷ ops) may = inr (by (few (with_op u op) ops may.2))
+  where
+    by : (length ops ≡ 0) ⊎ (u.operations + 1 + length ops ≤ MOST_OPERATIONS)
+        → u.operations + suc (length ops) ≤ MOST_OPERATIONS
+    by (inl none) = grind (arith, nat_tests, may.1, none)
+    by (inr fits) = omega (arith, fits)
 
 -- ---- the actors of a phase
 
 requests_each : (u : Used) (actors : List (List Op)) → MayAct u actors → (a : ℕ) (ops : List Op)
     → slice_get actors a ≡ Some ops → AreRequests ops
 requests_each u [] may a ops is = absurd (no_item a ops is)
-requests_each u (mine ∷ more) may zero ops is = subst AreRequests (λ i. unwrap_or (is i) mine) (requests u mine may.0)
-requests_each u (mine ∷ more) may (suc a) ops is = requests_each (with_ops u mine) more may.1 a ops is
+requests_each u (mine ∷ more) may zero ops is = subst AreRequests (λ i. unwrap_or (is i) mine)
+    (requests u mine may.0)
+requests_each u (mine ∷ more) may (suc a) ops is = requests_each
+    (with_ops u mine) more may.1 a ops is
 
-counted_all : (u : Used) (actors : List (List Op))
-    → (with_actors u actors).operations ≡ u.operations + operations actors
-counted_all u [] = omega arith
-counted_all u (ops ∷ more) = let one = counted u ops in let rest = counted_all (with_ops u ops) more in
-    omega arith
-
-few_all : (u : Used) (actors : List (List Op)) → MayAct u actors → u.operations ≤ 1000000
-    → (with_actors u actors).operations ≤ 1000000
-few_all u [] may fits = fits
-few_all u (ops ∷ more) may fits = few_all (with_ops u ops) more may.1 (few u ops may.0 fits)
+few_all : (u : Used) (actors : List (List Op)) → MayAct u actors
+    → (operations actors ≡ 0) ⊎ (u.operations + operations actors ≤ MOST_OPERATIONS)
+few_all u [] may = inl refl
+few_all u (ops ∷ more) may = by (few u ops may.0) (few_all (with_ops u ops) more may.1)
+  where
+    by : (length ops ≡ 0) ⊎ (u.operations + length ops ≤ MOST_OPERATIONS)
+        → (operations more ≡ 0) ⊎ ((with_ops u ops).operations + operations more ≤ MOST_OPERATIONS)
+        → (length ops + operations more ≡ 0)
+        ⊎ (u.operations + (length ops + operations more) ≤ MOST_OPERATIONS)
+    by (inl none) (inl nothing) = inl (omega (arith, none, nothing))
+    by (inr fits) (inl nothing) = inr (omega (arith, fits, nothing))
+    by some (inr fits) = inr (omega (arith, fits, counted u ops))
 
 disk_by : (u : Used) (actors : List (List Op)) → (with_actors u actors).disk ≡ u.disk
 disk_by u [] = refl
 disk_by u (ops ∷ more) = disk_by (with_ops u ops) more ∙ disk_by_ops u ops
 
-work_by : (u : Used) (actors : List (List Op)) → length actors ≤ 64 → MayAct u actors → u.operations ≤ 1000000
+pub work_by : (u : Used) (actors : List (List Op)) → length actors ≤ MOST_ACTORS → MayAct u actors
     → IsWork actors
-work_by u actors size may fits = record {
+work_by u actors size may = record {
   few = size;
-  most = (let all = counted_all u actors in let most = few_all u actors may fits in omega arith);
+  most = by (few_all u actors may);
   requests = requests_each u actors may;
 }
+  where
+    by : (operations actors ≡ 0) ⊎ (u.operations + operations actors ≤ MOST_OPERATIONS)
+        → operations actors ≤ MOST_OPERATIONS
+    by (inl none) = omega (arith, none)
+    by (inr fits) = omega (arith, fits)
 
-named : (actors : List (List Op)) (schedule : List Turns) → MayTurn (length actors) schedule
-    → NamesActors actors schedule
+pub named : (actors : ℕ) (schedule : List Turns) → MayTurn actors schedule → (k : ℕ) (t : Turns)
+    → slice_get schedule k ≡ Some t → t.actor < actors
 named actors [] may k t is = absurd (no_item k t is)
-named actors (turns ∷ more) may zero t is = subst (λ (x : Turns). x.actor < length actors) (λ i. unwrap_or (is i) turns) may.0
+named actors (turns ∷ more) may zero t is = subst (λ (x : Turns). x.actor < actors)
+    (λ i. unwrap_or (is i) turns) may.0
 named actors (turns ∷ more) may (suc k) t is = named actors more may.3 k t is
 
--- ---- the items
+-- ---- items
 
-stand_by : (u : Used) (pages : ℕ) (job : List Item) → MayFollow u job → (u.disk ≡ false → pages ≡ 0)
-    → u.operations ≤ 1000000 → MayStandAll pages job
-stand_by u pages [] may bare fits = tt
-stand_by u pages (items.Attr (DiskPages n) ∷ more) may bare fits =
-    ((bare may.0, may.1, may.2), stand_by (with_disk u) n more may.3 (λ e. absurd (true≢false e)) fits)
-stand_by u pages (items.Phase phase ∷ more) may bare fits = (
-  (work_by (with_phase u) phase.actors may.0.few_actors may.0.may_act fits, named phase.actors phase.schedule may.0.may_turn),
-  stand_by (with_text u phase.actors phase.schedule) pages more may.1
-      (λ e. bare (sym (disk_by (with_phase u) phase.actors)
-      ∙ e)) (few_all (with_phase u) phase.actors may.0.may_act fits),
-)
+-- the items after one that was run, which leaves so many pages
+pub stand_on : (pages after : ℕ) (item : Item) (more : List Item)
+    → ((text : _) → item ≡ items.Phase text → after ≡ pages)
+    → MayStand pages (item ∷ more) → MayStand after more
+stand_on pages after (items.Attr (DiskPages n)) more size may = record {
+  used = with_disk may.used;
+  bare = λ bare. absurd (true≢false bare);
+  may = may.may.3;
+}
+stand_on pages after (items.Phase text) more size may = record {
+  used = with_text may.used text.actors text.schedule;
+  bare = λ bare. size text refl ∙ may.bare (sym (disk_by (with_phase may.used) text.actors) ∙ bare);
+  may = may.may.1;
+}
 
-pub may_stand : (job : List Item) → MayFollow nothing_used job → MayStandAll 0 job
-may_stand job may = stand_by nothing_used 0 job may (λ e. refl) (omega arith)
+-- the first of several items
+pub stand_first : (pages : ℕ) (item : Item) (more : List Item) → MayStand pages (item ∷ more)
+    → MayStand pages (item ∷ [])
+stand_first pages (items.Attr (DiskPages n)) more may = record {
+  used = may.used;
+  bare = may.bare;
+  may = (may.may.0, may.may.1, may.may.2, tt);
+}
+stand_first pages (items.Phase text) more may = record {
+  used = may.used;
+  bare = may.bare;
+  may = (may.may.0, tt);
+}
+
+-- the front of a job
+pub front_may : (u : Used) (front later : List Item) → MayFollow u (front ++ later)
+    → MayFollow u front
+front_may u [] later may = tt
+front_may u (items.Attr (DiskPages n) ∷ front) later may =
+    (may.0, may.1, may.2, front_may (with_disk u) front later may.3)
+front_may u (items.Phase text ∷ front) later may =
+    (may.0, front_may (with_text u text.actors text.schedule) front later may.1)

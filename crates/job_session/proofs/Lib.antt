@@ -1,5 +1,8 @@
+pub mod Filled
 pub mod Jobs
 pub mod Lawful
 pub mod Lines
+pub mod Orders
 pub mod Shown
-pub mod Telling
+pub mod Sending
+pub mod Written

@@ -1,15 +1,12 @@
 -- Lines one after the other, and the lines of operations, actors and pages from a place on.
-use Rattle.std.proofs.Common.{◌≡◌, ℕ, zero, suc, ◌+◌, ◌<◌, Bool, true, false, ◌||◌, List, [], ◌∷◌, ◌++◌, length, map, drop, get_or, Option, Some, slice_get, refl, ap, ◌∙◌}
+use Rattle.std.proofs.Common.{◌≡◌, ℕ, zero, suc, ◌+◌, ◌<◌, ◌≤◌, Bool, true, false, ◌||◌, List, [], ◌∷◌, ◌++◌, length, map, drop, get_or, Some, slice_get, refl, sym, ap, ◌∙◌}
+use Rattle.std.proofs.Math.ListN.{drop_of_length-le}
 use Rattle.std.proofs.lemmas.List.{drop_more}
-use Rattle.std.proofs.lemmas.List.Concat.{flat_map-append}
 use Rattle.std.proofs.lemmas.Option.{get_or_from_slice_get, slice_get_within}
 use Rattle.zr_base.specs.declared.op.Tag.{Tag}
 use Rattle.zr_base.specs.declared.op.OpEnd.{OpEnd}
-use Rattle.plain_disk.specs.Output.{OutLine, ended, sector, op_lines, actor_lines, actors_lines, order_line, order_lines, is_refusal, any_refusal}
-use Rattle.zr_core.specs.Steps.{DiskHeld}
-use Rattle.zr_core.specs.Machines.{orders_of, order_in}
+use Rattle.plain_disk.specs.Output.{OutLine, ended, sector, op_lines, actor_lines, actors_lines, order_line, is_refusal, any_refusal}
 use Rattle.zr_core.specs.States.{of_op}
-use Rattle.job_session.specs.Texts.{text, line_text}
 
 -- ---- refusals
 
@@ -17,7 +14,8 @@ pub or_false : (b : Bool) → (b || false) ≡ b
 or_false true = refl
 or_false false = refl
 
-pub any_refusal-append : (xs ys : List OutLine) → any_refusal (xs ++ ys) ≡ (any_refusal xs || any_refusal ys)
+pub any_refusal-append : (xs ys : List OutLine) → any_refusal (xs ++ ys)
+    ≡ (any_refusal xs || any_refusal ys)
 any_refusal-append [] ys = refl
 any_refusal-append (x ∷ xs) ys = by (is_refusal x) (any_refusal-append xs ys)
   where
@@ -30,48 +28,59 @@ any_refusal-sectors : (xs : List (List ℕ)) → any_refusal (map sector xs) ≡
 any_refusal-sectors [] = refl
 any_refusal-sectors (x ∷ xs) = any_refusal-sectors xs
 
-pub any_refusal-orders : (p : ℕ) (orders : List (List Tag)) → any_refusal (order_lines p orders) ≡ false
-any_refusal-orders p [] = refl
-any_refusal-orders p ([] ∷ orders) = any_refusal-orders (p + 1) orders
-any_refusal-orders p ((tag ∷ tags) ∷ orders) = any_refusal-orders (p + 1) orders
+pub any_refusal-order : (p : ℕ) (order : List Tag) → any_refusal (order_line p order) ≡ false
+any_refusal-order p [] = refl
+any_refusal-order p (tag ∷ tags) = refl
 
 -- an operation's lines say a refusal where its end does
 pub any_refusal-op : (tag : Tag) (end : OpEnd) (got : List (List ℕ))
     → any_refusal (op_lines tag end got) ≡ is_refusal (ended tag end)
-any_refusal-op tag end got = ap (λ (b : Bool). is_refusal (ended tag end) || b) (any_refusal-sectors got)
+any_refusal-op tag end got = ap (λ (b : Bool). is_refusal (ended tag end) || b)
+    (any_refusal-sectors got)
     ∙ or_false (is_refusal (ended tag end))
 
--- ---- what an actor's operations have
+-- ---- lines from a place on
 
 module _ {A : Type 0} where
-  pub of_op_is : (all : List (List A)) (actor op : ℕ) → of_op all actor op ≡ slice_get (get_or all actor []) op
+  pub of_op_is : (all : List (List A)) (actor op : ℕ) → of_op all actor op
+      ≡ slice_get (get_or all actor []) op
   of_op_is [] actor op = refl
   of_op_is (xs ∷ all) zero op = refl
   of_op_is (xs ∷ all) (suc actor) op = of_op_is all actor op
 
-  drop_at : (xs : List A) (i : ℕ) (x : A) → slice_get xs i ≡ Some x → drop i xs ≡ x ∷ drop (i + 1) xs
+  drop_at : (xs : List A) (i : ℕ) (x : A) → slice_get xs i ≡ Some x
+      → drop i xs ≡ x ∷ drop (i + 1) xs
   drop_at xs i x is = drop_more xs i x (slice_get_within xs i x is)
       ∙ ap (λ (y : A). y ∷ drop (i + 1) xs) (get_or_from_slice_get xs i x x is)
 
--- ---- lines from a place on
-
 -- those of an actor's operations
-pub next_op : (actor op : ℕ) (es : List OpEnd) (gots : List (List (List ℕ))) (end : OpEnd) (got : List (List ℕ))
-    → slice_get es op ≡ Some end → slice_get gots op ≡ Some got
-    → actor_lines actor op (drop op es) (drop op gots) ≡ op_lines (record { actor = actor; op = op }) end got ++ actor_lines actor (op + 1) (drop (op + 1) es) (drop (op + 1) gots)
-next_op actor op es gots end got e g = λ i. actor_lines actor op (drop_at es op end e i) (drop_at gots op got g i)
+pub next_op : (ends : List (List OpEnd)) (sectors : List (List (List (List ℕ)))) (actor op : ℕ)
+    (end : OpEnd) (got : List (List ℕ))
+    → of_op ends actor op ≡ Some end → of_op sectors actor op ≡ Some got
+    → actor_lines actor op (drop op (get_or ends actor [])) (drop op (get_or sectors actor []))
+    ≡ op_lines (record { actor = actor; op = op }) end got
+    ++ actor_lines actor (op + 1) (drop (op + 1) (get_or ends actor []))
+    (drop (op + 1) (get_or sectors actor []))
+next_op ends sectors actor op end got e s = λ i. actor_lines actor op
+    (drop_at (get_or ends actor []) op end (sym (of_op_is ends actor op) ∙ e) i)
+    (drop_at (get_or sectors actor []) op got (sym (of_op_is sectors actor op) ∙ s) i)
+
+pub no_op : (actor op : ℕ) (es : List OpEnd) (gots : List (List (List ℕ))) → length es ≤ op
+    → actor_lines actor op (drop op es) (drop op gots) ≡ []
+no_op actor op es gots past = λ i. actor_lines actor op (drop_of_length-le es past i) (drop op gots)
 
 -- those of the actors
-pub next_actor : (actor : ℕ) (es : List (List OpEnd)) (gots : List (List (List (List ℕ)))) → actor < length es
+pub next_actor : (actor : ℕ) (es : List (List OpEnd)) (gots : List (List (List (List ℕ))))
+    → actor < length es
     → actor < length gots
     → actors_lines actor (drop actor es) (drop actor gots)
-    ≡ actor_lines actor 0 (get_or es actor []) (get_or gots actor []) ++ actors_lines (actor + 1) (drop (actor + 1) es) (drop (actor + 1) gots)
-next_actor actor es gots e g = λ i. actors_lines actor (drop_more es actor [] e i) (drop_more gots actor [] g i)
+    ≡ actor_lines actor 0 (get_or es actor []) (get_or gots actor [])
+    ++ actors_lines (actor + 1) (drop (actor + 1) es) (drop (actor + 1) gots)
+next_actor actor es gots e g = λ i. actors_lines actor (drop_more es actor [] e i)
+    (drop_more gots actor [] g i)
 
--- those of the pages
-pub next_page : (page : ℕ) (cells : List (Option DiskHeld)) (cell : Option DiskHeld)
-    → slice_get cells page ≡ Some cell
-    → text (order_lines page (orders_of (drop page cells))) ≡ text (order_line page (order_in cell)) ++ text (order_lines (page + 1) (orders_of (drop (page + 1) cells)))
-next_page page cells cell is =
-    ap (λ (cs : List (Option DiskHeld)). text (order_lines page (orders_of cs))) (drop_at cells page cell is)
-    ∙ flat_map-append line_text (order_line page (order_in cell)) (order_lines (page + 1) (orders_of (drop (page + 1) cells)))
+pub no_actor : (actor : ℕ) (es : List (List OpEnd)) (gots : List (List (List (List ℕ))))
+    → length es ≤ actor
+    → actors_lines actor (drop actor es) (drop actor gots) ≡ []
+no_actor actor es gots past = λ i. actors_lines actor (drop_of_length-le es past i)
+    (drop actor gots)

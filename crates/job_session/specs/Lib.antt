@@ -1,6 +1,5 @@
-pub mod Causes
 pub mod Legal
 pub mod Stepped
 pub mod Runs
-pub mod Told
+pub mod Telling
 pub mod Texts

@@ -1,72 +1,67 @@
--- What a run over a source and a sink has done.
-use Rattle.std.specs.Prelude.{◌≡◌, ◌≤◌, ◌<◌, ℕ, Bool, List, [], ◌∷◌, length, Option, Some, slice_get, ⊤}
+-- The words of the top call: what was read and what was written, by the status.
+use Rattle.std.specs.Prelude.{◌≡◌, ◌⊎◌, ◌<◌, ℕ, Bool, true, false, IsTrue, List, [], ◌∷◌, ◌++◌, map, length, Option, Some, codes}
+use Rattle.std.specs.Borrow.{Bor}
 use Rattle.std.specs.Io.KnownBytes.{Appends, Consumes, IsAtEnd}
-use Rattle.zr_base.specs.declared.op.Op.{Op}
-use Rattle.zr_base.specs.declared.op.Turns.{Turns}
+use Rattle.std.specs.Str.{bytes_eq}
 use Rattle.plain_disk.specs.Output.{OutLine, any_refusal}
-use Rattle.zr_core.specs.Machines.{PhaseSteps}
-use Rattle.zr_core.specs.Places.{IsWork}
-use Rattle.zr_core.specs.States.{given_on}
-use Rattle.job_text.specs.declared.job.Attr.TheVariants.{DiskPages}
+use Rattle.job_text.specs.declared.fault.JobFault.{JobFault}
 use Rattle.job_text.specs.declared.job.Item.{Item}
-use Rattle.job_text.specs.declared.job.Item.TheVariants as items
+use Rattle.job_text.specs.Faults.{first_fault}
+use Rattle.job_text.specs.declared.limits.TheConstants.{MOST_BYTES}
 use Rattle.job_text.specs.Jobs.{IsJob}
-use Rattle.job_session.specs.Legal.{Rest, Legal}
-use Rattle.job_session.specs.Stepped.{Disk, without_pages, Stepped, IsBySchedule, AreOwn}
-use Rattle.job_session.specs.Texts.{text}
-use Rattle.job_session.specs.Told.{Tells}
+use Rattle.job_session.specs.declared.sim.Status.{Status}
+use Rattle.job_session.specs.declared.sim.Status.TheVariants as statuses
+use Rattle.job_session.specs.Legal.{PlainDisk, Legal}
+use Rattle.job_session.specs.Stepped.{Disk, without_pages, Stepped, AreOwn}
+use Rattle.job_session.specs.Texts.{text, fault_text}
 
--- the turns of a schedule are those of actors that there are
-abbrev pub NamesActors : List (List Op) → List Turns → Type 0
-NamesActors actors schedule = (k : ℕ) (t : Turns) → slice_get schedule k ≡ Some t → t.actor < length actors
+-- the exit status of the program
+abbrev pub status_number : Status → ℕ
+status_number statuses.Done = 0
+status_number statuses.Refused = 1
+status_number statuses.Words = 2
+status_number statuses.Job = 3
+status_number statuses.ReadFault = 4
+status_number statuses.WriteFault = 5
+status_number statuses.NoMemory = 6
 
--- an item that may stand where the disk has so many pages: its size is given once, and a phase is within its limits
-abbrev pub MayStand : ℕ → Item → Type 0
-MayStand pages (items.Attr (DiskPages n)) = (pages ≡ 0) × (1 ≤ n) × (n ≤ 262144)
-MayStand pages (items.Phase phase) = IsWork phase.actors × NamesActors phase.actors phase.schedule
+-- whether the words are the one word `run`
+abbrev pub is_run_word : List (List ℕ) → Bool
+is_run_word [] = false
+is_run_word (word ∷ []) = bytes_eq word (codes "run")
+is_run_word (word ∷ other ∷ more) = false
 
--- the disk's pages behind an item
-abbrev pub pages_after : ℕ → Item → ℕ
-pages_after pages (items.Attr (DiskPages n)) = n
-pages_after pages (items.Phase phase) = pages
+-- the words of the command line are the one word `run`
+abbrev pub IsRunWord : List (Bor (List ℕ)) → Type 0
+IsRunWord words = IsTrue (is_run_word (map (λ word. word.now) words))
 
--- items that may stand one after the other
-abbrev pub MayStandAll : ℕ → List Item → Type 0
-MayStandAll pages [] = ⊤
-MayStandAll pages (item ∷ more) = MayStand pages item × MayStandAll (pages_after pages item) more
+-- a write fault comes only where the sink has failed since, or has taken nothing of some bytes
+abbrev pub WriteCause : ℕ → ℕ → Bool → Type 0
+WriteCause before now stopped = (before < now) ⊎ (stopped ≡ true)
 
--- These lines were told, and some line says that something was refused, or none does.
-pub record LinesTold (written written_after : Option (List ℕ)) (waits waits_after : List ℕ) (refused : Bool) (lines : List OutLine) : Type 0 where
-  pub told : Tells written written_after waits waits_after (text lines)
-  pub refused_is : refused ≡ any_refusal lines
+-- Of a text a beginning was written: some of its bytes, from the first on.
+pub record BeginsWith (written written_after : Option (List ℕ)) (whole : List ℕ) : Type 0 where
+  pub sent : List ℕ
+  pub rest : List ℕ
+  pub parts : whole ≡ sent ++ rest
+  pub appended : Appends written written_after sent
 
--- A phase of these actors was run by its schedule and then by rounds, and its lines were told.
-pub record PhaseTold (d : Disk) (actors : List (List Op)) (schedule : List Turns) (m : Disk) (written written_after : Option (List ℕ)) (waits waits_after : List ℕ) (refused : Bool) : Type 0 where
-  pub turns : List ℕ
+-- The source was read to its end, and what it had is such a text.
+pub record IsRead (left left_after : Option (List ℕ)) (Is : List ℕ → Type 0) : Type 0 where
+  pub bytes : List ℕ
+  pub taken : Consumes left left_after bytes
+  pub at_end : IsAtEnd left_after
+  pub is : Is bytes
+
+-- ---- a text that is a job
+
+-- What was written is the text of lines that these items may print, from a plain disk without
+-- pages, and that their phases print by their own turns; some line says that something was refused,
+-- or none does.
+pub record IsWritten (job : List Item) (Writes : List ℕ → Type 0) (refused : Bool) : Type 0 where
   pub lines : List OutLine
-  pub own : IsBySchedule actors schedule turns
-  pub steps : PhaseSteps (given_on d.size actors d.row) turns lines m.row
-  pub told : LinesTold written written_after waits waits_after refused lines
-
--- Items were run one after the other by their own turns, from the disk d to the disk m, and their lines were told.
-pub record ItemsTold (d : Disk) (job : List Item) (m : Disk) (written written_after : Option (List ℕ)) (waits waits_after : List ℕ) (refused : Bool) : Type 0 where
-  pub turns : List (List ℕ)
-  pub lines : List OutLine
-  pub stepped : Stepped d job turns lines m
-  pub own : AreOwn job turns
-  pub told : LinesTold written written_after waits waits_after refused lines
-
--- a job was run from the disk without pages
-pub record JobTold (job : List Item) (written written_after : Option (List ℕ)) (waits waits_after : List ℕ) (refused : Bool) : Type 0 where
-  pub last : Disk
-  pub told : ItemsTold without_pages job last written written_after waits waits_after refused
-
--- The text was written of lines that the job may print, from a state without a disk, and that its phases print by its
--- own turns; some line says that something was refused, or none does.
-pub record IsWritten (job : List Item) (written written_after : Option (List ℕ)) (refused : Bool) : Type 0 where
-  pub lines : List OutLine
-  pub first : Rest
-  pub last : Rest
+  pub first : PlainDisk
+  pub last : PlainDisk
   pub no_disk : first.size ≡ 0
   pub legal : Legal first job lines last
   pub turns : List (List ℕ)
@@ -74,17 +69,50 @@ pub record IsWritten (job : List Item) (written written_after : Option (List ℕ
   pub stepped : Stepped without_pages job turns lines disk
   pub own : AreOwn job turns
   pub refused_is : refused ≡ any_refusal lines
-  pub output : Appends written written_after (text lines)
+  pub output : Writes (text lines)
 
 -- the text is a job, and what it may print was written
-pub record IsTextRun (bytes : List ℕ) (written written_after : Option (List ℕ)) (refused : Bool) : Type 0 where
+pub record IsTextRun (Writes : List ℕ → Type 0) (refused : Bool) (bytes : List ℕ) : Type 0 where
   pub job : List Item
   pub is_job : IsJob bytes job
-  pub run : IsWritten job written written_after refused
+  pub run : IsWritten job Writes refused
 
--- The source was read to its end, what it had is the text of a job, and what this job may print was written.
-pub record IsRun (left left_after written written_after : Option (List ℕ)) (refused : Bool) : Type 0 where
+-- What some first items of the job may print was written: its output is cut after the item in work.
+pub record IsCut (job : List Item) (Writes : List ℕ → Type 0) : Type 0 where
+  pub front : List Item
+  pub later : List Item
+  pub parts : job ≡ front ++ later
+  pub refused : Bool
+  pub run : IsWritten front Writes refused
+
+-- the text is a job, and its output so far was written
+pub record IsTextCut (Writes : List ℕ → Type 0) (bytes : List ℕ) : Type 0 where
+  pub job : List Item
+  pub is_job : IsJob bytes job
+  pub cut : IsCut job Writes
+
+-- the source was read to its end, what it had is the text of a job, and what this job may print was
+-- written
+abbrev pub IsRun : Option (List ℕ) → Option (List ℕ) → (List ℕ → Type 0) → Bool → Type 0
+IsRun left left_after Writes refused = IsRead left left_after (IsTextRun Writes refused)
+
+-- the same of a job that was given up
+abbrev pub IsCutRun : Option (List ℕ) → Option (List ℕ) → (List ℕ → Type 0) → Type 0
+IsCutRun left left_after Writes = IsRead left left_after (IsTextCut Writes)
+
+-- ---- a text that is none
+
+-- The bytes are no job, and the line of their first fault was written.
+pub record IsNoJob (Writes : List ℕ → Type 0) (bytes : List ℕ) : Type 0 where
+  pub fault : JobFault
+  pub told : first_fault bytes ≡ Some fault
+  pub no_job : (job : List Item) → IsJob bytes job → ⊥
+  pub output : Writes (fault_text fault)
+
+-- The source was read to its end, or more bytes were read than a job has at most, and they are no
+-- job.
+pub record IsRefused (left left_after : Option (List ℕ)) (Writes : List ℕ → Type 0) : Type 0 where
   pub bytes : List ℕ
   pub taken : Consumes left left_after bytes
-  pub at_end : IsAtEnd left_after
-  pub run : IsTextRun bytes written written_after refused
+  pub whole : (MOST_BYTES < length bytes) ⊎ IsAtEnd left_after
+  pub refusal : IsNoJob Writes bytes

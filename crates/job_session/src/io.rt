@@ -2,25 +2,27 @@
 
 ghost use Rattle.std.specs.Prelude.{◌≡◌, ℕ, ◌≤◌, ◌<◌, List, [], IfOk, OnOk, OnErr, IfErr, length, take};
 ghost use Rattle.std.specs.Io.KnownBytes.{Appends, Consumes, IsAtEnd};
-ghost use Rattle.job_session.specs.Causes.{WriteCause, StopCause, ReadCause, SendsSome};
-ghost use Rattle.job_session.specs.Told.{Tells};
+ghost use Rattle.job_session.specs.Runs.{BeginsWith, WriteCause};
+ghost use Rattle.job_session.specs.Telling.{ReadCause};
 
-use crate::stop::{NoText, Stop};
+use crate::stop::NoText;
 use job_text::MOST_BYTES;
 use std::alloc::Global;
 use zr_base::{Failed, Sink, Source};
 
-// The most bytes of one read or write.
-const PIECE: usize = 65_536;
+/// The most bytes of one read or write.
+pub(crate) const PIECE: usize = 65_536;
 
 // One write of at most 64 KiB, which takes some bytes.
 fn send_some<K: Sink>(out: &mut K, bytes: &[u8]) -> Result<usize, Failed>
     requires { 0 < length bytes.now }
     ensures some { IfOk result (λ n. (1 ≤ n) × (n ≤ length bytes.now)) }
-    ensures sent { IfOk result (λ n. Appends (K.written out.old) (K.written out.new) (take n bytes.now)) }
+    ensures sent { IfOk result
+        (λ n. Appends (K.written out.old) (K.written out.new) (take n bytes.now)) }
     ensures none { OnErr result (Appends (K.written out.old) (K.written out.new) []) }
     ensures later { K.fault_count out.old ≤ K.fault_count out.new }
-    ensures cause { OnErr result (WriteCause (K.fault_count out.old) (K.fault_count out.new) (K.has_stopped out.new)) }
+    ensures cause { OnErr result
+        (WriteCause (K.fault_count out.old) (K.fault_count out.new) (K.has_stopped out.new)) }
 {
     let (piece, _) = bytes.split_at(bytes.len().min(PIECE));
     match out.write(piece) {
@@ -33,9 +35,10 @@ fn send_some<K: Sink>(out: &mut K, bytes: &[u8]) -> Result<usize, Failed>
 /// Sends all bytes to the sink, in pieces of at most 64 KiB.
 pub(crate) fn send<K: Sink>(out: &mut K, bytes: &[u8]) -> Result<(), Failed>
     ensures all { OnOk result (Appends (K.written out.old) (K.written out.new) bytes.now) }
-    ensures some { SendsSome (K.written out.old) (K.written out.new) bytes.now }
+    ensures some { BeginsWith (K.written out.old) (K.written out.new) bytes.now }
     ensures later { K.fault_count out.old ≤ K.fault_count out.new }
-    ensures cause { OnErr result (WriteCause (K.fault_count out.old) (K.fault_count out.new) (K.has_stopped out.new)) }
+    ensures cause { OnErr result
+        (WriteCause (K.fault_count out.old) (K.fault_count out.new) (K.has_stopped out.new)) }
 {
     let mut at = 0;
     while at < bytes.len() {
@@ -44,24 +47,12 @@ pub(crate) fn send<K: Sink>(out: &mut K, bytes: &[u8]) -> Result<(), Failed>
     Ok(())
 }
 
-/// Sends what waits in the buffer where it is 64 KiB or more.
-pub(crate) fn spill<K: Sink>(out: &mut K, buffer: &mut Vec<u8>) -> Result<(), Stop>
-    ensures told { OnOk result (Tells (K.written out.old) (K.written out.new) buffer.old.items buffer.new.items []) }
-    ensures later { K.fault_count out.old ≤ K.fault_count out.new }
-    ensures cause { IfErr result (StopCause (K.fault_count out.old) (K.fault_count out.new) (K.has_stopped out.new)) }
-{
-    if buffer.len() < PIECE {
-        return Ok(());
-    }
-    send(out, buffer)?;
-    buffer.clear();
-    Ok(())
-}
-
 /// Reads a source to its end, or until it has given more bytes than a job's text may have.
 pub(crate) fn read_all<S: Source>(alloc: Global, job: &mut S) -> Result<Vec<u8>, NoText>
-    ensures done { IfOk result (λ text. Consumes (S.left job.old) (S.left job.new) text.items × IsAtEnd (S.left job.new)) }
-    ensures cause { IfErr result (ReadCause (S.left job.old) (S.left job.new) (S.fault_count job.old) (S.fault_count job.new)) }
+    ensures done { IfOk result (λ text. Consumes (S.left job.old) (S.left job.new) text.items
+        × IsAtEnd (S.left job.new)) }
+    ensures cause { IfErr result (ReadCause (S.left job.old) (S.left job.new)
+        (S.fault_count job.old) (S.fault_count job.new)) }
 {
     let mut chunk = [0; PIECE];
     let mut text = Vec::new(alloc);

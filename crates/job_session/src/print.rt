@@ -1,8 +1,9 @@
 //! The text of output lines.
 
-ghost use Rattle.std.specs.Prelude.{◌≡◌, ℕ, ◌+◌, ◌≤◌, List, ◌∷◌, ◌++◌, take, drop, length, reverse, OnOk, IfOk, codes, []};
+ghost use Rattle.std.specs.Prelude.{◌≡◌, ℕ, ◌+◌, ◌≤◌, ◌++◌, length, map, OnOk};
 ghost use Rattle.std.specs.List.{flat_map};
-ghost use Rattle.job_session.specs.Texts.{cause_text, fault_text, end_text, hex_digit, hex_byte, sector_text, ended_text, ordered_text, tag_text};
+ghost use Rattle.plain_disk.specs.Output.{sector, op_lines, order_line};
+ghost use Rattle.job_session.specs.Texts.{text, cause_text, fault_text, fill_text, hex_text, end_text, hex_digit, hex_byte, sector_text, ended_text, ordered_text, tag_text};
 
 use job_text::{Cause, JobFault};
 use std::alloc::{AllocError, Global};
@@ -39,10 +40,10 @@ fn put_hex(out: &mut Vec<u8>, bytes: &[u8]) -> Result<(), AllocError>
     Ok(())
 }
 
-// The line of a sector whose words are all one.
+// The line of a sector whose words are all this one.
 fn put_fill(out: &mut Vec<u8>, word: &[u8]) -> Result<(), AllocError>
     requires { length word.now ≡ 8 }
-    ensures { OnOk result (out.new.items ≡ out.old.items ++ (codes "fill " ++ flat_map hex_byte (reverse word.now) ++ 10 ∷ [])) }
+    ensures { OnOk result (out.new.items ≡ out.old.items ++ fill_text word.now) }
 {
     let mut digits = [0; 8];
     digits.copy_from_slice(word);
@@ -53,8 +54,9 @@ fn put_fill(out: &mut Vec<u8>, word: &[u8]) -> Result<(), AllocError>
     Ok(())
 }
 
+// The line of a sector whose words differ.
 fn put_bytes(out: &mut Vec<u8>, bytes: &[u8]) -> Result<(), AllocError>
-    ensures { OnOk result (out.new.items ≡ out.old.items ++ (codes "hex " ++ flat_map hex_byte bytes.now ++ 10 ∷ [])) }
+    ensures { OnOk result (out.new.items ≡ out.old.items ++ hex_text bytes.now) }
 {
     out.extend_from_slice(b"hex ")?;
     put_hex(out, bytes)?;
@@ -62,9 +64,9 @@ fn put_bytes(out: &mut Vec<u8>, bytes: &[u8]) -> Result<(), AllocError>
     Ok(())
 }
 
-/// The line of a sector that was read.
+// The line of a sector that was read.
 #[tactic(auto, unfolding(crate::specs::Texts::sector_text))]
-pub(crate) fn put_sector(out: &mut Vec<u8>, sector: &[u8; 512]) -> Result<(), AllocError>
+fn put_sector(out: &mut Vec<u8>, sector: &[u8; 512]) -> Result<(), AllocError>
     ensures { OnOk result (out.new.items ≡ out.old.items ++ sector_text sector.now) }
 {
     let (front, _) = sector.split_at(504);
@@ -75,14 +77,19 @@ pub(crate) fn put_sector(out: &mut Vec<u8>, sector: &[u8; 512]) -> Result<(), Al
     put_bytes(out, sector)
 }
 
-/// The line of an operation's end.
+// The lines of sectors that were read.
+fn put_sectors(out: &mut Vec<u8>, told: &[[u8; 512]]) -> Result<(), AllocError>
+    ensures { OnOk result (out.new.items ≡ out.old.items ++ text (map sector told.now)) }
+{
+    for sector in told {
+        put_sector(out, sector)?;
+    }
+    Ok(())
+}
+
+// The line of an operation's end.
 #[tactic(auto, unfolding(crate::specs::Texts::ended_text))]
-pub(crate) fn put_end(
-    out: &mut Vec<u8>,
-    alloc: Global,
-    tag: Tag,
-    end: OpEnd,
-) -> Result<(), AllocError>
+fn put_end(out: &mut Vec<u8>, alloc: Global, tag: Tag, end: OpEnd) -> Result<(), AllocError>
     ensures { OnOk result (out.new.items ≡ out.old.items ++ ended_text tag end) }
 {
     let Tag { actor, op } = tag;
@@ -110,21 +117,45 @@ fn put_tags(out: &mut Vec<u8>, alloc: Global, tags: &[Tag]) -> Result<(), AllocE
     Ok(())
 }
 
-/// The line of a page's order.
+/// The line of an operation's end, and the lines of the sectors that it read.
+pub(crate) fn put_op(
+    out: &mut Vec<u8>,
+    alloc: Global,
+    tag: Tag,
+    end: OpEnd,
+    told: &[[u8; 512]],
+) -> Result<(), AllocError>
+    ensures { OnOk result (out.new.items ≡ out.old.items ++ text (op_lines tag end told.now)) }
+{
+    put_end(out, alloc, tag, end)?;
+    put_sectors(out, told)
+}
+
+// The line of a page's order.
 #[tactic(auto, unfolding(crate::specs::Texts::ordered_text))]
+fn put_ordered(out: &mut Vec<u8>, alloc: Global, page: u32, order: &[Tag]) -> Result<(), AllocError>
+    ensures { OnOk result (out.new.items ≡ out.old.items ++ ordered_text page order.now) }
+{
+    let line = format!(in alloc; "order {page}")?;
+    out.extend_from_slice(line.as_bytes())?;
+    put_tags(out, alloc, order)?;
+    out.push(b'\n')?;
+    Ok(())
+}
+
+/// The line of a page's order, where some call stands in it.
 pub(crate) fn put_order(
     out: &mut Vec<u8>,
     alloc: Global,
     page: u32,
-    tags: &[Tag],
+    order: &[Tag],
 ) -> Result<(), AllocError>
-    ensures { OnOk result (out.new.items ≡ out.old.items ++ ordered_text page tags.now) }
+    ensures { OnOk result (out.new.items ≡ out.old.items ++ text (order_line page order.now)) }
 {
-    let text = format!(in alloc; "order {page}")?;
-    out.extend_from_slice(text.as_bytes())?;
-    put_tags(out, alloc, tags)?;
-    out.push(b'\n')?;
-    Ok(())
+    if order.is_empty() {
+        return Ok(());
+    }
+    put_ordered(out, alloc, page, order)
 }
 
 fn cause_word(cause: Cause) -> &'static str

@@ -1,77 +1,83 @@
-//! The items of a job, one after the other.
+//! The items of a job, one after the other, on one world.
 
-ghost use Rattle.std.specs.Prelude.{◌≡◌, ◌≤◌, ℕ, List, [], ◌∷◌, OnOk, IfOk, IfErr};
-ghost use Rattle.zr_core.specs.States.{IsAtRest, IsBlank};
+ghost use Rattle.std.specs.Prelude.{◌≡◌, ◌∷◌, [], OnOk};
+ghost use Rattle.zr_core.specs.States.{IsAtRest};
 ghost use Rattle.job_text.specs.declared.job.Item.TheVariants as items;
-ghost use Rattle.job_session.specs.Causes.{StopCause};
-ghost use Rattle.job_session.specs.Stepped.{disk_of, Stepped};
-ghost use Rattle.job_session.specs.Runs.{MayStand, MayStandAll, pages_after, ItemsTold, JobTold};
+ghost use Rattle.job_text.specs.Jobs.{MayFollow, nothing_used};
+ghost use Rattle.job_session.specs.Stepped.{Disk, disk_of, Stepped, without_pages};
+ghost use Rattle.job_session.specs.Telling.{MayStand, ItemsTold};
 
-use crate::run::run_phase;
+use crate::output::Output;
 use crate::stop::Stop;
-use job_text::{Attr, Item};
+use crate::tell::tell_phase;
+use job_text::{Attr, Item, PhaseText};
 use std::alloc::{AllocError, Global};
 use zr_base::Sink;
 use zr_core::World;
 
 // Sets an attribute.
 fn set_attr(world: &mut World, attr: Attr) -> Result<(), AllocError>
-    requires { MayStand world.old.pages (items.Attr attr) }
-    ensures stepped { OnOk result (Stepped (disk_of world.old) (items.Attr attr ∷ []) [] [] (disk_of world.new)) }
-    ensures pages { OnOk result (world.new.pages ≡ pages_after world.old.pages (items.Attr attr)) }
-    ensures rest { OnOk result (IsAtRest world.new.pages world.new.row.cells) }
+    requires { MayStand world.old.pages (items.Attr attr ∷ []) }
+    ensures stepped { OnOk result
+        (Stepped (disk_of world.old) (items.Attr attr ∷ []) [] [] (disk_of world.new)) }
+    ensures rest { OnOk result
+        (IsAtRest world.new.pages world.new.noted.items world.new.row.cells) }
 {
     match attr {
         Attr::DiskPages(pages) => world.set_disk(pages),
     }
 }
 
-// An item, with its lines; whether something was refused.
-fn run_item<K: Sink>(
-    out: &mut K,
-    buffer: &mut Vec<u8>,
-    alloc: Global,
+// A phase: it is set up, run by its schedule, and told.
+fn run_phase<K: Sink>(
+    out: &mut Output<'_, K>,
     world: &mut World,
-    item: &Item,
-) -> Result<bool, Stop>
-    requires item { MayStand world.old.pages item.now }
-    requires rest { IsAtRest world.old.pages world.old.row.cells }
-    ensures item { IfOk result (λ refused. ItemsTold (disk_of world.old) (item.now ∷ []) (disk_of world.new) (K.written out.old) (K.written out.new) buffer.old.items buffer.new.items refused) }
-    ensures pages { OnOk result (world.new.pages ≡ pages_after world.old.pages item.now) }
-    ensures rest { OnOk result (IsAtRest world.new.pages world.new.row.cells) }
-    ensures later { K.fault_count out.old ≤ K.fault_count out.new }
-    ensures cause { IfErr result (StopCause (K.fault_count out.old) (K.fault_count out.new) (K.has_stopped out.new)) }
+    text: &PhaseText,
+) -> Result<(), Stop>
+    requires may { MayStand world.old.pages (items.Phase text.now ∷ []) }
+    requires rest { IsAtRest world.old.pages world.old.noted.items world.old.row.cells }
+    ensures item { ItemsTold (disk_of world.old) (items.Phase text.now ∷ []) (disk_of world.new)
+        out.old out.new result }
+    ensures rest { OnOk result
+        (IsAtRest world.new.pages world.new.noted.items world.new.row.cells) }
+{
+    let actors = text.actors.as_slice();
+    let schedule = text.schedule.as_slice();
+    let mut phase = world.prepare(actors)?;
+    world.run(&mut phase, actors, schedule);
+    tell_phase(out, world, &phase, actors)
+}
+
+// An item, with its lines.
+fn run_item<K: Sink>(out: &mut Output<'_, K>, world: &mut World, item: &Item) -> Result<(), Stop>
+    requires may { MayStand world.old.pages (item.now ∷ []) }
+    requires rest { IsAtRest world.old.pages world.old.noted.items world.old.row.cells }
+    ensures item { ItemsTold (disk_of world.old) (item.now ∷ []) (disk_of world.new)
+        out.old out.new result }
+    ensures rest { OnOk result
+        (IsAtRest world.new.pages world.new.noted.items world.new.row.cells) }
 {
     match item {
         Item::Attr(attr) => {
             set_attr(world, *attr)?;
-            Ok(false)
+            Ok(())
         }
-        Item::Phase(phase) => {
-            let actors = phase.actors.as_slice();
-            let schedule = phase.schedule.as_slice();
-            run_phase(out, buffer, alloc, world, actors, schedule)
-        }
+        Item::Phase(text) => run_phase(out, world, text),
     }
 }
 
-/// The items of a job, with their lines; whether something was refused.
+/// The items of a job, with their lines, from the world without pages on.
 pub(crate) fn run_items<K: Sink>(
-    out: &mut K,
-    buffer: &mut Vec<u8>,
+    out: &mut Output<'_, K>,
     alloc: Global,
     job: &[Item],
-) -> Result<bool, Stop>
-    requires { MayStandAll 0 job.now }
-    ensures job { IfOk result (λ refused. JobTold job.now (K.written out.old) (K.written out.new) buffer.old.items buffer.new.items refused) }
-    ensures later { K.fault_count out.old ≤ K.fault_count out.new }
-    ensures cause { IfErr result (StopCause (K.fault_count out.old) (K.fault_count out.new) (K.has_stopped out.new)) }
+) -> Result<(), Stop>
+    requires { MayFollow nothing_used job.now }
+    ensures { (last : Disk) × ItemsTold without_pages job.now last out.old out.new result }
 {
     let mut world = World::new(alloc);
-    let mut refused = false;
     for item in job {
-        let this_one = run_item(out, buffer, alloc, &mut world, item)?;
-        refused = refused | this_one;
+        run_item(out, &mut world, item)?;
     }
-    Ok(refused)
+    Ok(())
 }

@@ -1,15 +1,30 @@
-//! The top call of `zramsim`.
+//! The top call of `zramsim`, and the exit statuses.
+//!
+//! | Status | What came of the run | What was written |
+//! |---|---|---|
+//! | 0 `Done` | the job was read to its end and carried out | the text of lines that it may print |
+//! | 1 `Refused` | the same, but some operation was refused | the same; some line tells of it |
+//! | 2 `Words` | the words aren't the one word `run`; nothing is read | the usage line |
+//! | 3 `Job` | the text is no job, or too long for one | the line of its first fault |
+//! | 4 `ReadFault` | the source failed | nothing |
+//! | 5 `WriteFault` | the sink failed, or took nothing | a beginning of what 0 to 3 would write |
+//! | 6 `NoMemory` | there was no memory left | nothing, or a beginning of what 0 or 1 would write |
+//!
+//! Of the lines at 0 and 1 the contract says two facts. They are *legal*: by each page's order,
+//! each read tells what the plain disk holds (`Legal`), which can be checked without knowing of
+//! locks and turns. They are *stepped*: the machine prints them where each phase makes the turns of
+//! its schedule, and then rounds (`Stepped`, `AreOwn`).
 
-ghost use Rattle.std.specs.Prelude.{◌≡◌, ◌⊎◌, ℕ, ◌≤◌, ◌<◌, Bool, true, false, IsTrue, ◌↔◌, List, [], IfOk, IfErr};
+ghost use Rattle.std.specs.Prelude.{◌≡◌, ◌⊎◌, ◌<◌, false, true, IsTrue, ◌↔◌, [], Ok, IfOk, OnOk, OnErr, IfErr};
 ghost use Rattle.std.specs.Io.KnownBytes.{Appends};
-ghost use Rattle.job_text.specs.declared.job.Item.{Item as JobItem};
-ghost use Rattle.job_text.specs.Jobs.{IsJob, MayFollow, nothing_used};
-ghost use Rattle.job_session.specs.Causes.{WriteCause, StopCause, IsRunWord, IsRefusal, IsRefused};
-ghost use Rattle.job_session.specs.Runs.{IsRun, IsWritten, IsTextRun};
+ghost use Rattle.job_text.specs.Jobs.{MayFollow, nothing_used};
+ghost use Rattle.job_session.specs.Runs.{status_number, WriteCause, BeginsWith, IsRunWord, IsWritten, IsRun, IsCut, IsCutRun, IsRefused};
+ghost use Rattle.job_session.specs.Telling.{StopCause, LineStops, TextEnds, TextStops, stop_status};
 ghost use Rattle.job_session.specs.Texts.{usage_text, fault_text};
 
 use crate::io::{read_all, send};
 use crate::laws::jobs_are_legal;
+use crate::output::Output;
 use crate::print::put_fault;
 use crate::session::run_items;
 use crate::stop::{NoText, Stop};
@@ -25,7 +40,7 @@ const TOO_LONG: JobFault = JobFault {
     cause: Cause::TooMany,
 };
 
-/// How a run ended: the exit status of the program.
+/// How a run ended.
 #[derive(Clone, Copy, PartialEq, Eq, Debug)]
 pub enum Status {
     /// The job was carried out.
@@ -40,8 +55,35 @@ pub enum Status {
     ReadFault,
     /// The sink failed, or took nothing of some bytes.
     WriteFault,
-    /// Memory was wanting.
+    /// There was no memory left.
     NoMemory,
+}
+
+impl Status {
+    /// The exit status of the program, 0 to 6.
+    pub fn number(self) -> u8
+        ensures number { result ≡ status_number self }
+    {
+        match self {
+            Status::Done => 0,
+            Status::Refused => 1,
+            Status::Words => 2,
+            Status::Job => 3,
+            Status::ReadFault => 4,
+            Status::WriteFault => 5,
+            Status::NoMemory => 6,
+        }
+    }
+}
+
+// The status of a run that was given up.
+fn stopped(stop: Stop) -> Status
+    ensures { result ≡ stop_status stop }
+{
+    match stop {
+        Stop::Memory => Status::NoMemory,
+        Stop::Write => Status::WriteFault,
+    }
 }
 
 fn is_run(words: &[&str]) -> bool
@@ -54,58 +96,66 @@ fn is_run(words: &[&str]) -> bool
 }
 
 // Runs a lawful job: whether something was refused.
-fn run_all<K: Sink>(alloc: Global, out: &mut K, job: &[Item]) -> Result<bool, Stop>
+fn run_all<K: Sink>(alloc: Global, sink: &mut K, job: &[Item]) -> Result<bool, Stop>
     requires { MayFollow nothing_used job.now }
-    ensures written { IfOk result (λ refused. IsWritten job.now (K.written out.old) (K.written out.new) refused) }
-    ensures cause { IfErr result (StopCause (K.fault_count out.old) (K.fault_count out.new) (K.has_stopped out.new)) }
+    ensures written { IfOk result
+        (IsWritten job.now (Appends (K.written sink.old) (K.written sink.new))) }
+    ensures cut { OnErr result
+        (IsCut job.now (BeginsWith (K.written sink.old) (K.written sink.new))) }
+    ensures cause { IfErr result
+        (StopCause (K.fault_count sink.old) (K.fault_count sink.new) (K.has_stopped sink.new)) }
 {
     jobs_are_legal();
-    let mut buffer = Vec::new(alloc);
-    let refused = run_items(out, &mut buffer, alloc, job)?;
-    send(out, &buffer)?;
+    let mut out = Output::new(alloc, sink);
+    let run = run_items(&mut out, alloc, job);
+    let Output {
+        sink,
+        buffer,
+        refused,
+        ..
+    } = out;
+    run?;
+    send(sink, &buffer)?;
     Ok(refused)
 }
 
 // Writes the line of a text that is no job.
-fn refuse<K: Sink>(alloc: Global, fault: JobFault, out: &mut K) -> Status
-    ensures job { result ≡ Status.Job → Appends (K.written out.old) (K.written out.new) (fault_text fault) }
-    ensures write { result ≡ Status.WriteFault → WriteCause (K.fault_count out.old) (K.fault_count out.new) (K.has_stopped out.new) }
-    ensures only { (result ≡ Status.Job) ⊎ (result ≡ Status.WriteFault) ⊎ (result ≡ Status.NoMemory) }
+fn refuse<K: Sink>(alloc: Global, fault: JobFault, sink: &mut K) -> Result<Status, Stop>
+    ensures status { IfOk result (λ status. status ≡ Status.Job) }
+    ensures told { OnOk result
+        (Appends (K.written sink.old) (K.written sink.new) (fault_text fault)) }
+    ensures cut { IfErr result
+        (LineStops (fault_text fault) (K.written sink.old) (K.written sink.new)) }
+    ensures cause { IfErr result
+        (StopCause (K.fault_count sink.old) (K.fault_count sink.new) (K.has_stopped sink.new)) }
 {
     let mut line = Vec::new(alloc);
-    if put_fault(&mut line, alloc, fault).is_err() {
-        return Status::NoMemory;
-    }
-    match send(out, &line) {
-        Ok(()) => Status::Job,
-        Err(Failed) => Status::WriteFault,
-    }
+    put_fault(&mut line, alloc, fault)?;
+    send(sink, &line)?;
+    Ok(Status::Job)
 }
 
-// Runs the job that a text is.
-fn run_text<K: Sink>(alloc: Global, text: &[u8], out: &mut K) -> Status
-    ensures done { result ≡ Status.Done → IsTextRun text.now (K.written out.old) (K.written out.new) false }
-    ensures refused { result ≡ Status.Refused → IsTextRun text.now (K.written out.old) (K.written out.new) true }
-    ensures job { result ≡ Status.Job → IsRefusal text.now (K.written out.old) (K.written out.new) }
-    ensures write { result ≡ Status.WriteFault → WriteCause (K.fault_count out.old) (K.fault_count out.new) (K.has_stopped out.new) }
-    ensures words { result ≡ Status.Words → ⊥ }
-    ensures read { result ≡ Status.ReadFault → ⊥ }
+// Runs the job that a text is, or writes the line of its fault.
+fn run_text<K: Sink>(alloc: Global, text: &[u8], sink: &mut K) -> Result<Status, Stop>
+    ensures ends { IfOk result (TextEnds text.now (K.written sink.old) (K.written sink.new)) }
+    ensures cut { IfErr result (TextStops text.now (K.written sink.old) (K.written sink.new)) }
+    ensures cause { IfErr result
+        (StopCause (K.fault_count sink.old) (K.fault_count sink.new) (K.has_stopped sink.new)) }
 {
     let job = match read_job(alloc, text) {
         Ok(job) => job,
-        Err(ReadFault::Bad(fault)) => return refuse(alloc, fault, out),
-        Err(ReadFault::Memory(_)) => return Status::NoMemory,
+        Err(ReadFault::Bad(fault)) => return refuse(alloc, fault, sink),
+        Err(ReadFault::Memory(_)) => return Err(Stop::Memory),
     };
-    match run_all(alloc, out, job.as_slice()) {
-        Ok(false) => Status::Done,
-        Ok(true) => Status::Refused,
-        Err(Stop::Write) => Status::WriteFault,
-        Err(Stop::Memory) => Status::NoMemory,
+    match run_all(alloc, sink, job.as_slice())? {
+        false => Ok(Status::Done),
+        true => Ok(Status::Refused),
     }
 }
 
-/// Does all that `zramsim` does: it takes the words of the command line behind the program's name, reads a job from
-/// `job`, runs it and writes its output to `out`. It returns for every source and sink.
+/// Does all that `zramsim` does: it takes the words of the command line after the program's name,
+/// reads a job from `job`, runs it and writes its output to `out`. It returns for every source and
+/// sink.
 ///
 /// A job's text has at most 16,777,216 bytes; source and sink are asked for at most 64 KiB at once.
 pub fn sim_main<S: Source, K: Sink>(
@@ -117,19 +167,44 @@ pub fn sim_main<S: Source, K: Sink>(
     requires { K.has_stopped out.old ≡ false }
 
     // The job was read to its end, and what it may print was written.
-    ensures done { result ≡ Status.Done → IsRunWord words.now × IsRun (S.left job.old) (S.left job.new) (K.written out.old) (K.written out.new) false }
-    ensures refused { result ≡ Status.Refused → IsRunWord words.now × IsRun (S.left job.old) (S.left job.new) (K.written out.old) (K.written out.new) true }
+    ensures done { result ≡ Status.Done → IsRunWord words.now
+        × IsRun (S.left job.old) (S.left job.new)
+        (Appends (K.written out.old) (K.written out.new)) false }
+    ensures refused { result ≡ Status.Refused → IsRunWord words.now
+        × IsRun (S.left job.old) (S.left job.new)
+        (Appends (K.written out.old) (K.written out.new)) true }
 
     // Any other words are answered by the usage line alone, and nothing is read.
-    ensures words { result ≡ Status.Words → ¬ IsRunWord words.now × Appends (K.written out.old) (K.written out.new) usage_text }
-    ensures other_words { ¬ IsRunWord words.now → (job.new ≡ job.old) × (result ≡ Status.Words ⊎ result ≡ Status.WriteFault) }
+    ensures words { result ≡ Status.Words → ¬ IsRunWord words.now
+        × Appends (K.written out.old) (K.written out.new) usage_text }
+    ensures other_words { ¬ IsRunWord words.now
+        → (job.new ≡ job.old) × (result ≡ Status.Words ⊎ result ≡ Status.WriteFault) }
 
     // A text that is no job, or too long for one, is answered by the one line of its first fault.
-    ensures job { result ≡ Status.Job → IsRunWord words.now × IsRefused (S.left job.old) (S.left job.new) (K.written out.old) (K.written out.new) }
+    ensures job { result ≡ Status.Job → IsRunWord words.now
+        × IsRefused (S.left job.old) (S.left job.new)
+        (Appends (K.written out.old) (K.written out.new)) }
 
-    // A fault is told only where the source failed, or the sink failed or stopped.
-    ensures read { result ≡ Status.ReadFault → IsRunWord words.now × (S.fault_count job.old < S.fault_count job.new) × Appends (K.written out.old) (K.written out.new) [] }
-    ensures write { result ≡ Status.WriteFault → WriteCause (K.fault_count out.old) (K.fault_count out.new) (K.has_stopped out.new) }
+    // A fault is answered only where the source failed, or the sink failed or stopped.
+    ensures read { result ≡ Status.ReadFault → IsRunWord words.now
+        × (S.fault_count job.old < S.fault_count job.new)
+        × Appends (K.written out.old) (K.written out.new) [] }
+    ensures write { result ≡ Status.WriteFault
+        → WriteCause (K.fault_count out.old) (K.fault_count out.new) (K.has_stopped out.new) }
+
+    // What was written then is a beginning of the usage line, of the line of the first fault, or of
+    // an output that the job may print, cut after the item in work.
+    ensures cut_write { result ≡ Status.WriteFault
+        → (¬ IsRunWord words.now × BeginsWith (K.written out.old) (K.written out.new) usage_text)
+        ⊎ (IsRunWord words.now
+        × (IsRefused (S.left job.old) (S.left job.new)
+        (BeginsWith (K.written out.old) (K.written out.new))
+        ⊎ IsCutRun (S.left job.old) (S.left job.new)
+        (BeginsWith (K.written out.old) (K.written out.new)))) }
+    ensures cut_memory { result ≡ Status.NoMemory → IsRunWord words.now
+        × (Appends (K.written out.old) (K.written out.new) []
+        ⊎ IsCutRun (S.left job.old) (S.left job.new)
+        (BeginsWith (K.written out.old) (K.written out.new))) }
 {
     if !is_run(words) {
         return match send(out, USAGE) {
@@ -137,10 +212,14 @@ pub fn sim_main<S: Source, K: Sink>(
             Err(Failed) => Status::WriteFault,
         };
     }
-    match read_all(alloc, job) {
+    let run = match read_all(alloc, job) {
         Ok(text) => run_text(alloc, &text, out),
         Err(NoText::Long) => refuse(alloc, TOO_LONG, out),
-        Err(NoText::Failed) => Status::ReadFault,
-        Err(NoText::Memory) => Status::NoMemory,
+        Err(NoText::Failed) => return Status::ReadFault,
+        Err(NoText::Memory) => return Status::NoMemory,
+    };
+    match run {
+        Ok(status) => status,
+        Err(stop) => stopped(stop),
     }
 }

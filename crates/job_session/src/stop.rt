@@ -6,7 +6,7 @@ use zr_base::Failed;
 /// Why a call that writes was given up.
 #[derive(Clone, Copy, PartialEq, Eq, Debug)]
 pub(crate) enum Stop {
-    /// Memory was wanting.
+    /// There was no memory left.
     Memory,
     /// The sink failed, or took nothing of some bytes.
     Write,
@@ -37,7 +37,7 @@ impl From<Failed> for Stop {
 /// Why no text of a job was read.
 #[derive(Clone, Copy, PartialEq, Eq, Debug)]
 pub(crate) enum NoText {
-    /// Memory was wanting.
+    /// There was no memory left.
     Memory,
     /// The source failed.
     Failed,

@@ -47,7 +47,8 @@ fn runs_jobs(rt: HostRuntime) -> Result<(), Fail> {
     Ok(())
 }
 
-// One page, written by one actor and read by another, with these lines between their operations and the `run`.
+// One page, written by one actor and read by another, with these lines between their operations and
+// the `run`.
 const WRITTEN: &str = "op 0 0 ok\nop 1 0 ok\nfill 0000000000000001\norder 0 0:0 1:0\n";
 
 const ZEROS: &str = "op 0 0 ok\nop 1 0 ok\nfill 0000000000000000\norder 0 1:0 0:0\n";

@@ -1,6 +1,10 @@
 //! `zramsim run` reads a job from standard input, runs it and writes its output to standard output.
-//! The exit status is that of the top call; where no memory is found for the words, it is 6.
+//! The exit status is the number of the top call's status; where no memory is found for the words, it is 6.
 #![tactic(auto)]
+
+ghost use Rattle.std.specs.Prelude.{◌≡◌};
+ghost use Rattle.std.specs.Process.{exit_status};
+ghost use Rattle.job_session.specs.Runs.{status_number};
 
 use job_session::{Status, sim_main};
 use std::process::ExitCode;
@@ -21,7 +25,12 @@ fn run(rt: &HostRuntime) -> io::Result<Status> {
     Ok(sim_main(rt.alloc(), &words, &mut job, &mut out))
 }
 
+fn exit_code(status: Status) -> ExitCode
+    ensures { exit_status result ≡ status_number status }
+{
+    ExitCode::from(status.number())
+}
+
 fn main(rt: HostRuntime) -> ExitCode {
-    let status = run(&rt).unwrap_or(Status::NoMemory);
-    ExitCode::from(status as u8)
+    exit_code(run(&rt).unwrap_or(Status::NoMemory))
 }

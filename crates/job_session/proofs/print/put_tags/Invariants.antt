@@ -4,4 +4,5 @@ use Rattle.job_session.specs.Texts.{tag_text}
 use Rattle.job_session.proofs.print.put_tags.Given as goal
 
 abbrev pub invariant-loop-tag : goal.invariant-loop-tag
-invariant-loop-tag l = l.out.items ++ flat_map tag_text (drop l.tag-index l.tags) ≡ l.fn.out.items ++ flat_map tag_text l.tags
+invariant-loop-tag l = l.out.items ++ flat_map tag_text (drop l.tag-index l.tags)
+    ≡ l.fn.out.items ++ flat_map tag_text l.tags

@@ -1,10 +1,63 @@
-use Rattle.std.proofs.Common.{◌≡◌, ℕ, ◌+◌, ◌||◌, List, [], ◌∷◌, ◌++◌, take, drop, sym, ap, ◌∙◌, subst, arith}
-use Rattle.std.proofs.lemmas.List.{take_more, drop_more}
+use Rattle.std.proofs.Common.{◌≡◌, ℕ, ◌+◌, ◌<◌, List, [], ◌∷◌, ◌++◌, length, get_or, take, drop, Ok, Err, sym, ap, ◌∙◌, subst, append_assoc}
+use Rattle.std.proofs.lemmas.List.{take-append-drop, take_more, drop_more}
+use Rattle.std.proofs.lemmas.Result.{err_from_is_err_and}
 use Rattle.job_text.specs.declared.job.Item.{Item}
-use Rattle.job_session.specs.Stepped.{disk_of, without_pages}
-use Rattle.job_session.specs.Runs.{ItemsTold, MayStandAll}
-use Rattle.job_session.proofs.Jobs.{items_append}
+use Rattle.job_text.specs.Jobs.{nothing_used}
+use Rattle.job_session.specs.Stepped.{Disk, disk_of, without_pages}
+use Rattle.job_session.specs.Telling.{MayStand, ItemsTold}
+use Rattle.job_session.proofs.Jobs.{items_none, items_more, items_cut, phase_size}
+use Rattle.job_session.proofs.Lawful.{stand_first, stand_on}
 use Rattle.job_session.proofs.session.run_items.Goals as goal
+
+pub loop-item-init : goal.loop-item-init
+loop-item-init g c = record {
+  told = subst (λ (x : Disk). ItemsTold without_pages [] x c.args.out.now c.args.out.now (Ok tt))
+      (λ i. record {
+        size = sym c.new-world.ensures.pages i;
+        row = sym c.new-world.ensures.cells i;
+      })
+      (items_none without_pages c.args.out.now);
+  may = record { used = nothing_used; bare = λ bare. c.new-world.ensures.pages; may = c.requires };
+  rest = c.new-world.ensures.rest;
+}
+
+-- an item of a job, and what is left of it
+left_at : (job : List Item) (at : ℕ) (item : Item) → at < length job → item ≡ get_or job at item
+    → drop at job ≡ item ∷ drop (at + 1) job
+left_at job at item lt is = drop_more job at item lt
+    ∙ ap (λ (x : Item). x ∷ drop (at + 1) job) (sym is)
+
+pub run_item-requires-clause-may : goal.run_item-requires-clause-may
+run_item-requires-clause-may g c =
+    stand_first c.loop-item.world.pages c.item-item.result
+    (drop (c.loop-item.item-index + 1) c.args.job.now)
+    (subst (MayStand c.loop-item.world.pages)
+    (left_at c.args.job.now c.loop-item.item-index c.item-item.result c.loop-item-test.true
+    c.item-item.is)
+    c.loop-item.invariant.may)
+
+pub returns-in_err-run_item : goal.returns-in_err-run_item
+returns-in_err-run_item g c =
+    let at : ℕ = c.loop-item.item-index in
+    let item : Item = c.item-item.result in
+    let front : List Item = take at c.args.job.now in
+    let back : List Item = drop (at + 1) c.args.job.now in
+    let d : Disk = disk_of c.loop-item.world in
+    let n : Disk = disk_of c.run_item.new.world in
+    let whole : front ++ item ∷ [] ++ back ≡ c.args.job.now =
+    append_assoc front (item ∷ []) back
+    ∙ ap (λ (xs : List Item). front ++ xs)
+    (sym (left_at c.args.job.now at item c.loop-item-test.true c.item-item.is))
+    ∙ take-append-drop at c.args.job.now in
+    let p = err_from_is_err_and c.from_residual.result c.from_residual.ensures.1 in
+    rw (p.1, p.2) (
+      n,
+      subst (λ (xs : List Item). ItemsTold without_pages xs n c.args.out.now c.run_item.new.out
+          (Err c.in_err-run_item.field-0.0)) whole
+          (items_cut (front ++ item ∷ []) back without_pages n n _ _ _
+          (items_more front (item ∷ []) without_pages d n _ _ _ _ c.loop-item.invariant.told
+          c.in_err-run_item.ensures.item)),
+    )
 
 pub loop-item-preserved : goal.loop-item-preserved
 loop-item-preserved g c =
@@ -12,20 +65,18 @@ loop-item-preserved g c =
     let item : Item = c.item-item.result in
     let front : List Item = take at c.args.job.now in
     let back : List Item = drop (at + 1) c.args.job.now in
+    let d : Disk = disk_of c.loop-item.world in
+    let n : Disk = disk_of c.run_item.new.world in
     let taken : take (at + 1) c.args.job.now ≡ front ++ item ∷ [] =
     take_more c.args.job.now at item c.loop-item-test.true
     ∙ ap (λ (x : Item). front ++ x ∷ []) (sym c.item-item.is) in
-    let left : drop at c.args.job.now ≡ item ∷ back =
-    drop_more c.args.job.now at item c.loop-item-test.true ∙ ap (λ (x : Item). x ∷ back) (sym c.item-item.is) in
-    let may : MayStandAll c.loop-item.world.pages (item ∷ back) = subst (MayStandAll c.loop-item.world.pages) left c.loop-item.invariant.may in
-    let P : List Item
-    → Type 0 = λ xs. ItemsTold without_pages xs (disk_of c.run_item.new.world) (g.K.Sink.written c.args.out.now) (g.K.Sink.written c.run_item.new.out)
-    c.args.buffer.now.items c.run_item.new.buffer.items (c.loop-item.refused || c.in_ok-this_one.this_one) in
+    let left = left_at c.args.job.now at item c.loop-item-test.true c.item-item.is in
     record {
-      told = subst P (sym taken)
-          (items_append front (item ∷ []) without_pages (disk_of c.loop-item.world) (disk_of c.run_item.new.world) _ _ _ _ _ _ c.loop-item.refused c.in_ok-this_one.this_one
-          c.loop-item.invariant.told c.in_ok-this_one.ensures.item);
-      may = subst (λ (pages : ℕ). MayStandAll pages back) (sym c.in_ok-this_one.ensures.pages) may.1;
-      rest = c.in_ok-this_one.ensures.rest;
-      later = omega (arith, c.loop-item.invariant.later, c.run_item.ensures.later);
+      told = subst (λ (xs : List Item). ItemsTold without_pages xs n c.args.out.now
+          c.run_item.new.out (Ok tt)) (sym taken)
+          (items_more front (item ∷ []) without_pages d n _ _ _ _ c.loop-item.invariant.told
+          c.in_ok-run_item.ensures.item);
+      may = stand_on d.size n.size item back (phase_size d n item _ _ c.in_ok-run_item.ensures.item)
+          (subst (MayStand c.loop-item.world.pages) left c.loop-item.invariant.may);
+      rest = c.in_ok-run_item.ensures.rest;
     }

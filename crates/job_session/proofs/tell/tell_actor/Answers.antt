@@ -1,38 +1,43 @@
-use Rattle.std.proofs.Common.{◌≡◌, ℕ, ◌+◌, ◌<◌, ◌≤◌, Bool, ◌||◌, List, [], length, get_or, drop, Option, Some, slice_get, ◌∙◌, arith}
-use Rattle.zr_base.specs.declared.op.OpEnd.{OpEnd}
-use Rattle.plain_disk.specs.Output.{op_lines, actor_lines}
-use Rattle.zr_core.specs.States.{ends_shown, sectors_shown, of_op}
-use Rattle.job_session.specs.Runs.{LinesTold}
-use Rattle.job_session.proofs.Lines.{next_op, of_op_is}
-use Rattle.job_session.proofs.Shown.{op_there, there_is}
-use Rattle.job_session.proofs.Telling.{LinesSoFar, LinesSoFar-more, LinesSoFar-start}
+use Rattle.std.proofs.Common.{arith}
+use Rattle.zr_core.specs.States.{ends_shown, sectors_shown}
+use Rattle.job_session.proofs.Lines.{next_op, no_op}
+use Rattle.job_session.proofs.Shown.{op_there}
+use Rattle.std.proofs.lemmas.Result.{err_from_is_err_and}
+use Rattle.job_session.proofs.Sending.{SoFar-start, SoFar-more, SoFar-cut, SoFar-all}
 use Rattle.job_session.proofs.tell.tell_actor.Goals as goal
 
 pub loop-op-init : goal.loop-op-init
-loop-op-init g c = LinesSoFar-start _ _ _ _
+loop-op-init g c = SoFar-start _ _
 
-pub tell_end-requires-clause-end : goal.tell_end-requires-clause-end
-tell_end-requires-clause-end g c = op_there (ends_shown c.args.phase.now.workers.items) c.args.actor c.loop-op.op (omega (arith, c.loop-op-test.true, c.requires.ends))
+pub end-end-requires-clause-there : goal.end-end-requires-clause-there
+end-end-requires-clause-there g c =
+    op_there (ends_shown c.args.phase.now.workers.items) c.args.actor c.loop-op.op
+    (omega (arith, c.loop-op-test.true, c.requires.ends))
 
-pub tell_end-requires-clause-sectors : goal.tell_end-requires-clause-sectors
-tell_end-requires-clause-sectors g c = op_there (sectors_shown c.args.phase.now.workers.items) c.args.actor c.loop-op.op (omega (arith, c.loop-op-test.true, c.requires.sectors))
+pub sectors-requires-clause-there : goal.sectors-requires-clause-there
+sectors-requires-clause-there g c =
+    op_there (sectors_shown c.args.phase.now.workers.items) c.args.actor c.loop-op.op
+    (omega (arith, c.loop-op-test.true, c.requires.sectors))
 
--- one more operation, where what was told of it is told of its end and its sectors, whatever they are
-told_op : (actor op : ℕ) (ends : List (List OpEnd)) (sectors : List (List (List (List ℕ)))) (u v w : Option (List ℕ)) (m n o : ℕ) (a b c : List ℕ) (r s : Bool)
-    → op < length (get_or ends actor []) → op < length (get_or sectors actor [])
-    → LinesSoFar u v m n a b r (actor_lines actor op (drop op (get_or ends actor [])) (drop op (get_or sectors actor []))) (actor_lines actor 0 (get_or ends actor []) (get_or sectors actor []))
-    → ((end : OpEnd) (got : List (List ℕ)) → of_op ends actor op ≡ Some end → of_op sectors actor op ≡ Some got
-    → LinesTold v w b c s (op_lines (record { actor = actor; op = op }) end got)) → n ≤ o
-    → LinesSoFar u w m o a c (r || s) (actor_lines actor (op + 1) (drop (op + 1) (get_or ends actor [])) (drop (op + 1) (get_or sectors actor [])))
-    (actor_lines actor 0 (get_or ends actor []) (get_or sectors actor []))
-told_op actor op ends sectors u v w m n o a b c r s e g so_far told later =
-    let end : (x : OpEnd) × (slice_get (get_or ends actor []) op ≡ Some x) = there_is (get_or ends actor []) op e in
-    let got : (x : List (List ℕ)) × (slice_get (get_or sectors actor []) op ≡ Some x) = there_is (get_or sectors actor []) op g in
-    LinesSoFar-more u v w m n o a b c r s _ _ _ _ so_far (next_op actor op (get_or ends actor []) (get_or sectors actor []) end.0 got.0 end.1 got.1)
-    (told end.0 got.0 (of_op_is ends actor op ∙ end.1) (of_op_is sectors actor op ∙ got.1)) later
+pub sectors-requires-clause-over : goal.sectors-requires-clause-over
+sectors-requires-clause-over g c = c.requires.over c.loop-op.op c.loop-op-test.true
+
+pub returns-in_err-tell_op : goal.returns-in_err-tell_op
+returns-in_err-tell_op g c =
+    let p = err_from_is_err_and c.from_residual.result c.from_residual.ensures.1 in
+    rw (p.1, p.2) (SoFar-cut _ _ _ _ _ c.loop-op.invariant _ _ _
+    (next_op (ends_shown c.args.phase.now.workers.items)
+    (sectors_shown c.args.phase.now.workers.items)
+    c.args.actor c.loop-op.op _ _ c.end-end.ensures.end c.sectors.ensures.sectors)
+    c.in_err-tell_op.ensures)
 
 pub loop-op-preserved : goal.loop-op-preserved
-loop-op-preserved g c =
-    told_op c.args.actor c.loop-op.op (ends_shown c.args.phase.now.workers.items) (sectors_shown c.args.phase.now.workers.items) _ _ _ _ _ _ _ _ _ _ _
-    (omega (arith, c.loop-op-test.true, c.requires.ends)) (omega (arith, c.loop-op-test.true, c.requires.sectors))
-    c.loop-op.invariant c.in_ok-this_one.ensures.told c.tell_end.ensures.later
+loop-op-preserved g c = SoFar-more _ _ _ _ _ c.loop-op.invariant _ _
+    (next_op (ends_shown c.args.phase.now.workers.items)
+    (sectors_shown c.args.phase.now.workers.items)
+    c.args.actor c.loop-op.op _ _ c.end-end.ensures.end c.sectors.ensures.sectors)
+    c.in_ok-tell_op.ensures
+
+pub returns : goal.returns
+returns g c = SoFar-all _ _ _ _ c.loop-op.invariant
+    (no_op c.args.actor c.loop-op.op _ _ (omega (arith, c.loop-op-test.false, c.requires.ends)))

@@ -1,0 +1,42 @@
+use Rattle.std.proofs.Common.{◌≡◌, ℕ, ◌<◌, List, length, Some, slice_get, refl, sym, ◌∙◌, subst}
+use Rattle.std.proofs.lemmas.Result.{err_from_is_err_and}
+use Rattle.zr_base.specs.declared.op.Op.{Op}
+use Rattle.zr_base.specs.declared.op.Turns.{Turns}
+use Rattle.zr_core.specs.Places.{IsWork}
+use Rattle.zr_core.specs.States.{given_on}
+use Rattle.job_session.specs.Stepped.{disk_of}
+use Rattle.job_session.proofs.Jobs.{items_stop, phase_told}
+use Rattle.job_session.proofs.Lawful.{work_by, named}
+use Rattle.job_session.proofs.session.run_phase.Goals as goal
+
+pub prepare-requires-clause-work : goal.prepare-requires-clause-work
+prepare-requires-clause-work g c =
+    let may = c.requires.may.may.0 in
+    subst IsWork (sym c.as_slice-actors.ensures)
+    (work_by _ c.args.text.now.actors may.few_actors may.may_act)
+
+pub returns-in_err-phase-clause-item : goal.returns-in_err-phase-clause-item
+returns-in_err-phase-clause-item g c =
+    let p = err_from_is_err_and c.from_residual.result c.from_residual.ensures.1 in
+    rw (p.1, p.2) (items_stop (disk_of c.args.world.now)
+    (disk_of c.prepare.new.self) _ c.args.out.now _ tt)
+
+pub run-requires-clause-actors : goal.run-requires-clause-actors
+run-requires-clause-actors g c =
+    let P : List (List Op) × List Turns → Type 0 = λ x. (k : ℕ) (t : Turns)
+    → slice_get x.1 k ≡ Some t → t.actor < length x.0 in
+    subst P (λ i. (sym c.as_slice-actors.ensures i, sym c.as_slice-schedule.ensures i))
+    (named (length c.args.text.now.actors) c.args.text.now.schedule
+    c.requires.may.may.0.may_turn)
+
+pub returns-clause-item : goal.returns-clause-item
+returns-clause-item g c =
+    let d = disk_of c.args.world.now in
+    let steps = c.run.ensures.steps (given_on d.size c.as_slice-actors.result.now d.row)
+    (sym c.in_ok-phase.ensures.pages) refl c.in_ok-phase.ensures.start in
+    phase_told d (disk_of c.run.new.self) c.args.text.now c.as_slice-actors.result.now
+    c.as_slice-schedule.result.now
+    _ _ c.args.out.now c.tell_phase.new.out c.tell_phase.result
+    c.as_slice-actors.ensures c.as_slice-schedule.ensures (c.run.ensures.pages
+    ∙ c.in_ok-phase.ensures.pages)
+    (steps.0, refl) steps.1 c.tell_phase.ensures

@@ -1,0 +1,109 @@
+-- How a job's lines are told: sent to a sink, or left waiting in the buffer before it.
+use Rattle.std.specs.Prelude.{◌≡◌, ◌⊎◌, ◌≤◌, ◌<◌, ℕ, Bool, true, false, ◌||◌, List, [], ◌++◌, length, Option, Result, OnOk, IfErr, ⊤}
+use Rattle.std.specs.Io.KnownBytes.{Appends, Consumes}
+use Rattle.plain_disk.specs.Output.{OutLine, any_refusal}
+use Rattle.job_text.specs.declared.job.Item.{Item}
+use Rattle.job_text.specs.declared.limits.TheConstants.{MOST_BYTES}
+use Rattle.job_text.specs.Jobs.{Used, MayFollow}
+use Rattle.job_session.specs.declared.sim.Status.{Status}
+use Rattle.job_session.specs.declared.sim.Status.TheVariants as statuses
+use Rattle.job_session.specs.declared.stop.Stop.{Stop}
+use Rattle.job_session.specs.declared.stop.Stop.TheVariants as stops
+use Rattle.job_session.specs.declared.stop.NoText.{NoText}
+use Rattle.job_session.specs.declared.stop.NoText.TheVariants as no
+use Rattle.job_session.specs.Runs.{BeginsWith, WriteCause, IsTextRun, IsNoJob, IsTextCut}
+use Rattle.job_session.specs.Stepped.{Disk, Stepped, AreOwn}
+use Rattle.job_session.specs.Texts.{text}
+
+-- ---- why a call was given up
+
+-- why a call that only writes was given up
+abbrev pub StopCause : ℕ → ℕ → Bool → Stop → Type 0
+StopCause before now stopped stops.Memory = ⊤
+StopCause before now stopped stops.Write = WriteCause before now stopped
+
+-- more bytes were read than a job has at most
+abbrev pub IsLong : Option (List ℕ) → Option (List ℕ) → Type 0
+IsLong before after = (bytes : List ℕ) × Consumes before after bytes × (MOST_BYTES < length bytes)
+
+-- why no text was read
+abbrev pub ReadCause : Option (List ℕ) → Option (List ℕ) → ℕ → ℕ → NoText → Type 0
+ReadCause left left_after before now no.Memory = ⊤
+ReadCause left left_after before now no.Failed = before < now
+ReadCause left left_after before now no.Long = IsLong left left_after
+
+-- ---- an output
+
+-- An output in the making: what the sink was given, where it tells that; the bytes that wait before
+-- it; whether some line said that something was refused; how often the sink has failed; whether it
+-- has stopped; the loan by which it is held.
+pub record OutputState : Type 0 where
+  pub sent : Option (List ℕ)
+  pub waits : List ℕ
+  pub refused : Bool
+  pub faults : ℕ
+  pub stopped : Bool
+  pub loan : ℕ
+
+-- These lines were told: what waited and their text were sent in part, and all but what waits now
+-- where nothing went wrong.
+pub record Tells (o m : OutputState) (r : Result (Unit {0}) Stop)
+    (lines : List OutLine) : Type 0 where
+  pub sends : BeginsWith o.sent m.sent (o.waits ++ text lines)
+  pub whole : OnOk r ((sends.rest ≡ m.waits) × (m.refused ≡ (o.refused || any_refusal lines)))
+  pub loan : m.loan ≡ o.loan
+  pub later : o.faults ≤ m.faults
+  pub cause : IfErr r (StopCause o.faults m.faults m.stopped)
+
+-- ---- items
+
+-- items that may stand where the disk has so many pages
+pub record MayStand (pages : ℕ) (items : List Item) : Type 0 where
+  pub used : Used
+  pub bare : used.disk ≡ false → pages ≡ 0
+  pub may : MayFollow used items
+
+-- Items were run one after the other by their own turns, on the disk d, and their lines were told.
+-- Where nothing went wrong these are all items of the job, and the disk m is the one after them.
+pub record ItemsTold (d : Disk) (job : List Item) (m : Disk) (o p : OutputState)
+    (r : Result (Unit {0}) Stop) : Type 0 where
+  pub front : List Item
+  pub later : List Item
+  pub parts : job ≡ front ++ later
+  pub turns : List (List ℕ)
+  pub lines : List OutLine
+  pub last : Disk
+  pub stepped : Stepped d front turns lines last
+  pub own : AreOwn front turns
+  pub told : Tells o p r lines
+  pub whole : OnOk r ((later ≡ []) × (last ≡ m))
+
+-- ---- texts
+
+-- what came of a text that was run
+abbrev pub TextEnds : List ℕ → Option (List ℕ) → Option (List ℕ) → Status → Type 0
+TextEnds bytes before after statuses.Done = IsTextRun (Appends before after) false bytes
+TextEnds bytes before after statuses.Refused = IsTextRun (Appends before after) true bytes
+TextEnds bytes before after statuses.Words = ⊥
+TextEnds bytes before after statuses.Job = IsNoJob (Appends before after) bytes
+TextEnds bytes before after statuses.ReadFault = ⊥
+TextEnds bytes before after statuses.WriteFault = ⊥
+TextEnds bytes before after statuses.NoMemory = ⊥
+
+-- what was written of a line that was given up: nothing yet, or a beginning of it
+abbrev pub LineStops : List ℕ → Option (List ℕ) → Option (List ℕ) → Stop → Type 0
+LineStops line before after stops.Memory = Appends before after []
+LineStops line before after stops.Write = BeginsWith before after line
+
+-- what a text that was given up has written: nothing yet, a beginning of its job's output, or of
+-- the line of its fault
+abbrev pub TextStops : List ℕ → Option (List ℕ) → Option (List ℕ) → Stop → Type 0
+TextStops bytes before after stops.Memory = Appends before after []
+    ⊎ IsTextCut (BeginsWith before after) bytes
+TextStops bytes before after stops.Write =
+    IsNoJob (BeginsWith before after) bytes ⊎ IsTextCut (BeginsWith before after) bytes
+
+-- the status of a run that was given up
+abbrev pub stop_status : Stop → Status
+stop_status stops.Memory = statuses.NoMemory
+stop_status stops.Write = statuses.WriteFault
