@@ -425,10 +425,6 @@ RULES = [
     own_proofs_alone,
     short_lines,
     named_lemmas_are_there,
-]
-
-# Rules that the sources don't meet yet: `.ci/rules --all` tries them too.
-WAITING = [
     lemmas_are_cited,
     specs_have_no_lemmas,
     definitions_have_sentences,

@@ -38,7 +38,7 @@ fits B4D2 line = is_near (bound_of b4d2) (modulus_of b4d2) (values 4 16 line)
 fits B2D1 line = is_near (bound_of b2d1) (modulus_of b2d1) (values 2 32 line)
 fits Raw line = true
 
--- the codes behind B8D1 but the last, by size, and by number where sizes are equal
+-- the codes after B8D1 but the last, by size, and by number where sizes are equal
 abbrev pub wider : List Code
 wider = B4D1 ∷ B8D2 ∷ B4D2 ∷ B2D1 ∷ B8D4 ∷ []
 
