@@ -2,6 +2,7 @@
 import functools
 import os
 import re
+import subprocess
 from collections.abc import Iterator
 
 import contracts
@@ -84,6 +85,9 @@ def pages_are_renewed() -> Iterator[Breach]:
                 yield path, 1, "it differs from what it is made from: run .ci/made"
         except pages.Lost as lost:
             yield path, 1, str(lost)
+    for tool in pages.others():
+        if subprocess.run([files.at(tool), "--check"], cwd=files.TOP, capture_output=True).returncode != 0:
+            yield tool, 1, "its pages differ from what they are made from: run .ci/made"
 
 
 def crates_are_listed() -> Iterator[Breach]:
