@@ -195,11 +195,12 @@ def every_source() -> Iterator[tuple[str, str, list[str]]]:
 
 
 def own_proofs_alone() -> Iterator[Breach]:
-    """A crate cites no lemma of another crate, std's excepted."""
+    """A crate cites no lemma of another crate of the repository."""
+    ours = {crate.name for crate in files.crates()}
     for crate, path, lines in every_source():
         for number, line in enumerate(lines, 1):
             other = re.match(r"\s*(?:pub )?(?:ghost )?use Rattle\.(\w+)\.proofs\b", line)
-            if other and other.group(1) not in (crate, "std"):
+            if other and other.group(1) in ours - {crate}:
                 yield path, number, f"a lemma of {other.group(1)}: let a clause or a law of a public function say it"
 
 
@@ -210,6 +211,8 @@ def lemmas_are_cited() -> Iterator[Breach]:
         elsewhere = set().union(*(cited_elsewhere(crate.name, path) for path in paths))
         for path, first, last, name in lemmas_of(crate.name):
             own = words_of(path).get(name, [])
+            if "/TheSendSync/" in path:  # an answer, which the checker names
+                continue
             if (path, name) not in elsewhere and all(first <= number < last for number in own):
                 yield path, first, f"nothing cites the lemma {name}: delete it"
 

@@ -34,7 +34,7 @@ abbrev pub cells_of : Ptr → ℕ → List ℕ → ℕ → List CellState
 cells_of chain size bytes zero = []
 cells_of chain size bytes (suc n) = cells_of chain size bytes n ++ cell_of chain size bytes n ∷ []
 
--- the cells are those of the bytes, in some order, and the rest is what is behind them
+-- the cells are those of the bytes, in some order, and the rest is what is after them
 pub record AreCellsOf (c : CellsState) (bytes : List ℕ) : Type 0 where
   pub long : length bytes ≡ c.frames * 4096
   pub cells : IsPermutation c.cells (cells_of c.chain c.size bytes (per c.frames c.size))
@@ -84,7 +84,7 @@ pub record IsChain (base : Ptr) (frames : ℕ) (at : Ptr) (cs : List (Option ℕ
   pub deed : deed_at ≡ base
   pub deed_long : deed_len ≡ frames * 4096
 
--- the run behind the cells, and the right to free the chain
+-- the run after the cells, and the right to free the chain
 pub record IsCells (base : Ptr) (frames size here space : ℕ) (at : Ptr) (cs : List (Option ℕ))
     (deed_at : Ptr) (deed_len : ℕ) : Type 0 where
   pub block : InBlock base

@@ -1,6 +1,6 @@
 //! Bytes of a block by their address. What is unsafe in this crate is this file.
 //!
-//! A chain is one block, which is cut into the cells and the rest behind them:
+//! A chain is one block, which is cut into the cells and the rest after them:
 //!
 //! ```text
 //! base                                                            base + frames * 4096
@@ -10,7 +10,7 @@
 //! ```
 //!
 //! Each part of it is owned by a `Strip`, which takes no space: the holder keeps the `Base`, and
-//! knows how far behind it the strip begins. Two strips share no byte, since each owns its own. The
+//! knows how far after it the strip begins. Two strips share no byte, since each owns its own. The
 //! right to free the whole block is the `Deed`, and stays with whoever has the block whole or can
 //! make it whole again.
 
@@ -172,7 +172,7 @@ impl<T> Strip<T> {
         unsafe { slice::from_raw_parts_mut(base.ptr.add(from), len) }
     }
 
-    /// The first `count` places, and those behind them.
+    /// The first `count` places, and those after them.
     pub(crate) fn cut(self, count: usize) -> (Strip<T>, Strip<T>)
         requires { count ≤ length self.slots }
         ensures { (result.0.at ≡ self.at) × (result.0.slots ≡ take count self.slots)

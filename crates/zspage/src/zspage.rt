@@ -23,7 +23,7 @@ const USED: u32 = 0;
 const FREE: u32 = 1;
 
 /// A chain of frames cut into cells of one size. Its spots have the cells, and `emptied` what stays
-/// of the chain: the frames' bytes behind the last cell, the right to free them, and the room to
+/// of the chain: the frames' bytes after the last cell, the right to free them, and the room to
 /// join the cells.
 pub struct Zspage {
     id: u32,
