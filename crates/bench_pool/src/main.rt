@@ -153,7 +153,14 @@ fn main(rt: HostRuntime) -> io::Result<()> {
     let page = [7; 4096];
     let (stat, plans) = if 1 <= len && len <= 3256 {
         let mut pool = packed_pool(rt.alloc(), len);
-        let plans = run(&mut pool, &page[..len as usize], objects, rounds, times, fills)?;
+        let plans = run(
+            &mut pool,
+            &page[..len as usize],
+            objects,
+            rounds,
+            times,
+            fills,
+        )?;
         (pool.stat(), plans)
     } else {
         let mut pool = huge_pool(rt.alloc());

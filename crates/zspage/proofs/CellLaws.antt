@@ -1,12 +1,11 @@
 -- How one cell's change shows in the counts of used cells, in the ranks and in what contracts see.
-use Rattle.std.proofs.Common.{◌≡◌, ℕ, suc, ◌+◌, ◌<◌, ◌≤◌, ◌^◌, List, [], ◌∷◌, ◌++◌, Option, None, Some, true, false, cond, not, length, replicate, get_or, slice_index, refl, sym, ◌∙◌, ap, subst, inl, inr, arith, get_or-set_same, get_or-set_other}
+use Rattle.std.proofs.Common.{◌≡◌, ℕ, suc, ◌+◌, ◌<◌, ◌≤◌, ◌^◌, List, [], ◌∷◌, Option, None, Some, true, false, cond, not, length, replicate, get_or, slice_index, refl, sym, ◌∙◌, ap, subst, inl, inr, arith, get_or-set_same, get_or-set_other}
 use Rattle.std.specs.Prelude.{is_some, sum_by}
 use Rattle.std.specs.Ptr.{Ptr, null_ptr}
 use Rattle.std.proofs.Math.ListN.{set, length-set, get_or-eq_default}
-use Rattle.std.proofs.lemmas.List.{map-set, length-map, get_or-map, get_or_append_left, length-append, length-replicate, get_or-replicate, set-get_or, same_lists}
+use Rattle.std.proofs.lemmas.List.{map-set, length-map, get_or-map, length-replicate, get_or-replicate, set-get_or, same_lists}
 use Rattle.std.proofs.lemmas.List.Sums.{sum_by-set, sum_by-cons, get_or-le-sum_by, count_by-le-length}
 use Rattle.std.proofs.lemmas.List.Folds.{sum_by-replicate}
-use Rattle.std.proofs.Math.Seq.{get_or-append_seam}
 use Rattle.std.proofs.lemmas.Option.{slice_get-get_or, slice_get_within, get_or_from_slice_get}
 use Rattle.std.proofs.lemmas.Bool.{cases_lt, cases_eq}
 use Rattle.tournament.specs.Winner.{IsWinner}
@@ -160,7 +159,7 @@ changed chain size used used' home home' spots free i s new o z low at is count 
 pub kept : (chain : Ptr) (size used home home' : ℕ) (spots : List SpotState) (free : List ℕ) (i : ℕ)
     (s new : SpotState)
     (u v : UsedCell) → IsZspage chain size used home spots free → i < length spots
-        → s ≡ get_or spots i s
+    → s ≡ get_or spots i s
     → s.use_of ≡ Some u → new ≡ record s { use_of = Some v }
     → home' + one_home (Some u) ≡ home + one_home (Some v)
     → Leaves chain size used home' spots (set spots i new) free i (Some v)
@@ -258,10 +257,10 @@ uses_free chain size spots are =
     same_lists (uses spots) (replicate (length spots) None)
     (length-map spots (λ x. x.use_of) ∙ sym (length-replicate (length spots) None))
     (λ k d low.
-        let small : k < length spots = rw length-map at low in
-        get_or-map (λ x. x.use_of) spots k nowhere d small
-        ∙ ap (λ x. x.use_of) (are k nowhere small)
-        ∙ sym (get_or-replicate (length spots) k None d small))
+    let small : k < length spots = rw length-map at low in
+    get_or-map (λ x. x.use_of) spots k nowhere d small
+    ∙ ap (λ x. x.use_of) (are k nowhere small)
+    ∙ sym (get_or-replicate (length spots) k None d small))
 
 pub fresh : (chain : Ptr) (size n : ℕ) (spots : List SpotState) (free : List ℕ)
     → AreFree chain size spots → length spots ≡ n → free ≡ replicate n 1 → n < 2 ^ 32

@@ -9,6 +9,6 @@ returns c = record {
       ∙ c.add-handle.ensures.size;
   others = λ h among.
       c.free.ensures.others h (λ same. c.in_ok-handle.ensures.fresh among.0 among.1
-          (among.2 ∙ same))
+      (among.2 ∙ same))
       (c.fill_and_empty.ensures.others h (c.add-handle.ensures.others h among));
 }

@@ -1,5 +1,5 @@
 -- One more node is the better of its children.
-use Rattle.std.proofs.Common.{◌≡◌, ◌≢◌, ◌+◌, ◌-◌, ◌*◌, ◌<◌, ℕ, length, inl, inr, subst, ◌∙◌, arith}
+use Rattle.std.proofs.Common.{◌+◌, ◌-◌, ◌*◌, ◌<◌, ℕ, length, inl, inr, subst, ◌∙◌, arith}
 use Rattle.std.proofs.Math.ListN.{length-set}
 use Rattle.std.proofs.lemmas.Bool.{cases_eq}
 use Rattle.std.proofs.lemmas.List.{get_or_default}
@@ -29,7 +29,7 @@ loop-at-preserved c =
                 let left = first ∙ get_or_default ns (2 * a) c.index.result.now blank
                 (omega (arith, had.long, test, most)) in
                 let right = second ∙ get_or_default ns (2 * a + 1)
-                    c.index-in-loop-at.result.now blank
+                c.index-in-loop-at.result.now blank
                 (omega (arith, had.long, test, most)) in
                 rw e (rw (
                   node-set_same ns a b here,

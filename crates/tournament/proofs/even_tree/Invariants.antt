@@ -15,5 +15,5 @@ invariant-loop-at l = record {
   leaves : (i : ℕ) → i < l.room → node l.nodes.items (l.room + i) ≡ leaf l.rank i;
   tree : (p : ℕ) → l.at ≤ p → 1 ≤ p → p < l.room
       → IsBetter (node l.nodes.items p) (node l.nodes.items (2 * p))
-          (node l.nodes.items (2 * p + 1));
+      (node l.nodes.items (2 * p + 1));
 }

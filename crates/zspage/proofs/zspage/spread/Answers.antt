@@ -1,5 +1,5 @@
 -- Each cell is in a spot.
-use Rattle.std.proofs.Common.{◌≡◌, ◌+◌, ◌<◌, [], length, inl, inr, ap, ◌∙◌, arith}
+use Rattle.std.proofs.Common.{◌≡◌, [], length, inl, inr, ap, ◌∙◌, arith}
 use Rattle.std.proofs.lemmas.List.{length-append, length-reverse}
 use Rattle.std.proofs.lemmas.Bool.{cases_lt}
 use Rattle.cell_arena.specs.Chains.{CellsState}
@@ -28,8 +28,12 @@ returns c =
     let had = c.loop-cell.invariant.spread in
     let none = gone (goal.at.returns c).After-reverse in
     let left = none_left c.pop.new.self.cells
-    (omega (arith, ap length c.in_default.ensures.cells, ap length none,
-        length-append c.pop.new.self.cells [])) in
+    (omega (
+      arith,
+      ap length c.in_default.ensures.cells,
+      ap length none,
+      length-append c.pop.new.self.cells [],
+    )) in
     record {
       free = spread_free _ _ _ _ had none c.reverse.ensures.items;
       long = ap length c.reverse.ensures.items ∙ length-reverse c.loop-cell.spots.items

@@ -1,8 +1,8 @@
 -- The chain is cut, and its cells are spread.
-use Rattle.std.proofs.Common.{◌≡◌, ◌*◌, ◌/◌, ◌<◌, ◌^◌, ◌++◌, ℕ, [], ◌∷◌, None, length, replicate, ap, sym, subst, ◌∙◌, arith}
+use Rattle.std.proofs.Common.{◌≡◌, ◌*◌, ◌/◌, ℕ, None, length, replicate, ap, sym, subst, ◌∙◌, arith}
 use Rattle.std.specs.Prelude.{Option}
 use Rattle.std.proofs.Math.Nat.{div-le_self}
-use Rattle.std.proofs.lemmas.List.{replicate-append-replicate, length-replicate}
+use Rattle.std.proofs.lemmas.List.{length-replicate}
 use Rattle.cell_arena.specs.Chains.{per}
 use Rattle.zspage.specs.Cells.{UsedCell}
 use Rattle.zspage.specs.Spots.{AreFree}
@@ -46,4 +46,4 @@ returns c =
     ap (made c.args.id c.args.size c.args.chain)
     (uses_free _ _ _ c.spread-spots.ensures.free
     ∙ ap (λ n. replicate {A = Option UsedCell} n None)
-        (many (goal.at.returns c).After-spread-spots))
+    (many (goal.at.returns c).After-spread-spots))
