@@ -2,7 +2,7 @@
 use Rattle.mem_account.specs.Counters.{Counters}
 use Rattle.mem_account.specs.declared.account.Account.TheInside.{Inside}
 
--- an account as contracts see it
+-- the counters that an account's fields stand for
 abbrev pub counters_of : Inside → Counters
 counters_of a = record {
   pages = a.pages;
@@ -21,7 +21,7 @@ counters_of a = record {
   notify_free = a.notify_free;
 }
 
--- the account with these counters
+-- the fields of these counters
 abbrev pub account_of : Counters → Inside
 account_of c = record {
   pages = c.pages;
