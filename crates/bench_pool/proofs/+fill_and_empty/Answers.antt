@@ -4,11 +4,11 @@ use Rattle.bench_pool.proofs.Sizes.{size_stays}
 use Rattle.bench_pool.proofs.+fill_and_empty.Goals as goal
 
 pub returns : goal.returns
-returns c = record {
+returns t c = record {
   size = size_stays _ _ _ _ _ _ c.free.ensures.place.6 ∙ c.fill_and_empty.ensures.size
-      ∙ c.add-handle.ensures.size;
+      ∙ c.add.ensures.size;
   others = λ h among.
       c.free.ensures.others h (λ same. c.in_ok-handle.ensures.fresh among.0 among.1
       (among.2 ∙ same))
-      (c.fill_and_empty.ensures.others h (c.add-handle.ensures.others h among));
+      (c.fill_and_empty.ensures.others h (c.add.ensures.others h among));
 }
