@@ -2,6 +2,7 @@
 import functools
 import os
 import re
+import subprocess
 from collections.abc import Iterator
 
 import contracts
@@ -84,6 +85,9 @@ def pages_are_renewed() -> Iterator[Breach]:
                 yield path, 1, "it differs from what it is made from: run .ci/made"
         except pages.Lost as lost:
             yield path, 1, str(lost)
+    for tool in pages.others():
+        if subprocess.run([files.at(tool), "--check"], cwd=files.TOP, capture_output=True).returncode != 0:
+            yield tool, 1, "its pages differ from what they are made from: run .ci/made"
 
 
 def crates_are_listed() -> Iterator[Breach]:
@@ -191,11 +195,12 @@ def every_source() -> Iterator[tuple[str, str, list[str]]]:
 
 
 def own_proofs_alone() -> Iterator[Breach]:
-    """A crate cites no lemma of another crate, std's excepted."""
+    """A crate cites no lemma of another crate of the repository."""
+    ours = {crate.name for crate in files.crates()}
     for crate, path, lines in every_source():
         for number, line in enumerate(lines, 1):
             other = re.match(r"\s*(?:pub )?(?:ghost )?use Rattle\.(\w+)\.proofs\b", line)
-            if other and other.group(1) not in (crate, "std"):
+            if other and other.group(1) in ours - {crate}:
                 yield path, number, f"a lemma of {other.group(1)}: let a clause or a law of a public function say it"
 
 
@@ -206,6 +211,8 @@ def lemmas_are_cited() -> Iterator[Breach]:
         elsewhere = set().union(*(cited_elsewhere(crate.name, path) for path in paths))
         for path, first, last, name in lemmas_of(crate.name):
             own = words_of(path).get(name, [])
+            if "/TheSendSync/" in path:  # an answer, which the checker names
+                continue
             if (path, name) not in elsewhere and all(first <= number < last for number in own):
                 yield path, first, f"nothing cites the lemma {name}: delete it"
 
@@ -425,10 +432,6 @@ RULES = [
     own_proofs_alone,
     short_lines,
     named_lemmas_are_there,
-]
-
-# Rules that the sources don't meet yet: `.ci/rules --all` tries them too.
-WAITING = [
     lemmas_are_cited,
     specs_have_no_lemmas,
     definitions_have_sentences,

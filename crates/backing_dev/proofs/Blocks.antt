@@ -11,7 +11,8 @@ pub block_set : (pages : List (List ℕ)) (b : ℕ) (page : List ℕ) → b < le
     → slice_get (set pages b page) b ≡ Some page
 block_set pages b page within =
     let inside : b < length (set pages b page) = omega (arith, length-set pages b page) in
-    slice_get-get_or (set pages b page) b page inside ∙ ap Some (get_or-set_same pages b page page within)
+    slice_get-get_or (set pages b page) b page inside
+    ∙ ap Some (get_or-set_same pages b page page within)
 
 other_set : (pages : List (List ℕ)) (b c : ℕ) (page : List ℕ) → c ≢ b
     → slice_get (set pages b page) c ≡ slice_get pages c
@@ -20,7 +21,8 @@ other_set pages b c page other =
       | inl inside ↦
           let inside_set : c < length (set pages b page) = omega (arith, length-set pages b page) in
           slice_get-get_or (set pages b page) c page inside_set
-          ∙ ap Some (get_or-set_other pages b c page page other) ∙ sym (slice_get-get_or pages c page inside)
+          ∙ ap Some (get_or-set_other pages b c page page other)
+          ∙ sym (slice_get-get_or pages c page inside)
       | inr past ↦
           let past_set : length (set pages b page) ≤ c = omega (arith, length-set pages b page) in
           slice_get_past (set pages b page) c past_set ∙ sym (slice_get_past pages c past)

@@ -11,8 +11,10 @@ due_at n number = if nat_le number n then 1 else 0
 abbrev pub due_until : ℕ → List ℕ → ℕ
 due_until n failing = sum_by (due_at n) failing
 
+-- no more calls failed than were due
 abbrev pub IsFaultPlan : Inside → Type 0
 IsFaultPlan p = p.faults ≤ due_until p.calls p.failing.items
 
+-- the calls that the fields stand for
 abbrev pub calls_of : Inside → Calls
 calls_of p = record { calls = p.calls; faults = p.faults; failing = p.failing.items }

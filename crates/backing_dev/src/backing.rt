@@ -3,9 +3,9 @@
 //! | Meaning | What it is | A call |
 //! |---|---|---|
 //! | `block_count` | how many blocks there are | never changes it |
-//! | `contents` | the bytes of each block, where the device tells them | a write changes its own block alone |
+//! | `contents` | the bytes of the blocks, if the device tells | a write changes its block alone |
 //! | `fault_count` | how many calls failed | raises it exactly where it fails |
-//! | `calls` | how many calls were made, where the device tells | raises it by one |
+//! | `calls` | how many calls were made, if the device tells | raises it by one |
 //! | `references` | the `&mut`s by which the device is reached | never changes them |
 
 ghost use Rattle.std.specs.Prelude.{◌≡◌, ℕ, ◌<◌, ◌≤◌, List, ◌∷◌, Option, OnOk, OnErr};

@@ -71,8 +71,10 @@ impl<D: Backing> Dev<D> {
             (D.fault_count (device_of self.new)) result }
         ensures steady { OnOk result
             (D.fault_count (device_of self.new) ≡ D.fault_count (device_of self.old)) }
-        ensures once { HasOneCallMore (D.calls (device_of self.old)) (D.calls (device_of self.new)) }
-        ensures honest { IsHonest (D.contents (device_of self.old)) (D.block_count (device_of self.old))
+        ensures once { HasOneCallMore (D.calls (device_of self.old))
+            (D.calls (device_of self.new)) }
+        ensures honest { IsHonest (D.contents (device_of self.old))
+            (D.block_count (device_of self.old))
             → IsHonest (D.contents (device_of self.new)) (D.block_count (device_of self.new)) }
         ensures fault { IfErr result (λ f. f ≡ D.fault_count (device_of self.new)) }
         ensures counted { reads_of self.new ≡ count_after result (reads_of self.old) }
@@ -94,13 +96,16 @@ impl<D: Backing> Dev<D> {
         ensures blocks { D.block_count (device_of self.new) ≡ D.block_count (device_of self.old) }
         ensures same { D.references (device_of self.new) ≡ D.references (device_of self.old) }
         ensures written { OnOk result (HasBlock (D.contents (device_of self.new)) b from.now) }
-        ensures others { ChangesOnly (D.contents (device_of self.old)) (D.contents (device_of self.new)) b }
+        ensures others { ChangesOnly (D.contents (device_of self.old))
+            (D.contents (device_of self.new)) b }
         ensures cause { HasCause (D.fault_count (device_of self.old))
             (D.fault_count (device_of self.new)) result }
         ensures steady { OnOk result
             (D.fault_count (device_of self.new) ≡ D.fault_count (device_of self.old)) }
-        ensures once { HasOneCallMore (D.calls (device_of self.old)) (D.calls (device_of self.new)) }
-        ensures honest { IsHonest (D.contents (device_of self.old)) (D.block_count (device_of self.old))
+        ensures once { HasOneCallMore (D.calls (device_of self.old))
+            (D.calls (device_of self.new)) }
+        ensures honest { IsHonest (D.contents (device_of self.old))
+            (D.block_count (device_of self.old))
             → IsHonest (D.contents (device_of self.new)) (D.block_count (device_of self.new)) }
         ensures fault { IfErr result (λ f. f ≡ D.fault_count (device_of self.new)) }
         ensures counted { writes_of self.new ≡ count_after result (writes_of self.old) }

@@ -116,7 +116,8 @@ impl Backing for MemBacking {
 
         // It fails exactly at the planned calls.
         ensures planned { IsErr result ↔ IsNextPlanned self.old.reads }
-        ensures calls { self.new ≡ record self.old { reads = after_call self.old.reads (is_err result) } }
+        ensures calls { self.new
+            ≡ record self.old { reads = after_call self.old.reads (is_err result) } }
     {
         if self.reads.call() {
             return Err(Failed);

@@ -36,7 +36,8 @@ pub at_first : (p : ℕ → Bool) (xs : List ℕ) (marks : ℕ) → length xs �
     → marks ≡ mask_l (map p xs) →
     get_or xs (count_trailing_zeros 64 marks) 0 ≡ get_or xs (prefix_len (λ x. not (p x)) xs) 0
 at_first p xs marks le e = elim (cases_eq (mask_l (map p xs)) 0)
-    as (λ _. get_or xs (count_trailing_zeros 64 marks) 0 ≡ get_or xs (prefix_len (λ x. not (p x)) xs)
+    as (λ _. get_or xs (count_trailing_zeros 64 marks) 0 ≡ get_or xs
+    (prefix_len (λ x. not (p x)) xs)
     0) [
       | inl z ↦
           ap (λ k. get_or xs k 0) (ap (count_trailing_zeros 64) (e ∙ z) ∙ trailing_of_zero 64)

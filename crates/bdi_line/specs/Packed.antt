@@ -38,9 +38,13 @@ fits B4D2 line = is_near (bound_of b4d2) (modulus_of b4d2) (values 4 16 line)
 fits B2D1 line = is_near (bound_of b2d1) (modulus_of b2d1) (values 2 32 line)
 fits Raw line = true
 
--- the codes by size, and by number where sizes are equal
+-- the codes after B8D1 but the last, by size, and by number where sizes are equal
+abbrev pub wider : List Code
+wider = B4D1 ∷ B8D2 ∷ B4D2 ∷ B2D1 ∷ B8D4 ∷ []
+
+-- all codes in this order but the last, that of a line as it is
 abbrev pub by_size : List Code
-by_size = Zeros ∷ Repeated ∷ B8D1 ∷ B4D1 ∷ B8D2 ∷ B4D2 ∷ B2D1 ∷ B8D4 ∷ []
+by_size = Zeros ∷ Repeated ∷ B8D1 ∷ wider
 
 -- the first of these codes that passes, or else that of a line as it is
 abbrev pub first_code : (Code → Bool) → List Code → Code

@@ -5,7 +5,7 @@
 ghost use Rattle.std.specs.Prelude.{◌≡◌, ◌+◌, ◌^◌, ◌≤◌, List, ℕ, ◌++◌, length, IsTrue, slice_index, false};
 ghost use Rattle.arrayvec.specs.ArrayVec.{array_vec_len};
 ghost use Rattle.bdi_line.specs.Line.{bound_of, modulus_of, b8d1, b8d2, b8d4, b4d1, b4d2, b2d1};
-ghost use Rattle.bdi_line.specs.Packed.{is_all, is_near, code_of, split_payload, payload_under, payload_of};
+ghost use Rattle.bdi_line.specs.Packed.{is_all, is_near, fits, wider, first_code, code_of, split_payload, payload_under, payload_of};
 ghost use Rattle.bdi_line.specs.Coded.{IsCoded, size_of};
 ghost use Rattle.bdi_line.specs.declared.codes.Code.{Code};
 
@@ -33,7 +33,8 @@ pub fn pack_line(line: &[u8; 64], out: &mut ArrayVec<u8, 4128>) -> Code
     pack_into(line, out)
 }
 
-/// Appends the line's payload, and answers its code.
+/// Appends the line's payload, and answers its code. The smallest codes are tried where the line is
+/// read, the others in a function of their own.
 #[inline(always)]
 #[tactic(auto, unfolding(crate::specs::Packed::code_of))]
 pub(crate) fn pack_into<const N: usize>(line: &[u8; 64], out: &mut ArrayVec<u8, N>) -> Code
@@ -55,10 +56,24 @@ pub(crate) fn pack_into<const N: usize>(line: &[u8; 64], out: &mut ArrayVec<u8, 
     if put_b8d1(words, out) {
         return Code::B8D1;
     }
+    pack_wider(line, out)
+}
+
+// Appends the payload of a line that fits none of the smaller codes, and answers its code.
+#[inline(never)]
+fn pack_wider<const N: usize>(line: &[u8; 64], out: &mut ArrayVec<u8, N>) -> Code
+    requires { array_vec_len out.old + 64 ≤ N }
+    ensures code { result ≡ first_code (λ c. fits c line.now) wider }
+    ensures payload { out.new.items ≡ out.old.items ++ payload_under result line.now }
+    ensures size { array_vec_len out.new ≡ array_vec_len out.old + size_of result }
+    ensures room { array_vec_len out.new ≤ array_vec_len out.old + 64 }
+    ensures grows { array_vec_len out.old ≤ array_vec_len out.new }
+{
     let halves = halves_of(line);
     if put_b4d1(halves, out) {
         return Code::B4D1;
     }
+    let words = words_of(line);
     if put_b8d2(words, out) {
         return Code::B8D2;
     }

@@ -4,7 +4,7 @@ use arrayvec::ArrayVec;
 use std::process::Abort;
 use std::simd::prelude::*;
 
-// How a line goes on behind its first three words: words with deltas of one, two and four bytes at
+// How a line goes on after its first three words: words with deltas of one, two and four bytes at
 // their edges, small halves, small quarters, and the rest of a tie of B4D2 and B2D1.
 const BYTES: [u64; 5] = [0x7f, 0xffffffffffffff80, 0x0, 0x0, 0x1];
 
@@ -183,53 +183,39 @@ fn check(rt: &impl Abort, words: [u64; 8], code: Code, payload: &[u8]) {
     assert_eq!(rt; unpack_line(code, payload), Some(line));
 }
 
+// Eight words that rise by a step.
+fn rising(base: u64, step: u64) -> [u64; 8] {
+    let mut words = [base; 8];
+    for k in 1..8usize {
+        words[k] = words[k - 1].wrapping_add(step);
+    }
+    words
+}
+
 #[test]
 fn packs_the_vectors(rt: HostRuntime) {
+    let small = [0, 0, 0, 0, 0, 0, 0, 0, 0, 0, 1, 2, 3, 4, 5, 6, 7];
+    let near = [
+        0xff, 0x40, 0x42, 0x0f, 0, 0, 0, 0, 0, 0, 1, 2, 3, 4, 5, 6, 7,
+    ];
+    let halves = [
+        0xff, 0xff, 0x40, 0x42, 0x0f, 0, 0, 0, 1, 1, 2, 2, 3, 3, 4, 4, 5, 5, 6, 6, 7, 7,
+    ];
+    let wide = [
+        0x80, 0, 0, 0, 0x93, 0, 0, 0, 0, 0, 0, 0, 0, 0, 0, 0, 0x15, 0, 0, 0, 0x2a, 0, 0, 0, 0x3f,
+        0, 0, 0, 0x54, 0, 0, 0, 0x69, 0, 0, 0, 0x7e, 0, 0, 0, 0,
+    ];
+    check(&rt, rising(1, 0), Code::Repeated, &[1, 0, 0, 0, 0, 0, 0, 0]);
+    check(&rt, rising(0, 1), Code::B8D1, &small);
+    check(&rt, rising(1000000, 1), Code::B8D1, &near);
+    let base = 0x000f_4240_000f_4240;
     check(
         &rt,
-        [
-            1000000, 1000001, 1000002, 1000003, 1000004, 1000005, 1000006, 1000007,
-        ],
-        Code::B8D1,
-        &[
-            0xff, 0x40, 0x42, 0x0f, 0, 0, 0, 0, 0, 0, 1, 2, 3, 4, 5, 6, 7,
-        ],
-    );
-    check(
-        &rt,
-        [0, 1, 2, 3, 4, 5, 6, 7],
-        Code::B8D1,
-        &[0, 0, 0, 0, 0, 0, 0, 0, 0, 0, 1, 2, 3, 4, 5, 6, 7],
-    );
-    check(&rt, [1; 8], Code::Repeated, &[1, 0, 0, 0, 0, 0, 0, 0]);
-    check(
-        &rt,
-        [
-            0x000f4240000f4240,
-            0x000f4241000f4241,
-            0x000f4242000f4242,
-            0x000f4243000f4243,
-            0x000f4244000f4244,
-            0x000f4245000f4245,
-            0x000f4246000f4246,
-            0x000f4247000f4247,
-        ],
+        rising(base, 0x0000_0001_0000_0001),
         Code::B4D1,
-        &[
-            0xff, 0xff, 0x40, 0x42, 0x0f, 0, 0, 0, 1, 1, 2, 2, 3, 3, 4, 4, 5, 5, 6, 6, 7, 7,
-        ],
+        &halves,
     );
-    check(
-        &rt,
-        [
-            0, 0x15000000, 0x2a000000, 0x3f000000, 0x54000000, 0x69000000, 0x7e000000, 0x93000000,
-        ],
-        Code::B8D4,
-        &[
-            0x80, 0, 0, 0, 0x93, 0, 0, 0, 0, 0, 0, 0, 0, 0, 0, 0, 0x15, 0, 0, 0, 0x2a, 0, 0, 0,
-            0x3f, 0, 0, 0, 0x54, 0, 0, 0, 0x69, 0, 0, 0, 0x7e, 0, 0, 0, 0,
-        ],
-    );
+    check(&rt, rising(0, 0x1500_0000), Code::B8D4, &wide);
 }
 
 #[test]

@@ -43,21 +43,22 @@ module _ (law : (line : List ℕ) → length line ≡ 64 → HasOneCoding line) 
 -- ---- two lines
 
 module _ (few : (code : Code) → code_number code ≤ 8) (bytes : List ℕ) (j at b : ℕ)
-    (byte : b ≡ get_or bytes j 0) (one two rest : List ℕ) (h : HasPair bytes j at one two rest) where
-  pub first_here : HasLine bytes (b % 16) at one (payload_of two ++ rest)
-  first_here = record {
-    line_is = h.first_is;
-    number_is = omega (arith, h.byte_is, few (code_of one), few (code_of two));
-    here = h.here;
-  }
+    (byte : b ≡ get_or bytes j 0) (one two rest : List ℕ) (h : HasPair bytes j at one two rest)
+  where
+    pub first_here : HasLine bytes (b % 16) at one (payload_of two ++ rest)
+    first_here = record {
+      line_is = h.first_is;
+      number_is = omega (arith, h.byte_is, few (code_of one), few (code_of two));
+      here = h.here;
+    }
 
-  pub second_here : (middle : ℕ) → payload_of two ++ rest ≡ drop middle bytes
-      → HasLine bytes (b / 16) middle two rest
-  second_here middle e = record {
-    line_is = h.second_is;
-    number_is = omega (arith, h.byte_is, few (code_of one), few (code_of two));
-    here = sym e;
-  }
+    pub second_here : (middle : ℕ) → payload_of two ++ rest ≡ drop middle bytes
+        → HasLine bytes (b / 16) middle two rest
+    second_here middle e = record {
+      line_is = h.second_is;
+      number_is = omega (arith, h.byte_is, few (code_of one), few (code_of two));
+      here = sym e;
+    }
 
 -- two lines that were put one after the other
 pair_lines : (j : ℕ) (old mid new f s : List ℕ)

@@ -50,7 +50,7 @@ line_of_page page at is le =
           omega (arith, e, is.1 (at + k) d (omega (arith, is.0)))),
     )
 
--- the payloads of the lines of a page behind pair j
+-- the payloads of the lines of a page after pair j
 abbrev pub behind : ℕ → List ℕ → List ℕ
 behind j page = payloads_of (lines_of (32 - (j + 1)) (drop (128 * (j + 1)) page))
 

@@ -5,10 +5,11 @@ use Rattle.std.specs.Simd.Lanes.{chunk}
 use Rattle.bdi_line.specs.Coded.{IsByteLine, code_number}
 use Rattle.bdi_line.specs.Packed.{code_of, payload_of}
 
--- the first and the second line of pair j of a page
+-- the first line of pair j of a page
 abbrev pub first_line : List ℕ → ℕ → List ℕ
 first_line page j = chunk (128 * j) 64 page
 
+-- the second line of pair j of a page
 abbrev pub second_line : List ℕ → ℕ → List ℕ
 second_line page j = chunk (128 * j + 64) 64 page
 

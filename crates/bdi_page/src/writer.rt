@@ -1,4 +1,4 @@
-//! A page is read once, two lines at a time, and its packing is written behind room for the codes.
+//! A page is read once, two lines at a time, and its packing is written after room for the codes.
 
 ghost use Rattle.std.specs.Prelude.{◌≡◌, ◌+◌, ◌*◌, ◌<◌, ◌≤◌, ℕ, List, [], ◌++◌, length, drop};
 ghost use Rattle.std.specs.Simd.Lanes.{chunk};
@@ -34,7 +34,8 @@ fn pack_pair(page: &[u8], j: usize, out: &mut ArrayVec<u8, 4128>) -> u8
     requires size { length page.now ≡ 4096 }
     requires pair { j < 32 }
     requires room { array_vec_len out.old + 128 ≤ 4128 }
-    ensures byte { result ≡ number_in (first_line page.now j) + 16 * number_in (second_line page.now j) }
+    ensures byte { result ≡ number_in (first_line page.now j)
+        + 16 * number_in (second_line page.now j) }
     ensures payloads { out.new.items ≡ out.old.items
         ++ (payload_of (first_line page.now j) ++ payload_of (second_line page.now j)) }
     ensures room { array_vec_len out.new ≤ array_vec_len out.old + 128 }

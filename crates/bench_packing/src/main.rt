@@ -1,4 +1,5 @@
-//! Packs, unpacks or tests one page many times, and prints a sum over what came of it. What it takes
+//! Packs, unpacks or tests one page many times, and prints a sum over what came of it. What it
+//! takes
 //! is timed from outside: `bench/packing` runs it beside a plain C program of the same coding.
 //!
 //! `bench_packing TASK KIND TURNS`, where TASK is `pack`, `unpack`, `decode`, `same` or `fill`, and

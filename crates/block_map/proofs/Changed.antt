@@ -35,7 +35,8 @@ pub record IsNewCount (states : List BlockState) (b : ℕ) (s : BlockState) (cou
 
 pub owned_blocks-set : (states : List BlockState) (b : ℕ) (s was : BlockState) (owned gone come : ℕ)
     → b < length states
-    → owned ≡ owned_blocks states → was ≡ get_or states b was → gone ≡ owned_of was → come ≡ owned_of s
+    → owned ≡ owned_blocks states → was ≡ get_or states b was → gone ≡ owned_of was
+    → come ≡ owned_of s
     → IsNewCount states b s (owned - gone + come)
 owned_blocks-set states b s was owned gone come within is there left put =
     let before : gone ≡ owned_of (get_or states b was) = left ∙ ap owned_of there in

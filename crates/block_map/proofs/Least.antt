@@ -40,7 +40,8 @@ root_least tree n k t above within = root_least_by tree n k k t (omega arith) ab
 abbrev IsOfLeaf : List ℕ → ℕ → ℕ → Type 0
 IsOfLeaf tree n j = (b : ℕ) × (b < n) × (slice_index tree j ≡ slice_index tree (n + b))
 
-of_leaf_by : (tree : List ℕ) (n fuel j : ℕ) → IsBlockTree tree n → 2 * n ≤ j + fuel → 0 < j → j < 2 * n
+of_leaf_by : (tree : List ℕ) (n fuel j : ℕ) → IsBlockTree tree n → 2 * n ≤ j + fuel → 0 < j
+    → j < 2 * n
     → IsOfLeaf tree n j
 of_leaf_by tree n zero j t enough above within = absurd (omega arith)
 of_leaf_by tree n (suc fuel) j t enough above within =
@@ -54,7 +55,8 @@ of_leaf_by tree n (suc fuel) j t enough above within =
                 (below.0, below.1, omega (arith, lesser, below.2))
             | inr right ↦
                 let deeper : 0 < 2 * j + 1 = omega arith in
-                let below = of_leaf_by tree n fuel (2 * j + 1) t (omega arith) deeper (omega arith) in
+                let below = of_leaf_by tree n fuel (2 * j + 1) t (omega arith) deeper
+                (omega arith) in
                 (below.0, below.1, omega (arith, lesser, below.2))
           ]
       | inr leaf ↦ let place : n + (j - n) ≡ j = omega arith in (j - n, omega arith, rw place refl)
@@ -72,7 +74,8 @@ own_number : (s : BlockState) (b : ℕ) → s ≡ Free → block_number s b ≡ 
 own_number s b free = ap (λ (t : BlockState). block_number t b) free
 
 -- no free block has a number below the root's
-pub root_below : (tree : List ℕ) (states : List BlockState) (c : ℕ) → IsBlockTree tree (length states)
+pub root_below : (tree : List ℕ) (states : List BlockState) (c : ℕ)
+    → IsBlockTree tree (length states)
     → HasLeaves tree states
     → slice_get states c ≡ Some Free → (c < length states) × (slice_index tree 1 ≤ c)
 root_below tree states c t leaves free =
@@ -98,7 +101,8 @@ least_free tree states t leaves some small =
     (omega arith) in
     let state = get_or states leaf.0 Left in
     let there : slice_get states leaf.0 ≡ Some state = slice_get-get_or states leaf.0 Left leaf.1 in
-    let number : slice_index tree (length states + leaf.0) ≡ block_number state leaf.0 = leaves leaf.0
+    let number : slice_index tree (length states + leaf.0) ≡ block_number state leaf.0 =
+    leaves leaf.0
     leaf.1 in
     let is_free : state ≡ Free = below_none_free state leaf.0 (omega (arith, leaf.2, number)) in
     let own = own_number state leaf.0 is_free in

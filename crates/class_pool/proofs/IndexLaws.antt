@@ -160,7 +160,7 @@ index_put zs places i n least index = record {
   listed = λ k l u at. index.listed k l u (sym (use_at-put zs i n k l least) ∙ at);
 }
 
--- free numbers behind the others
+-- free numbers after the others
 entry-grown : (places : List (Option Place)) (n j : ℕ)
     → entry (places ++ replicate n None) j ≡ entry places j
 entry-grown [] n j = entry-free n j

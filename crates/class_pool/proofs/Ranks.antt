@@ -196,7 +196,7 @@ ranked_set rank items ranks id r new are low is = record {
       ];
 }
 
--- one more zspage behind the others
+-- one more zspage after the others
 pub ranked_push : (rank : Option Cells
     → ℕ) (items : List (Option ZspageState)) (ranks : List ℕ) (r : ℕ) (new : Option ZspageState)
     → AreRanked rank items ranks → r ≡ rank (cells_of new)

@@ -8,6 +8,7 @@ abbrev pub place_rank : Option Place → ℕ
 place_rank None = 1
 place_rank (Some p) = 0
 
+-- Each live handle has the place of its object, and no other has one.
 pub record ArePlaces (items : List (Option Place)) (free : List ℕ) : Type 0 where
   pub ranked : length free ≡ length items
   pub ranks_are : (k : ℕ) → k < length items → slice_index free k ≡ place_rank (entry items k)

@@ -20,6 +20,7 @@ pub record Object : Type 0 where
   pub handle : ℕ
   pub bytes : List ℕ
 
+-- the object in a used cell
 abbrev pub object_of : UsedCell → Object
 object_of u = record { handle = u.handle; bytes = u.bytes }
 
@@ -29,6 +30,7 @@ used_cells_in [] = []
 used_cells_in (None ∷ cells) = used_cells_in cells
 used_cells_in (Some u ∷ cells) = u ∷ used_cells_in cells
 
+-- the used cells of all zspages
 abbrev pub used_cells : List (Option Cells) → List UsedCell
 used_cells [] = []
 used_cells (None ∷ zspages) = used_cells zspages

@@ -46,7 +46,7 @@ pub record IsLeastAbsent (zspages : List (Option Cells)) (id : ℕ) : Type 0 whe
   pub absent : entry zspages id ≡ None
   pub least : (k : ℕ) → k < id → (cells : Cells) × (entry zspages k ≡ Some cells)
 
--- an entry put at a place of a list, or behind it
+-- an entry put at a place of a list, or after it
 abbrev pub put_at : {A : Type 0} → List A → ℕ → A → List A
 put_at [] place x = x ∷ []
 put_at (y ∷ ys) zero x = x ∷ ys
@@ -63,6 +63,7 @@ use_at zspages id cell = use_in (entry zspages id) cell
 
 -- ---- what the code keeps
 
+-- the cells of a zspage that is there
 abbrev pub cells_of : Option ZspageState → Option Cells
 cells_of None = None
 cells_of (Some z) = Some z.cells
@@ -91,6 +92,7 @@ IsOf size chain per id None = Unit {0}
 IsOf size chain per id (Some z) = (z.size ≡ size) × (z.frames ≡ chain) × (length z.cells ≡ per)
     × (z.id ≡ id)
 
+-- Each zspage is of the pool's class, and has a used cell.
 pub record AreZspages (size chain per : ℕ) (items : List (Option ZspageState))
     (ranks sources : List ℕ) : Type 0 where
   pub small : 32 ≤ size

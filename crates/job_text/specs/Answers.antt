@@ -20,9 +20,11 @@ use Rattle.job_text.specs.Jobs.{MayTurn}
 abbrev pub saturated : ℕ → ℕ
 saturated n = min n (2 ^ 64 - 1)
 
+-- the pages of a size, as far as they are counted
 abbrev pub saturated_pages : ℕ → ℕ
 saturated_pages bytes = (saturated bytes + 4095) / 4096
 
+-- the turns of one item of a schedule, as far as they are counted
 abbrev pub saturated_turn : Turns → ℕ × ℕ
 saturated_turn turns = (saturated turns.actor, saturated turns.times)
 

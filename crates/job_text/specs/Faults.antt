@@ -73,6 +73,7 @@ abbrev pub said_in : Option Form → Line
 said_in None = Blank
 said_in (Some form) = meaning form
 
+-- the cause of a line where it stands
 abbrev pub cause_in : Used → Option Phase → Option Form → Option Cause
 cause_in u phase None = Some causes.Word
 cause_in u phase (Some form) =

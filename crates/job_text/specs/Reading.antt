@@ -39,6 +39,7 @@ used_by r = record {
 abbrev pub is_scheduled : Begun → Bool
 is_scheduled begun = not (length begun.schedule == 0)
 
+-- whether the phase that is read has its schedule
 abbrev pub is_scheduled_in : Option Begun → Bool
 is_scheduled_in None = false
 is_scheduled_in (Some begun) = is_scheduled begun

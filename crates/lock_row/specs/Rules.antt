@@ -15,6 +15,7 @@ pub record Notes {V : Type 0} (order : V → List Tag) (noted : Local V → List
   pub grown : order v ≡ order last ++ tags
   pub noted_so : noted m ≡ noted l ++ tags
 
+-- The rule of a row: its places, the steps of its actors, the starts of its phases, and how orders grow.
 pub record RowRule (V : Type 0) : Type 1 where
   -- the place of a lock in the row
   pub spot : LockNo → ℕ

@@ -2,6 +2,7 @@
 use Rattle.mem_account.specs.Counters.{Counters}
 use Rattle.mem_account.specs.declared.account.Account.TheInside.{Inside}
 
+-- the counters that an account's fields stand for
 abbrev pub counters_of : Inside → Counters
 counters_of a = record {
   pages = a.pages;
@@ -20,6 +21,7 @@ counters_of a = record {
   notify_free = a.notify_free;
 }
 
+-- the fields of these counters
 abbrev pub account_of : Counters → Inside
 account_of c = record {
   pages = c.pages;

@@ -1,6 +1,5 @@
 -- The tree of a tournament, laid out in a list: the leaves are its second half, and node p has the
--- better of the nodes
--- 2p and 2p + 1.
+-- better of the nodes 2p and 2p + 1.
 use Rattle.std.specs.Prelude.{ℕ, ◌≡◌, ◌≢◌, ◌+◌, ◌*◌, ◌<◌, ◌≤◌, ◌^◌, ◌⊎◌, List, length, slice_index, slice_index_or}
 use Rattle.tournament.specs.declared.tree.Node.{Node}
 
@@ -8,7 +7,7 @@ use Rattle.tournament.specs.declared.tree.Node.{Node}
 abbrev pub leaf : ℕ → ℕ → Node
 leaf rank place = record { rank = rank; first = place; last = place }
 
--- the leaf of a place behind the ranks: on a tie it is neither first nor last
+-- the leaf of a place past the ranks: on a tie it is neither first nor last
 abbrev pub spare : ℕ → Node
 spare place = record { rank = 0; first = place; last = 0 }
 
@@ -35,6 +34,7 @@ pub record IsBetter (a left right : Node) : Type 0 where
 abbrev pub blank : Node
 blank = record { rank = 0; first = 0; last = 0 }
 
+-- a node of the tree, by its index
 abbrev pub node : List Node → ℕ → Node
 node nodes p = slice_index_or nodes p blank
 
@@ -49,7 +49,7 @@ IsTreeBut room nodes at =
     (p : ℕ) → 1 ≤ p → p < room → 2 * p ≢ at → 2 * p + 1 ≢ at
     → IsBetter (node nodes p) (node nodes (2 * p)) (node nodes (2 * p + 1))
 
--- the leaves have the ranks with their places, and behind them are spare ones
+-- the leaves have the ranks with their places, and after them are spare ones
 pub record IsTournament (room : ℕ) (ranks : List ℕ) (nodes : List Node) : Type 0 where
   pub long : length nodes ≡ 2 * room
   pub fits : length ranks ≤ room

@@ -24,7 +24,7 @@ impl Node {
         }
     }
 
-    /// The leaf of a place behind the ranks.
+    /// The leaf of a place past the ranks.
     pub fn spare(place: usize) -> Node
         ensures { result ≡ spare place }
     {

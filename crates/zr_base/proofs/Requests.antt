@@ -39,9 +39,6 @@ piece_at page first count = record { page = record { 0 = page }; first = first; 
 
 -- the first piece of a request ends at the page's end or the request's
 module _ (a c k : ℕ) (some : 1 ≤ c) (k_is : k ≡ min c (8 - a % 8)) where
-  later : ℕ
-  later = (a + c - 1) / 8 - a / 8
-
   first_is : piece_on a c (a / 8) ≡ piece_at (a / 8) (a % 8) k
   first_is =
       let f : max a (8 * (a / 8)) - 8 * (a / 8) ≡ a % 8 = omega arith in

@@ -26,9 +26,11 @@ piece_on start count page = record {
   count = min (start + count) (8 * page + 8) - max start (8 * page);
 }
 
+-- a request's sectors on so many pages, from a page on
 abbrev pub pieces_from : ℕ → ℕ → ℕ → ℕ → List Piece
 pieces_from start count page n = map (piece_on start count) (range_with_len page n)
 
+-- the pieces of a request, one for each page that it touches
 abbrev pub pieces_of : ℕ → ℕ → List Piece
 pieces_of start count = pieces_from start count (start / 8) (pages_touched start count)
 

@@ -55,11 +55,13 @@ touches start count page =
 abbrev pub has_whole : ℕ → ℕ → ℕ → Bool
 has_whole start count page = nat_le start (8 * page) && nat_le (8 * page + 8) (start + count)
 
+-- the first sector of a request
 abbrev pub start_of : Op → ℕ
 start_of (Write start count stuff) = start
 start_of (Read start count) = start
 start_of (Discard start count) = start
 
+-- how many sectors it has
 abbrev pub count_of : Op → ℕ
 count_of (Write start count stuff) = count
 count_of (Read start count) = count
@@ -100,6 +102,7 @@ sector_after (Discard start count) s old =
 abbrev pub named : List (List Op) → Tag → Option Op
 named actors tag = option_and_then (λ ops. slice_get ops tag.op) (slice_get actors tag.actor)
 
+-- the sector that held these bytes, after the operation that is named, if there is one
 abbrev pub sector_after_named : Option Op → ℕ → List ℕ → List ℕ
 sector_after_named None s old = old
 sector_after_named (Some op) s old = sector_after op s old
@@ -117,6 +120,7 @@ abbrev pub stands_on : Op → OpEnd → ℕ → Bool
 stands_on op ends.Ok page = touches (start_of op) (count_of op) page && has_event op page
 stands_on op ends.Range page = false
 
+-- whether the operation that is named stands in the order of a page with its end, where there are both
 abbrev pub stands_named : Option Op → Option OpEnd → ℕ → Bool
 stands_named (Some op) (Some end) page = stands_on op end page
 stands_named (Some op) None page = false
@@ -128,6 +132,7 @@ is_noted actors ends page tag =
     stands_named (named actors tag)
     (option_and_then (λ es. slice_get es tag.op) (slice_get ends tag.actor)) page
 
+-- whether two tags are one
 abbrev pub same_tag : Tag → Tag → Bool
 same_tag s t = s.actor == t.actor && s.op == t.op
 

@@ -1,19 +1,20 @@
 -- The pieces of a page, counted.
-use Rattle.std.proofs.Common.{◌≡◌, ℕ, zero, suc, ◌+◌, ◌-◌, ◌*◌, ◌<◌, ◌≤◌, Bool, cond, eqb, List, [], ◌∷◌, ◌++◌, length, drop, get_or, Some, slice_get, slice_set, refl, sym, ap, ◌∙◌, arith, inl, inr}
+use Rattle.std.proofs.Common.{◌≡◌, ℕ, zero, suc, ◌+◌, ◌*◌, ◌<◌, ◌≤◌, Bool, false, cond, eqb, List, [], ◌∷◌, ◌++◌, length, drop, get_or, Some, slice_get, slice_set, refl, sym, ap, ◌∙◌, arith, inl, inr}
 use mathlib.Core.Logic.{dite}
 use native.Mathlib.Decide.{ℕ_discrete}
-use Rattle.std.proofs.lemmas.Bool.{cases_Bool, eq-eqb, ne_eqb}
+use Rattle.std.proofs.lemmas.Bool.{cases_Bool, eq-eqb, ne_eqb, ltb-false}
 use Rattle.std.proofs.lemmas.List.{get_or-set_same, get_or-set_other}
 use Rattle.zr_base.specs.declared.op.Op.{Op}
-use Rattle.zr_base.specs.Plain.{is_beyond, has_event, IsRequest}
+use Rattle.zr_base.specs.declared.op.Piece.{Piece}
+use Rattle.zr_base.specs.Plain.{start_of, count_of, is_beyond, has_event, IsRequest}
 use Rattle.call_history.specs.declared.part.Part.{Part}
-use Rattle.zr_base.specs.Pieces.{first_page, pages_of}
+use Rattle.zr_base.specs.Pieces.{first_page, pages_of, pieces_from, pieces_of}
+use Rattle.std.specs.List.{AllByRecursion}
 use Rattle.call_history.specs.Parts.{parts_from, parts, program}
 use Rattle.zr_core.specs.Joint.{pieces_on}
 use Rattle.zr_core.specs.Places.{AreRequests, IsWork, operations}
 use Rattle.zr_core.specs.Preparing.{count_at, pieces_each}
-use Rattle.zr_core.proofs.Places.{drop_cons, few_pages}
-use Rattle.zr_core.proofs.States.{below_size}
+use Rattle.zr_core.proofs.Places.{drop_cons, few_pages, pages_some, in_bounds}
 
 -- the piece of one page
 abbrev one : Op → ℕ → ℕ → ℕ
@@ -32,14 +33,26 @@ pieces_next nr p op page n = elim (cases_Bool (has_event op page)) [
   | inr off ↦ rw off (omega arith)
 ]
 
--- of some pages up to one
-pub pieces_until : (nr p : ℕ) (op : Op) (page to : ℕ) → page < to
-    → pieces_on p (parts_from nr op page (to - page))
-    ≡ one op page p + pieces_on p (parts_from nr op (page + 1) (to - (page + 1)))
-pieces_until nr p op page to lt =
-    ap (λ (n : ℕ). pieces_on p (parts_from nr op page n))
-    (let q : to - page ≡ suc (to - (page + 1)) = omega arith in q)
-    ∙ pieces_next nr p op page (to - (page + 1))
+-- the pieces with events on a page, among those of a walk
+abbrev pub carried_on : Op → ℕ → List Piece → ℕ
+carried_on op p [] = 0
+carried_on op p (piece ∷ more) = one op piece.page.0 p + carried_on op p more
+
+-- the first piece, and then the others
+pub carried_first : (op : Op) (p : ℕ) (piece : Piece) (pieces more : List Piece) (b : Bool)
+    → pieces ≡ piece ∷ more → has_event op piece.page.0 ≡ b
+    → carried_on op p pieces ≡ cond b (cond (eqb piece.page.0 p) 1 0) 0 + carried_on op p more
+carried_first op p piece pieces more b is e =
+    ap (carried_on op p) is
+    ∙ ap (λ (x : Bool). cond x (cond (eqb piece.page.0 p) 1 0) 0 + carried_on op p more) e
+
+carried_from : (p : ℕ) (op : Op) (page n : ℕ)
+    → carried_on op p (pieces_from (start_of op) (count_of op) page n)
+    ≡ pieces_on p (parts_from 0 op page n)
+carried_from p op page zero = refl
+carried_from p op page (suc n) =
+    let q = pieces_next 0 p op page n in
+    let r = carried_from p op (page + 1) n in omega arith
 
 -- the number of the operation does not matter
 nr_from : (nr m p : ℕ) (op : Op) (page n : ℕ)
@@ -83,18 +96,29 @@ each_next size p i actors ops at =
     (drop_cons actors i ops at
     ∙ ap (λ (j : ℕ). ops ∷ drop j actors) (let q : suc i ≡ i + 1 = omega arith in q))
 
--- the pieces of an operation that is on the disk are on pages of it
-pub page_below : (size : ℕ) (op : Op) (page left : ℕ) → IsRequest op
-    → left ≡ cond (is_beyond size op) 0 (pages_of op) → first_page op ≤ page
-    → page < first_page op + left
-    → page < size
-page_below size op page left r e ge lt = elim (cases_Bool (is_beyond size op)) [
-  | inl on ↦ absurd (let q : left ≡ 0 = e ∙ ap (λ (b : Bool). cond b 0 (pages_of op)) on in
-      let none : ⊥ = omega arith in none)
-  | inr off ↦ let q : left ≡ pages_of op = e ∙ ap (λ (b : Bool). cond b 0 (pages_of op)) off in
-      below_size size op page (first_page op + left - page) r
-      (record { inside = λ some. off; first = ge; last = omega arith }) (omega arith)
-]
+-- the walk over an operation on the disk: its pieces are on pages of the disk, and are all counted
+module _ (size : ℕ) (op : Op) (inside : is_beyond size op ≡ false) where
+  pub carried_of : (p : ℕ)
+      → carried_on op p (pieces_of (start_of op) (count_of op)) ≡ pieces_on p (parts size 0 op)
+  carried_of p =
+      carried_from p op (first_page op) (pages_of op)
+      ∙ sym (ap (λ (b : Bool). pieces_on p
+      (cond b [] (parts_from 0 op (first_page op) (pages_of op)))) inside)
+
+  pub pages_below : IsRequest op
+      → AllByRecursion (λ (piece : Piece). piece.page.0 < size)
+      (pieces_of (start_of op) (count_of op))
+  pages_below r =
+      let end = ltb-false (8 * size) (start_of op + count_of op) inside in
+      let n = pages_some op r in
+      let some = (in_bounds op r).1 in
+      below_from (first_page op) (pages_of op) (omega arith)
+    where
+      below_from : (page n : ℕ) → page + n ≤ size
+          → AllByRecursion (λ (piece : Piece). piece.page.0 < size)
+          (pieces_from (start_of op) (count_of op) page n)
+      below_from page zero fits = tt
+      below_from page (suc n) fits = (omega arith, below_from (page + 1) n (omega arith))
 
 pub counts_itself : (page : ℕ) → let n : ℕ = cond (eqb page page) 1 0 in n ≡ 1
 counts_itself page = ap (λ (b : Bool). cond b 1 0) (eq-eqb page page refl)

@@ -83,12 +83,3 @@ module _ (n : ℕ) (counts : List ℕ) (noted : List ℕ) (c : AreCounted n coun
   } where
     below : (p : ℕ) → p < n + 1 → p ≢ n → p < n
     below p lt ne = grind arith
-
--- a page of the list
-pub page_in_list : (size : ℕ) (xs : List ℕ) (i p : ℕ) → AllByRecursion (λ q. q < size) xs
-    → slice_get xs i ≡ Some p
-    → p < size
-page_in_list size [] i p all e = absurd (cc)
-page_in_list size (x ∷ xs) zero p all e = let q : x ≡ p = (let h : Some x ≡ Some p = e in cc) in
-    let l = all.0 in omega arith
-page_in_list size (x ∷ xs) (suc i) p all e = page_in_list size xs i p all.1 e

@@ -18,8 +18,8 @@ pub struct Place {
     pub left: u32,
 }
 
-/// How many pages an operation has pieces on: none where it lies beyond the disk.
-pub(crate) fn pages_to_do(size: u32, op: &Op) -> u32
+// How many pages an operation has pieces on: none where it lies beyond the disk.
+fn pages_to_do(size: u32, op: &Op) -> u32
     requires { IsRequest op.now }
     ensures { result ≡ (if is_beyond size op.now then 0 else pages_of op.now) }
 {

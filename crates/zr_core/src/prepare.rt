@@ -10,11 +10,11 @@ ghost use Rattle.zr_core.specs.Noted.{is_in, ArePages, AreCounted};
 ghost use Rattle.zr_core.specs.States.{slots_of, HasEntries, IsAtRest};
 ghost use Rattle.zr_core.specs.Preparing.{count_at, pieces_each, IsReserved, AreReserved, IsNewReply, AreNewReplies, IsNewWorker, AreNewWorkers};
 
-use crate::place::{first_piece, pages_to_do, settled};
+use crate::place::{first_piece, settled};
 use crate::worker::{DiskHeld, Reply, Worker, entry_of};
 use lock_row::{Hand, Held, LockNo, SimRow, Still};
 use std::alloc::{AllocError, Global};
-use zr_base::{ActorOps, Op, OpEnd, PageIx};
+use zr_base::{ActorOps, Op, OpEnd, PageIx, pieces};
 
 // Counts the pieces with events of an operation.
 fn count_op(size: u32, op: &Op, counts: &mut [u32])
@@ -25,9 +25,11 @@ fn count_op(size: u32, op: &Op, counts: &mut [u32])
     ensures counted { (p : ℕ) → p < size
         → count_at counts.new p ≡ count_at counts.old p + pieces_on p (parts size 0 op.now) }
 {
-    let first = op.first_page();
-    let left = pages_to_do(size, op);
-    for page in first..first + left {
+    if op.is_beyond(size) {
+        return;
+    }
+    for piece in pieces(op.start(), op.count()) {
+        let page = piece.page.0;
         if op.has_event(page) {
             counts[page as usize] += 1;
         }

@@ -5,5 +5,6 @@ use Rattle.bench_packing.proofs.tell_bytes.Goals as goal
 pub returns : goal.returns
 returns c = (
   c.requires,
-  λ k d lt. (let fits = c.type_inv.bytes k in let e = get_or_default_zero c.args.bytes.now k d lt in omega (arith, fits, e)),
+  λ k d lt. (let fits = c.type_inv.bytes k in let e =
+      get_or_default_zero c.args.bytes.now k d lt in omega (arith, fits, e)),
 )

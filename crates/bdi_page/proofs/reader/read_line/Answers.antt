@@ -22,7 +22,8 @@ returns-then-size-bytes-clause-none c _ line rest h =
       arith,
       line_fits c.lines_have_one_coding.ensures.one c.args.bytes.now c.args.number
           c.args.at
-          c.size-size.result c.in_ok-code.code c.size-size.ensures c.in_ok-code.ensures.one line rest h,
+          c.size-size.result c.in_ok-code.code c.size-size.ensures c.in_ok-code.ensures.one line
+          rest h,
     )
 
 pub returns-in_err-line-clause-none : goal.returns-in_err-line-clause-none

@@ -25,7 +25,8 @@ loop-k-preserved c =
     record {
       len = ap length new ∙ length-set xs k code ∙ here.len;
       front = ap (take (k + 1)) new ∙ take_more_set xs k code lt
-          ∙ ap (λ l. l ++ code ∷ []) here.front ∙ sym (take_more c.args.codes.now k 0 (omega arith));
+          ∙ ap (λ l. l ++ code ∷ []) here.front
+          ∙ sym (take_more c.args.codes.now k 0 (omega arith));
       back = ap (drop 32) new ∙ drop-set-lt 32 xs k code c.loop-k-test.true ∙ here.back;
     }
 

@@ -1,4 +1,4 @@
--- The codes before k are written, and what lies behind all of them stays.
+-- The codes before k are written, and what lies after all of them stays.
 use Rattle.std.proofs.Common.{◌≡◌, ℕ, List, length, take, drop}
 use Rattle.bdi_page.proofs.writer.put_codes.Given as goal
 

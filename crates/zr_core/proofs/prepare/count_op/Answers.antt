@@ -1,61 +1,71 @@
-use Rattle.std.proofs.Common.{◌≡◌, ℕ, ◌+◌, ◌-◌, ◌/◌, ◌<◌, Bool, true, false, cond, eqb, List, length, sym, ap, ◌∙◌, arith, length-set}
-use Rattle.call_history.specs.Parts.{parts_from}
-use Rattle.zr_core.specs.Joint.{pieces_on}
+use Rattle.std.proofs.Common.{◌≡◌, ℕ, ◌+◌, ◌<◌, true, false, List, length, sym, ap, ◌∙◌, subst, arith, length-set}
+use Rattle.std.specs.List.{AllByRecursion}
+use Rattle.zr_base.specs.declared.op.Piece.{Piece}
+use Rattle.zr_base.specs.Plain.{start_of, count_of}
+use Rattle.zr_base.specs.Pieces.{pieces_of}
 use Rattle.zr_core.specs.Preparing.{count_at}
-use Rattle.zr_core.proofs.Counts.{pieces_until, page_below, counts_itself, count_more}
+use Rattle.zr_core.proofs.Counts.{carried_on, carried_first, carried_of, pages_below, counts_itself, count_more}
 use Rattle.zr_core.proofs.prepare.count_op.Goals as goal
-use Rattle.zr_core.proofs.prepare.count_op.Goals.{After-has_event, then-has_event, else-has_event}
 
-below : (c : After-has_event) → c.loop-page.page < c.args.size
-below c = page_below c.args.size c.args.op.now c.loop-page.page c.pages_to_do-left.result
-    c.requires.request c.pages_to_do-left.ensures
-    (let s = c.first_page-first.ensures in let f = c.loop-page.invariant.from in omega arith)
-    (let s = c.first_page-first.ensures in let t = c.loop-page-test.true in omega arith)
+abbrev Below : ℕ → List Piece → Type 0
+Below size = AllByRecursion (λ (piece : Piece). piece.page.0 < size)
 
-abbrev rest_from : (c : After-has_event) → ℕ → ℕ → ℕ
-rest_from c p page =
-    pieces_on p
-    (parts_from 0 c.args.op.now page (c.first_page-first.result + c.pages_to_do-left.result - page))
-
-next : (c : After-has_event) (p : ℕ) (b : Bool) → c.has_event.result ≡ b
-    → rest_from c p c.loop-page.page
-    ≡ cond b (cond (eqb c.loop-page.page p) 1 0) 0 + rest_from c p (c.loop-page.page + 1)
-next c p b e =
-    pieces_until 0 p c.args.op.now c.loop-page.page
-    (c.first_page-first.result + c.pages_to_do-left.result)
-    (let t = c.loop-page-test.true in omega arith)
-    ∙ ap (λ (x : Bool). cond x (cond (eqb c.loop-page.page p) 1 0) 0
-    + rest_from c p (c.loop-page.page + 1)) (sym c.has_event.ensures ∙ e)
+pub loop-piece-init : goal.loop-piece-init
+loop-piece-init c =
+    let size = c.args.size in
+    let op = c.args.op.now in
+    let inside = sym c.is_beyond.ensures ∙ c.if-is_beyond.false in
+    let walk : c.into_iter-piece-iterator.result ≡ pieces_of (start_of op) (count_of op) =
+    c.into_iter-piece-iterator.ensures.into_iter_gives ∙ c.pieces-piece-items.ensures.pieces
+    ∙ (λ i. pieces_of (c.start.ensures i) (c.count.ensures i)) in
+    record {
+      size = c.requires.size;
+      below = subst (Below size) (sym walk) (pages_below size op inside c.requires.request);
+      counted = λ p lt.
+          ap (λ ps. count_at c.args.counts.now p + carried_on op p ps) walk
+          ∙ ap (λ (k : ℕ). count_at c.args.counts.now p + k) (carried_of size op inside p);
+    }
 
 pub overflow_add-counts : goal.overflow_add-counts
 overflow_add-counts c =
-    let a = (goal.at.overflow_add-counts c).After-has_event in
-    let q = c.loop-page.invariant.counted c.loop-page.page (below a) in
-    let f = c.requires.fits c.loop-page.page (below a) in
-    let n = next a c.loop-page.page true c.if-has_event.true in
-    let here = counts_itself c.loop-page.page in omega arith
+    let i = c.loop-piece.invariant in
+    let piece = c.in-Some.piece in
+    let page : ℕ = piece.page.0 in
+    let steps = c.in-Some.ensures.steps in
+    let below = subst (Below c.args.size) steps i.below in
+    let q = i.counted page below.0 in
+    let f = c.requires.fits page below.0 in
+    let n = carried_first c.args.op.now page piece c.loop-piece.piece-iterator c.next.new.self
+    true steps (sym c.has_event.ensures ∙ c.if-has_event.true) in
+    let here = counts_itself page in omega arith
 
-pub loop-page-preserved : goal.loop-page-preserved
-loop-page-preserved c =
-    let a = (goal.at.loop-page-preserved c).After-has_event in
-    let i = c.loop-page.invariant in
-    elim c.if-has_event.branch [
-      | then-has_event w ↦ record {
-        from = (let f = i.from in omega arith);
-        size = ap length w.counts-is ∙ length-set c.loop-page.counts c.loop-page.page _ ∙ i.size;
-        counted = λ p lt.
-            let q = i.counted p lt in
-            let n = next a p true w.if-has_event.true in
-            let m = ap (λ (cs : List ℕ). count_at cs p) w.counts-is
-            ∙ count_more c.loop-page.counts c.loop-page.page p (let s = i.size in let b = below a in
-            omega arith) in omega arith;
-      }
-      | else-has_event w ↦ record {
-        from = (let f = i.from in omega arith);
-        size = ap length w.counts-is ∙ i.size;
-        counted = λ p lt.
-            let q = i.counted p lt in
-            let n = next a p false w.if-has_event.false in
-            let m = ap (λ (cs : List ℕ). count_at cs p) w.counts-is in omega arith;
-      }
-    ]
+pub loop-piece-preserved : goal.loop-piece-preserved
+loop-piece-preserved c =
+    let i = c.loop-piece.invariant in
+    let steps = c.in-Some.ensures.steps in
+    let below = subst (Below c.args.size) steps i.below in record {
+      size = i.size;
+      below = below.1;
+      counted = λ p lt.
+          let q = i.counted p lt in
+          let n = carried_first c.args.op.now p c.in-Some.piece c.loop-piece.piece-iterator
+          c.next.new.self false steps (sym c.has_event.ensures ∙ c.if-has_event.false) in
+          omega arith;
+    }
+
+pub loop-piece-preserved-then-has_event : goal.loop-piece-preserved-then-has_event
+loop-piece-preserved-then-has_event c =
+    let i = c.loop-piece.invariant in
+    let counts = c.loop-piece.counts in
+    let page : ℕ = c.in-Some.piece.page.0 in
+    let steps = c.in-Some.ensures.steps in
+    let below = subst (Below c.args.size) steps i.below in
+    let inside : page < length counts = omega (arith, i.size, below.0) in record {
+      size = length-set counts page _ ∙ i.size;
+      below = below.1;
+      counted = λ p lt.
+          let q = i.counted p lt in
+          let n = carried_first c.args.op.now p c.in-Some.piece c.loop-piece.piece-iterator
+          c.next.new.self true steps (sym c.has_event.ensures ∙ c.if-has_event.true) in
+          let m = count_more counts page p inside in omega arith;
+    }

@@ -20,5 +20,6 @@ pub invariant_of-self-else-fails : goal.invariant_of-self-else-fails
 invariant_of-self-else-fails c =
     let calls = c.self.inside.calls in
     let later : calls ≤ c.saturating_add-self-inside.result = omega arith in
-    let due = due_until-mono calls c.saturating_add-self-inside.result c.self.inside.failing.items later in
+    let due = due_until-mono calls c.saturating_add-self-inside.result c.self.inside.failing.items
+    later in
     omega (arith, c.self.invariant, due)

@@ -12,6 +12,7 @@ invariant_of-result c =
     record {
       few = rw (states, length-replicate c.args.blocks Free) (omega arith);
       tree = rw (states, length-replicate c.args.blocks Free) c.in_ok-tree.ensures.tree;
-      leaves = rw states (HasLeaves-replicate c.in_ok-tree.tree.items c.args.blocks c.in_ok-tree.ensures.leaves);
+      leaves = rw states (HasLeaves-replicate c.in_ok-tree.tree.items c.args.blocks
+          c.in_ok-tree.ensures.leaves);
       owned = rw states (owned_blocks-replicate c.args.blocks);
     }

@@ -13,7 +13,8 @@ overflow_add-self c =
     let same = ap (λ (m : BlockMap). length m.states) c.self.view_is in
     let within : c.args.b < length states = omega (arith, same) in
     let count =
-    owned_blocks-set states c.args.b c.args.state c.index.result.now c.self.inside.owned c.owned.result
+    owned_blocks-set states c.args.b c.args.state c.index.result.now c.self.inside.owned
+    c.owned.result
     c.owned-2.result within c.self.invariant.owned c.index.ensures c.owned.ensures c.owned-2.ensures
     in
     omega (arith, count.few, c.self.invariant.few)
@@ -25,7 +26,8 @@ invariant_of-self c =
     let same = ap (λ (m : BlockMap). length m.states) c.self.view_is in
     let within : c.args.b < length states = omega (arith, same) in
     let count =
-    owned_blocks-set states c.args.b c.args.state c.index.result.now c.self.inside.owned c.owned.result
+    owned_blocks-set states c.args.b c.args.state c.index.result.now c.self.inside.owned
+    c.owned.result
     c.owned-2.result within c.self.invariant.owned c.index.ensures c.owned.ensures c.owned-2.ensures
     in
     let blocks : c.len.result ≡ length states = search rules in

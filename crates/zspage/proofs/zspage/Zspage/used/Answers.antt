@@ -10,6 +10,6 @@ returns-clause-most c =
     subst (λ z. c.self.inside.used ≤ length z.cells) c.self.view_is
     (omega (
       arith,
-      c.self.invariant.count,
+      c.self.invariant.0.count,
       count_by-le-length is_some (uses c.self.inside.spots.items),
     ))
