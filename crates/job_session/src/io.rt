@@ -1,6 +1,6 @@
 //! Bytes to a sink and from a source.
 
-ghost use Rattle.std.specs.Prelude.{◌≡◌, ℕ, ◌≤◌, ◌<◌, List, [], IfOk, OnOk, OnErr, IfErr, length, take};
+ghost use Rattle.std.specs.Prelude.{◌≡◌, ℕ, ◌≤◌, ◌<◌, true, List, [], IfOk, OnOk, OnErr, IfErr, length, take};
 ghost use Rattle.std.specs.Io.KnownBytes.{Appends, Consumes, IsAtEnd};
 ghost use Rattle.job_session.specs.Runs.{BeginsWith, WriteCause};
 ghost use Rattle.job_session.specs.Telling.{ReadCause};
@@ -21,6 +21,7 @@ fn send_some<K: Sink>(out: &mut K, bytes: &[u8]) -> Result<usize, Failed>
         (λ n. Appends (K.written out.old) (K.written out.new) (take n bytes.now)) }
     ensures none { OnErr result (Appends (K.written out.old) (K.written out.new) []) }
     ensures later { K.fault_count out.old ≤ K.fault_count out.new }
+    ensures stays { K.has_stopped out.old ≡ true → K.has_stopped out.new ≡ true }
     ensures cause { OnErr result
         (WriteCause (K.fault_count out.old) (K.fault_count out.new) (K.has_stopped out.new)) }
 {
@@ -37,6 +38,7 @@ pub(crate) fn send<K: Sink>(out: &mut K, bytes: &[u8]) -> Result<(), Failed>
     ensures all { OnOk result (Appends (K.written out.old) (K.written out.new) bytes.now) }
     ensures some { BeginsWith (K.written out.old) (K.written out.new) bytes.now }
     ensures later { K.fault_count out.old ≤ K.fault_count out.new }
+    ensures stays { K.has_stopped out.old ≡ true → K.has_stopped out.new ≡ true }
     ensures cause { OnErr result
         (WriteCause (K.fault_count out.old) (K.fault_count out.new) (K.has_stopped out.new)) }
 {

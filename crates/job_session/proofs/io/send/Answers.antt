@@ -14,7 +14,7 @@ returns-in_err-at-clause-some g c =
       rest = drop c.loop-at.at c.args.bytes.now;
       parts = sym (take-append-drop c.loop-at.at c.args.bytes.now);
       appended = subst P (append-nil (take at c.args.bytes.now))
-          (Appends-trans _ _ _ (take at c.args.bytes.now) [] c.loop-at.invariant.2
+          (Appends-trans _ _ _ (take at c.args.bytes.now) [] c.loop-at.invariant.3
           c.in_err-at.ensures.none);
     }
 
@@ -36,8 +36,9 @@ loop-at-preserved g c =
     (g.K.Sink.written c.send_some.new.out) xs in (
       omega (arith, fits, c.in_ok-at.ensures.some, c.loop-at.invariant.0),
       omega (arith, c.loop-at.invariant.1, c.send_some.ensures.later),
+      λ was. c.send_some.ensures.stays (c.loop-at.invariant.2 was),
       subst P (taken_more c.args.bytes.now at n)
           (Appends-trans (g.K.Sink.written c.args.out.now) (g.K.Sink.written c.loop-at.out)
           (g.K.Sink.written c.send_some.new.out) (take at c.args.bytes.now) _
-          c.loop-at.invariant.2 c.in_ok-at.ensures.sent),
+          c.loop-at.invariant.3 c.in_ok-at.ensures.sent),
     )

@@ -1,7 +1,6 @@
-use Rattle.std.proofs.Common.{Option, List, ℕ, Ok, refl, sym, ap, ◌∙◌, subst, rules}
+use Rattle.std.proofs.Common.{sym, ap, ◌∙◌, rules}
 use Rattle.std.proofs.lemmas.Result.{err_from_is_err_and}
-use Rattle.job_session.specs.Stepped.{without_pages}
-use Rattle.job_session.specs.Telling.{OutputState, ItemsTold}
+use Rattle.job_session.specs.Telling.{OutputState}
 use Rattle.job_session.proofs.Written.{cut_items, cut_rest, written}
 use Rattle.job_session.proofs.sim.run_all.Goals as goal
 
