@@ -7,4 +7,4 @@ mod spot;
 mod zspage;
 
 pub use cell::Cell;
-pub use zspage::Zspage;
+pub use zspage::{Movable, Zspage};
