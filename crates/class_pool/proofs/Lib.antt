@@ -7,3 +7,5 @@ pub mod PoolLaws
 pub mod StatLaws
 pub mod HomeLaws
 pub mod PlanLaws
+pub mod MoveLaws
+pub mod PlannedLaws

@@ -3,3 +3,4 @@ pub mod Rows
 pub mod Places
 pub mod Pool
 pub mod Index
+pub mod Moves

@@ -18,6 +18,10 @@ use zr_base::Handle;
 use zs_plan::plan_of;
 use zspage::Cell;
 
+mod moves;
+
+pub use moves::Moved;
+
 /// The objects of one size class.
 #[derive(Drop)]
 pub struct ClassPool {
