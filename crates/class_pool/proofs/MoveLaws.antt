@@ -1,10 +1,10 @@
 -- A move: the steps of the code as a change of two zspages, and what it leaves of a pool.
-use Rattle.std.proofs.Common.{◌≡◌, ◌≢◌, ℕ, ◌+◌, ◌-◌, ◌<◌, ◌≤◌, List, Option, None, Some, Bool, true, false, length, map, refl, sym, ◌∙◌, ap, subst, inl, inr, arith, Contains}
+use Rattle.std.proofs.Common.{◌≡◌, ◌≢◌, ℕ, ◌<◌, List, Option, None, Some, true, false, length, map, refl, sym, ◌∙◌, ap, subst, inl, inr, arith, Contains}
 use Rattle.std.proofs.Math.ListN.{set, length-set}
 use Rattle.std.proofs.lemmas.Bool.{cases_eq}
 use Rattle.std.proofs.lemmas.List.{set_comm, set-set, set-get_or}
 use Rattle.std.proofs.lemmas.Option.{slice_get_within, get_or_from_slice_get}
-use Rattle.zspage.specs.Cells.{CellState, UsedCell, used_of, entry}
+use Rattle.zspage.specs.Cells.{CellState, UsedCell, entry}
 use Rattle.class_pool.specs.declared.places.Place.{Place}
 use Rattle.class_pool.specs.Zspages.{Cells, ZspagesState, HasRoom, use_at}
 use Rattle.class_pool.specs.Pool.{PoolState, object_of, used_cells, IsAtHome, IsLent, new_use}

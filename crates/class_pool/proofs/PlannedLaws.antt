@@ -1,7 +1,7 @@
 -- What a plan says of the zspages that it names.
-use Rattle.std.proofs.Common.{◌≡◌, ◌≢◌, ℕ, ◌+◌, ◌<◌, ◌≤◌, List, Option, Some, length, sym, ◌∙◌, ap, subst, arith, Contains}
+use Rattle.std.proofs.Common.{◌≡◌, ℕ, ◌+◌, ◌<◌, ◌≤◌, List, Option, Some, sym, ◌∙◌, ap, subst, arith, Contains}
 use Rattle.std.proofs.lemmas.Bool.{ltb-true}
-use Rattle.zspage.specs.Cells.{used_of, home_of, entry}
+use Rattle.zspage.specs.Cells.{home_of, entry}
 use Rattle.zs_plan.specs.declared.Row.{Row}
 use Rattle.zs_plan.specs.Plan.{IsPlan}
 use Rattle.class_pool.specs.Zspages.{Cells, AreWhole, HasRoom}

@@ -1,12 +1,12 @@
 -- The plan's object moves, and the others stay.
-use Rattle.std.proofs.Common.{◌≡◌, ℕ, ◌+◌, ◌≤◌, sum_by, arith, Some, false, ap, sym, subst, ◌∙◌, refl}
+use Rattle.std.proofs.Common.{◌≡◌, ◌≤◌, sum_by, arith, Some, ap, sym, subst, ◌∙◌}
 use Rattle.zspage.specs.Cells.{entry, home_of}
 use Rattle.zs_plan.specs.Plan.{IsPlan}
-use Rattle.class_pool.specs.Zspages.{Cells, HasRoom, use_at}
+use Rattle.class_pool.specs.Zspages.{Cells, use_at}
 use Rattle.class_pool.specs.Rows.{rows}
 use Rattle.class_pool.specs.Pool.{IsAtHome, IsLent, objects}
-use Rattle.class_pool.specs.Index.{pool_of, IsPooled}
-use Rattle.class_pool.specs.Moves.{Move, Moves}
+use Rattle.class_pool.specs.Index.{pool_of}
+use Rattle.class_pool.specs.Moves.{Moves}
 use Rattle.class_pool.proofs.PoolLaws.{pool_is}
 use Rattle.class_pool.proofs.PlannedLaws.{plan_source, plan_room}
 use Rattle.class_pool.proofs.MoveLaws.{Shifted, shifted, out_stays, all_home, all_lent}

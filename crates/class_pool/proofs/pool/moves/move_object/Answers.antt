@@ -1,9 +1,9 @@
 -- The object's cell is copied while it is lent, and freed when it is back.
-use Rattle.std.proofs.Common.{◌≡◌, ◌≢◌, ℕ, List, ◌<◌, ◌≤◌, Option, None, Some, true, false, length, refl, ap, sym, subst, ◌∙◌, inl, inr}
+use Rattle.std.proofs.Common.{◌≡◌, ℕ, ◌<◌, Option, None, Some, true, false, length, refl, ap, sym, subst, ◌∙◌, inl, inr}
 use Rattle.std.proofs.Math.ListN.{set}
-use Rattle.zspage.specs.Cells.{CellState, UsedCell, IsStored, IsCellAt, IsLowestFree, used_of, entry}
+use Rattle.zspage.specs.Cells.{CellState, UsedCell, IsStored, IsCellAt, IsLowestFree, entry}
 use Rattle.zspage.specs.Moves.{IsLowestHome}
-use Rattle.class_pool.specs.Zspages.{Cells, ZspagesState, HasRoom}
+use Rattle.class_pool.specs.Zspages.{Cells, HasRoom}
 use Rattle.class_pool.specs.Pool.{Frees, new_use}
 use Rattle.class_pool.specs.Index.{pool_of, IsPooled}
 use Rattle.class_pool.specs.Moves.{Move, Moves}

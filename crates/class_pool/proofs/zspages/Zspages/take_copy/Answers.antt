@@ -1,5 +1,5 @@
 -- The zspage in the slot takes the bytes of the other cell, and gets its new rank.
-use Rattle.std.proofs.Common.{◌≡◌, ℕ, List, ◌<◌, ◌≤◌, Some, length, arith, ap, sym, subst, ◌∙◌}
+use Rattle.std.proofs.Common.{◌≡◌, ◌≤◌, Some, length, arith, ap, sym, subst, ◌∙◌}
 use Rattle.std.proofs.Math.ListN.{set, length-set}
 use Rattle.zspage.specs.Cells.{entry, UsedCell, IsCellAt, IsLowestFree}
 use Rattle.class_pool.specs.Zspages.{Cells, HasRoom}
