@@ -9,3 +9,5 @@ pub mod HomeLaws
 pub mod PlanLaws
 pub mod MoveLaws
 pub mod PlannedLaws
+pub mod SettledLaws
+pub mod RestLaws

@@ -4,3 +4,4 @@ pub mod Places
 pub mod Pool
 pub mod Index
 pub mod Moves
+pub mod Compaction

@@ -1,6 +1,6 @@
 //! Compaction: an object moves from the emptiest zspage into the fullest one with room, one at a time.
 
-ghost use Rattle.std.specs.Prelude.{◌≡◌, ◌≢◌, ◌+◌, ◌≤◌, ◌⊎◌, ℕ, Some, true, slice_set};
+ghost use Rattle.std.specs.Prelude.{◌≡◌, ◌≢◌, ◌+◌, ◌<◌, ◌≤◌, ◌⊎◌, ℕ, length, Some, true, slice_set};
 ghost use Rattle.zspage.specs.Cells.{CellState, UsedCell, used_of, entry, home_of, IsStored, IsCellAt, IsLowestFree};
 ghost use Rattle.zspage.specs.Moves.{IsLowestHome};
 ghost use Rattle.zs_plan.specs.Plan.{IsPlan, HasNoPlan};
@@ -9,6 +9,7 @@ ghost use Rattle.class_pool.specs.Rows.{rows};
 ghost use Rattle.class_pool.specs.Pool.{objects, used_cells, IsAtHome, IsLent, IsPool, new_use};
 ghost use Rattle.class_pool.specs.Index.{pool_of, IsPooled};
 ghost use Rattle.class_pool.specs.Moves.{IfMoved, IfDone, Move, Moves, AreSame};
+ghost use Rattle.class_pool.specs.Compaction.{IsSettled, MayMove};
 
 use super::ClassPool;
 use crate::places::{Place, Places};
@@ -30,13 +31,23 @@ impl ClassPool {
         ensures done { IfDone result ((self.new ≡ self.old) × (budget.new ≡ budget.old)
             × ((budget.old ≡ 0) ⊎ HasNoPlan self.old.per (rows self.old.zspages))) }
         ensures moved { IfMoved result (λ frames. (budget.new + 1 ≡ budget.old) × (m : Move)
-            × IsPlan self.old.per (rows self.old.zspages) m.from m.to × Moves self.old self.new m frames) }
+            × IsPlan self.old.per (rows self.old.zspages) m.from m.to × Moves self.old self.new m frames
+            × (IsSettled self.old m.object.handle → ⊥) × IsSettled self.new m.object.handle) }
         ensures list { AreSame (objects self.old) (objects self.new) }
         ensures home { (h : ℕ) → IsAtHome self.old h → IsAtHome self.new h }
         ensures lent { (h : ℕ) (cell : CellState) → IsLent self.old h cell → IsLent self.new h cell }
         ensures out_stays { (id ix : ℕ) (u : UsedCell) → use_at self.old.zspages id ix ≡ Some u → u.out ≡ true
             → use_at self.new.zspages id ix ≡ Some u }
         ensures pool { IsPool self.new }
+
+        // While nothing else touches the pool no object moves twice: the object that moved was not settled, and is now.
+        ensures settled { (h : ℕ) → IsSettled self.old h → IsSettled self.new h }
+
+        // Calls move no more objects than there are, and at last nothing may move.
+        ensures most { (n : ℕ) × MayMove self.old n × (n ≤ length (objects self.old)) }
+        ensures fewer { IfMoved result (λ frames. (n k : ℕ) → MayMove self.old n → MayMove self.new k → k < n) }
+        ensures rest { IfDone result (1 ≤ budget.old → MayMove self.old 0) }
+        ensures none { MayMove self.old 0 → IfMoved result (λ frames. ⊥) }
     {
         let Some((from, to)) = self.next_move() else {
             return Moved::Done;
