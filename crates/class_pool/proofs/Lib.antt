@@ -11,3 +11,4 @@ pub mod MoveLaws
 pub mod PlannedLaws
 pub mod SettledLaws
 pub mod RestLaws
+pub mod LeastLaws

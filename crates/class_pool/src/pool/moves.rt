@@ -9,7 +9,7 @@ ghost use Rattle.class_pool.specs.Rows.{rows};
 ghost use Rattle.class_pool.specs.Pool.{objects, used_cells, IsAtHome, IsLent, IsPool, new_use};
 ghost use Rattle.class_pool.specs.Index.{pool_of, IsPooled};
 ghost use Rattle.class_pool.specs.Moves.{IfMoved, IfDone, Move, Moves, AreSame};
-ghost use Rattle.class_pool.specs.Compaction.{IsSettled, MayMove};
+ghost use Rattle.class_pool.specs.Compaction.{IsSettled, MayMove, IsNothingOut, IsLeast};
 
 use super::ClassPool;
 use crate::places::{Place, Places};
@@ -48,6 +48,7 @@ impl ClassPool {
         ensures fewer { IfMoved result (λ frames. (n k : ℕ) → MayMove self.old n → MayMove self.new k → k < n) }
         ensures rest { IfDone result (1 ≤ budget.old → MayMove self.old 0) }
         ensures none { MayMove self.old 0 → IfMoved result (λ frames. ⊥) }
+        ensures least { MayMove self.new 0 → IsNothingOut self.new → IsLeast self.new }
     {
         let Some((from, to)) = self.next_move() else {
             return Moved::Done;

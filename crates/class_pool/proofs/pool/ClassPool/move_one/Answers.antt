@@ -12,6 +12,7 @@ use Rattle.class_pool.proofs.PlannedLaws.{plan_source, plan_room}
 use Rattle.class_pool.proofs.MoveLaws.{Shifted, shifted, out_stays, all_home, all_lent}
 use Rattle.class_pool.proofs.SettledLaws.{unsettled, settles, stays_settled}
 use Rattle.class_pool.proofs.RestLaws.{fewer, rest_no_plan, plan_rest, no_plan_rest}
+use Rattle.class_pool.proofs.LeastLaws.{least_zspages}
 use Rattle.class_pool.proofs.pool.ClassPool.move_one.Goals as goal
 use Rattle.class_pool.proofs.pool.ClassPool.move_one.Goals.{After-move_object-frames}
 
@@ -90,6 +91,19 @@ returns-then-budget-eq0-clause-most c = plan_rest c.args.self.now c.in-Some.from
 
 pub returns-clause-most : goal.returns-clause-most
 returns-clause-most c = plan_rest c.args.self.now c.in-Some.from c.in-Some.to c.in-Some.ensures.plan
+
+pub returns-clause-least : goal.returns-clause-least
+returns-clause-least c =
+    let pooled = c.move_object-frames.ensures.pooled c.self.inside.used c.self.invariant in
+    least_zspages _ (pool_is c.self.inside.class c.self.inside.used _ _ pooled) pooled.fit.some
+
+pub returns-in_default-clause-least : goal.returns-in_default-clause-least
+returns-in_default-clause-least c =
+    least_zspages _ c.next_move.ensures.pool (subst (λ p. 1 ≤ p.per) c.self.view_is c.self.invariant.fit.some)
+
+pub returns-then-budget-eq0-clause-least : goal.returns-then-budget-eq0-clause-least
+returns-then-budget-eq0-clause-least c =
+    least_zspages _ c.next_move.ensures.pool (subst (λ p. 1 ≤ p.per) c.self.view_is c.self.invariant.fit.some)
 
 -- ---- what is left
 
