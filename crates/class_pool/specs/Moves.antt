@@ -1,7 +1,7 @@
 -- What a move of an object from one zspage into another does to a pool.
 use Rattle.std.specs.Prelude.{ℕ, ◌≡◌, ◌≢◌, Some, List, slice_set, sum_by}
 use Rattle.zspage.specs.Cells.{CellState, UsedCell, entry, IsStored, IsCellAt, IsLowestFree}
-use Rattle.zspage.specs.Moves.{IsLowestHome}
+use Rattle.zspage.specs.Movable.{IsLowestHome}
 use Rattle.class_pool.specs.declared.pool.moves.Moved.{Moved as Answer}
 use Rattle.class_pool.specs.declared.pool.moves.Moved.TheVariants.{Moved, Done}
 use Rattle.class_pool.specs.Zspages.{Cells}

@@ -1,2 +1,2 @@
 pub mod CellLaws
-pub mod MoveLaws
+pub mod MovableLaws

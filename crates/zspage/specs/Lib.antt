@@ -1,3 +1,3 @@
 pub mod Cells
 pub mod Spots
-pub mod Moves
+pub mod Movable

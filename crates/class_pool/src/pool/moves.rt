@@ -2,7 +2,7 @@
 
 ghost use Rattle.std.specs.Prelude.{◌≡◌, ◌≢◌, ◌+◌, ◌<◌, ◌≤◌, ◌⊎◌, ℕ, length, Some, true, slice_set};
 ghost use Rattle.zspage.specs.Cells.{CellState, UsedCell, used_of, entry, home_of, IsStored, IsCellAt, IsLowestFree};
-ghost use Rattle.zspage.specs.Moves.{IsLowestHome};
+ghost use Rattle.zspage.specs.Movable.{IsLowestHome};
 ghost use Rattle.zs_plan.specs.Plan.{IsPlan, HasNoPlan};
 ghost use Rattle.class_pool.specs.Zspages.{Cells, HasRoom, use_at};
 ghost use Rattle.class_pool.specs.Rows.{rows};

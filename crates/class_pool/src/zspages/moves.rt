@@ -2,7 +2,7 @@
 
 ghost use Rattle.std.specs.Prelude.{◌≡◌, ◌≤◌, ℕ, List, length, Some, slice_set};
 ghost use Rattle.zspage.specs.Cells.{CellState, IsStored, IsCellAt, UsedCell, home_of, entry, IsLowestFree};
-ghost use Rattle.zspage.specs.Moves.{IsLowestHome};
+ghost use Rattle.zspage.specs.Movable.{IsLowestHome};
 ghost use Rattle.class_pool.specs.Zspages.{Cells, HasRoom};
 ghost use Rattle.class_pool.specs.Pool.{new_use};
 

@@ -2,7 +2,7 @@
 
 ghost use Rattle.std.specs.Prelude.{◌≡◌, ◌+◌, ◌<◌, ◌≤◌, ℕ, List, length, Some, false, slice_set};
 ghost use Rattle.zspage.specs.Cells.{CellState, IsStored, IsCellAt, UsedCell, used_of, home_of, IsLowestFree};
-ghost use Rattle.zspage.specs.Moves.{IsLowestHome};
+ghost use Rattle.zspage.specs.Movable.{IsLowestHome};
 
 use super::{USED, Zspage};
 use crate::cell::Cell;

@@ -2,7 +2,7 @@
 use Rattle.std.proofs.Common.{◌≡◌, ℕ, ◌<◌, Option, None, Some, true, false, length, refl, ap, sym, subst, ◌∙◌, inl, inr}
 use Rattle.std.proofs.Math.ListN.{set}
 use Rattle.zspage.specs.Cells.{CellState, UsedCell, IsStored, IsCellAt, IsLowestFree, entry}
-use Rattle.zspage.specs.Moves.{IsLowestHome}
+use Rattle.zspage.specs.Movable.{IsLowestHome}
 use Rattle.class_pool.specs.Zspages.{Cells, HasRoom}
 use Rattle.class_pool.specs.Pool.{Frees, new_use}
 use Rattle.class_pool.specs.Index.{pool_of, IsPooled}

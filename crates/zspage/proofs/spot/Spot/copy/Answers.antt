@@ -2,7 +2,7 @@
 use Rattle.std.proofs.Common.{◌≡◌, ℕ, List, Some, length, ap, sym, ◌∙◌}
 use Rattle.zspage.specs.Cells.{CellState, object_in}
 use Rattle.zspage.specs.Spots.{which}
-use Rattle.zspage.proofs.MoveLaws.{copied}
+use Rattle.zspage.proofs.MovableLaws.{copied}
 use Rattle.zspage.proofs.spot.Spot.copy.Goals as goal
 
 pub returns-in-Some : goal.returns-in-Some

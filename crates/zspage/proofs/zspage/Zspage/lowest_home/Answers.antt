@@ -5,7 +5,7 @@ use borrow.Author.Count.{below_more}
 use Rattle.zspage.specs.Cells.{IsHome, is_home, home_of}
 use Rattle.zspage.specs.Spots.{uses}
 use Rattle.zspage.proofs.CellLaws.{entry-uses}
-use Rattle.zspage.proofs.MoveLaws.{not_home, some_home}
+use Rattle.zspage.proofs.MovableLaws.{not_home, some_home}
 use Rattle.zspage.proofs.zspage.Zspage.lowest_home.Goals as goal
 
 pub loop-ix-preserved : goal.loop-ix-preserved
