@@ -1,8 +1,10 @@
-//! Adds and frees objects of a pool, and plans moves in it, for measuring: `bench_pool LENGTH OBJECTS ROUNDS PLANS`.
+//! Adds and frees objects of a pool, and plans moves in it, for measuring: `bench_pool LENGTH
+//! OBJECTS ROUNDS PLANS`.
 //!
-//! It makes the pool of the class that takes objects of so many bytes, fills it with so many objects, and then adds and
-//! frees one object in each round. Then it pins and unpins one object so many times, and asks for the next move in
-//! between. What it prints is the same whenever the numbers are: the pool's statistics, and how often there was a move.
+//! It makes the pool of the class that takes objects of so many bytes, fills it with so many
+//! objects, and then adds and frees one object in each round. Then it pins and unpins one object so
+//! many times, and asks for the next move in between. What it prints is the same whenever the
+//! numbers are: the pool's statistics, and how often there was a move.
 #![tactic(auto)]
 
 ghost use Rattle.std.specs.Prelude.{ℕ, ◌≡◌, ◌+◌, ◌≤◌, length, IfOk};
@@ -87,8 +89,8 @@ fn churn(pool: &mut ClassPool, bytes: &[u8], objects: u32, rounds: u32) -> Resul
     Ok(())
 }
 
-// Adds an object in place of another, and then pins and unpins it so many times, with a plan in between. Gives how many
-// plans there were.
+// Adds an object in place of another, and then pins and unpins it so many times, with a plan in
+// between. Gives how many plans there were.
 fn plan(pool: &mut ClassPool, bytes: &[u8], other: Handle, times: u32) -> Result<u32, AllocError>
     requires fits { Fits (length bytes.now) pool.old.size }
     requires home { IsAtHome pool.old other.0 }

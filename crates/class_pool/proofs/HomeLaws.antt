@@ -8,10 +8,12 @@ use Rattle.class_pool.proofs.IndexLaws.{same_place, moved}
 
 -- the used cells of other handles stay
 abbrev pub Keeps : List (Option Cells) → List (Option Cells) → ℕ → Type 0
-Keeps zs zs' h = (u : UsedCell) → u.handle ≢ h → Contains (used_cells zs) u → Contains (used_cells zs') u
+Keeps zs zs' h = (u : UsedCell) → u.handle ≢ h → Contains (used_cells zs) u
+    → Contains (used_cells zs') u
 
 -- where one cell changes, and an object in it has that handle
-pub keeps : (zs zs' : List (Option Cells)) (i j : ℕ) (o : Option UsedCell) (h : ℕ) → Changes zs zs' i j o
+pub keeps : (zs zs' : List (Option Cells)) (i j : ℕ) (o : Option UsedCell) (h : ℕ)
+    → Changes zs zs' i j o
     → ((u : UsedCell) → use_at zs i j ≡ Some u → u.handle ≡ h) → Keeps zs zs' h
 keeps zs zs' i j o h change own u other among =
     let at = find_use zs u among in
@@ -21,10 +23,13 @@ keeps zs zs' i j o h change own u other among =
       | inr apart ↦ change.others at.0 at.1 apart ∙ at.2
     ])
 
-pub stays_home : (p q : PoolState) (k h : ℕ) → Keeps p.zspages q.zspages k → h ≢ k → IsAtHome p h → IsAtHome q h
-stays_home p q k h keep other (u, among, same, home) = (u, keep u (λ e. other (sym same ∙ e)) among, same, home)
+pub stays_home : (p q : PoolState) (k h : ℕ) → Keeps p.zspages q.zspages k → h ≢ k → IsAtHome p h
+    → IsAtHome q h
+stays_home p q k h keep other (u, among, same, home) =
+    (u, keep u (λ e. other (sym same ∙ e)) among, same, home)
 
-pub stays_lent : (p q : PoolState) (k h : ℕ) (cell : CellState) → Keeps p.zspages q.zspages k → h ≢ k
+pub stays_lent : (p q : PoolState) (k h : ℕ) (cell : CellState) → Keeps p.zspages q.zspages k
+    → h ≢ k
     → IsLent p h cell → IsLent q h cell
 stays_lent p q k h cell keep other (u, among, same, out, is) =
     (u, keep u (λ e. other (sym same ∙ e)) among, same, out, is)

@@ -25,7 +25,8 @@ pub moved : (zs : List (Option Cells)) (i j k l : ℕ) → k ≡ i → l ≡ j �
 moved zs i j k l e f = ap (λ n. use_at zs n l) e ∙ ap (λ n. use_at zs i n) f
 
 -- an object goes into a free cell, under a free handle
-pub index_fill : (zs zs' : List (Option Cells)) (places : List (Option Place)) (i j : ℕ) (u : UsedCell)
+pub index_fill : (zs zs' : List (Option Cells)) (places : List (Option Place)) (i j : ℕ)
+    (u : UsedCell)
     → IsIndex zs places → Changes zs zs' i j (Some u) → use_at zs i j ≡ None
     → u.handle < length places → entry places u.handle ≡ None
     → IsIndex zs' (set places u.handle (Some (place i j)))
@@ -41,7 +42,8 @@ index_fill zs zs' places i j u index change gone low free = record {
             (u, subst (λ q. use_at zs' q.zspage q.cell ≡ Some u) is change.here, sym e)
         | inr other ↦
             let was : (v : UsedCell) × (use_at zs p.zspage p.cell ≡ Some v) × (v.handle ≡ h) =
-            index.found h p (sym (entry-set_other places u.handle h (Some (place i j)) other) ∙ at) in
+            index.found h p (sym (entry-set_other places u.handle h (Some (place i j)) other)
+            ∙ at) in
             let apart : p.zspage ≡ i → p.cell ≢ j =
             λ e f. let none : use_at zs p.zspage p.cell ≡ None = moved zs i j p.zspage p.cell e f
             ∙ gone in cc (none, was.1) in
@@ -50,21 +52,26 @@ index_fill zs zs' places i j u index change gone low free = record {
   listed = λ k l v at.
       elim (same_place i j k l) [
         | inl same ↦
-            let now : Some u ≡ Some v = sym change.here ∙ sym (moved zs' i j k l same.0 same.1) ∙ at in
+            let now : Some u ≡ Some v = sym change.here ∙ sym (moved zs' i j k l same.0 same.1)
+            ∙ at in
             let is : u ≡ v = cc in
-            subst (λ w. entry (set places u.handle (Some (place i j))) w.handle ≡ Some (place k l)) is
+            subst (λ w. entry (set places u.handle (Some (place i j))) w.handle ≡ Some
+            (place k l)) is
             (entry-set_same places u.handle (Some (place i j)) low
             ∙ ap (λ n. Some (place n j)) (sym same.0) ∙ ap (λ n. Some (place k n)) (sym same.1))
         | inr apart ↦
-            let was : entry places v.handle ≡ Some (place k l) = index.listed k l v (sym (change.others k l apart) ∙ at) in
+            let was : entry places v.handle ≡ Some (place k l) =
+            index.listed k l v (sym (change.others k l apart) ∙ at) in
             let other : v.handle ≢ u.handle = λ e.
-            let none : entry places v.handle ≡ None = ap (λ n. entry places n) e ∙ free in cc (none, was) in
+            let none : entry places v.handle ≡ None = ap (λ n. entry places n) e ∙ free in
+            cc (none, was) in
             entry-set_other places u.handle v.handle (Some (place i j)) other ∙ was
       ];
 }
 
 -- an object goes away
-pub index_clear : (zs zs' : List (Option Cells)) (places : List (Option Place)) (i j : ℕ) (u : UsedCell)
+pub index_clear : (zs zs' : List (Option Cells)) (places : List (Option Place)) (i j : ℕ)
+    (u : UsedCell)
     → IsIndex zs places → Changes zs zs' i j None → use_at zs i j ≡ Some u
     → IsIndex zs' (set places u.handle None)
 index_clear zs zs' places i j u index change used =
@@ -75,14 +82,16 @@ index_clear zs zs' places i j u index change used =
           elim (cases_eq h u.handle) [
             | inl e ↦
                 let none : entry (set places u.handle None) h ≡ None =
-                ap (λ n. entry (set places u.handle None) n) e ∙ entry-set_same places u.handle None low in
+                ap (λ n. entry (set places u.handle None) n) e
+                ∙ entry-set_same places u.handle None low in
                 absurd (cc (none, at))
             | inr other ↦
                 let was : (v : UsedCell) × (use_at zs p.zspage p.cell ≡ Some v) × (v.handle ≡ h) =
                 index.found h p (sym (entry-set_other places u.handle h None other) ∙ at) in
                 let apart : p.zspage ≡ i → p.cell ≢ j =
                 λ e f.
-                let same : Some u ≡ Some was.0 = sym used ∙ sym (moved zs i j p.zspage p.cell e f) ∙ was.1 in
+                let same : Some u ≡ Some was.0 = sym used ∙ sym (moved zs i j p.zspage p.cell e f)
+                ∙ was.1 in
                 let is : u ≡ was.0 = cc in
                 other (sym was.2 ∙ ap (λ w. w.handle) (sym is)) in
                 (was.0, change.others p.zspage p.cell apart ∙ was.1, was.2)
@@ -92,9 +101,11 @@ index_clear zs zs' places i j u index change used =
             | inl same ↦ absurd (let none : use_at zs' k l ≡ None = moved zs' i j k l same.0 same.1
                 ∙ change.here in cc (none, at))
             | inr apart ↦
-                let was : entry places v.handle ≡ Some (place k l) = index.listed k l v (sym (change.others k l apart) ∙ at) in
+                let was : entry places v.handle ≡ Some (place k l) =
+                index.listed k l v (sym (change.others k l apart) ∙ at) in
                 let other : v.handle ≢ u.handle = λ e.
-                let same : Some (place i j) ≡ Some (place k l) = sym at_u ∙ ap (λ n. entry places n) (sym e)
+                let same : Some (place i j) ≡ Some (place k l) = sym at_u
+                ∙ ap (λ n. entry places n) (sym e)
                 ∙ was in
                 let is : place i j ≡ place k l = cc in
                 apart (ap (λ q. q.zspage) (sym is)) (ap (λ q. q.cell) (sym is)) in
@@ -103,15 +114,18 @@ index_clear zs zs' places i j u index change used =
     }
 
 -- a cell goes out or comes back under its handle
-pub index_keep : (zs zs' : List (Option Cells)) (places : List (Option Place)) (i j : ℕ) (u v : UsedCell)
+pub index_keep : (zs zs' : List (Option Cells)) (places : List (Option Place)) (i j : ℕ)
+    (u v : UsedCell)
     → IsIndex zs places → Changes zs zs' i j (Some v) → use_at zs i j ≡ Some u → v.handle ≡ u.handle
     → IsIndex zs' places
 index_keep zs zs' places i j u v index change used same_handle = record {
   found = λ h p at.
-      let was : (w : UsedCell) × (use_at zs p.zspage p.cell ≡ Some w) × (w.handle ≡ h) = index.found h p at in
+      let was : (w : UsedCell) × (use_at zs p.zspage p.cell ≡ Some w)
+      × (w.handle ≡ h) = index.found h p at in
       elim (same_place i j p.zspage p.cell) [
         | inl same ↦
-            let both : Some u ≡ Some was.0 = sym used ∙ sym (moved zs i j p.zspage p.cell same.0 same.1)
+            let both : Some u ≡ Some was.0 = sym used
+            ∙ sym (moved zs i j p.zspage p.cell same.0 same.1)
             ∙ was.1 in
             let is : u ≡ was.0 = cc in (
               v,
@@ -124,20 +138,24 @@ index_keep zs zs' places i j u v index change used same_handle = record {
   listed = λ k l w at.
       elim (same_place i j k l) [
         | inl same ↦
-            let both : Some v ≡ Some w = sym change.here ∙ sym (moved zs' i j k l same.0 same.1) ∙ at in
+            let both : Some v ≡ Some w = sym change.here ∙ sym (moved zs' i j k l same.0 same.1)
+            ∙ at in
             let is : v ≡ w = cc in
-            ap (λ n. entry places n) (ap (λ x. x.handle) (sym is) ∙ same_handle) ∙ index.listed i j u used
+            ap (λ n. entry places n) (ap (λ x. x.handle) (sym is) ∙ same_handle)
+            ∙ index.listed i j u used
             ∙ ap (λ n. Some (place n j)) (sym same.0) ∙ ap (λ n. Some (place k n)) (sym same.1)
         | inr apart ↦ index.listed k l w (sym (change.others k l apart) ∙ at)
       ];
 }
 
 -- a new zspage changes no place
-pub index_put : (zs : List (Option Cells)) (places : List (Option Place)) (i n : ℕ) → IsLeastAbsent zs i
+pub index_put : (zs : List (Option Cells)) (places : List (Option Place)) (i n : ℕ)
+    → IsLeastAbsent zs i
     → IsIndex zs places → IsIndex (put_at zs i (Some (replicate n None))) places
 index_put zs places i n least index = record {
   found = λ h p at.
-      let was : (u : UsedCell) × (use_at zs p.zspage p.cell ≡ Some u) × (u.handle ≡ h) = index.found h p at in
+      let was : (u : UsedCell) × (use_at zs p.zspage p.cell ≡ Some u)
+      × (u.handle ≡ h) = index.found h p at in
       (was.0, use_at-put zs i n p.zspage p.cell least ∙ was.1, was.2);
   listed = λ k l u at. index.listed k l u (sym (use_at-put zs i n k l least) ∙ at);
 }

@@ -16,7 +16,11 @@ some_free : {A : Type 0} (xs : List (Option A)) → used_of xs < length xs
 some_free [] less = absurd (omega arith)
 some_free (None ∷ xs) less = (0, omega arith, refl)
 some_free {A} (Some u ∷ xs) less =
-    let rest = some_free xs (omega (arith, less, sum_by-cons (λ o. cond (is_some o) 1 0) (Some u) xs)) in
+    let rest = some_free xs (omega (
+      arith,
+      less,
+      sum_by-cons (λ o. cond (is_some o) 1 0) (Some u) xs,
+    )) in
     (suc rest.0, omega (arith, rest.1), rest.2)
 
 -- ---- the winner is a free number
@@ -32,7 +36,12 @@ free_wins items free i are room wins =
     let rank_gap : slice_index free gap.0 ≡ 1 = are.ranks_are gap.0 gap.1 ∙ ap place_rank gap.2 in
     let low : i < length items = omega (arith, wins.within, are.ranked) in
     rank_free (entry items i)
-    (omega (arith, wins.highest gap.0 (omega (arith, gap.1, are.ranked)), rank_gap, are.ranks_are i low))
+    (omega (
+      arith,
+      wins.highest gap.0 (omega (arith, gap.1, are.ranked)),
+      rank_gap,
+      are.ranks_are i low,
+    ))
 
 -- ---- more numbers
 

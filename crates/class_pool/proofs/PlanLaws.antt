@@ -22,14 +22,17 @@ pub row_there : (n : ℕ) (zs : List (Option Cells)) (r : Row) → Contains (row
     → (k : ℕ) × (cells : Cells) × (entry zs k ≡ Some cells) × (r ≡ row_of (n + k) cells)
 row_there n [] r (j, low, at) = absurd (omega arith)
 row_there n (None ∷ zs) r among =
-    let rest : (k : ℕ) × (cells : Cells) × (entry zs k ≡ Some cells) × (r ≡ row_of (n + 1 + k) cells) = row_there (n + 1) zs r among in
+    let rest : (k : ℕ) × (cells : Cells) × (entry zs k ≡ Some cells)
+    × (r ≡ row_of (n + 1 + k) cells) = row_there (n + 1) zs r among in
     let next : n + 1 + rest.0 ≡ n + suc rest.0 = omega arith in
     (suc rest.0, rest.1, rest.2, rest.3 ∙ ap (λ m. row_of m rest.1) next)
 row_there n (Some cells ∷ zs) r among =
     elim (contains_cons (row_of n cells) (rows_from (n + 1) zs) r among) [
-      | inl e ↦ let here : n ≡ n + 0 = omega arith in (0, cells, refl, sym e ∙ ap (λ m. row_of m cells) here)
+      | inl e ↦ let here : n ≡ n + 0 = omega arith in
+          (0, cells, refl, sym e ∙ ap (λ m. row_of m cells) here)
       | inr later ↦
-          let rest : (k : ℕ) × (cells : Cells) × (entry zs k ≡ Some cells) × (r ≡ row_of (n + 1 + k) cells) = row_there (n + 1) zs r later in
+          let rest : (k : ℕ) × (cells : Cells) × (entry zs k ≡ Some cells)
+          × (r ≡ row_of (n + 1 + k) cells) = row_there (n + 1) zs r later in
           let next : n + 1 + rest.0 ≡ n + suc rest.0 = omega arith in
           (suc rest.0, rest.1, rest.2, rest.3 ∙ ap (λ m. row_of m rest.1) next)
     ]
@@ -45,11 +48,13 @@ row_from n zero (Some cs ∷ zs) cells at =
     (0, omega arith, ap (row_of n) is ∙ ap (λ m. row_of m cells) here)
 row_from n (suc k) (None ∷ zs) cells at =
     let next : n + 1 + k ≡ n + suc k = omega arith in
-    subst (λ m. Contains (rows_from (n + 1) zs) (row_of m cells)) next (row_from (n + 1) k zs cells at)
+    subst (λ m. Contains (rows_from (n + 1) zs) (row_of m cells)) next
+    (row_from (n + 1) k zs cells at)
 row_from n (suc k) (Some cs ∷ zs) cells at =
     let next : n + 1 + k ≡ n + suc k = omega arith in
     let rest : Contains (rows_from (n + 1) zs) (row_of (n + suc k) cells) =
-    subst (λ m. Contains (rows_from (n + 1) zs) (row_of m cells)) next (row_from (n + 1) k zs cells at) in
+    subst (λ m. Contains (rows_from (n + 1) zs) (row_of m cells)) next
+    (row_from (n + 1) k zs cells at) in
     (suc rest.0, omega (arith, rest.1), rest.2)
 
 pub row_among : (k : ℕ) (zs : List (Option Cells)) (cells : Cells) → entry zs k ≡ Some cells
@@ -64,8 +69,12 @@ own_from n (None ∷ zs) = own_from (n + 1) zs
 own_from n (Some cells ∷ zs) =
     AllPairs-cons (λ a b. a.id ≢ b.id) (row_of n cells) (rows_from (n + 1) zs)
     (λ i d low same.
-    let at = row_there (n + 1) zs (slice_index_or (rows_from (n + 1) zs) i d)
-    (i, low, get_or_default (rows_from (n + 1) zs) i (slice_index_or (rows_from (n + 1) zs) i d) d low) in
+    let at = row_there (n + 1) zs (slice_index_or (rows_from (n + 1) zs) i d) (
+      i,
+      low,
+      get_or_default (rows_from (n + 1) zs) i (slice_index_or (rows_from (n + 1) zs) i d)
+          d low,
+    ) in
     omega (arith, same, ap (λ r. r.id) at.3))
     (own_from (n + 1) zs)
 
@@ -80,7 +89,11 @@ one_small false = omega arith
 
 pub home_used : (cells : Cells) → home_of cells ≤ used_of cells
 home_used [] = omega arith
-home_used (None ∷ cells) = omega (arith, home_used cells, sum_by-cons (λ c. cond (is_home c) 1 0) None cells)
+home_used (None ∷ cells) = omega (
+  arith,
+  home_used cells,
+  sum_by-cons (λ c. cond (is_home c) 1 0) None cells,
+)
 home_used (Some u ∷ cells) =
     omega (
       arith,
@@ -114,9 +127,11 @@ source_fits per k cells whole high =
 -- ---- the best source
 
 -- the rank of a zspage that is there
-source_at : (size chain per : ℕ) (items : List (Option ZspageState)) (ranks sources : List ℕ) (k : ℕ) (cells : Cells)
+source_at : (size chain per : ℕ) (items : List (Option ZspageState)) (ranks sources : List ℕ)
+    (k : ℕ) (cells : Cells)
     → AreZspages size chain per items ranks sources → entry (map cells_of items) k ≡ Some cells
-    → (k < length sources) × (slice_index sources k ≡ source_rank (Some cells)) × (length cells ≡ per)
+    → (k < length sources) × (slice_index sources k ≡ source_rank (Some cells))
+    × (length cells ≡ per)
 source_at size chain per items ranks sources k cells z at =
     let low : k < length items = id_within items k cells at in (
       omega (arith, z.by_source.long),
@@ -124,13 +139,16 @@ source_at size chain per items ranks sources k cells z at =
       whole_is size chain per items ranks sources k cells z at,
     )
 
-pub no_source : (size chain per : ℕ) (items : List (Option ZspageState)) (ranks sources : List ℕ) (i : ℕ)
-    → AreZspages size chain per items ranks sources → IsLastWinner sources i → slice_index sources i ≡ 0
+pub no_source : (size chain per : ℕ) (items : List (Option ZspageState)) (ranks sources : List ℕ)
+    (i : ℕ)
+    → AreZspages size chain per items ranks sources → IsLastWinner sources i
+    → slice_index sources i ≡ 0
     → (r : Row) → Contains (rows (map cells_of items)) r → HasMovable per r → ⊥
 no_source size chain per items ranks sources i z wins none r among fits =
     let there = row_there 0 (map cells_of items) r among in
     let at = source_at size chain per items ranks sources there.0 there.1 z there.2 in
-    let moves : HasMovable per (row_of (0 + there.0) there.1) = subst (λ q. HasMovable per q) there.3 fits in
+    let moves : HasMovable per (row_of (0 + there.0) there.1) =
+    subst (λ q. HasMovable per q) there.3 fits in
     omega (
       arith,
       wins.highest there.0 at.0,
@@ -140,8 +158,10 @@ no_source size chain per items ranks sources i z wins none r among fits =
       none,
     )
 
-pub best_source : (size chain per : ℕ) (items : List (Option ZspageState)) (ranks sources : List ℕ) (i : ℕ) (cells : Cells)
-    → AreZspages size chain per items ranks sources → IsLastWinner sources i → slice_index sources i ≢ 0
+pub best_source : (size chain per : ℕ) (items : List (Option ZspageState))
+    (ranks sources : List ℕ) (i : ℕ) (cells : Cells)
+    → AreZspages size chain per items ranks sources → IsLastWinner sources i
+    → slice_index sources i ≢ 0
     → entry (map cells_of items) i ≡ Some cells
     → IsFirst IsEmptier (HasMovable per) (rows (map cells_of items)) (row_of i cells)
 best_source size chain per items ranks sources i cells z wins some at =
@@ -153,7 +173,8 @@ best_source size chain per items ranks sources i cells z wins some at =
       before = λ r among fits.
           let there = row_there 0 (map cells_of items) r among in
           let one = source_at size chain per items ranks sources there.0 there.1 z there.2 in
-          let fit : HasMovable per (row_of (0 + there.0) there.1) = subst (λ q. HasMovable per q) there.3 fits in
+          let fit : HasMovable per (row_of (0 + there.0) there.1) =
+          subst (λ q. HasMovable per q) there.3 fits in
           let rank = source_high per (0 + there.0) there.1 one.2 fit in
           let most = wins.highest there.0 one.0 in
           subst (λ q. IsEmptier (row_of i cells) q) (sym there.3)
@@ -162,7 +183,15 @@ best_source size chain per items ranks sources i cells z wins some at =
             | inr same ↦ inr (
               omega (arith, most, rank, one.1, here.1, moves.1, fit.0.1, moves.0.0.1),
               elim (cases_lt i there.0) [
-                | inl after ↦ absurd (omega (arith, wins.last there.0 after one.0, rank, one.1, here.1, moves.1, same))
+                | inl after ↦ absurd (omega (
+                  arith,
+                  wins.last there.0 after one.0,
+                  rank,
+                  one.1,
+                  here.1,
+                  moves.1,
+                  same,
+                ))
                 | inr before ↦ omega arith
               ],
             )
@@ -171,7 +200,8 @@ best_source size chain per items ranks sources i cells z wins some at =
 
 -- ---- the best destination
 
-room_at : (size chain per : ℕ) (items : List (Option ZspageState)) (ranks sources : List ℕ) (k : ℕ) (cells : Cells)
+room_at : (size chain per : ℕ) (items : List (Option ZspageState)) (ranks sources : List ℕ)
+    (k : ℕ) (cells : Cells)
     → AreZspages size chain per items ranks sources → entry (map cells_of items) k ≡ Some cells
     → (k < length ranks) × (slice_index ranks k ≡ rank_of (Some cells)) × (length cells ≡ per)
 room_at size chain per items ranks sources k cells z at =
@@ -194,16 +224,26 @@ room_fits per k cells whole high =
     let less : used_of cells < length cells = grind (arith, nat_tests) in
     ((omega arith, omega arith), is)
 
-pub no_destination : (size chain per : ℕ) (items : List (Option ZspageState)) (ranks sources : List ℕ) (i : ℕ)
+pub no_destination : (size chain per : ℕ) (items : List (Option ZspageState))
+    (ranks sources : List ℕ) (i : ℕ)
     → AreZspages size chain per items ranks sources → IsWinner ranks i → slice_index ranks i ≤ 2
     → (r : Row) → Contains (rows (map cells_of items)) r → IsPartial per r → ⊥
 no_destination size chain per items ranks sources i z wins low r among fits =
     let there = row_there 0 (map cells_of items) r among in
     let at = room_at size chain per items ranks sources there.0 there.1 z there.2 in
-    let partial : IsPartial per (row_of (0 + there.0) there.1) = subst (λ q. IsPartial per q) there.3 fits in
-    omega (arith, wins.highest there.0 at.0, at.1, room_high per (0 + there.0) there.1 at.2 partial, partial.0, low)
+    let partial : IsPartial per (row_of (0 + there.0) there.1) =
+    subst (λ q. IsPartial per q) there.3 fits in
+    omega (
+      arith,
+      wins.highest there.0 at.0,
+      at.1,
+      room_high per (0 + there.0) there.1 at.2 partial,
+      partial.0,
+      low,
+    )
 
-pub best_destination : (size chain per : ℕ) (items : List (Option ZspageState)) (ranks sources : List ℕ) (i : ℕ) (cells : Cells)
+pub best_destination : (size chain per : ℕ) (items : List (Option ZspageState))
+    (ranks sources : List ℕ) (i : ℕ) (cells : Cells)
     → AreZspages size chain per items ranks sources → IsWinner ranks i → 2 < slice_index ranks i
     → entry (map cells_of items) i ≡ Some cells
     → IsFirst IsFuller (IsPartial per) (rows (map cells_of items)) (row_of i cells)
@@ -216,7 +256,8 @@ best_destination size chain per items ranks sources i cells z wins high at =
       before = λ r among fits.
           let there = row_there 0 (map cells_of items) r among in
           let one = room_at size chain per items ranks sources there.0 there.1 z there.2 in
-          let fit : IsPartial per (row_of (0 + there.0) there.1) = subst (λ q. IsPartial per q) there.3 fits in
+          let fit : IsPartial per (row_of (0 + there.0) there.1) =
+          subst (λ q. IsPartial per q) there.3 fits in
           let rank = room_high per (0 + there.0) there.1 one.2 fit in
           let most = wins.highest there.0 one.0 in
           subst (λ q. IsFuller (row_of i cells) q) (sym there.3)
@@ -225,7 +266,15 @@ best_destination size chain per items ranks sources i cells z wins high at =
             | inr same ↦ inr (
               omega (arith, most, rank, one.1, here.1, partial.1),
               elim (cases_lt there.0 i) [
-                | inl before ↦ absurd (omega (arith, wins.first there.0 before, rank, one.1, here.1, partial.1, same))
+                | inl before ↦ absurd (omega (
+                  arith,
+                  wins.first there.0 before,
+                  rank,
+                  one.1,
+                  here.1,
+                  partial.1,
+                  same,
+                ))
                 | inr after ↦ omega arith
               ],
             )
@@ -243,8 +292,10 @@ room_there : (o : Option Cells) → 2 < rank_of o → (cells : Cells) × (o ≡ 
 room_there None high = absurd (omega arith)
 room_there (Some cells) high = (cells, refl)
 
-pub source_row : (size chain per : ℕ) (items : List (Option ZspageState)) (ranks sources : List ℕ) (i : ℕ) (found : Option Row)
-    → AreZspages size chain per items ranks sources → IsLastWinner sources i → slice_index sources i ≢ 0
+pub source_row : (size chain per : ℕ) (items : List (Option ZspageState)) (ranks sources : List ℕ)
+    (i : ℕ) (found : Option Row)
+    → AreZspages size chain per items ranks sources → IsLastWinner sources i
+    → slice_index sources i ≢ 0
     → found ≡ row_at i (entry (map cells_of items) i)
     → IsBest IsEmptier (HasMovable per) (rows (map cells_of items)) found
 source_row size chain per items ranks sources i found z wins some is =
@@ -255,13 +306,15 @@ source_row size chain per items ranks sources i found z wins some is =
     let row : found ≡ Some (row_of i there.0) = is ∙ ap (row_at i) there.1 in
     rw row (best_source size chain per items ranks sources i there.0 z wins some there.1)
 
-pub destination_row : (size chain per : ℕ) (items : List (Option ZspageState)) (ranks sources : List ℕ) (i : ℕ) (found : Option Row)
+pub destination_row : (size chain per : ℕ) (items : List (Option ZspageState))
+    (ranks sources : List ℕ) (i : ℕ) (found : Option Row)
     → AreZspages size chain per items ranks sources → IsWinner ranks i → 2 < slice_index ranks i
     → found ≡ row_at i (entry (map cells_of items) i)
     → IsBest IsFuller (IsPartial per) (rows (map cells_of items)) found
 destination_row size chain per items ranks sources i found z wins high is =
     let rank : slice_index ranks i ≡ rank_of (entry (map cells_of items) i) =
-    z.by_room.each i (omega (arith, wins.within, z.by_room.long)) ∙ ap rank_of (sym (entry_of items i)) in
+    z.by_room.each i (omega (arith, wins.within, z.by_room.long))
+    ∙ ap rank_of (sym (entry_of items i)) in
     let there = room_there (entry (map cells_of items) i) (omega (arith, rank)) in
     let row : found ≡ Some (row_of i there.0) = is ∙ ap (row_at i) there.1 in
     rw row (best_destination size chain per items ranks sources i there.0 z wins high there.1)

@@ -26,7 +26,8 @@ all_set : (P : Cells → Type 0) (zs : List (Option Cells)) (i : ℕ) (o : Optio
     → (k : ℕ) (cells : Cells) → entry (set zs i o) k ≡ Some cells → P cells
 all_set P zs i o low others here k cells at =
     elim (cases_eq k i) [
-      | inl e ↦ here cells (sym (entry-set_same zs i o low) ∙ ap (λ n. entry (set zs i o) n) (sym e) ∙ at)
+      | inl e ↦ here cells (sym (entry-set_same zs i o low)
+          ∙ ap (λ n. entry (set zs i o) n) (sym e) ∙ at)
       | inr other ↦ others k cells other (sym (entry-set_other zs i k o other) ∙ at)
     ]
 
@@ -44,7 +45,8 @@ all_gone P zs i low all =
 
 -- ---- lists of used cells
 
-length_more : (us vs : List UsedCell) (u : UsedCell) → HasOneMore us vs u → length vs ≡ length us + 1
+length_more : (us vs : List UsedCell) (u : UsedCell) → HasOneMore us vs u
+    → length vs ≡ length us + 1
 length_more us vs u more = omega (arith, length_sum us, length_sum vs, more (λ x. 1))
 
 fill_more : (zs : List (Option Cells)) (i j : ℕ) (cells : Cells) (u : UsedCell)
@@ -59,7 +61,11 @@ clear_more : (zs : List (Option Cells)) (i j : ℕ) (cells : Cells) (u : UsedCel
     → entry zs i ≡ Some cells → entry cells j ≡ Some u
     → HasOneMore (used_cells (set zs i (Some (set cells j None)))) (used_cells zs) u
 clear_more zs i j cells u at here f =
-    omega (arith, sum_change f zs i j cells None at (entry_within cells j u here), ap (at_use f) here)
+    omega (
+      arith,
+      sum_change f zs i j cells None at (entry_within cells j u here),
+      ap (at_use f) here,
+    )
 
 keep_count : (zs : List (Option Cells)) (i j : ℕ) (cells : Cells) (u v : UsedCell)
     → entry zs i ≡ Some cells → entry cells j ≡ Some u
@@ -75,7 +81,8 @@ keep_count zs i j cells u v at here =
 
 -- ---- what contracts see
 
-pub pool_is : (class used : ℕ) (z : ZspagesState) (places : List (Option Place)) → IsPooled used z places
+pub pool_is : (class used : ℕ) (z : ZspagesState) (places : List (Option Place))
+    → IsPooled used z places
     → IsPool (pool_of class z)
 pool_is class used z places pooled = record {
   filled = pooled.filled;
@@ -114,14 +121,17 @@ listed zs seen places h u view index among same =
     (place at.0 at.1, ap (λ n. entry places n) (sym same) ∙ index.listed at.0 at.1 u at.2, at.2)
 
 -- and this is where it is
-pub located : (zs seen : List (Option Cells)) (places : List (Option Place)) (h : ℕ) (u : UsedCell) (p : Place)
-    → zs ≡ seen → IsIndex zs places → Contains (used_cells seen) u → u.handle ≡ h → entry places h ≡ Some p
+pub located : (zs seen : List (Option Cells)) (places : List (Option Place)) (h : ℕ)
+    (u : UsedCell) (p : Place)
+    → zs ≡ seen → IsIndex zs places → Contains (used_cells seen) u → u.handle ≡ h
+    → entry places h ≡ Some p
     → IsAt zs p u
 located zs seen places h u p view index among same is =
     let found = listed zs seen places h u view index among same in
     let both : Some found.0 ≡ Some p = sym found.1 ∙ is in
     let one : found.0 ≡ p = cc in
-    let parts = use_parts zs p.zspage p.cell u (subst (λ q. use_at zs q.zspage q.cell ≡ Some u) one found.2) in
+    let parts = use_parts zs p.zspage p.cell u
+    (subst (λ q. use_at zs q.zspage q.cell ≡ Some u) one found.2) in
     record { cells = parts.0; zspage = parts.1; cell = parts.2 }
 
 -- ---- the fields after a call
@@ -129,7 +139,8 @@ located zs seen places h u p view index among same is =
 fit_after : (z z' : ZspagesState) (zs' : List (Option Cells)) (places places' : List (Option Place))
     → Fit z places → z' ≡ record z { zspages = zs' }
     → length zs' ≡ length z.zspages → length places' ≡ length places
-    → IsIndex zs' places' → AreWhole z.per zs' → used_of places' ≡ length (used_cells zs') → Fit z' places'
+    → IsIndex zs' places' → AreWhole z.per zs' → used_of places' ≡ length (used_cells zs')
+    → Fit z' places'
 fit_after z z' zs' places places' fit is ids numbers index whole live =
     subst (λ v. Fit v places') (sym is) (record {
       some = fit.some;
@@ -150,7 +161,8 @@ pub number_free : (k : ℕ) (z : ZspagesState) (places : List (Option Place)) �
 number_free k z places fit room =
     omega (arith, fewer z.per k z.zspages fit.whole room, fit.numbers, fit.enough)
 
-pub stored_fit : (z z' : ZspagesState) (places places' : List (Option Place)) (i j : ℕ) (cells : Cells) (u : UsedCell)
+pub stored_fit : (z z' : ZspagesState) (places places' : List (Option Place)) (i j : ℕ)
+    (cells : Cells) (u : UsedCell)
     → Fit z places → entry z.zspages i ≡ Some cells → slice_get cells j ≡ Some None
     → u.handle < length places → entry places u.handle ≡ None
     → z' ≡ record z { zspages = set z.zspages i (Some (set cells j (Some u))) }
@@ -158,15 +170,18 @@ pub stored_fit : (z z' : ZspagesState) (places places' : List (Option Place)) (i
 stored_fit z z' places places' i j cells u fit at free low number z_is p_is =
     let zs' : List (Option Cells) = set z.zspages i (Some (set cells j (Some u))) in
     let gone : entry cells j ≡ None = get_or_from_slice_get cells j None None free in
-    let more = length_more (used_cells z.zspages) (used_cells zs') u (fill_more z.zspages i j cells u at free) in
+    let more = length_more (used_cells z.zspages) (used_cells zs') u
+    (fill_more z.zspages i j cells u at free) in
     let taken = sum_by-set one_of places u.handle (Some (place i j)) None low in
     rw p_is
     (fit_after z z' zs' places (set places u.handle (Some (place i j))) fit z_is
-    (length-set z.zspages i (Some (set cells j (Some u)))) (length-set places u.handle (Some (place i j)))
+    (length-set z.zspages i (Some (set cells j (Some u))))
+    (length-set places u.handle (Some (place i j)))
     (index_fill z.zspages zs' places i j u fit.index
     (changes_cell z.zspages i j cells (Some u) at (slice_get_within cells j None free))
     (use_there z.zspages i j cells at ∙ gone) low number)
-    (all_cells (λ cs. length cs ≡ z.per) z.zspages i (set cells j (Some u)) (entry_within z.zspages i cells at)
+    (all_cells (λ cs. length cs ≡ z.per) z.zspages i (set cells j (Some u))
+    (entry_within z.zspages i cells at)
     (λ k cs other. fit.whole k cs) (length-set cells j (Some u) ∙ fit.whole i cells at))
     (omega (arith, fit.numbers, more, taken, ap one_of number)))
 
@@ -174,7 +189,8 @@ stored_fit z z' places places' i j cells u fit at free low number z_is p_is =
 pub record Stored (z z' : ZspagesState) (u : UsedCell) : Type 0 where
   pub count : length (used_cells z'.zspages) ≡ length (used_cells z.zspages) + 1
   pub filled : AreFilled z'.zspages
-  pub object : HasOneMore (map object_of (used_cells z.zspages)) (map object_of (used_cells z'.zspages)) (object_of u)
+  pub object : HasOneMore (map object_of (used_cells z.zspages))
+      (map object_of (used_cells z'.zspages)) (object_of u)
   pub here : Contains (used_cells z'.zspages) u
   pub keeps : Keeps z.zspages z'.zspages u.handle
 
@@ -192,7 +208,8 @@ stored z z' i j cells u beside at free z_is =
     let some = sum_by-set one_of cells j (Some u) None low in
     subst (λ v. Stored z v u) (sym z_is) (record {
       count = length_more (used_cells z.zspages) (used_cells zs') u more;
-      filled = all_cells (λ cs. 1 ≤ used_of cs) z.zspages i (set cells j (Some u)) (entry_within z.zspages i cells at)
+      filled = all_cells (λ cs. 1 ≤ used_of cs) z.zspages i (set cells j (Some u))
+          (entry_within z.zspages i cells at)
           beside (omega (arith, some, ap one_of gone));
       object = object_more (used_cells z.zspages) (used_cells zs') u more;
       here = contains_use zs' i j u change.here;
@@ -201,13 +218,15 @@ stored z z' i j cells u beside at free z_is =
 
 -- ---- a cell goes out or comes back
 
-pub record Relent (used : ℕ) (z z' : ZspagesState) (places : List (Option Place)) (u v : UsedCell) : Type 0 where
+pub record Relent (used : ℕ) (z z' : ZspagesState) (places : List (Option Place)) (u v : UsedCell)
+    : Type 0 where
   pub pooled : IsPooled used z' places
   pub list : map object_of (used_cells z'.zspages) ≡ map object_of (used_cells z.zspages)
   pub here : Contains (used_cells z'.zspages) v
   pub keeps : Keeps z.zspages z'.zspages u.handle
 
-pub relent : (used : ℕ) (z z' : ZspagesState) (places : List (Option Place)) (p : Place) (u v : UsedCell)
+pub relent : (used : ℕ) (z z' : ZspagesState) (places : List (Option Place)) (p : Place)
+    (u v : UsedCell)
     (at : IsAt z.zspages p u) → IsPooled used z places → object_of v ≡ object_of u
     → z' ≡ record z { zspages = set z.zspages p.zspage (Some (set at.cells p.cell (Some v))) }
     → Relent used z z' places u v
@@ -218,14 +237,17 @@ relent used z z' places p u v at pooled same z_is =
     let zs' : List (Option Cells) = set z.zspages i (Some (set cells j (Some v))) in
     let within : i < length z.zspages = entry_within z.zspages i cells at.zspage in
     let low : j < length cells = entry_within cells j u at.cell in
-    let used_there : use_at z.zspages i j ≡ Some u = use_there z.zspages i j cells at.zspage ∙ at.cell in
+    let used_there : use_at z.zspages i j ≡ Some u = use_there z.zspages i j cells at.zspage
+    ∙ at.cell in
     let change = changes_cell z.zspages i j cells (Some v) at.zspage low in
     let live = keep_count z.zspages i j cells u v at.zspage at.cell in
     let count = sum_by-set one_of cells j (Some v) None low in
     record {
       pooled = record {
-        fit = fit_after z z' zs' places places pooled.fit z_is (length-set z.zspages i (Some (set cells j (Some v)))) refl
-            (index_keep z.zspages zs' places i j u v pooled.fit.index change used_there (ap (λ o. o.handle) same))
+        fit = fit_after z z' zs' places places pooled.fit z_is
+            (length-set z.zspages i (Some (set cells j (Some v)))) refl
+            (index_keep z.zspages zs' places i j u v pooled.fit.index change used_there
+            (ap (λ o. o.handle) same))
             (all_cells (λ cs. length cs ≡ z.per) z.zspages i (set cells j (Some v)) within
             (λ k cs other. pooled.fit.whole k cs)
             (length-set cells j (Some v) ∙ pooled.fit.whole i cells at.zspage))
@@ -238,7 +260,8 @@ relent used z z' places p u v at pooled same z_is =
       };
       list = ap (λ x. map object_of (used_cells x.zspages)) z_is
           ∙ objects_keep z.zspages i j cells u v at.zspage at.cell same;
-      here = subst (λ x. Contains (used_cells x.zspages) v) (sym z_is) (contains_use zs' i j v change.here);
+      here = subst (λ x. Contains (used_cells x.zspages) v) (sym z_is)
+          (contains_use zs' i j v change.here);
       keeps = subst (λ x. Keeps z.zspages x.zspages u.handle) (sym z_is)
           (keeps z.zspages zs' i j (Some v) u.handle change (λ w is.
           let both : Some u ≡ Some w = sym used_there ∙ is in
@@ -248,12 +271,15 @@ relent used z z' places p u v at pooled same z_is =
 
 -- ---- an object goes away
 
-pub record Freed (used : ℕ) (z z' : ZspagesState) (places : List (Option Place)) (u : UsedCell) : Type 0 where
+pub record Freed (used : ℕ) (z z' : ZspagesState) (places : List (Option Place)) (u : UsedCell)
+    : Type 0 where
   pub pooled : IsPooled (used - 1) z' (set places u.handle None)
-  pub object : HasOneMore (map object_of (used_cells z'.zspages)) (map object_of (used_cells z.zspages)) (object_of u)
+  pub object : HasOneMore (map object_of (used_cells z'.zspages))
+      (map object_of (used_cells z.zspages)) (object_of u)
   pub keeps : Keeps z.zspages z'.zspages u.handle
 
-freed_by : (used : ℕ) (z z' : ZspagesState) (zs' : List (Option Cells)) (places : List (Option Place)) (i j : ℕ) (u : UsedCell)
+freed_by : (used : ℕ) (z z' : ZspagesState) (zs' : List (Option Cells))
+    (places : List (Option Place)) (i j : ℕ) (u : UsedCell)
     → IsPooled used z places → z' ≡ record z { zspages = zs' } → use_at z.zspages i j ≡ Some u
     → Changes z.zspages zs' i j None → HasOneMore (used_cells zs') (used_cells z.zspages) u
     → length zs' ≡ length z.zspages → AreWhole z.per zs' → AreFilled zs' → Freed used z z' places u
@@ -265,7 +291,8 @@ freed_by used z z' zs' places i j u pooled z_is was change more long whole fille
     record {
       pooled = record {
         fit = fit_after z z' zs' places (set places u.handle None) pooled.fit z_is long
-            (length-set places u.handle None) (index_clear z.zspages zs' places i j u pooled.fit.index change was) whole
+            (length-set places u.handle None)
+            (index_clear z.zspages zs' places i j u pooled.fit.index change was) whole
             (omega (arith, pooled.fit.numbers, live, taken, ap one_of is_listed));
         count = omega (arith, pooled.count, live, ap (λ x. length (used_cells x.zspages)) z_is);
         filled = subst (λ x. AreFilled x.zspages) (sym z_is) filled;
@@ -284,10 +311,15 @@ freed_by used z z' zs' places i j u pooled z_is was change more long whole fille
 abbrev pub Parts : ZspagesState → ZspagesState → Place → Cells → Type 0
 Parts z z' p cells =
     ((used_of cells ≡ 1) × (z' ≡ record z { zspages = set z.zspages p.zspage None }))
-    ⊎ ((2 ≤ used_of cells) × (z' ≡ record z { zspages = set z.zspages p.zspage (Some (set cells p.cell None)) }))
+    ⊎ ((2 ≤ used_of cells) × (z' ≡ record z {
+      zspages =
+          set z.zspages p.zspage (Some (set cells p.cell None));
+    }))
 
-pub freed : (used : ℕ) (z z' : ZspagesState) (places : List (Option Place)) (p : Place) (u : UsedCell)
-    (at : IsAt z.zspages p u) → IsPooled used z places → Parts z z' p at.cells → Freed used z z' places u
+pub freed : (used : ℕ) (z z' : ZspagesState) (places : List (Option Place)) (p : Place)
+    (u : UsedCell)
+    (at : IsAt z.zspages p u) → IsPooled used z places → Parts z z' p at.cells
+    → Freed used z z' places u
 freed used z z' places p u at pooled parts =
     let i : ℕ = p.zspage in
     let j : ℕ = p.cell in
@@ -300,15 +332,18 @@ freed used z z' places p u at pooled parts =
       | inl w ↦
           freed_by used z z' (set z.zspages i None) places i j u pooled w.1 was
           (changes_gone z.zspages i j cells u at.zspage at.cell w.0)
-          (λ g. sum_gone g z.zspages i j cells u at.zspage at.cell w.0) (length-set z.zspages i None)
+          (λ g. sum_gone g z.zspages i j cells u at.zspage at.cell w.0)
+          (length-set z.zspages i None)
           (all_gone (λ cs. length cs ≡ z.per) z.zspages i within pooled.fit.whole)
           (all_gone (λ cs. 1 ≤ used_of cs) z.zspages i within pooled.filled)
       | inr w ↦
           freed_by used z z' (set z.zspages i (Some (set cells j None))) places i j u pooled w.1 was
           (changes_cell z.zspages i j cells None at.zspage low)
-          (clear_more z.zspages i j cells u at.zspage at.cell) (length-set z.zspages i (Some (set cells j None)))
+          (clear_more z.zspages i j cells u at.zspage at.cell)
+          (length-set z.zspages i (Some (set cells j None)))
           (all_cells (λ cs. length cs ≡ z.per) z.zspages i (set cells j None) within
-          (λ k cs other. pooled.fit.whole k cs) (length-set cells j None ∙ pooled.fit.whole i cells at.zspage))
+          (λ k cs other. pooled.fit.whole k cs)
+          (length-set cells j None ∙ pooled.fit.whole i cells at.zspage))
           (all_cells (λ cs. 1 ≤ used_of cs) z.zspages i (set cells j None) within
           (λ k cs other. pooled.filled k cs) (omega (arith, count, ap one_of at.cell, w.0)))
     ]
@@ -321,7 +356,8 @@ length-put_cases [] zero x low = inr (omega arith)
 length-put_cases [] (suc i) x low = absurd (omega arith)
 length-put_cases (z ∷ zs) zero x low = inl refl
 length-put_cases (z ∷ zs) (suc i) x low =
-    elim (length-put_cases zs i x (omega arith)) [ inl e ↦ inl (omega arith) | inr e ↦ inr (omega arith) ]
+    elim (length-put_cases zs i x (omega arith))
+    [ inl e ↦ inl (omega arith) | inr e ↦ inr (omega arith) ]
 
 -- the numbers were made for one more zspage, or some of them
 pub record Grows (per i : ℕ) (places places' : List (Option Place)) : Type 0 where
@@ -340,7 +376,8 @@ grown_fit i z places places' fit within grows =
     record {
       some = fit.some;
       few = fit.few;
-      index = subst (λ ps. IsIndex z.zspages ps) (sym grows.more.1) (index_grow z.zspages places n fit.index);
+      index = subst (λ ps. IsIndex z.zspages ps) (sym grows.more.1)
+          (index_grow z.zspages places n fit.index);
       whole = fit.whole;
       numbers = omega (
         arith,
@@ -374,12 +411,15 @@ added_fit i z z' places fit least small room z_is =
           elim (cases_eq k i) [
             | inl e ↦
                 let both : new ≡ Some cells =
-                sym (entry-put_same z.zspages i new least.within) ∙ ap (λ n. entry zs' n) (sym e) ∙ at in
+                sym (entry-put_same z.zspages i new least.within) ∙ ap (λ n. entry zs' n) (sym e)
+                ∙ at in
                 let is : replicate z.per None ≡ cells = cc in
                 subst (λ xs. length xs ≡ z.per) is (length-replicate z.per None)
-            | inr other ↦ fit.whole k cells (sym (entry-put_other z.zspages i k new least.within other) ∙ at)
+            | inr other ↦
+                fit.whole k cells (sym (entry-put_other z.zspages i k new least.within other) ∙ at)
           ];
-      numbers = fit.numbers ∙ ap length (sym (used_cells-put z.zspages i z.per least.within least.absent));
+      numbers = fit.numbers ∙ ap length (sym
+          (used_cells-put z.zspages i z.per least.within least.absent));
       enough = elim (length-put_cases z.zspages i new least.within) [
         | inl e ↦ rw e fit.enough
         | inr e ↦ rw e (omega (arith, room))
@@ -398,11 +438,13 @@ pub record Made (z z' : ZspagesState) (i : ℕ) : Type 0 where
   pub used : used_cells z'.zspages ≡ used_cells z.zspages
   pub beside : (k : ℕ) (cells : Cells) → k ≢ i → entry z'.zspages k ≡ Some cells → 1 ≤ used_of cells
 
-pub made : (z z' : ZspagesState) (i : ℕ) → 1 ≤ z.per → AreFilled z.zspages → IsLeastAbsent z.zspages i
+pub made : (z z' : ZspagesState) (i : ℕ) → 1 ≤ z.per → AreFilled z.zspages
+    → IsLeastAbsent z.zspages i
     → z' ≡ record z { zspages = put_at z.zspages i (Some (replicate z.per None)) } → Made z z' i
 made z z' i some filled least z_is =
     let new : Option Cells = Some (replicate z.per None) in
-    let there : entry (put_at z.zspages i new) i ≡ new = entry-put_same z.zspages i new least.within in
+    let there : entry (put_at z.zspages i new) i ≡ new =
+    entry-put_same z.zspages i new least.within in
     subst (λ v. Made z v i) (sym z_is) (record {
       there = there;
       room = subst HasRoom (sym there) (omega (
@@ -411,7 +453,8 @@ made z z' i some filled least z_is =
         length-replicate {A = Option UsedCell} z.per None,
       ));
       used = used_cells-put z.zspages i z.per least.within least.absent;
-      beside = λ k cells other at. filled k cells (sym (entry-put_other z.zspages i k new least.within other) ∙ at);
+      beside = λ k cells other at. filled k cells
+          (sym (entry-put_other z.zspages i k new least.within other) ∙ at);
     })
 
 set-put : (zs : List (Option Cells)) (i : ℕ) (x y : Option Cells) → i ≤ length zs
@@ -428,15 +471,18 @@ first_cell (suc n) zero some lowest = refl
 first_cell (suc n) (suc j) some lowest = absurd (lowest.lowest 0 (omega arith) refl)
 
 -- the zspages after a new one has its object
-pub made_zspages : (z z1 z2 : ZspagesState) (i j : ℕ) (cells : Cells) (u : UsedCell) → IsLeastAbsent z.zspages i
+pub made_zspages : (z z1 z2 : ZspagesState) (i j : ℕ) (cells : Cells) (u : UsedCell)
+    → IsLeastAbsent z.zspages i
     → z1 ≡ record z { zspages = put_at z.zspages i (Some (replicate z.per None)) }
     → cells ≡ replicate z.per None → j ≡ 0
     → z2 ≡ record z1 { zspages = set z1.zspages i (Some (set cells j (Some u))) }
     → z2 ≡ record z { zspages = put_at z.zspages i (Some (set (replicate z.per None) 0 (Some u))) }
 made_zspages z z1 z2 i j cells u least is1 one first is2 =
     let new : List (Option Cells) → ZspagesState = λ zs. record z { zspages = zs } in
-    let step : ZspagesState → ZspagesState = λ v. record v { zspages = set v.zspages i (Some (set cells j (Some u))) } in
+    let step : ZspagesState → ZspagesState =
+    λ v. record v { zspages = set v.zspages i (Some (set cells j (Some u))) } in
     is2 ∙ ap step is1
-    ∙ ap new (set-put z.zspages i (Some (replicate z.per None)) (Some (set cells j (Some u))) least.within)
+    ∙ ap new (set-put z.zspages i (Some (replicate z.per None)) (Some (set cells j (Some u)))
+    least.within)
     ∙ ap new (ap (λ (cs : Cells). put_at z.zspages i (Some (set cs j (Some u)))) one)
     ∙ ap new (ap (λ n. put_at z.zspages i (Some (set (replicate z.per None) n (Some u)))) first)

@@ -23,9 +23,14 @@ pub entry_past : {A : Type 0} (xs : List (Option A)) (k : ℕ) → length xs ≤
 entry_past xs k past = get_or-eq_default xs None past
 
 -- an entry that is there has its place in the list
-pub entry_within : {A : Type 0} (xs : List (Option A)) (k : ℕ) (x : A) → entry xs k ≡ Some x → k < length xs
+pub entry_within : {A : Type 0} (xs : List (Option A)) (k : ℕ) (x : A) → entry xs k ≡ Some x
+    → k < length xs
 entry_within xs k x is =
-    elim (cases_lt k (length xs)) [ inl low ↦ low | inr past ↦ absurd (cc (entry_past xs k past, is)) ]
+    elim (cases_lt k (length xs)) [
+      | inl low ↦ low
+      | inr past ↦
+          absurd (cc (entry_past xs k past, is))
+    ]
 
 -- ---- ranks
 
@@ -35,7 +40,8 @@ room_rank (Some cells) room = grind (arith, nat_tests)
 
 rank_room : (o : Option Cells) → 2 ≤ rank_of o → HasRoom o
 rank_room None high = absurd (omega arith)
-rank_room (Some cells) high = let most : used_of cells ≤ length cells = count_by-le-length is_some cells in grind (arith, nat_tests)
+rank_room (Some cells) high = let most : used_of cells ≤ length cells =
+    count_by-le-length is_some cells in grind (arith, nat_tests)
 
 rank_absent : (o : Option Cells) → rank_of o ≡ 1 → o ≡ None
 rank_absent None is = refl
@@ -48,42 +54,59 @@ rank_zero (Some cells) is = (cells, refl)
 rank_full : (o : Option Cells) → (HasRoom o → ⊥) → rank_of o ≤ 1
 rank_full None full = omega arith
 rank_full (Some cells) full =
-    elim (cases_lt (rank_of (Some cells)) 2) [ inl low ↦ omega arith | inr high ↦ absurd (full (rank_room (Some cells) high)) ]
+    elim (cases_lt (rank_of (Some cells)) 2)
+    [ inl low ↦ omega arith | inr high ↦ absurd (full (rank_room (Some cells) high)) ]
 
-pub rank_at : (size chain per : ℕ) (items : List (Option ZspageState)) (ranks sources : List ℕ) (k : ℕ)
+pub rank_at : (size chain per : ℕ) (items : List (Option ZspageState)) (ranks sources : List ℕ)
+    (k : ℕ)
     → AreZspages size chain per items ranks sources → k < length ranks
     → slice_index ranks k ≡ rank_of (entry (map cells_of items) k)
-rank_at size chain per items ranks sources k z low = z.by_room.each k (omega (arith, z.by_room.long))
+rank_at size chain per items ranks sources k z low =
+    z.by_room.each k (omega (arith, z.by_room.long))
     ∙ ap rank_of (sym (entry_of items k))
 
-pub room_within : (items : List (Option ZspageState)) (k : ℕ) → HasRoom (entry (map cells_of items) k)
+pub room_within : (items : List (Option ZspageState)) (k : ℕ)
+    → HasRoom (entry (map cells_of items) k)
     → k < length items
 room_within items k room =
     elim (cases_lt k (length items)) [
       | inl low ↦ low
-      | inr past ↦ absurd (subst HasRoom (entry_past (map cells_of items) k (rw length-map past)) room)
+      | inr past ↦ absurd (subst HasRoom (entry_past (map cells_of items) k (rw length-map past))
+          room)
     ]
 
 -- the winner has room where some zspage has
-pub winner_room : (size chain per : ℕ) (items : List (Option ZspageState)) (ranks sources : List ℕ) (i k : ℕ)
-    → AreZspages size chain per items ranks sources → IsWinner ranks i → HasRoom (entry (map cells_of items) k)
+pub winner_room : (size chain per : ℕ) (items : List (Option ZspageState))
+    (ranks sources : List ℕ) (i k : ℕ)
+    → AreZspages size chain per items ranks sources → IsWinner ranks i
+    → HasRoom (entry (map cells_of items) k)
     → 2 ≤ slice_index ranks i
 winner_room size chain per items ranks sources i k z wins room =
     let low : k < length ranks = omega (arith, room_within items k room, z.by_room.long) in
-    omega (arith, wins.highest k low, rank_at size chain per items ranks sources k z low, room_rank (entry (map cells_of items) k) room)
+    omega (
+      arith,
+      wins.highest k low,
+      rank_at size chain per items ranks sources k z low,
+      room_rank (entry (map cells_of items) k) room,
+    )
 
-pub winner_has : (size chain per : ℕ) (items : List (Option ZspageState)) (ranks sources : List ℕ) (i : ℕ)
+pub winner_has : (size chain per : ℕ) (items : List (Option ZspageState)) (ranks sources : List ℕ)
+    (i : ℕ)
     → AreZspages size chain per items ranks sources → IsWinner ranks i → 2 ≤ slice_index ranks i
     → HasRoom (entry (map cells_of items) i)
 winner_has size chain per items ranks sources i z wins high =
-    rank_room (entry (map cells_of items) i) (omega (arith, rank_at size chain per items ranks sources i z wins.within))
+    rank_room (entry (map cells_of items) i)
+    (omega (arith, rank_at size chain per items ranks sources i z wins.within))
 
-pub fullest_is : (size chain per : ℕ) (items : List (Option ZspageState)) (ranks sources : List ℕ) (i k : ℕ)
-    → AreZspages size chain per items ranks sources → IsWinner ranks i → HasRoom (entry (map cells_of items) k)
+pub fullest_is : (size chain per : ℕ) (items : List (Option ZspageState)) (ranks sources : List ℕ)
+    (i k : ℕ)
+    → AreZspages size chain per items ranks sources → IsWinner ranks i
+    → HasRoom (entry (map cells_of items) k)
     → IsFullest (map cells_of items) i
 fullest_is size chain per items ranks sources i k z wins room =
     let here : HasRoom (entry (map cells_of items) i) =
-    winner_has size chain per items ranks sources i z wins (winner_room size chain per items ranks sources i k z wins room) in
+    winner_has size chain per items ranks sources i z wins
+    (winner_room size chain per items ranks sources i k z wins room) in
     let rank_i : slice_index ranks i ≡ used_in (entry (map cells_of items) i) + 2 =
     rank_at size chain per items ranks sources i z wins.within
     ∙ room_rank (entry (map cells_of items) i) here in
@@ -92,51 +115,70 @@ fullest_is size chain per items ranks sources i k z wins room =
       most = λ j has.
           let low : j < length ranks = omega (arith, room_within items j has, z.by_room.long) in
           let rank_j : slice_index ranks j ≡ used_in (entry (map cells_of items) j) + 2 =
-          rank_at size chain per items ranks sources j z low ∙ room_rank (entry (map cells_of items) j) has in
+          rank_at size chain per items ranks sources j z low
+          ∙ room_rank (entry (map cells_of items) j) has in
           let most : slice_index ranks j ≤ slice_index ranks i = wins.highest j low in
-          elim (cases_lt (used_in (entry (map cells_of items) j)) (used_in (entry (map cells_of items) i))) [
+          elim (cases_lt (used_in (entry (map cells_of items) j))
+          (used_in (entry (map cells_of items) i))) [
             | inl less ↦ inl less
             | inr same ↦ inr (
               omega arith,
-              elim (cases_lt j i) [ inl before ↦ absurd (omega (arith, wins.first j before)) | inr after ↦ after ],
+              elim (cases_lt j i) [
+                | inl before ↦ absurd (omega (arith, wins.first j before))
+                | inr after ↦ after
+              ],
             )
           ];
     }
 
 -- where none has room the first absent id wins, and else all are full
-pub absent_first : (size chain per : ℕ) (items : List (Option ZspageState)) (ranks sources : List ℕ) (i : ℕ)
+pub absent_first : (size chain per : ℕ) (items : List (Option ZspageState))
+    (ranks sources : List ℕ) (i : ℕ)
     → AreZspages size chain per items ranks sources → IsWinner ranks i → slice_index ranks i ≡ 1
     → IsLeastAbsent (map cells_of items) i
 absent_first size chain per items ranks sources i z wins one = record {
   within = rw length-map (omega (arith, wins.within, z.by_room.long));
-  absent = rank_absent (entry (map cells_of items) i) (sym (rank_at size chain per items ranks sources i z wins.within) ∙ one);
+  absent = rank_absent (entry (map cells_of items) i)
+      (sym (rank_at size chain per items ranks sources i z wins.within) ∙ one);
   least = λ k before.
       let low : k < length ranks = omega (arith, wins.within) in
       rank_zero (entry (map cells_of items) k)
       (omega (arith, wins.first k before, rank_at size chain per items ranks sources k z low));
 }
 
-pub all_full : (size chain per : ℕ) (items : List (Option ZspageState)) (ranks sources : List ℕ) (i : ℕ)
+pub all_full : (size chain per : ℕ) (items : List (Option ZspageState)) (ranks sources : List ℕ)
+    (i : ℕ)
     → AreZspages size chain per items ranks sources → IsWinner ranks i
     → ((k : ℕ) → HasRoom (entry (map cells_of items) k) → ⊥) → slice_index ranks i ≢ 1
     → IsLeastAbsent (map cells_of items) (length items)
 all_full size chain per items ranks sources i z wins full other =
     let small : slice_index ranks i ≤ 1 =
-    omega (arith, rank_at size chain per items ranks sources i z wins.within, rank_full (entry (map cells_of items) i) (full i)) in
+    omega (
+      arith,
+      rank_at size chain per items ranks sources i z wins.within,
+      rank_full (entry (map cells_of items) i) (full i),
+    ) in
     record {
       within = rw length-map (omega arith);
       absent = entry_past (map cells_of items) (length items) (rw length-map (omega arith));
       least = λ k before.
           let low : k < length ranks = omega (arith, z.by_room.long) in
           rank_zero (entry (map cells_of items) k)
-          (omega (arith, wins.highest k low, rank_at size chain per items ranks sources k z low, other));
+          (omega (
+            arith,
+            wins.highest k low,
+            rank_at size chain per items ranks sources k z low,
+            other,
+          ));
     }
 
 -- ---- one zspage changes
 
-pub per_bound : (size chain per : ℕ) → 32 ≤ size → chain ≤ 16 → per ≡ chain * 4096 / size → per ≤ 2048
+pub per_bound : (size chain per : ℕ) → 32 ≤ size → chain ≤ 16 → per ≡ chain * 4096 / size
+    → per ≤ 2048
 per_bound size chain per low few is =
-    let below : chain * 4096 / size < 2049 = div_below (chain * 4096) size 2049 (omega arith) (omega arith) in
+    let below : chain * 4096 / size < 2049 =
+    div_below (chain * 4096) size 2049 (omega arith) (omega arith) in
     omega arith
 
 -- the zspage at an id is another one, or none, and gets its new rank
@@ -148,7 +190,8 @@ ranked_set rank items ranks id r new are low is = record {
   long = rw (length-set, length-set) are.long;
   each = λ k within.
       elim (cases_eq k id) [
-        | inl e ↦ let there : id < length ranks = omega (arith, are.long) in rw e (rw (get_or-set_same, get_or-set_same) is)
+        | inl e ↦ let there : id < length ranks = omega (arith, are.long) in
+            rw e (rw (get_or-set_same, get_or-set_same) is)
         | inr other ↦ rw (get_or-set_other, get_or-set_other) (are.each k (rw length-set at within))
       ];
 }
@@ -164,7 +207,10 @@ ranked_push rank items ranks r new are is = record {
       elim (cases_lt k (length items)) [
         | inl before ↦
             let there : k < length ranks = omega (arith, are.long) in
-            rw (get_or_append_left ranks (r ∷ []) 0 k there, get_or_append_left items (new ∷ []) None k before) (are.each k before)
+            rw (
+              get_or_append_left ranks (r ∷ []) 0 k there,
+              get_or_append_left items (new ∷ []) None k before,
+            ) (are.each k before)
         | inr here ↦
             let e : k ≡ length items = omega (arith, length-append items (new ∷ [])) in
             let f : k ≡ length ranks = omega (arith, are.long) in
@@ -174,9 +220,11 @@ ranked_push rank items ranks r new are is = record {
       ];
 }
 
-pub updated : (size chain per : ℕ) (items : List (Option ZspageState)) (ranks sources ranks' sources' : List ℕ) (id : ℕ) (new : Option ZspageState)
+pub updated : (size chain per : ℕ) (items : List (Option ZspageState))
+    (ranks sources ranks' sources' : List ℕ) (id : ℕ) (new : Option ZspageState)
     → AreZspages size chain per items ranks sources → id < length items → IsOf size chain per id new
-    → AreRanked rank_of (set items id new) ranks' → AreRanked source_rank (set items id new) sources'
+    → AreRanked rank_of (set items id new) ranks'
+    → AreRanked source_rank (set items id new) sources'
     → AreZspages size chain per (set items id new) ranks' sources'
 updated size chain per items ranks sources ranks' sources' id new z low fits room source = record {
   small = z.small;
@@ -195,7 +243,8 @@ updated size chain per items ranks sources ranks' sources' id new z low fits roo
 }
 
 -- both ranks are set
-pub updated_ranks : (size chain per : ℕ) (items : List (Option ZspageState)) (ranks sources : List ℕ) (id r q : ℕ) (new : Option ZspageState)
+pub updated_ranks : (size chain per : ℕ) (items : List (Option ZspageState))
+    (ranks sources : List ℕ) (id r q : ℕ) (new : Option ZspageState)
     → AreZspages size chain per items ranks sources → id < length items → IsOf size chain per id new
     → r ≡ rank_of (cells_of new) → q ≡ source_rank (cells_of new)
     → AreZspages size chain per (set items id new) (set ranks id r) (set sources id q)
@@ -204,7 +253,8 @@ updated_ranks size chain per items ranks sources id r q new z low fits r_is q_is
     (ranked_set rank_of items ranks id r new z.by_room low r_is)
     (ranked_set source_rank items sources id q new z.by_source low q_is)
 
-pub appended : (size chain per : ℕ) (items : List (Option ZspageState)) (ranks sources : List ℕ) (r q : ℕ) (new : ZspageState)
+pub appended : (size chain per : ℕ) (items : List (Option ZspageState)) (ranks sources : List ℕ)
+    (r q : ℕ) (new : ZspageState)
     → AreZspages size chain per items ranks sources → IsOf size chain per (length items) (Some new)
     → r ≡ rank_of (Some new.cells) → q ≡ source_rank (Some new.cells) → length items + 1 < 2 ^ 32
     → AreZspages size chain per (items ++ Some new ∷ []) (ranks ++ r ∷ []) (sources ++ q ∷ [])
@@ -228,12 +278,14 @@ appended size chain per items ranks sources r q new z fits r_is q_is room = reco
 
 -- ---- an entry put at a place
 
-pub put_at-set : {A : Type 0} (xs : List A) (i : ℕ) (x : A) → i < length xs → put_at xs i x ≡ set xs i x
+pub put_at-set : {A : Type 0} (xs : List A) (i : ℕ) (x : A) → i < length xs
+    → put_at xs i x ≡ set xs i x
 put_at-set [] i x low = absurd (omega arith)
 put_at-set (y ∷ ys) zero x low = refl
 put_at-set (y ∷ ys) (suc i) x low = ap (λ zs. y ∷ zs) (put_at-set ys i x (omega arith))
 
-pub put_at-end : {A : Type 0} (xs : List A) (i : ℕ) (x : A) → i ≡ length xs → put_at xs i x ≡ xs ++ x ∷ []
+pub put_at-end : {A : Type 0} (xs : List A) (i : ℕ) (x : A) → i ≡ length xs
+    → put_at xs i x ≡ xs ++ x ∷ []
 put_at-end [] zero x e = refl
 put_at-end [] (suc i) x e = absurd (omega arith)
 put_at-end (y ∷ ys) zero x e = absurd (omega arith)
@@ -242,11 +294,13 @@ put_at-end (y ∷ ys) (suc i) x e = ap (λ zs. y ∷ zs) (put_at-end ys i x (ome
 -- ---- values
 
 abbrev pub zspages_made : ℕ → ℕ → ℕ → List (Option Cells) → ZspagesState
-zspages_made size chain per zspages = record { size = size; chain = chain; per = per; zspages = zspages }
+zspages_made size chain per zspages =
+    record { size = size; chain = chain; per = per; zspages = zspages }
 
 -- ---- the zspage in a slot
 
-pub record IsSlot (size chain per : ℕ) (items : List (Option ZspageState)) (id : ℕ) (z : ZspageState) : Type 0 where
+pub record IsSlot (size chain per : ℕ) (items : List (Option ZspageState)) (id : ℕ)
+    (z : ZspageState) : Type 0 where
   pub low : id < length items
   pub size_is : z.size ≡ size
   pub chain_is : z.frames ≡ chain
@@ -266,19 +320,24 @@ whole_of size chain per k cells (Some z) fits at = let is : z.cells ≡ cells = 
     subst (λ cs. length cs ≡ per) is fits.2
 
 -- a zspage has as many cells as its class says
-pub whole_is : (size chain per : ℕ) (items : List (Option ZspageState)) (ranks sources : List ℕ) (k : ℕ) (cells : Cells)
+pub whole_is : (size chain per : ℕ) (items : List (Option ZspageState)) (ranks sources : List ℕ)
+    (k : ℕ) (cells : Cells)
     → AreZspages size chain per items ranks sources → entry (map cells_of items) k ≡ Some cells
     → length cells ≡ per
 whole_is size chain per items ranks sources k cells are at =
-    whole_of size chain per k cells (entry items k) (are.each k (id_within items k cells at)) (sym (entry_of items k) ∙ at)
+    whole_of size chain per k cells (entry items k) (are.each k (id_within items k cells at))
+    (sym (entry_of items k) ∙ at)
 
-pub slot_is : (size chain per : ℕ) (items : List (Option ZspageState)) (ranks sources : List ℕ) (id : ℕ) (slot : Option ZspageState) (z : ZspageState)
-    → AreZspages size chain per items ranks sources → id < length items → slot ≡ get_or items id slot
+pub slot_is : (size chain per : ℕ) (items : List (Option ZspageState)) (ranks sources : List ℕ)
+    (id : ℕ) (slot : Option ZspageState) (z : ZspageState)
+    → AreZspages size chain per items ranks sources → id < length items
+    → slot ≡ get_or items id slot
     → slot ≡ Some z
     → IsSlot size chain per items id z
 slot_is size chain per items ranks sources id slot z are low at is =
     let there : entry items id ≡ Some z = get_or_default items id None slot low ∙ sym at ∙ is in
-    let fits : IsOf size chain per id (Some z) = subst (λ o. IsOf size chain per id o) there (are.each id low) in
+    let fits : IsOf size chain per id (Some z) =
+    subst (λ o. IsOf size chain per id o) there (are.each id low) in
     record {
       low = low;
       size_is = fits.0;
@@ -289,7 +348,8 @@ slot_is size chain per items ranks sources id slot z are low at is =
     }
 
 -- its cells are those that contracts see at its id
-pub slot_cells : (size chain per : ℕ) (items : List (Option ZspageState)) (seen : List (Option Cells)) (id : ℕ)
+pub slot_cells : (size chain per : ℕ) (items : List (Option ZspageState))
+    (seen : List (Option Cells)) (id : ℕ)
     (z : ZspageState) (cells : Cells) → map cells_of items ≡ seen → IsSlot size chain per items id z
     → entry seen id ≡ Some cells → z.cells ≡ cells
 slot_cells size chain per items seen id z cells view slot at =
@@ -298,7 +358,8 @@ slot_cells size chain per items seen id z cells view slot at =
 
 -- what is left where the zspage in the slot has other cells
 pub slot_changes : (items : List (Option ZspageState)) (id : ℕ) (new : ZspageState) (cells : Cells)
-    → new.cells ≡ cells → map cells_of (set items id (Some new)) ≡ set (map cells_of items) id (Some cells)
+    → new.cells ≡ cells → map cells_of (set items id (Some new)) ≡ set (map cells_of items) id
+    (Some cells)
 slot_changes items id new cells is = map-set cells_of items id (Some new)
     ∙ ap (λ cs. set (map cells_of items) id (Some cs)) is
 
@@ -308,7 +369,13 @@ slot_goes items id x = ap (map cells_of) (set-set items id x None) ∙ map-set c
 
 -- a new zspage has its class and its id
 pub new_fits : (size chain per id n : ℕ) (z : ZspageState) → per ≡ chain * 4096 / size → id ≡ n
-    → z ≡ record { id = id; size = size; frames = chain; cells = replicate (chain * 4096 / size) None }
+    → z ≡ record {
+      id = id;
+      size = size;
+      frames = chain;
+      cells =
+          replicate (chain * 4096 / size) None;
+    }
     → IsOf size chain per n (Some z)
 new_fits size chain per id n z cells at is = (
   ap (λ x. x.size) is,
@@ -318,8 +385,10 @@ new_fits size chain per id n z cells at is = (
 )
 
 -- it still has them with other cells, as many
-pub still_fits : (size chain per : ℕ) (items : List (Option ZspageState)) (id : ℕ) (z new : ZspageState) (cells : Cells)
-    → IsSlot size chain per items id z → new ≡ record z { cells = cells } → length cells ≡ length z.cells
+pub still_fits : (size chain per : ℕ) (items : List (Option ZspageState)) (id : ℕ)
+    (z new : ZspageState) (cells : Cells)
+    → IsSlot size chain per items id z → new ≡ record z { cells = cells }
+    → length cells ≡ length z.cells
     → IsOf size chain per id (Some new)
 still_fits size chain per items id z new cells slot is long = (
   ap (λ x. x.size) is ∙ slot.size_is,
@@ -332,7 +401,9 @@ still_fits size chain per items id z new cells slot is long = (
 home_free : (n : ℕ) → home_of (replicate n None) ≡ 0
 home_free n = sum_by-replicate (λ c. cond (is_home c) 1 0) n None ∙ omega arith
 
-pub new_stays : (z : ZspageState) (n : ℕ) → z.cells ≡ replicate n None → 0 ≡ source_rank (Some z.cells)
+pub new_stays : (z : ZspageState) (n : ℕ) → z.cells ≡ replicate n None
+    → 0 ≡ source_rank (Some z.cells)
 new_stays z n is =
     sym (ap (λ cs. source_rank (Some cs)) is
-    ∙ ap (λ h. if h == 0 then 0 else (length (replicate {A = Option UsedCell} n None) - used_of (replicate {A = Option UsedCell} n None))) (home_free n))
+    ∙ ap (λ h. if h == 0 then 0 else (length (replicate {A = Option UsedCell} n None) - used_of
+    (replicate {A = Option UsedCell} n None))) (home_free n))

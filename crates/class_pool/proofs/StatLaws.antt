@@ -16,7 +16,8 @@ pub there : (o : Option Cells) (used : ℕ) → used ≡ used_in o → 0 < used
 there None used is some = absurd (omega arith)
 there (Some cells) used is some = (cells, refl, is)
 
-pub not_there : (o : Option Cells) (used : ℕ) → used ≡ used_in o → used ≤ 0 → ((cells : Cells) → o ≡ Some cells
+pub not_there : (o : Option Cells) (used : ℕ) → used ≡ used_in o → used ≤ 0
+    → ((cells : Cells) → o ≡ Some cells
     → 1 ≤ used_of cells) → o ≡ None
 not_there None used is none filled = refl
 not_there (Some cells) used is none filled = absurd (omega (arith, filled cells refl))
@@ -25,16 +26,19 @@ not_there (Some cells) used is none filled = absurd (omega (arith, filled cells 
 
 -- a zspage of a group adds one to its count
 pub group_more : (per place i : ℕ) (zs : List (Option Cells)) (cells : Cells) (groups : List ℕ)
-    → i < length zs → entry zs i ≡ Some cells → group_of (used_of cells) per ≡ place + 1 → length groups ≡ 11
+    → i < length zs → entry zs i ≡ Some cells → group_of (used_of cells) per ≡ place + 1
+    → length groups ≡ 11
     → place < 11
     → ((g : ℕ) → g < 11 → slice_index groups g ≡ count_by (is_in_group per (g + 1)) (take i zs))
     → (g : ℕ) → g < 11
-    → slice_index (set groups place (slice_index groups place + 1)) g ≡ count_by (is_in_group per (g + 1)) (take (i + 1) zs)
+    → slice_index (set groups place (slice_index groups place + 1)) g ≡ count_by
+    (is_in_group per (g + 1)) (take (i + 1) zs)
 group_more per place i zs cells groups low at group long small so_far g few =
     elim (cases_eq g place) [
       | inl e ↦
           let yes : is_in_group per (g + 1) (get_or zs i None) ≡ true =
-          ap (is_in_group per (g + 1)) at ∙ eq-eqb (group_of (used_of cells) per) (g + 1) (omega arith) in
+          ap (is_in_group per (g + 1)) at ∙ eq-eqb (group_of (used_of cells) per) (g + 1)
+          (omega arith) in
           let within : place < length groups = omega arith in
           ap (λ n. slice_index (set groups place (slice_index groups place + 1)) n) e
           ∙ rw get_or-set_same
@@ -54,5 +58,6 @@ pub group_same : (per i : ℕ) (zs : List (Option Cells)) (groups : List ℕ)
     → ((g : ℕ) → g < 11 → slice_index groups g ≡ count_by (is_in_group per (g + 1)) (take i zs))
     → (g : ℕ) → g < 11 → slice_index groups g ≡ count_by (is_in_group per (g + 1)) (take (i + 1) zs)
 group_same per i zs groups low at so_far g few =
-    let no_match : is_in_group per (g + 1) (get_or zs i None) ≡ false = ap (is_in_group per (g + 1)) at in
+    let no_match : is_in_group per (g + 1) (get_or zs i None) ≡ false =
+    ap (is_in_group per (g + 1)) at in
     so_far g few ∙ sym (count_by_more_no (is_in_group per (g + 1)) zs i None low no_match)

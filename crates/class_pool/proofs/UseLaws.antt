@@ -27,7 +27,8 @@ entry-put_same [] (suc i) y low = absurd (omega arith)
 entry-put_same (x ∷ xs) zero y low = refl
 entry-put_same (x ∷ xs) (suc i) y low = entry-put_same xs i y (omega arith)
 
-pub entry-put_other : {A : Type 0} (xs : List (Option A)) (i j : ℕ) (y : Option A) → i ≤ length xs → j ≢ i
+pub entry-put_other : {A : Type 0} (xs : List (Option A)) (i j : ℕ) (y : Option A) → i ≤ length xs
+    → j ≢ i
     → entry (put_at xs i y) j ≡ entry xs j
 entry-put_other [] zero zero y low other = absurd (other refl)
 entry-put_other [] zero (suc j) y low other = refl
@@ -35,9 +36,11 @@ entry-put_other [] (suc i) j y low other = absurd (omega arith)
 entry-put_other (x ∷ xs) zero zero y low other = absurd (other refl)
 entry-put_other (x ∷ xs) zero (suc j) y low other = refl
 entry-put_other (x ∷ xs) (suc i) zero y low other = refl
-entry-put_other (x ∷ xs) (suc i) (suc j) y low other = entry-put_other xs i j y (omega arith) (λ e. other (ap suc e))
+entry-put_other (x ∷ xs) (suc i) (suc j) y low other =
+    entry-put_other xs i j y (omega arith) (λ e. other (ap suc e))
 
-pub length-put : {A : Type 0} (xs : List A) (i : ℕ) (y : A) → i ≤ length xs → length xs ≤ length (put_at xs i y)
+pub length-put : {A : Type 0} (xs : List A) (i : ℕ) (y : A) → i ≤ length xs
+    → length xs ≤ length (put_at xs i y)
 length-put [] i y low = omega arith
 length-put (x ∷ xs) zero y low = omega arith
 length-put (x ∷ xs) (suc i) y low = omega (arith, length-put xs i y (omega arith))
@@ -47,9 +50,11 @@ none_there : {A : Type 0} (xs : List (Option A)) (j : ℕ) → used_of xs ≡ 0 
 none_there [] j none = refl
 none_there (None ∷ xs) zero none = refl
 none_there (None ∷ xs) (suc j) none = none_there xs j none
-none_there (Some x ∷ xs) j none = absurd (omega (arith, none, sum_by-cons (λ o. cond (is_some o) 1 0) (Some x) xs))
+none_there (Some x ∷ xs) j none = absurd
+    (omega (arith, none, sum_by-cons (λ o. cond (is_some o) 1 0) (Some x) xs))
 
-pub alone : {A : Type 0} (xs : List (Option A)) (i j : ℕ) (x : A) → used_of xs ≡ 1 → entry xs i ≡ Some x → j ≢ i
+pub alone : {A : Type 0} (xs : List (Option A)) (i j : ℕ) (x : A) → used_of xs ≡ 1
+    → entry xs i ≡ Some x → j ≢ i
     → entry xs j ≡ None
 alone [] i j x one at other = refl
 alone (None ∷ xs) zero j x one at other = absurd (cc)
@@ -80,7 +85,8 @@ pub use_there : (zs : List (Option Cells)) (i j : ℕ) (cells : Cells) → entry
 use_there zs i j cells at = ap (λ z. use_in z j) at
 
 pub changes_cell : (zs : List (Option Cells)) (i j : ℕ) (cells : Cells) (o : Option UsedCell)
-    → entry zs i ≡ Some cells → j < length cells → Changes zs (set zs i (Some (set cells j o))) i j o
+    → entry zs i ≡ Some cells → j < length cells
+    → Changes zs (set zs i (Some (set cells j o))) i j o
 changes_cell zs i j cells o at low =
     let within : i < length zs = entry_within zs i cells at in
     record {
@@ -99,7 +105,8 @@ changes_cell zs i j cells o at low =
     }
 
 pub changes_gone : (zs : List (Option Cells)) (i j : ℕ) (cells : Cells) (u : UsedCell)
-    → entry zs i ≡ Some cells → entry cells j ≡ Some u → used_of cells ≡ 1 → Changes zs (set zs i None) i j None
+    → entry zs i ≡ Some cells → entry cells j ≡ Some u → used_of cells ≡ 1
+    → Changes zs (set zs i None) i j None
 changes_gone zs i j cells u at here one =
     let within : i < length zs = entry_within zs i cells at in
     record {
@@ -127,16 +134,19 @@ use_at-put zs i n k l least =
           ∙ entry-free n l
           ∙ sym (ap (λ z. use_in z l) least.absent)
           ∙ ap (λ m. use_at zs m l) (sym e)
-      | inr other ↦ ap (λ z. use_in z l) (entry-put_other zs i k (Some (replicate n None)) least.within other)
+      | inr other ↦ ap (λ z. use_in z l) (entry-put_other zs i k (Some (replicate n None))
+          least.within other)
     ]
 
 -- ---- a used cell has a place
 
-pub contains_cons : {A : Type 0} (x : A) (xs : List A) (y : A) → Contains (x ∷ xs) y → (x ≡ y) ⊎ Contains xs y
+pub contains_cons : {A : Type 0} (x : A) (xs : List A) (y : A) → Contains (x ∷ xs) y → (x ≡ y)
+    ⊎ Contains xs y
 contains_cons x xs y (zero, low, at) = inl at
 contains_cons x xs y (suc k, low, at) = inr (k, omega arith, at)
 
-find_in : (cells : Cells) (u : UsedCell) → Contains (used_cells_in cells) u → (j : ℕ) × (entry cells j ≡ Some u)
+find_in : (cells : Cells) (u : UsedCell) → Contains (used_cells_in cells) u → (j : ℕ)
+    × (entry cells j ≡ Some u)
 find_in [] u (k, low, at) = absurd (omega arith)
 find_in (None ∷ cells) u among =
     let rest : (j : ℕ) × (entry cells j ≡ Some u) = find_in cells u among in (suc rest.0, rest.1)
@@ -155,7 +165,8 @@ find_use (None ∷ zs) u among =
     (suc rest.0, rest.1, rest.2)
 find_use (Some cells ∷ zs) u among =
     elim (Contains-append_cases (used_cells_in cells) (used_cells zs) u among) [
-      | inl here ↦ let at : (j : ℕ) × (entry cells j ≡ Some u) = find_in cells u here in (0, at.0, at.1)
+      | inl here ↦ let at : (j : ℕ) × (entry cells j ≡ Some u) = find_in cells u here in
+          (0, at.0, at.1)
       | inr later ↦
           let rest : (i : ℕ) × (j : ℕ) × (use_at zs i j ≡ Some u) = find_use zs u later in
           (suc rest.0, rest.1, rest.2)
@@ -170,7 +181,8 @@ use_parts zs i j u at = parts_of (entry zs i) j u refl at where
   parts_of None j u e at = absurd (cc)
   parts_of (Some cells) j u e at = (cells, e, at)
 
-contains_in : (cells : Cells) (j : ℕ) (u : UsedCell) → entry cells j ≡ Some u → Contains (used_cells_in cells) u
+contains_in : (cells : Cells) (j : ℕ) (u : UsedCell) → entry cells j ≡ Some u
+    → Contains (used_cells_in cells) u
 contains_in [] j u at = absurd (cc)
 contains_in (None ∷ cells) zero u at = absurd (cc)
 contains_in (None ∷ cells) (suc j) u at = contains_in cells j u at

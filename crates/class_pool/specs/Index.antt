@@ -17,7 +17,8 @@ pub record IsIndex (zspages : List (Option Cells)) (places : List (Option Place)
   pub listed : (i j : ℕ) (u : UsedCell) → use_at zspages i j ≡ Some u
       → entry places u.handle ≡ Some (record { zspage = i; cell = j })
 
--- the places fit the zspages, and there are as many numbers as cells, but for at most one zspage more
+-- the places fit the zspages, and there are as many numbers as cells, but for at most one zspage
+-- more
 pub record Fit (z : ZspagesState) (places : List (Option Place)) : Type 0 where
   pub some : 1 ≤ z.per
   pub few : z.per ≤ 2048

@@ -6,7 +6,8 @@ use Rattle.zspage.specs.Cells.{UsedCell, ZspageState, used_of, home_of, entry}
 abbrev pub Cells : Type 0
 Cells = List (Option UsedCell)
 
--- the zspages of one class: the bytes of a cell, the frames of a chain, the cells of a chain, and the zspage of each id
+-- the zspages of one class: the bytes of a cell, the frames of a chain, the cells of a chain, and
+-- the zspage of each id
 pub record ZspagesState : Type 0 where
   pub size : ℕ
   pub chain : ℕ
@@ -31,7 +32,8 @@ abbrev pub HasRoom : Option Cells → Type 0
 HasRoom None = ⊥
 HasRoom (Some cells) = used_of cells < length cells
 
--- the zspage that takes the next object: the most used of those with a free cell, on a tie the one with the least id
+-- the zspage that takes the next object: the most used of those with a free cell, on a tie the one
+-- with the least id
 pub record IsFullest (zspages : List (Option Cells)) (id : ℕ) : Type 0 where
   pub room : HasRoom (entry zspages id)
   pub most : (k : ℕ) → HasRoom (entry zspages k)
@@ -65,27 +67,32 @@ abbrev pub cells_of : Option ZspageState → Option Cells
 cells_of None = None
 cells_of (Some z) = Some z.cells
 
--- absent zspages have rank 1, full ones rank 0, and of those with room the most used has the greatest rank
+-- absent zspages have rank 1, full ones rank 0, and of those with room the most used has the
+-- greatest rank
 abbrev pub rank_of : Option Cells → ℕ
 rank_of None = 1
 rank_of (Some cells) = if used_of cells == length cells then 0 else used_of cells + 2
 
--- of the zspages that can give an object the least used has the greatest rank, and the others have rank 0
+-- of the zspages that can give an object the least used has the greatest rank, and the others have
+-- rank 0
 abbrev pub source_rank : Option Cells → ℕ
 source_rank None = 0
 source_rank (Some cells) = if home_of cells == 0 then 0 else length cells - used_of cells
 
 -- each zspage has its rank
-pub record AreRanked (rank : Option Cells → ℕ) (items : List (Option ZspageState)) (ranks : List ℕ) : Type 0 where
+pub record AreRanked (rank : Option Cells → ℕ) (items : List (Option ZspageState))
+    (ranks : List ℕ) : Type 0 where
   pub long : length ranks ≡ length items
   pub each : (k : ℕ) → k < length items → slice_index ranks k ≡ rank (cells_of (entry items k))
 
 -- a zspage fits its class and its id
 abbrev pub IsOf : ℕ → ℕ → ℕ → ℕ → Option ZspageState → Type 0
 IsOf size chain per id None = Unit {0}
-IsOf size chain per id (Some z) = (z.size ≡ size) × (z.frames ≡ chain) × (length z.cells ≡ per) × (z.id ≡ id)
+IsOf size chain per id (Some z) = (z.size ≡ size) × (z.frames ≡ chain) × (length z.cells ≡ per)
+    × (z.id ≡ id)
 
-pub record AreZspages (size chain per : ℕ) (items : List (Option ZspageState)) (ranks sources : List ℕ) : Type 0 where
+pub record AreZspages (size chain per : ℕ) (items : List (Option ZspageState))
+    (ranks sources : List ℕ) : Type 0 where
   pub small : 32 ≤ size
   pub large : size ≤ 4096
   pub some : 1 ≤ chain

@@ -1,5 +1,5 @@
-//! Where the object of each handle is. A handle is a number below the length of the list; a tournament finds the least
-//! one that no object has.
+//! Where the object of each handle is. A handle is a number below the length of the list; a
+//! tournament finds the least one that no object has.
 
 ghost use Rattle.std.specs.Prelude.{◌≡◌, ◌<◌, ◌≤◌, ◌++◌, ◌∷◌, [], ℕ, List, length, Some, None, OnOk, OnErr, replicate, slice_set};
 ghost use Rattle.zspage.specs.Cells.{used_of, entry};

@@ -1,5 +1,5 @@
-//! A pool of one size class. Its index finds an object by its handle in one step, and the zspage of the next object in
-//! a time that grows with the logarithm of the number of zspages.
+//! A pool of one size class. Its index finds an object by its handle in one step, and the zspage of
+//! the next object in a time that grows with the logarithm of the number of zspages.
 
 ghost use Rattle.std.specs.Prelude.{◌≡◌, ◌≢◌, ◌-◌, ◌+◌, ◌*◌, ◌<◌, ◌≤◌, ◌^◌, ◌↔◌, ℕ, List, [], length, Some, None, true, false, replicate, IfOk, IfSome, MatchOption, OnErr, IsTrue, slice_set};
 ghost use Rattle.zspage.specs.Cells.{CellState, Fits, IsStored, IsCellAt, UsedCell, used_of, entry, IsLowestFree};
@@ -47,7 +47,14 @@ impl ClassPool {
     /// A pool without zspages. It takes no memory.
     pub fn new(alloc: Global, class: u8, size: u32, chain: u32, per: u32) -> ClassPool
         requires { IsClass class size chain per }
-        ensures is { result ≡ record { class = class; size = size; chain = chain; per = per; zspages = [] } }
+        ensures is { result ≡ record {
+          class = class;
+          size = size;
+          chain = chain;
+          per =
+              per;
+          zspages = [];
+        } }
         ensures pool { IsPool result }
     {
         ClassPool {
@@ -110,11 +117,13 @@ impl ClassPool {
         }
     }
 
-    /// The ids of the zspage that the next object moves from and of the one that it moves to. None where no zspage is
-    /// partial, or none beside the destination can give an object. It takes no memory.
+    /// The ids of the zspage that the next object moves from and of the one that it moves to. None
+    /// where no zspage is partial, or none beside the destination can give an object. It takes no
+    /// memory.
     pub fn next_move(&self) -> Option<(u32, u32)>
         ensures plan { IfSome result (λ p. IsPlan self.now.per (rows self.now.zspages) p.0 p.1) }
-        ensures none { MatchOption result (HasNoPlan self.now.per (rows self.now.zspages)) (λ p. p.0 ≢ p.1) }
+        ensures none { MatchOption result (HasNoPlan self.now.per (rows self.now.zspages))
+            (λ p. p.0 ≢ p.1) }
 
         // After the move the destination is full, or it is the destination of the next one.
         ensures goes_on { IfSome result (λ p. GoesOn self.now.per (rows self.now.zspages) p.0 p.1) }
@@ -131,7 +140,8 @@ impl ClassPool {
         ensures fresh { IsFresh self.old result.0 }
         ensures home { IsAtHome self.new result.0 }
         ensures others { (h : ℕ) → IsAtHome self.old h → IsAtHome self.new h }
-        ensures others_lent { (h : ℕ) (cell : CellState) → IsLent self.old h cell → IsLent self.new h cell }
+        ensures others_lent { (h : ℕ) (cell : CellState) → IsLent self.old h cell
+            → IsLent self.new h cell }
         ensures object { HasOneMore (objects self.old) (objects self.new)
             (record { handle = result.0; bytes = bytes.now }) }
         ensures place { (id : ℕ) × (ix : ℕ) × (cells : Cells) × (cell : CellState)
@@ -144,7 +154,8 @@ impl ClassPool {
         handle
     }
 
-    /// Makes a zspage with an object in it, under a handle that no live object has. Err is want of memory.
+    /// Makes a zspage with an object in it, under a handle that no live object has. Err is want of
+    /// memory.
     pub fn alloc_new(&mut self, bytes: &[u8]) -> Result<Handle, AllocError>
         requires full { PoolHasRoom self.old → ⊥ }
         requires few { length (used_cells self.old.zspages) < 2 ^ 32 - 1 }
@@ -152,7 +163,8 @@ impl ClassPool {
         ensures fresh { IfOk result (λ h. IsFresh self.old h.0) }
         ensures home { IfOk result (λ h. IsAtHome self.new h.0) }
         ensures others { (h : ℕ) → IsAtHome self.old h → IsAtHome self.new h }
-        ensures others_lent { (h : ℕ) (cell : CellState) → IsLent self.old h cell → IsLent self.new h cell }
+        ensures others_lent { (h : ℕ) (cell : CellState) → IsLent self.old h cell
+            → IsLent self.new h cell }
         ensures object { IfOk result (λ h. HasOneMore (objects self.old) (objects self.new)
             (record { handle = h.0; bytes = bytes.now })) }
         ensures place { IfOk result (λ h. (id : ℕ) × (cell : CellState)
@@ -166,11 +178,13 @@ impl ClassPool {
         Ok(handle)
     }
 
-    /// Takes an object away. Gives the frames of its zspage where that became empty and was given up, else 0.
+    /// Takes an object away. Gives the frames of its zspage where that became empty and was given
+    /// up, else 0.
     pub fn free(&mut self, handle: Handle) -> u32
         requires { IsAtHome self.old handle.0 }
         ensures others { (h : ℕ) → h ≢ handle.0 → IsAtHome self.old h → IsAtHome self.new h }
-        ensures others_lent { (h : ℕ) (cell : CellState) → h ≢ handle.0 → IsLent self.old h cell → IsLent self.new h cell }
+        ensures others_lent { (h : ℕ) (cell : CellState) → h ≢ handle.0 → IsLent self.old h cell
+            → IsLent self.new h cell }
         ensures object { (bytes : List ℕ) × HasOneMore (objects self.new) (objects self.old)
             (record { handle = handle.0; bytes = bytes }) }
         ensures place { (id : ℕ) × (ix : ℕ) × (cells : Cells) × (u : UsedCell)
@@ -186,18 +200,20 @@ impl ClassPool {
         if gone { self.zspages.chain() } else { 0 }
     }
 
-    /// Lends the cell of an object, which stays live. The cell holds a header of 8 bytes, but none before a whole page
-    /// of 4096 bytes, and then the object. It takes no memory.
+    /// Lends the cell of an object, which stays live. The cell holds a header of 8 bytes, but none
+    /// before a whole page of 4096 bytes, and then the object. It takes no memory.
     pub fn pin(&mut self, handle: Handle) -> Cell
         requires { IsAtHome self.old handle.0 }
         ensures lent { IsLent self.new handle.0 result }
         ensures others { (h : ℕ) → h ≢ handle.0 → IsAtHome self.old h → IsAtHome self.new h }
-        ensures others_lent { (h : ℕ) (cell : CellState) → h ≢ handle.0 → IsLent self.old h cell → IsLent self.new h cell }
+        ensures others_lent { (h : ℕ) (cell : CellState) → h ≢ handle.0 → IsLent self.old h cell
+            → IsLent self.new h cell }
         ensures list { objects self.new ≡ objects self.old }
         ensures cell { (id : ℕ) × (ix : ℕ) × (cells : Cells) × (u : UsedCell)
             × IsPlace self.old handle.0 id ix cells u × (u.out ≡ false) × (u.cell ≡ result)
             × IsStored handle.0 u.bytes result × IsCellAt self.old.size ix result
-            × (self.new ≡ with_cells self.old id (slice_set cells ix (Some (record u { out = true })))) }
+            × (self.new ≡ with_cells self.old id (slice_set cells ix
+            (Some (record u { out = true })))) }
         ensures pool { IsPool self.new }
     {
         let place = self.places.place(handle.0 as usize);
@@ -209,11 +225,13 @@ impl ClassPool {
         requires { IsLent self.old handle.0 cell }
         ensures home { IsAtHome self.new handle.0 }
         ensures others { (h : ℕ) → h ≢ handle.0 → IsAtHome self.old h → IsAtHome self.new h }
-        ensures others_lent { (h : ℕ) (cell : CellState) → h ≢ handle.0 → IsLent self.old h cell → IsLent self.new h cell }
+        ensures others_lent { (h : ℕ) (cell : CellState) → h ≢ handle.0 → IsLent self.old h cell
+            → IsLent self.new h cell }
         ensures list { objects self.new ≡ objects self.old }
         ensures cell { (id : ℕ) × (ix : ℕ) × (cells : Cells) × (u : UsedCell)
             × IsPlace self.old handle.0 id ix cells u × (u.out ≡ true)
-            × (self.new ≡ with_cells self.old id (slice_set cells ix (Some (record u { out = false })))) }
+            × (self.new ≡ with_cells self.old id (slice_set cells ix
+            (Some (record u { out = false })))) }
         ensures pool { IsPool self.new }
     {
         let place = self.places.place(handle.0 as usize);
@@ -221,8 +239,8 @@ impl ClassPool {
     }
 }
 
-/// Makes a zspage under the least free id, which it gives, and numbers for its objects. Err is want of memory: some free
-/// numbers may then have been made.
+/// Makes a zspage under the least free id, which it gives, and numbers for its objects. Err is want
+/// of memory: some free numbers may then have been made.
 fn make_zspage(alloc: Global, zspages: &mut Zspages, places: &mut Places) -> Result<u32, AllocError>
     requires full { (k : ℕ) → HasRoom (entry zspages.old.zspages k) → ⊥ }
     requires few { length (used_cells zspages.old.zspages) < 2 ^ 32 - 1 }
@@ -278,7 +296,8 @@ mod tests {
         groups
     }
 
-    // Adds so many objects, which fill the zspage, and frees them again from the last. None of them gives frames back.
+    // Adds so many objects, which fill the zspage, and frees them again from the last. None of them
+    // gives frames back.
     fn fill(rt: &impl Abort, pool: &mut ClassPool, bytes: &[u8], more: u32) -> Result<(), Fail>
         requires { Fits (length bytes.now) pool.old.size }
         ensures { (h : ℕ) → IsAtHome pool.old h → IsAtHome pool.new h }
@@ -330,8 +349,8 @@ mod tests {
         }
     }
 
-    // Class 126 has two cells of 2048 bytes in a frame. With one object in each of three zspages the first is the
-    // destination, and the last with its object at home the source.
+    // Class 126 has two cells of 2048 bytes in a frame. With one object in each of three zspages
+    // the first is the destination, and the last with its object at home the source.
     #[test]
     fn moves(rt: HostRuntime) -> Result<(), Fail> {
         let table = ClassTable::new(4);

@@ -1,6 +1,6 @@
-//! The zspages of one class by their ids. A tournament of ranks finds the one that takes the next object, and the least
-//! free id, in a time that grows with the logarithm of their number; a second one finds the zspage that gives an object
-//! up when objects are moved together.
+//! The zspages of one class by their ids. A tournament of ranks finds the one that takes the next
+//! object, and the least free id, in a time that grows with the logarithm of their number; a second
+//! one finds the zspage that gives an object up when objects are moved together.
 
 ghost use Rattle.std.specs.Prelude.{◌≡◌, ◌+◌, ◌-◌, ◌*◌, ◌/◌, ◌<◌, ◌≤◌, ◌^◌, ◌++◌, ◌∷◌, ℕ, List, [], length, Some, None, IfOk, OnOk, OnErr, IsTrue, true, false, replicate, slice_set};
 ghost use Rattle.zspage.specs.Cells.{CellState, IsStored, IsCellAt, Fits, UsedCell, used_of, entry, IsLowestFree, IsHome, IsOut};
@@ -250,11 +250,15 @@ impl Zspages {
         }
     }
 
-    /// Takes the object of a used cell away, and gives the zspage up where that was its last. Tells whether it was.
+    /// Takes the object of a used cell away, and gives the zspage up where that was its last. Tells
+    /// whether it was.
     pub fn put_cell(&mut self, id: u32, ix: u32) -> bool
         requires { (cells : Cells) × (entry self.old.zspages id ≡ Some cells) × IsHome cells ix }
         ensures gone { (cells : Cells) → entry self.old.zspages id ≡ Some cells → result ≡ true
-            → (used_of cells ≡ 1) × (self.new ≡ record self.old { zspages = slice_set self.old.zspages id None }) }
+            → (used_of cells ≡ 1) × (self.new ≡ record self.old {
+              zspages =
+                  slice_set self.old.zspages id None;
+            }) }
         ensures kept { (cells : Cells) → entry self.old.zspages id ≡ Some cells → result ≡ false
             → (2 ≤ used_of cells) × (self.new ≡ record self.old {
               zspages = slice_set self.old.zspages id (Some (slice_set cells ix None));
@@ -284,10 +288,13 @@ impl Zspages {
     /// Lends a used cell.
     pub fn lend(&mut self, id: u32, ix: u32) -> Cell
         requires { (cells : Cells) × (entry self.old.zspages id ≡ Some cells) × IsHome cells ix }
-        ensures { (cells : Cells) (u : UsedCell) → entry self.old.zspages id ≡ Some cells → entry cells ix ≡ Some u
-            → (u.cell ≡ result) × IsStored u.handle u.bytes result × IsCellAt self.old.size ix result
+        ensures { (cells : Cells) (u : UsedCell) → entry self.old.zspages id ≡ Some cells
+            → entry cells ix ≡ Some u
+            → (u.cell ≡ result) × IsStored u.handle u.bytes result
+            × IsCellAt self.old.size ix result
             × (self.new ≡ record self.old {
-              zspages = slice_set self.old.zspages id (Some (slice_set cells ix (Some (record u { out = true }))));
+              zspages = slice_set self.old.zspages id
+                  (Some (slice_set cells ix (Some (record u { out = true }))));
             }) }
     {
         let id = id as usize;
@@ -305,10 +312,13 @@ impl Zspages {
 
     /// Takes the cell that was lent back.
     pub fn back(&mut self, id: u32, ix: u32, cell: Cell)
-        requires { (cells : Cells) × (entry self.old.zspages id ≡ Some cells) × IsOut cells ix cell }
-        ensures { (cells : Cells) (u : UsedCell) → entry self.old.zspages id ≡ Some cells → entry cells ix ≡ Some u
+        requires { (cells : Cells) × (entry self.old.zspages id ≡ Some cells)
+            × IsOut cells ix cell }
+        ensures { (cells : Cells) (u : UsedCell) → entry self.old.zspages id ≡ Some cells
+            → entry cells ix ≡ Some u
             → self.new ≡ record self.old {
-              zspages = slice_set self.old.zspages id (Some (slice_set cells ix (Some (record u { out = false }))));
+              zspages = slice_set self.old.zspages id
+                  (Some (slice_set cells ix (Some (record u { out = false }))));
             } }
     {
         let id = id as usize;

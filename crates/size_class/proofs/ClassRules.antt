@@ -9,7 +9,8 @@ use Rattle.size_class.specs.Classes.{class_size, waste, chain_of, IsChain, per_o
 -- ---- the chain
 
 -- one more number of frames is the best so far where it wastes less
-pub chain_of-suc : (m k : ℕ) → chain_of (suc m) k ≡ (if nat_lt (waste (suc m) k) (waste (chain_of m k) k) then suc m else chain_of m k)
+pub chain_of-suc : (m k : ℕ) → chain_of (suc m) k ≡
+    (if nat_lt (waste (suc m) k) (waste (chain_of m k) k) then suc m else chain_of m k)
 unfolding chain_of
 chain_of-suc m k = refl
 
@@ -28,12 +29,14 @@ chain_cases m k = rw (chain_of-suc m k) (chosen (λ i. waste i k) (suc m) (chain
 pub chain_some : (m k : ℕ) → 1 ≤ chain_of m k
 unfolding chain_of
 chain_some zero k = omega arith
-chain_some (suc m) k = elim (chain_cases m k) [ inl p ↦ rw p.1 (omega arith) | inr p ↦ rw p.1 (chain_some m k) ]
+chain_some (suc m) k = elim (chain_cases m k)
+    [ inl p ↦ rw p.1 (omega arith) | inr p ↦ rw p.1 (chain_some m k) ]
 
 -- a chain is within its limit
 pub chain_within : (m k : ℕ) → chain_of (suc m) k ≤ suc m
 unfolding chain_of
-chain_within zero k = elim (chain_cases zero k) [ inl p ↦ rw p.1 (omega arith) | inr p ↦ rw p.1 (omega arith) ]
+chain_within zero k = elim (chain_cases zero k)
+    [ inl p ↦ rw p.1 (omega arith) | inr p ↦ rw p.1 (omega arith) ]
 chain_within (suc m) k =
     let before : chain_of (suc m) k ≤ suc m = chain_within m k in
     elim (chain_cases (suc m) k) [ inl p ↦ rw p.1 (omega arith) | inr p ↦ rw p.1 (omega arith) ]
@@ -43,22 +46,29 @@ pub chain_least : (m k other : ℕ) → 1 ≤ other → other ≤ m → waste (c
 chain_least zero k other low high = absurd (omega arith)
 chain_least (suc m) k other low high =
     elim (cases_order other (suc m)) [
-      | inl e ↦ elim (chain_cases m k) [ inl p ↦ rw (p.1, e) (omega arith) | inr p ↦ rw (p.1, e) p.0 ]
+      | inl e ↦ elim (chain_cases m k) [
+        | inl p ↦ rw (p.1, e) (omega arith)
+        | inr p ↦
+            rw (p.1, e) p.0
+      ]
       | inr o ↦ elim o [
-        | inl lt ↦ let before : waste (chain_of m k) k ≤ waste other k = chain_least m k other low (omega arith) in
+        | inl lt ↦ let before : waste (chain_of m k) k ≤ waste other k =
+            chain_least m k other low (omega arith) in
             elim (chain_cases m k) [ inl p ↦ rw p.1 (omega arith) | inr p ↦ rw p.1 before ]
         | inr gt ↦ absurd (omega arith)
       ]
     ]
 
 -- each smaller number of frames wastes more
-pub chain_first : (m k other : ℕ) → 1 ≤ other → other < chain_of m k → waste (chain_of m k) k < waste other k
+pub chain_first : (m k other : ℕ) → 1 ≤ other → other < chain_of m k
+    → waste (chain_of m k) k < waste other k
 unfolding chain_of
 chain_first zero k other low high = absurd (omega arith)
 chain_first (suc m) k other low high =
     elim (chain_cases m k) [
       | inl p ↦ let below : other < suc m = rw p.1 at high in
-          let before : waste (chain_of m k) k ≤ waste other k = chain_least m k other low (omega arith) in
+          let before : waste (chain_of m k) k ≤ waste other k =
+          chain_least m k other low (omega arith) in
           rw p.1 (omega arith)
       | inr p ↦ rw p.1 (chain_first m k other low (rw p.1 at high))
     ]
@@ -76,11 +86,13 @@ chain_of-is (suc m) k some = record {
 -- ---- what a class stands as
 
 pub stands_below-suc : (m depth : ℕ) →
-    stands_below m (suc depth) ≡ (if shares_next m (253 - depth) then stands_below m depth else 253 - depth)
+    stands_below m (suc depth) ≡ (if shares_next m (253 - depth)
+    then stands_below m depth else 253 - depth)
 unfolding stands_below
 stands_below-suc m depth = refl
 
-picked : (b : Bool) (x y : ℕ) → ((b ≡ true) × ((if b then x else y) ≡ x)) ⊎ ((b ≡ false) × ((if b then x else y) ≡ y))
+picked : (b : Bool) (x y : ℕ) → ((b ≡ true) × ((if b then x else y) ≡ x))
+    ⊎ ((b ≡ false) × ((if b then x else y) ≡ y))
 picked true x y = inl (refl, refl)
 picked false x y = inr (refl, refl)
 
@@ -88,7 +100,8 @@ pub stands_cases : (m depth : ℕ) →
     ((shares_next m (253 - depth) ≡ true) × (stands_below m (suc depth) ≡ stands_below m depth))
     ⊎ ((shares_next m (253 - depth) ≡ false) × (stands_below m (suc depth) ≡ 253 - depth))
 stands_cases m depth =
-    rw (stands_below-suc m depth) (picked (shares_next m (253 - depth)) (stands_below m depth) (253 - depth))
+    rw (stands_below-suc m depth) (picked (shares_next m (253 - depth)) (stands_below m depth)
+    (253 - depth))
 
 pub stands_last : (m : ℕ) → stands_below m 0 ≡ 254
 unfolding stands_below
@@ -104,10 +117,15 @@ stands_above m (suc depth) small =
 pub stands_bound : (m depth : ℕ) → stands_below m depth < 255
 stands_bound m zero = rw (stands_last m) (omega arith)
 stands_bound m (suc depth) =
-    elim (stands_cases m depth) [ inl p ↦ rw p.1 (stands_bound m depth) | inr p ↦ rw p.1 (omega arith) ]
+    elim (stands_cases m depth) [
+      | inl p ↦ rw p.1 (stands_bound m depth)
+      | inr p ↦
+          rw p.1 (omega arith)
+    ]
 
 -- what a class stands as stands as itself
-pub stands_itself : (m depth : ℕ) → depth ≤ 254 → stands_below m (254 - stands_below m depth) ≡ stands_below m depth
+pub stands_itself : (m depth : ℕ) → depth ≤ 254
+    → stands_below m (254 - stands_below m depth) ≡ stands_below m depth
 stands_itself m zero small = rw (stands_last m) (stands_last m)
 stands_itself m (suc depth) small =
     elim (stands_cases m depth) [
@@ -118,15 +136,18 @@ stands_itself m (suc depth) small =
     ]
 
 -- no class below one that stands as itself stands as a greater one
-pub stands_under : (m top depth : ℕ) → stands_below m top ≡ 254 - top → top ≤ 254 → top ≤ depth → depth ≤ 254
+pub stands_under : (m top depth : ℕ) → stands_below m top ≡ 254 - top → top ≤ 254 → top ≤ depth
+    → depth ≤ 254
     → stands_below m depth + top ≤ 254
-stands_under m top zero itself small above deep = let e : top ≡ 0 = omega arith in rw (stands_last m, e) (omega arith)
+stands_under m top zero itself small above deep = let e : top ≡ 0 = omega arith in
+    rw (stands_last m, e) (omega arith)
 stands_under m top (suc depth) itself small above deep =
     elim (cases_order top (suc depth)) [
       | inl e ↦ rw (← e) (rw itself (omega arith))
       | inr o ↦ elim o [
         | inl lt ↦
-            let before : stands_below m depth + top ≤ 254 = stands_under m top depth itself small (omega arith) (omega arith) in
+            let before : stands_below m depth + top ≤ 254 =
+            stands_under m top depth itself small (omega arith) (omega arith) in
             elim (stands_cases m depth) [ inl p ↦ rw p.1 before | inr p ↦ rw p.1 (omega arith) ]
         | inr gt ↦ absurd (omega arith)
       ]
@@ -155,7 +176,8 @@ per_some frames cell some low high = le-div 1 (frames * 4096) cell (omega arith)
 
 pub per_bound : (frames cell : ℕ) → frames ≤ 16 → 32 ≤ cell → frames * 4096 / cell ≤ 2048
 per_bound frames cell few low =
-    let below : frames * 4096 / cell < 2049 = div_below (frames * 4096) cell 2049 (omega arith) (omega arith) in
+    let below : frames * 4096 / cell < 2049 =
+    div_below (frames * 4096) cell 2049 (omega arith) (omega arith) in
     omega arith
 
 -- ---- the table of what classes stand as
@@ -168,14 +190,16 @@ stands_of-shared m k depth at deep shares =
     let same : shares_next m (253 - depth) ≡ true = rw at at shares in
     rw (here, there) (elim (stands_cases m depth) [ inl p ↦ p.1 | inr p ↦ absurd (cc (p.0, same)) ])
 
-pub stands_of-alone : (m k depth : ℕ) → k ≡ 253 - depth → depth < 254 → shares_next m k ≡ false → stands_of m k ≡ k
+pub stands_of-alone : (m k depth : ℕ) → k ≡ 253 - depth → depth < 254 → shares_next m k ≡ false
+    → stands_of m k ≡ k
 stands_of-alone m k depth at deep shares =
     let here : 254 - k ≡ suc depth = omega arith in
     let same : shares_next m (253 - depth) ≡ false = rw at at shares in
     rw here (elim (stands_cases m depth) [ inl p ↦ absurd (cc (p.0, same)) | inr p ↦ p.1 ∙ sym at ])
 
 -- a list that has what the classes from one on stand as, with the class before it put in
-pub table_grows : (m k depth v : ℕ) (stands : List ℕ) → length stands ≡ 255 → k ≡ 253 - depth → depth < 254
+pub table_grows : (m k depth v : ℕ) (stands : List ℕ) → length stands ≡ 255 → k ≡ 253 - depth
+    → depth < 254
     → v ≡ stands_of m k
     → ((j : ℕ) → 254 - depth ≤ j → j < 255 → get_or stands j 0 ≡ stands_of m j)
     → (j : ℕ) → 254 - (depth + 1) ≤ j → j < 255 → get_or (set stands k v) j 0 ≡ stands_of m j
@@ -187,7 +211,8 @@ table_grows m k depth v stands long at deep value above j low high =
 
 -- ---- the clauses on what class k stands as, at r
 
-pub shares_if : (m k : ℕ) → chain_of m k ≡ chain_of m (k + 1) → per_of m k ≡ per_of m (k + 1) → shares_next m k ≡ true
+pub shares_if : (m k : ℕ) → chain_of m k ≡ chain_of m (k + 1) → per_of m k ≡ per_of m (k + 1)
+    → shares_next m k ≡ true
 shares_if m k chains cells = and_from _ _ (eq-eqb _ _ chains) (eq-eqb _ _ cells)
 
 pub other_chain : (m k : ℕ) → chain_of m k ≢ chain_of m (k + 1) → shares_next m k ≡ false
@@ -196,18 +221,22 @@ other_chain m k chains = and_left _ _ (ne_eqb _ _ chains)
 pub other_per : (m k : ℕ) → per_of m k ≢ per_of m (k + 1) → shares_next m k ≡ false
 other_per m k cells = and_right _ _ (ne_eqb _ _ cells)
 
-pub stands_next : (m k r : ℕ) → r ≡ stands_of m k → k < 254 → shares_next m k ≡ true → r ≡ stands_of m (k + 1)
-stands_next m k r is low shares = is ∙ stands_of-shared m k (253 - k) (omega arith) (omega arith) shares
+pub stands_next : (m k r : ℕ) → r ≡ stands_of m k → k < 254 → shares_next m k ≡ true
+    → r ≡ stands_of m (k + 1)
+stands_next m k r is low shares = is ∙ stands_of-shared m k (253 - k) (omega arith) (omega arith)
+    shares
 
 pub stands_alone : (m k r : ℕ) → r ≡ stands_of m k → k < 254 → shares_next m k ≡ false → r ≡ k
-stands_alone m k r is low shares = is ∙ stands_of-alone m k (253 - k) (omega arith) (omega arith) shares
+stands_alone m k r is low shares = is
+    ∙ stands_of-alone m k (253 - k) (omega arith) (omega arith) shares
 
 pub stands_of-itself : (m k r : ℕ) → r ≡ stands_of m k → k < 255 → stands_of m r ≡ r
 stands_of-itself m k r is low = rw is (stands_itself m (254 - k) (omega arith))
 
 pub stands_of-above : (m k r : ℕ) → r ≡ stands_of m k → k < 255 → k ≤ r
 stands_of-above m k r is low =
-    let far : 254 ≤ stands_below m (254 - k) + (254 - k) = stands_above m (254 - k) (omega arith) in omega arith
+    let far : 254 ≤ stands_below m (254 - k) + (254 - k) =
+    stands_above m (254 - k) (omega arith) in omega arith
 
 pub stands_of-bound : (m k r : ℕ) → r ≡ stands_of m k → r < 255
 stands_of-bound m k r is = rw is (stands_bound m (254 - k))
@@ -227,7 +256,8 @@ parts_above-each m low high =
     rw e (agree_below_at (λ i. parts_above (i + 4) 52) (λ i. true) 13 (m - 4) refl (omega arith))
 
 -- then each class below them stands as one of them or a lower one
-below_parts : (m depth k : ℕ) → parts_above m depth ≡ true → depth ≤ 254 → k + depth ≤ 254 → stands_of m k < 254
+below_parts : (m depth k : ℕ) → parts_above m depth ≡ true → depth ≤ 254 → k + depth ≤ 254
+    → stands_of m k < 254
 below_parts m zero k parts small low = absurd (cc)
 below_parts m (suc depth) k parts small low =
     elim (or_cases _ _ parts) [
@@ -244,4 +274,5 @@ below_parts m (suc depth) k parts small low =
     ]
 
 pub packed_below : (m k : ℕ) → 4 ≤ m → m ≤ 16 → k ≤ 202 → stands_of m k < 254
-packed_below m k low high packed = below_parts m 52 k (parts_above-each m low high) (omega arith) (omega arith)
+packed_below m k low high packed = below_parts m 52 k (parts_above-each m low high) (omega arith)
+    (omega arith)

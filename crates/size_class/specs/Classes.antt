@@ -1,5 +1,6 @@
--- The size classes: how large the cells of a class are, how many frames a chain of cells has, how many cells
--- fit, and which classes share a pool. After zsmalloc's size classes. A frame has 4096 bytes.
+-- The size classes: how large the cells of a class are, how many frames a chain of cells has, how
+-- many cells fit, and which classes share a pool. After zsmalloc's size classes. A frame has 4096
+-- bytes.
 use Rattle.std.specs.Prelude.{ℕ, ◌+◌, ◌-◌, ◌*◌, ◌/◌, ◌%◌, ◌<◌, ◌≤◌, ◌==◌, ◌&&◌, Bool, nat_lt, if◌then◌else◌, zero, suc}
 
 -- the bytes of a cell of class k
@@ -13,7 +14,8 @@ waste frames k = (frames * 4096) % class_size k
 -- the number of frames from 1 to m that wastes least in class k, the least such number on a tie
 unfoldable pub chain_of : ℕ → ℕ → ℕ
 chain_of zero k = 1
-chain_of (suc m) k = if nat_lt (waste (suc m) k) (waste (chain_of m k) k) then suc m else chain_of m k
+chain_of (suc m) k = if nat_lt (waste (suc m) k) (waste (chain_of m k) k)
+    then suc m else chain_of m k
 
 -- what makes a number of frames the chain of class k at the limit m
 pub record IsChain (m k frames : ℕ) : Type 0 where
@@ -33,9 +35,11 @@ shares_next m k = (chain_of m k == chain_of m (k + 1)) && (per_of m k == per_of 
 -- what the class that lies so far below class 254 stands as
 unfoldable pub stands_below : ℕ → ℕ → ℕ
 stands_below m zero = 254
-stands_below m (suc depth) = if shares_next m (253 - depth) then stands_below m depth else 253 - depth
+stands_below m (suc depth) = if shares_next m (253 - depth)
+    then stands_below m depth else 253 - depth
 
--- the class whose pool serves class k: what class k + 1 stands as where both share chain and cells, else k itself
+-- the class whose pool serves class k: what class k + 1 stands as where both share chain and cells,
+-- else k itself
 abbrev pub stands_of : ℕ → ℕ → ℕ
 stands_of m k = stands_below m (254 - k)
 

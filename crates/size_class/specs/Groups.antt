@@ -1,4 +1,5 @@
--- The fullness groups of zspages: 0 for an empty one, 11 for a full one, and ten groups of a tenth each between.
+-- The fullness groups of zspages: 0 for an empty one, 11 for a full one, and ten groups of a tenth
+-- each between.
 use Rattle.std.specs.Prelude.{ℕ, ◌+◌, ◌*◌, ◌/◌, ◌==◌, if◌then◌else◌}
 
 -- the fullness group of a zspage with so many of its cells used

@@ -22,7 +22,8 @@ pub struct ClassStat {
     pub groups: [u32; 11],
 }
 
-/// The fullness group of a zspage that has `per` cells, as zsmalloc's fullness groups: 0 where none is used,
+/// The fullness group of a zspage that has `per` cells, as zsmalloc's fullness groups: 0 where none
+/// is used,
 /// 11 where all are, and 1 to 10 by tenths between.
 pub fn group(used: u32, per: u32) -> u8
     requires some { 1 ≤ per }

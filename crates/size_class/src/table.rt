@@ -17,7 +17,8 @@ pub fn size(k: u8) -> u32
     32 + 16 * k as u32
 }
 
-/// The size classes for one limit on the frames of a chain, after zsmalloc's size classes. Contracts see the limit.
+/// The size classes for one limit on the frames of a chain, after zsmalloc's size classes.
+/// Contracts see the limit.
 #[derive(Drop)]
 pub struct ClassTable {
     max_chain: u32,
@@ -79,9 +80,11 @@ impl ClassTable {
         requires { k < 255 }
         ensures value { result ≡ stands_of self.now k }
         ensures last { k ≡ 254 → result ≡ 254 }
-        ensures next { k < 254 → chain_of self.now k ≡ chain_of self.now (k + 1) → per_of self.now k ≡ per_of self.now (k + 1)
+        ensures next { k < 254 → chain_of self.now k ≡ chain_of self.now (k + 1)
+            → per_of self.now k ≡ per_of self.now (k + 1)
             → result ≡ stands_of self.now (k + 1) }
-        ensures other_chain { k < 254 → chain_of self.now k ≢ chain_of self.now (k + 1) → result ≡ k }
+        ensures other_chain { k < 254 → chain_of self.now k ≢ chain_of self.now (k + 1)
+            → result ≡ k }
         ensures other_per { k < 254 → per_of self.now k ≢ per_of self.now (k + 1) → result ≡ k }
         ensures itself { stands_of self.now result ≡ result }
         ensures above { k ≤ result }
@@ -91,8 +94,8 @@ impl ClassTable {
         self.stands[k as usize]
     }
 
-    /// The class whose pool takes an object of `len` bytes and its header of 8 bytes. A page that is kept as it is,
-    /// with 4096 bytes, goes to class 254.
+    /// The class whose pool takes an object of `len` bytes and its header of 8 bytes. A page that
+    /// is kept as it is, with 4096 bytes, goes to class 254.
     pub fn class_for(&self, len: u32) -> u8
         requires some { 1 ≤ len }
         requires packed { len ≤ 3256 }

@@ -1,4 +1,5 @@
--- The tree of a tournament, laid out in a list: the leaves are its second half, and node p has the better of the nodes
+-- The tree of a tournament, laid out in a list: the leaves are its second half, and node p has the
+-- better of the nodes
 -- 2p and 2p + 1.
 use Rattle.std.specs.Prelude.{ℕ, ◌≡◌, ◌≢◌, ◌+◌, ◌*◌, ◌<◌, ◌≤◌, ◌^◌, ◌⊎◌, List, length, slice_index, slice_index_or}
 use Rattle.tournament.specs.declared.tree.Node.{Node}
@@ -39,12 +40,14 @@ node nodes p = slice_index_or nodes p blank
 
 -- each node with children is the better of them
 abbrev pub IsTree : ℕ → List Node → Type 0
-IsTree room nodes = (p : ℕ) → 1 ≤ p → p < room → IsBetter (node nodes p) (node nodes (2 * p)) (node nodes (2 * p + 1))
+IsTree room nodes = (p : ℕ) → 1 ≤ p → p < room
+    → IsBetter (node nodes p) (node nodes (2 * p)) (node nodes (2 * p + 1))
 
 -- the same, but for the parent of one node
 abbrev pub IsTreeBut : ℕ → List Node → ℕ → Type 0
 IsTreeBut room nodes at =
-    (p : ℕ) → 1 ≤ p → p < room → 2 * p ≢ at → 2 * p + 1 ≢ at → IsBetter (node nodes p) (node nodes (2 * p)) (node nodes (2 * p + 1))
+    (p : ℕ) → 1 ≤ p → p < room → 2 * p ≢ at → 2 * p + 1 ≢ at
+    → IsBetter (node nodes p) (node nodes (2 * p)) (node nodes (2 * p + 1))
 
 -- the leaves have the ranks with their places, and behind them are spare ones
 pub record IsTournament (room : ℕ) (ranks : List ℕ) (nodes : List Node) : Type 0 where

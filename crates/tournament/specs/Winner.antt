@@ -1,4 +1,5 @@
--- The winner of a list of ranks: the place of the greatest rank, the first or the last such place on a tie.
+-- The winner of a list of ranks: the place of the greatest rank, the first or the last such place
+-- on a tie.
 use Rattle.std.specs.Prelude.{ℕ, ◌<◌, ◌≤◌, List, length, slice_index}
 
 -- the place of the greatest rank, the first such place on a tie

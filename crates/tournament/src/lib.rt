@@ -1,5 +1,6 @@
-//! Ranks at places 0, 1, 2 and so on, and the places that have the greatest of them: a tournament tree (Knuth, "The Art
-//! of Computer Programming", 5.4.1). A change takes a time that grows with the logarithm of the number of places.
+//! Ranks at places 0, 1, 2 and so on, and the places that have the greatest of them: a tournament
+//! tree (Knuth, "The Art of Computer Programming", 5.4.1). A change takes a time that grows with
+//! the logarithm of the number of places.
 #![tactic(auto)]
 
 mod tree;

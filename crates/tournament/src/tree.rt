@@ -1,5 +1,5 @@
-//! The tree of a tournament in a list: node 1 is the root, node p has the better of the nodes 2p and 2p + 1, and the
-//! leaves are the second half of the list.
+//! The tree of a tournament in a list: node 1 is the root, node p has the better of the nodes 2p
+//! and 2p + 1, and the leaves are the second half of the list.
 
 ghost use Rattle.std.specs.Prelude.{◌≡◌, ◌+◌, ◌*◌, ◌<◌, ◌≤◌, ℕ, List, length, slice_set};
 ghost use Rattle.tournament.specs.Tree.{IsBetter, IsTree, node, leaf, spare};
@@ -36,7 +36,8 @@ impl Node {
     }
 }
 
-/// The better of two nodes: the one with the greater rank, and on a tie the first place and the last place of both.
+/// The better of two nodes: the one with the greater rank, and on a tie the first place and the
+/// last place of both.
 pub fn better(a: Node, b: Node) -> Node
     ensures { IsBetter result a b }
 {
@@ -60,7 +61,8 @@ pub fn put(nodes: &mut [Node], room: usize, place: usize, at_leaf: Node)
     requires within { place < room }
     ensures tree { IsTree room nodes.new }
     ensures here { node nodes.new (room + place) ≡ at_leaf }
-    ensures others { (k : ℕ) → room ≤ k → k < 2 * room → (k ≡ room + place → ⊥) → node nodes.new k ≡ node nodes.old k }
+    ensures others { (k : ℕ) → room ≤ k → k < 2 * room → (k ≡ room + place → ⊥)
+        → node nodes.new k ≡ node nodes.old k }
     ensures len { length nodes.new ≡ 2 * room }
 {
     let mut at = room + place;

@@ -15,7 +15,8 @@ abbrev pub IsEmptier : Row → Row → Type 0
 IsEmptier r s = (r.used < s.used) ⊎ ((r.used ≡ s.used) × (s.id ≤ r.id))
 
 -- r is the first by an order of those rows that a condition holds of
-pub record IsFirst (Before : Row → Row → Type 0) (Fits : Row → Type 0) (rows : List Row) (r : Row) : Type 0 where
+pub record IsFirst (Before : Row → Row → Type 0) (Fits : Row → Type 0) (rows : List Row) (r : Row)
+    : Type 0 where
   pub among : Contains rows r
   pub fits : Fits r
   pub before : (s : Row) → Contains rows s → Fits s → Before r s
@@ -41,18 +42,24 @@ pub record IsPlan (per : ℕ) (rows : List Row) (from to : ℕ) : Type 0 where
 abbrev pub HasNoPlan : ℕ → List Row → Type 0
 HasNoPlan per rows =
     ((r : Row) → Contains rows r → IsPartial per r → ⊥)
-    ⊎ ((d : Row) × IsDestination per rows d × ((r : Row) → Contains rows r → CanGive per d.id r → ⊥))
+    ⊎ ((d : Row) × IsDestination per rows d
+    × ((r : Row) → Contains rows r → CanGive per d.id r → ⊥))
 
 -- one object went from a zspage to another, and no other zspage changed its count of used cells
 pub record IsMove (before after : List Row) (from to : ℕ) : Type 0 where
-  pub gained : (e : Row) → Contains after e → e.id ≡ to → (d : Row) × Contains before d × (d.id ≡ to) × (e.used ≡ d.used + 1)
-  pub lost : (e : Row) → Contains after e → e.id ≡ from → (s : Row) × Contains before s × (s.id ≡ from) × (e.used + 1 ≡ s.used)
-  pub others : (e : Row) → Contains after e → e.id ≢ to → e.id ≢ from → (r : Row) × Contains before r × (r.id ≡ e.id) × (r.used ≡ e.used)
+  pub gained : (e : Row) → Contains after e → e.id ≡ to → (d : Row) × Contains before d
+      × (d.id ≡ to) × (e.used ≡ d.used + 1)
+  pub lost : (e : Row) → Contains after e → e.id ≡ from → (s : Row) × Contains before s
+      × (s.id ≡ from) × (e.used + 1 ≡ s.used)
+  pub others : (e : Row) → Contains after e → e.id ≢ to → e.id ≢ from → (r : Row)
+      × Contains before r × (r.id ≡ e.id) × (r.used ≡ e.used)
 
--- after a move between two zspages, the one that gained the object is full, or it is the destination of the next move
+-- after a move between two zspages, the one that gained the object is full, or it is the
+-- destination of the next move
 abbrev pub GoesOn : ℕ → List Row → ℕ → ℕ → Type 0
 GoesOn per rows from to =
-    (after : List Row) (e : Row) → IsMove rows after from to → Contains after e → e.id ≡ to → (e.used ≡ per) ⊎ IsDestination per after e
+    (after : List Row) (e : Row) → IsMove rows after from to → Contains after e → e.id ≡ to
+    → (e.used ≡ per) ⊎ IsDestination per after e
 
 -- no two rows have one id
 abbrev pub HaveOwnIds : List Row → Type 0
@@ -64,9 +71,11 @@ HasMovable per r = IsPartial per r × IsTrue r.movable
 
 -- the first row of a list that a condition holds of, or None where it holds of none
 abbrev pub IsBest : (Row → Row → Type 0) → (Row → Type 0) → List Row → Option Row → Type 0
-IsBest Before Fits rows best = MatchOption best ((r : Row) → Contains rows r → Fits r → ⊥) (λ r. IsFirst Before Fits rows r)
+IsBest Before Fits rows best = MatchOption best ((r : Row) → Contains rows r → Fits r → ⊥)
+    (λ r. IsFirst Before Fits rows r)
 
--- the best source of some rows, not minding the destination, and the best destination, each where there is one
+-- the best source of some rows, not minding the destination, and the best destination, each where
+-- there is one
 pub record AreBest (per : ℕ) (rows : List Row) (source destination : Option Row) : Type 0 where
   pub own : HaveOwnIds rows
   pub emptiest : IsBest IsEmptier (HasMovable per) rows source

@@ -1,5 +1,6 @@
-//! The plan of compaction after zsmalloc's: objects move from the emptiest zspage to the fullest one with room, so that
-//! zspages become empty and can be given up. A zspage that became a destination stays one until it is full.
+//! The plan of compaction after zsmalloc's: objects move from the emptiest zspage to the fullest
+//! one with room, so that zspages become empty and can be given up. A zspage that became a
+//! destination stays one until it is full.
 #![tactic(auto)]
 
 ghost use Rattle.std.specs.Prelude.{ℕ, ◌≡◌, ◌≢◌, ◌++◌, ◌∷◌, [], ◌⊎◌, List, MatchOption, IfSome};
@@ -17,8 +18,8 @@ pub struct Row {
     pub movable: bool,
 }
 
-/// The ids of the zspage that an object moves from and of the one that it moves to, for zspages of `per` cells each.
-/// None where there is no destination or no source.
+/// The ids of the zspage that an object moves from and of the one that it moves to, for zspages of
+/// `per` cells each. None where there is no destination or no source.
 pub fn choose(rows: &[Row], per: u32) -> Option<(u32, u32)>
     requires { HaveOwnIds rows.now }
     ensures plan { IfSome result (λ p. IsPlan per rows.now p.0 p.1) }
@@ -36,15 +37,18 @@ pub fn choose(rows: &[Row], per: u32) -> Option<(u32, u32)>
     plan_of(source, destination)
 }
 
-/// The plan, from the best source and the best destination of some rows. They are one zspage only where no other can
-/// give an object: one that could would be as full, and would come before the destination as a source.
+/// The plan, from the best source and the best destination of some rows. They are one zspage only
+/// where no other can give an object: one that could would be as full, and would come before the
+/// destination as a source.
 pub fn plan_of(source: Option<Row>, destination: Option<Row>) -> Option<(u32, u32)>
-    ensures plan { (per : ℕ) (rows : List Row) → AreBest per rows source destination → IfSome result (λ p. IsPlan per rows p.0 p.1) }
+    ensures plan { (per : ℕ) (rows : List Row) → AreBest per rows source destination
+        → IfSome result (λ p. IsPlan per rows p.0 p.1) }
     ensures none { (per : ℕ) (rows : List Row) → AreBest per rows source destination
         → MatchOption result (HasNoPlan per rows) (λ p. p.0 ≢ p.1) }
 
     // After the move the destination is full, or it is the destination of the next one.
-    ensures goes_on { (per : ℕ) (rows : List Row) → AreBest per rows source destination → IfSome result (λ p. GoesOn per rows p.0 p.1) }
+    ensures goes_on { (per : ℕ) (rows : List Row) → AreBest per rows source destination
+        → IfSome result (λ p. GoesOn per rows p.0 p.1) }
 {
     let to = destination?;
     let from = source?;
@@ -56,7 +60,8 @@ pub fn plan_of(source: Option<Row>, destination: Option<Row>) -> Option<(u32, u3
 
 /// The best destination of some rows, from that of those before the last.
 fn next_destination(best: Option<Row>, row: Row, per: u32) -> Option<Row>
-    ensures { (rows : List Row) → IsBest IsFuller (IsPartial per) rows best → IsBest IsFuller (IsPartial per) (rows ++ row ∷ []) result }
+    ensures { (rows : List Row) → IsBest IsFuller (IsPartial per) rows best
+        → IsBest IsFuller (IsPartial per) (rows ++ row ∷ []) result }
 {
     if row.used == 0 || per <= row.used {
         return best;
@@ -69,7 +74,8 @@ fn next_destination(best: Option<Row>, row: Row, per: u32) -> Option<Row>
 
 /// The best source of some rows, from that of those before the last.
 fn next_source(best: Option<Row>, row: Row, per: u32) -> Option<Row>
-    ensures { (rows : List Row) → IsBest IsEmptier (HasMovable per) rows best → IsBest IsEmptier (HasMovable per) (rows ++ row ∷ []) result }
+    ensures { (rows : List Row) → IsBest IsEmptier (HasMovable per) rows best
+        → IsBest IsEmptier (HasMovable per) (rows ++ row ∷ []) result }
 {
     let all_out = !row.movable;
     if row.used == 0 || per <= row.used || all_out {

@@ -1,14 +1,7 @@
 -- A zspage as contracts see it: cells of one size, each free or used by an object, at home or out.
 use Rattle.std.specs.Prelude.{ℕ, ◌≡◌, ◌≢◌, ◌+◌, ◌<◌, ◌≤◌, ◌==◌, List, Option, None, Some, Bool, true, false, not, is_some, count_by, length, take, drop, if◌then◌else◌, slice_get, slice_index_or}
 use Rattle.std.specs.Int.{w64, to_le_bytes}
-use Rattle.std.specs.Ptr.{Ptr}
-
--- a cell: its chain, by where that begins, its number in the zspage, its size, and its bytes
-pub record CellState : Type 0 where
-  pub chain : Ptr
-  pub number : ℕ
-  pub size : ℕ
-  pub bytes : List ℕ
+pub use Rattle.cell_arena.specs.Chains.{CellState}
 
 -- the cell has its whole size
 abbrev pub IsWhole : CellState → Type 0
@@ -24,12 +17,13 @@ pub record IsCellAt (size number : ℕ) (cell : CellState) : Type 0 where
 abbrev pub header_size : ℕ → ℕ
 header_size len = if len == 4096 then 0 else 8
 
--- the object of so many bytes in the bytes of a cell: these begin with the object's handle in 8 bytes, the low byte
--- first, and then the object follows; a whole page stands alone
+-- the object of so many bytes in the bytes of a cell: these begin with the object's handle in 8
+-- bytes, the low byte first, and then the object follows; a whole page stands alone
 abbrev pub object_in : ℕ → List ℕ → List ℕ
 object_in len bytes = take len (drop (header_size len) bytes)
 
--- what is known of a used cell: the object's handle and bytes, the cell, and whether the cell is out
+-- what is known of a used cell: the object's handle and bytes, the cell, and whether the cell is
+-- out
 pub record UsedCell : Type 0 where
   pub handle : ℕ
   pub bytes : List ℕ

@@ -1,10 +1,10 @@
-//! A zspage, after zsmalloc's: a chain of frames cut into cells of one size. Each cell is free, or it is used by one
-//! object, and then it is at home or lent out.
+//! A zspage, after zsmalloc's: a chain of frames cut into cells of one size. Each cell is free, or
+//! it is used by one object, and then it is at home or lent out.
 #![tactic(auto)]
 
 mod cell;
 mod spot;
 mod zspage;
 
-pub use cell::Cell;
+pub use cell_arena::Cell;
 pub use zspage::{Movable, Zspage};

@@ -2,9 +2,10 @@
 
 ghost use Rattle.std.specs.Prelude.{◌≡◌, ◌≤◌, ℕ, List, length, Some, None, MatchOption, true, false};
 ghost use Rattle.zspage.specs.Cells.{CellState, IsWhole, IsCellAt, IsStored, Fits, UsedCell, is_home};
-ghost use Rattle.zspage.specs.Spots.{SpotState};
+ghost use Rattle.zspage.specs.Spots.{SpotState, IsHere};
 
-use crate::cell::Cell;
+use crate::cell::store;
+use cell_arena::Cell;
 use std::marker::Model;
 use std::snapshot::Snapshot;
 use zr_base::Handle;
@@ -30,6 +31,7 @@ impl Model for Spot {
     ghost Value = { SpotState };
 
     ghost view = { λ s. record {
+      chain = (which s.cell s.lent.value).chain;
       number = (which s.cell s.lent.value).number;
       size = (which s.cell s.lent.value).size;
       use_of = seen s.object s.cell s.lent.value;
@@ -42,13 +44,34 @@ impl Spot {
     /// A free cell.
     pub fn new(cell: Cell) -> Spot
         requires { IsWhole cell }
-        ensures { result ≡ record { number = cell.number; size = cell.size; use_of = None } }
+        ensures { result ≡ record {
+          chain = cell.chain;
+          number = cell.number;
+          size = cell.size;
+          use_of = None;
+        } }
     {
         let lent = Snapshot::of(&cell);
         Spot {
             object: None,
             cell: Some(cell),
             lent,
+        }
+    }
+
+    /// The cell, which is at hand.
+    pub fn into_cell(self) -> Cell
+        requires { IsHere self.use_of }
+        ensures { (result.chain ≡ self.chain) × IsCellAt self.size self.number result }
+    {
+        let Spot {
+            object: _,
+            cell,
+            lent: _,
+        } = self;
+        match cell {
+            Some(cell) => cell,
+            None => unreachable!(),
         }
     }
 
@@ -59,11 +82,17 @@ impl Spot {
         ensures { (cell : CellState) × IsStored handle.0 bytes.now cell
             × IsCellAt self.old.size self.old.number cell
             × (self.new ≡ record self.old {
-              use_of = Some (record { handle = handle.0; bytes = bytes.now; cell = cell; out = false });
+              use_of = Some (record {
+                handle = handle.0;
+                bytes = bytes.now;
+                cell = cell;
+                out =
+                    false;
+              });
             }) }
     {
         if let Some(mut cell) = self.cell.take() {
-            cell.store(handle, bytes);
+            store(&mut cell, handle, bytes);
             self.cell = Some(cell);
             self.object = Some(Stored {
                 handle,

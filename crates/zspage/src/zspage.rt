@@ -1,11 +1,14 @@
-//! A zspage: a chain's cells, of which the lowest free one is found in a time that grows with the logarithm of their
-//! number.
+//! A zspage: a chain's cells, of which the lowest free one is found in a time that grows with the
+//! logarithm of their number.
 
-ghost use Rattle.std.specs.Prelude.{◌≡◌, ◌+◌, ◌*◌, ◌/◌, ◌<◌, ◌≤◌, ◌↔◌, ℕ, List, length, Some, None, IfOk, IsTrue, true, false, replicate, slice_set};
+ghost use Rattle.std.specs.Prelude.{◌≡◌, ◌+◌, ◌*◌, ◌/◌, ◌<◌, ◌≤◌, ◌↔◌, ℕ, List, length, Some, None, IfOk, IsTrue, true, false, replicate, slice_set, []};
+ghost use Rattle.std.specs.Vec.{vec_capacity};
+ghost use Rattle.cell_arena.specs.Chains.{AreNumbered};
+ghost use Rattle.zspage.specs.Spots.{AreFree, ArePlaced, AreHere, IsEmptied};
 ghost use Rattle.zspage.specs.Cells.{CellState, IsStored, IsCellAt, Fits, UsedCell, used_of, home_of, entry, IsLowestFree, IsHome, IsOut};
 
-use crate::cell::Cell;
 use crate::spot::Spot;
+use cell_arena::{Cell, Cells, Chain, join, split};
 use std::alloc::{AllocError, Global};
 use std::marker::Model;
 use tournament::Tournament;
@@ -23,8 +26,9 @@ const USED: u32 = 0;
 
 const FREE: u32 = 1;
 
-/// A chain of frames cut into cells of one size.
-#[derive(Drop)]
+/// A chain of frames cut into cells of one size. Its spots have the cells, and `emptied` what stays
+/// of the chain: the frames' bytes behind the last cell, the right to free them, and the room to
+/// join the cells.
 pub struct Zspage {
     id: u32,
     size: u32,
@@ -33,11 +37,13 @@ pub struct Zspage {
     home: u32,
     spots: Vec<Spot>,
     free: Tournament,
+    emptied: Cells,
 }
 
 impl Model for Zspage {
     ghost use Rattle.zspage.specs.Cells.{ZspageState};
-    ghost use Rattle.zspage.specs.Spots.{uses, IsZspage};
+    ghost use Rattle.std.specs.Prelude.{length};
+    ghost use Rattle.zspage.specs.Spots.{uses, IsZspage, IsEmptied};
 
     ghost Value = { ZspageState };
 
@@ -48,7 +54,8 @@ impl Model for Zspage {
       cells = uses z.spots.items;
     } };
 
-    ghost invariant = { λ z. IsZspage z.size z.used z.home z.spots.items z.free };
+    ghost invariant = { λ z. IsZspage z.emptied.chain z.size z.used z.home z.spots.items z.free
+        × IsEmptied z.emptied z.size z.frames (length z.spots.items) };
 }
 
 impl Zspage {
@@ -66,12 +73,15 @@ impl Zspage {
         }) }
     {
         let per = chain * FRAME / size;
-        let mut spots = Vec::new(alloc);
         let mut free = Tournament::new(alloc);
-        for number in 0..per {
-            spots.push(Spot::new(Cell::zeros(alloc, number, size)?))?;
+        for _ in 0..per {
             free.push(FREE)?;
         }
+        let spots = Vec::with_capacity(alloc, per as usize)?;
+        let Ok(cells) = split(alloc, Chain::new(alloc, chain)?, size) else {
+            return Err(AllocError);
+        };
+        let (spots, emptied) = spread(spots, cells);
         Ok(Zspage {
             id,
             size,
@@ -80,7 +90,26 @@ impl Zspage {
             home: 0,
             spots,
             free,
+            emptied,
         })
+    }
+
+    /// The chain, whose cells are all free.
+    pub fn into_chain(self) -> Chain
+        requires { used_of self.cells ≡ 0 }
+        ensures { length result ≡ self.frames * 4096 }
+    {
+        let Zspage {
+            id: _,
+            size: _,
+            frames: _,
+            used: _,
+            home: _,
+            spots,
+            free: _,
+            emptied,
+        } = self;
+        gather(spots, emptied)
     }
 
     /// The id, which no other zspage of the pool has.
@@ -136,7 +165,13 @@ impl Zspage {
             × IsCellAt self.old.size result cell
             × (self.new ≡ record self.old {
               cells = slice_set self.old.cells result
-                  (Some (record { handle = handle.0; bytes = bytes.now; cell = cell; out = false }));
+                  (Some (record {
+                    handle = handle.0;
+                    bytes = bytes.now;
+                    cell = cell;
+                    out =
+                        false;
+                  }));
             }) }
     {
         let ix = self.free.winner();
@@ -191,6 +226,62 @@ impl Zspage {
         spot.back(cell);
         self.home += 1;
     }
+}
+
+/// Where all cells are at hand the frames are freed. Where one is out none is: they stay taken
+/// until the process ends.
+impl Drop for Zspage {
+    fn drop(self) {
+        let Zspage {
+            id: _,
+            size: _,
+            frames: _,
+            used,
+            home,
+            spots,
+            free: _,
+            emptied,
+        } = self;
+        if used == home {
+            drop(gather(spots, emptied));
+        }
+    }
+}
+
+/// Puts each cell into a spot.
+fn spread(spots: Vec<Spot>, cells: Cells) -> (Vec<Spot>, Cells)
+    requires empty { spots.items ≡ [] }
+    requires room { length cells.cells ≤ vec_capacity spots }
+    requires order { AreNumbered cells.chain cells.size cells.cells }
+    ensures free { AreFree cells.chain cells.size result.0.items }
+    ensures long { length result.0.items ≡ length cells.cells }
+    ensures left { result.1 ≡ record cells { cells = [] } }
+{
+    let mut spots = spots;
+    let mut cells = cells;
+    while let Some(cell) = cells.pop() {
+        match spots.push(Spot::new(cell)) {
+            Ok(()) => {}
+            Err(_) => unreachable!(),
+        }
+    }
+    spots.reverse();
+    (spots, cells)
+}
+
+/// The chain of the cells of all spots.
+fn gather(spots: Vec<Spot>, cells: Cells) -> Chain
+    requires emptied { IsEmptied cells cells.size cells.frames (length spots.items) }
+    requires placed { (ranks : List ℕ) × ArePlaced cells.chain cells.size spots.items ranks }
+    requires here { AreHere spots.items }
+    ensures { length result ≡ cells.frames * 4096 }
+{
+    let mut spots = spots;
+    let mut cells = cells;
+    while let Some(spot) = spots.pop() {
+        cells.push(spot.into_cell());
+    }
+    join(cells)
 }
 
 #[cfg(test)]

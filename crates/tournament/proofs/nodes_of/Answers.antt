@@ -21,7 +21,8 @@ loop-place-preserved c =
                   | else-place-ranks w ↦ absurd (omega (arith, w.if-place-ranks.false))
                 ]
             | inr other ↦
-                c.put.ensures.others (c.args.room + i) (omega arith) (omega arith) (λ e. other (omega arith))
+                c.put.ensures.others (c.args.room + i) (omega arith) (omega arith)
+                (λ e. other (omega arith))
                 ∙ ap (λ ns. node ns (c.args.room + i)) c.deref_mut.ensures.value
                 ∙ c.loop-place.invariant.leaves i (omega arith) low
           ];
@@ -30,10 +31,12 @@ loop-place-preserved c =
             | inl e ↦
                 elim c.if-place-ranks.branch [
                   | then-place-ranks w ↦ absurd (omega (arith, w.if-place-ranks.true))
-                  | else-place-ranks w ↦ rw e (c.put.ensures.here ∙ w.leaf-is ∙ w.spare-leaf.ensures)
+                  | else-place-ranks w ↦ rw e (c.put.ensures.here ∙ w.leaf-is
+                      ∙ w.spare-leaf.ensures)
                 ]
             | inr other ↦
-                c.put.ensures.others (c.args.room + i) (omega arith) (omega arith) (λ e. other (omega arith))
+                c.put.ensures.others (c.args.room + i) (omega arith) (omega arith)
+                (λ e. other (omega arith))
                 ∙ ap (λ ns. node ns (c.args.room + i)) c.deref_mut.ensures.value
                 ∙ c.loop-place.invariant.spares i (omega arith) high
           ];

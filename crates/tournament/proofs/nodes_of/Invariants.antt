@@ -7,6 +7,7 @@ abbrev pub invariant-loop-place : goal.invariant-loop-place
 invariant-loop-place l = record {
   tree : IsTree l.room l.nodes.items;
   long : length l.nodes.items ≡ 2 * l.room;
-  leaves : (i : ℕ) → i < l.place → i < length l.ranks → node l.nodes.items (l.room + i) ≡ leaf (slice_index l.ranks i) i;
+  leaves : (i : ℕ) → i < l.place → i < length l.ranks
+      → node l.nodes.items (l.room + i) ≡ leaf (slice_index l.ranks i) i;
   spares : (i : ℕ) → i < l.place → length l.ranks ≤ i → node l.nodes.items (l.room + i) ≡ spare i;
 }

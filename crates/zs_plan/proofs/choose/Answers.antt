@@ -6,8 +6,10 @@ use Rattle.zs_plan.proofs.choose.Goals as goal
 
 pub loop-row-preserved : goal.loop-row-preserved
 loop-row-preserved c = (
-  best_next _ _ _ _ _ _ c.loop-row-test.true (c.next_destination-destination.ensures _ c.loop-row.invariant.0),
-  best_next _ _ _ _ _ _ c.loop-row-test.true (c.next_source-source.ensures _ c.loop-row.invariant.1),
+  best_next _ _ _ _ _ _ c.loop-row-test.true
+      (c.next_destination-destination.ensures _ c.loop-row.invariant.0),
+  best_next _ _ _ _ _ _ c.loop-row-test.true
+      (c.next_source-source.ensures _ c.loop-row.invariant.1),
 )
 
 pub returns : goal.returns

@@ -5,7 +5,7 @@ ghost use Rattle.zspage.specs.Cells.{CellState, IsStored, IsCellAt, UsedCell, us
 ghost use Rattle.zspage.specs.Movable.{IsLowestHome};
 
 use super::{USED, Zspage};
-use crate::cell::Cell;
+use cell_arena::Cell;
 use zr_base::Handle;
 
 /// An object that can be moved: its cell's number, its handle, and its length in bytes.

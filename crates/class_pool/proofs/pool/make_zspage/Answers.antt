@@ -13,7 +13,8 @@ grown c =
     (record {
       more = c.grow.ensures.more;
       bound = subst (λ n. length c.args.places.now ≤ (c.least_absent-id.result + 1) * n
-          → length c.grow.new.self ≤ (c.least_absent-id.result + 1) * n) c.per.ensures c.grow.ensures.bound;
+          → length c.grow.new.self ≤ (c.least_absent-id.result + 1) * n)
+          c.per.ensures c.grow.ensures.bound;
       stays = subst (λ n. (c.least_absent-id.result + 1) * n ≤ length c.args.places.now
           → c.grow.new.self ≡ c.args.places.now) c.per.ensures c.grow.ensures.stays;
     })
@@ -31,7 +32,9 @@ returns-in_err-add-clause-fit c =
 
 pub returns-clause-fit : goal.returns-clause-fit
 returns-clause-fit c =
-    added_fit c.least_absent-id.result _ _ _ (grown (goal.at.returns-clause-fit c).After-grow) c.least_absent-id.ensures
+    added_fit c.least_absent-id.result _ _ _ (grown (goal.at.returns-clause-fit c).After-grow)
+    c.least_absent-id.ensures
     (omega (arith, least_few _ _ c.least_absent-id.ensures c.requires.filled, c.requires.few))
-    (subst (λ n. (c.least_absent-id.result + 1) * n ≤ length c.grow.new.self) c.per.ensures c.in_ok-grow.ensures.ok)
+    (subst (λ n. (c.least_absent-id.result + 1) * n ≤ length c.grow.new.self)
+    c.per.ensures c.in_ok-grow.ensures.ok)
     c.in_ok-add.ensures.ok

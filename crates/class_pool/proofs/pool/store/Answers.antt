@@ -9,5 +9,7 @@ free-number-requires c = number_free c.args.id _ _ c.requires.fit c.requires.roo
 pub returns-clause-fit : goal.returns-clause-fit
 returns-clause-fit c =
     let taken = c.take_cell-cell.ensures in
-    stored_fit _ _ _ _ c.args.id c.take_cell-cell.result taken.0 (new_use c.free-number.result c.args.bytes.now taken.1)
-    c.requires.fit taken.2 taken.3.free c.free-number.ensures.within c.free-number.ensures.free taken.6 c.put.ensures
+    stored_fit _ _ _ _ c.args.id c.take_cell-cell.result taken.0
+    (new_use c.free-number.result c.args.bytes.now taken.1)
+    c.requires.fit taken.2 taken.3.free c.free-number.ensures.within
+    c.free-number.ensures.free taken.6 c.put.ensures

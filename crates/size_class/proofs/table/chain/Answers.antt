@@ -12,10 +12,18 @@ loop-shorter-init c = (refl, omega arith, omega arith)
 pub loop-shorter-preserved : goal.loop-shorter-preserved
 loop-shorter-preserved c =
     elim c.if-frames-cell.branch [
-      | then-frames-cell w ↦ rw w.best-is
-          (chain_taken _ _ _ _ c.size-cell.ensures.value c.loop-shorter.invariant.0 w.if-frames-cell.true, omega arith, omega arith)
-      | else-frames-cell w ↦ rw w.best-is
-          (chain_kept _ _ _ _ c.size-cell.ensures.value c.loop-shorter.invariant.0 w.if-frames-cell.false, omega arith, omega arith)
+      | then-frames-cell w ↦ rw w.best-is (
+        chain_taken _ _ _ _ c.size-cell.ensures.value
+            c.loop-shorter.invariant.0 w.if-frames-cell.true,
+        omega arith,
+        omega arith,
+      )
+      | else-frames-cell w ↦ rw w.best-is (
+        chain_kept _ _ _ _ c.size-cell.ensures.value
+            c.loop-shorter.invariant.0 w.if-frames-cell.false,
+        omega arith,
+        omega arith,
+      )
     ]
 
 pub returns-clause-rule : goal.returns-clause-rule

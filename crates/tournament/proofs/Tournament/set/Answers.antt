@@ -6,9 +6,12 @@ use Rattle.tournament.proofs.Tournament.set.Goals as goal
 
 pub invariant_of-self : goal.invariant_of-self
 invariant_of-self c =
-    let low : c.args.place < length c.self.inside.ranks.items = subst (λ xs. c.args.place < length xs) (sym c.self.view_is) c.requires in
+    let low : c.args.place < length c.self.inside.ranks.items =
+    subst (λ xs. c.args.place < length xs) (sym c.self.view_is) c.requires in
     rw (written c.self.inside.nodes.len c.put.new.nodes c.self.inside.nodes.items
     (omega (arith, c.self.inside.nodes.ok, c.put.ensures.len, c.self.invariant.long)))
-    (set_placed _ _ _ _ c.self.inside.nodes.items _ c.self.invariant low c.put.ensures.len c.put.ensures.tree
+    (set_placed _ _ _ _ c.self.inside.nodes.items _ c.self.invariant low c.put.ensures.len
+    c.put.ensures.tree
     (c.put.ensures.here ∙ c.leaf.ensures)
-    (λ k leaf high other. c.put.ensures.others k leaf high other ∙ ap (λ ns. node ns k) c.deref_mut.ensures.value))
+    (λ k leaf high other. c.put.ensures.others k leaf high other
+    ∙ ap (λ ns. node ns k) c.deref_mut.ensures.value))

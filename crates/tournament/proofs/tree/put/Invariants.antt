@@ -9,7 +9,8 @@ invariant-loop-at l = record {
   some : 1 ≤ l.at;
   within : l.at < 2 * l.room;
   here : node l.nodes (l.room + l.fn.place) ≡ l.fn.at_leaf;
-  others : (k : ℕ) → l.room ≤ k → k < 2 * l.room → (k ≡ l.room + l.fn.place → ⊥) → node l.nodes k ≡ node l.fn.nodes k;
+  others : (k : ℕ) → l.room ≤ k → k < 2 * l.room → (k ≡ l.room + l.fn.place → ⊥)
+      → node l.nodes k ≡ node l.fn.nodes k;
   long : length l.nodes ≡ 2 * l.room;
 }
 

@@ -3,7 +3,8 @@ use Rattle.std.proofs.Common.{◌≡◌, ◌≢◌, zero, suc, [], ◌∷◌, ar
 use Rattle.zs_plan.specs.declared.Row.{Row}
 use Rattle.zs_plan.proofs.tests.plan.Goals as goal
 
-three_apart : (a b c : Row) → a.id ≡ 0 → b.id ≡ 1 → c.id ≡ 2 → AllPairs (λ x y. x.id ≢ y.id) (a ∷ b ∷ c ∷ [])
+three_apart : (a b c : Row) → a.id ≡ 0 → b.id ≡ 1 → c.id ≡ 2
+    → AllPairs (λ x y. x.id ≢ y.id) (a ∷ b ∷ c ∷ [])
 three_apart a b c p q r zero zero d lt low e = omega arith
 three_apart a b c p q r zero (suc zero) d lt low e = omega (arith, e, p, q)
 three_apart a b c p q r zero (suc (suc zero)) d lt low e = omega (arith, e, p, r)

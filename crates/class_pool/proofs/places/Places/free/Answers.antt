@@ -8,4 +8,5 @@ use Rattle.class_pool.proofs.places.Places.free.Goals as goal
 pub returns-clause-free : goal.returns-clause-free
 returns-clause-free c =
     subst (λ xs. entry xs c.winner.result ≡ None) c.self.view_is
-    (free_wins _ _ _ c.self.invariant (subst (λ xs. used_of xs < length xs) (sym c.self.view_is) c.requires) c.winner.ensures)
+    (free_wins _ _ _ c.self.invariant (subst (λ xs. used_of xs < length xs) (sym c.self.view_is)
+    c.requires) c.winner.ensures)

@@ -15,7 +15,8 @@ used c = new_use c.store-handle.result.0 c.args.bytes.now c.store-handle.ensures
 left : (c : After-store-handle) → Stored c.self.inside.zspages c.store-handle.new.zspages (used c)
 left c =
     let after = c.store-handle.ensures.after in
-    stored _ _ _ _ _ (used c) (λ k cs other. c.self.invariant.filled k cs) after.3 after.4.free after.7
+    stored _ _ _ _ _ (used c) (λ k cs other. c.self.invariant.filled k cs)
+    after.3 after.4.free after.7
 
 pooled : (c : After-store-handle)
     → IsPooled (c.self.inside.used + 1) c.store-handle.new.zspages c.store-handle.new.places
@@ -29,14 +30,17 @@ pub invariant_of-self : goal.invariant_of-self
 invariant_of-self c = pooled (goal.at.invariant_of-self c).After-store-handle
 
 pub returns-clause-pool : goal.returns-clause-pool
-returns-clause-pool c = pool_is c.self.inside.class _ _ _ (pooled (goal.at.returns-clause-pool c).After-store-handle)
+returns-clause-pool c = pool_is c.self.inside.class _ _ _
+    (pooled (goal.at.returns-clause-pool c).After-store-handle)
 
-fresh : (c : After-store-handle) → IsFresh (pool_of c.self.inside.class c.self.inside.zspages) c.store-handle.result.0
+fresh : (c : After-store-handle) → IsFresh (pool_of c.self.inside.class c.self.inside.zspages)
+    c.store-handle.result.0
 fresh c = fresh_is _ _ _ c.self.invariant.fit.index c.store-handle.ensures.free
 
 pub returns-clause-fresh : goal.returns-clause-fresh
 returns-clause-fresh c =
-    subst (λ p. IsFresh p c.store-handle.result.0) c.self.view_is (fresh (goal.at.returns-clause-fresh c).After-store-handle)
+    subst (λ p. IsFresh p c.store-handle.result.0) c.self.view_is
+    (fresh (goal.at.returns-clause-fresh c).After-store-handle)
 
 pub returns-clause-object : goal.returns-clause-object
 returns-clause-object c f =
@@ -52,12 +56,14 @@ pub returns-clause-others : goal.returns-clause-others
 returns-clause-others c h among =
     let here = (goal.at.returns-clause-others c).After-store-handle in
     let was = subst (λ p. IsAtHome p h) (sym c.self.view_is) among in
-    stays_home (pool_of c.self.inside.class c.self.inside.zspages) (pool_of c.self.inside.class c.store-handle.new.zspages) _ h
+    stays_home (pool_of c.self.inside.class c.self.inside.zspages)
+    (pool_of c.self.inside.class c.store-handle.new.zspages) _ h
     (left here).keeps (λ e. fresh here was.0 was.1 (was.2 ∙ e)) was
 
 pub returns-clause-others_lent : goal.returns-clause-others_lent
 returns-clause-others_lent c h cell among =
     let here = (goal.at.returns-clause-others_lent c).After-store-handle in
     let was = subst (λ p. IsLent p h cell) (sym c.self.view_is) among in
-    stays_lent (pool_of c.self.inside.class c.self.inside.zspages) (pool_of c.self.inside.class c.store-handle.new.zspages) _ h
+    stays_lent (pool_of c.self.inside.class c.self.inside.zspages)
+    (pool_of c.self.inside.class c.store-handle.new.zspages) _ h
     cell (left here).keeps (λ e. fresh here was.0 was.1 (was.2 ∙ e)) was

@@ -12,12 +12,14 @@ use Rattle.class_pool.proofs.pool.ClassPool.free.Goals.{After-place-place, After
 pub place-place-requires : goal.place-place-requires
 place-place-requires c =
     let found =
-    listed _ _ _ _ c.requires.0 (ap (λ p. p.zspages) c.self.view_is) c.self.invariant.fit.index c.requires.1 c.requires.2 in
+    listed _ _ _ _ c.requires.0 (ap (λ p. p.zspages) c.self.view_is)
+    c.self.invariant.fit.index c.requires.1 c.requires.2 in
     (found.0, found.1)
 
 at : (c : After-place-place) → IsAt c.self.inside.zspages.zspages c.place-place.result c.requires.0
 at c =
-    located _ _ _ _ c.requires.0 c.place-place.result (ap (λ p. p.zspages) c.self.view_is) c.self.invariant.fit.index
+    located _ _ _ _ c.requires.0 c.place-place.result (ap (λ p. p.zspages) c.self.view_is)
+    c.self.invariant.fit.index
     c.requires.1 c.requires.2 c.place-place.ensures
 
 pub put_cell-gone-requires : goal.put_cell-gone-requires
@@ -30,7 +32,8 @@ decided true f g = inl (f refl)
 decided false f g = inr (g refl)
 
 left : (c : After-put_cell-gone)
-    → Freed c.self.inside.used c.self.inside.zspages c.put_cell-gone.new.self c.self.inside.places c.requires.0
+    → Freed c.self.inside.used c.self.inside.zspages c.put_cell-gone.new.self c.self.inside.places
+    c.requires.0
 left c =
     let here = at (goal.at.After-put_cell-gone c).After-place-place in
     freed _ _ _ _ _ _ here c.self.invariant
@@ -45,7 +48,8 @@ invariant_of-self c =
 
 pub returns-clause-pool : goal.returns-clause-pool
 returns-clause-pool c =
-    pool_is c.self.inside.class _ _ _ (left (goal.at.returns-clause-pool c).After-put_cell-gone).pooled
+    pool_is c.self.inside.class _ _ _ (left
+    (goal.at.returns-clause-pool c).After-put_cell-gone).pooled
 
 pub returns-clause-object : goal.returns-clause-object
 returns-clause-object c = (
@@ -59,14 +63,18 @@ returns-clause-object c = (
 
 pub returns-clause-others : goal.returns-clause-others
 returns-clause-others c h other among =
-    stays_home (pool_of c.self.inside.class c.self.inside.zspages) (pool_of c.self.inside.class c.put_cell-gone.new.self) _ h
-    (left (goal.at.returns-clause-others c).After-put_cell-gone).keeps (λ e. other (e ∙ c.requires.2))
+    stays_home (pool_of c.self.inside.class c.self.inside.zspages)
+    (pool_of c.self.inside.class c.put_cell-gone.new.self) _ h
+    (left (goal.at.returns-clause-others c).After-put_cell-gone).keeps
+    (λ e. other (e ∙ c.requires.2))
     (subst (λ p. IsAtHome p h) (sym c.self.view_is) among)
 
 pub returns-clause-others_lent : goal.returns-clause-others_lent
 returns-clause-others_lent c h cell other among =
-    stays_lent (pool_of c.self.inside.class c.self.inside.zspages) (pool_of c.self.inside.class c.put_cell-gone.new.self) _ h
-    cell (left (goal.at.returns-clause-others_lent c).After-put_cell-gone).keeps (λ e. other (e ∙ c.requires.2))
+    stays_lent (pool_of c.self.inside.class c.self.inside.zspages)
+    (pool_of c.self.inside.class c.put_cell-gone.new.self) _ h
+    cell (left (goal.at.returns-clause-others_lent c).After-put_cell-gone).keeps
+    (λ e. other (e ∙ c.requires.2))
     (subst (λ p. IsLent p h cell) (sym c.self.view_is) among)
 
 pub returns-clause-place : goal.returns-clause-place
@@ -90,8 +98,10 @@ returns-clause-place c =
             inl (
               case.0,
               ap (pool_of c.self.inside.class) case.1
-                  ∙ ap (λ (p : PoolState). record p { zspages = set p.zspages id None }) c.self.view_is,
-              w.result-is ∙ w.chain.ensures ∙ ap (λ z. z.chain) case.1 ∙ ap (λ p. p.chain) c.self.view_is,
+                  ∙ ap (λ (p : PoolState). record p { zspages = set p.zspages id None })
+                  c.self.view_is,
+              w.result-is ∙ w.chain.ensures ∙ ap (λ z. z.chain) case.1
+                  ∙ ap (λ p. p.chain) c.self.view_is,
             )
         | else-gone w ↦
             let case = c.put_cell-gone.ensures.kept here.cells here.zspage w.if-gone.false in

@@ -9,9 +9,15 @@ use Rattle.class_pool.proofs.pool.ClassPool.next_move.Goals as goal
 
 pub returns : goal.returns
 returns c =
-    let best : AreBest c.args.self.now.per (rows c.args.self.now.zspages) c.source.result c.destination.result =
+    let best : AreBest c.args.self.now.per (rows c.args.self.now.zspages)
+    c.source.result c.destination.result =
     subst (λ p. AreBest p.per (rows p.zspages) c.source.result c.destination.result) c.self.view_is
-    (record { own = own_ids c.self.inside.zspages.zspages; emptiest = c.source.ensures; fullest = c.destination.ensures }) in
+    (record {
+      own = own_ids c.self.inside.zspages.zspages;
+      emptiest = c.source.ensures;
+      fullest =
+          c.destination.ensures;
+    }) in
     record {
       plan = c.plan_of.ensures.plan _ _ best;
       none = c.plan_of.ensures.none _ _ best;

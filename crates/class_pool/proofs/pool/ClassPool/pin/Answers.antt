@@ -12,12 +12,14 @@ use Rattle.class_pool.proofs.pool.ClassPool.pin.Goals.{After-place-place, After-
 pub place-place-requires : goal.place-place-requires
 place-place-requires c =
     let found =
-    listed _ _ _ _ c.requires.0 (ap (λ p. p.zspages) c.self.view_is) c.self.invariant.fit.index c.requires.1 c.requires.2 in
+    listed _ _ _ _ c.requires.0 (ap (λ p. p.zspages) c.self.view_is)
+    c.self.invariant.fit.index c.requires.1 c.requires.2 in
     (found.0, found.1)
 
 at : (c : After-place-place) → IsAt c.self.inside.zspages.zspages c.place-place.result c.requires.0
 at c =
-    located _ _ _ _ c.requires.0 c.place-place.result (ap (λ p. p.zspages) c.self.view_is) c.self.invariant.fit.index
+    located _ _ _ _ c.requires.0 c.place-place.result (ap (λ p. p.zspages) c.self.view_is)
+    c.self.invariant.fit.index
     c.requires.1 c.requires.2 c.place-place.ensures
 
 pub lend-requires : goal.lend-requires
@@ -30,7 +32,8 @@ abbrev lent : After-lend → UsedCell
 lent c = record c.requires.0 { out = true }
 
 left : (c : After-lend)
-    → Relent c.self.inside.used c.self.inside.zspages c.lend.new.self c.self.inside.places c.requires.0 (lent c)
+    → Relent c.self.inside.used c.self.inside.zspages c.lend.new.self c.self.inside.places
+    c.requires.0 (lent c)
 left c =
     let here = at (goal.at.After-lend c).After-place-place in
     relent _ _ _ _ _ _ (lent c) here c.self.invariant refl
@@ -40,10 +43,12 @@ pub invariant_of-self : goal.invariant_of-self
 invariant_of-self c = (left (goal.at.invariant_of-self c).After-lend).pooled
 
 pub returns-clause-pool : goal.returns-clause-pool
-returns-clause-pool c = pool_is c.self.inside.class _ _ _ (left (goal.at.returns-clause-pool c).After-lend).pooled
+returns-clause-pool c = pool_is c.self.inside.class _ _ _
+    (left (goal.at.returns-clause-pool c).After-lend).pooled
 
 pub returns-clause-list : goal.returns-clause-list
-returns-clause-list c = (left (goal.at.returns-clause-list c).After-lend).list ∙ ap objects c.self.view_is
+returns-clause-list c = (left (goal.at.returns-clause-list c).After-lend).list
+    ∙ ap objects c.self.view_is
 
 pub returns-clause-lent : goal.returns-clause-lent
 returns-clause-lent c =
@@ -58,13 +63,15 @@ returns-clause-lent c =
 
 pub returns-clause-others : goal.returns-clause-others
 returns-clause-others c h other among =
-    stays_home (pool_of c.self.inside.class c.self.inside.zspages) (pool_of c.self.inside.class c.lend.new.self) _ h
+    stays_home (pool_of c.self.inside.class c.self.inside.zspages)
+    (pool_of c.self.inside.class c.lend.new.self) _ h
     (left (goal.at.returns-clause-others c).After-lend).keeps (λ e. other (e ∙ c.requires.2))
     (subst (λ p. IsAtHome p h) (sym c.self.view_is) among)
 
 pub returns-clause-others_lent : goal.returns-clause-others_lent
 returns-clause-others_lent c h cell other among =
-    stays_lent (pool_of c.self.inside.class c.self.inside.zspages) (pool_of c.self.inside.class c.lend.new.self) _ h cell
+    stays_lent (pool_of c.self.inside.class c.self.inside.zspages)
+    (pool_of c.self.inside.class c.lend.new.self) _ h cell
     (left (goal.at.returns-clause-others_lent c).After-lend).keeps (λ e. other (e ∙ c.requires.2))
     (subst (λ p. IsLent p h cell) (sym c.self.view_is) among)
 
@@ -77,7 +84,8 @@ returns-clause-cell c =
       here.cells,
       c.requires.0,
       record {
-        zspage = subst (λ p. entry p.zspages c.place-place.result.zspage ≡ Some here.cells) c.self.view_is here.zspage;
+        zspage = subst (λ p. entry p.zspages c.place-place.result.zspage ≡ Some here.cells)
+            c.self.view_is here.zspage;
         cell = here.cell;
         handle_is = c.requires.2;
       },
@@ -87,5 +95,6 @@ returns-clause-cell c =
       subst (λ p. IsCellAt p.size c.place-place.result.cell c.lend.result) c.self.view_is lends.2,
       ap (pool_of c.self.inside.class) lends.3
           ∙ ap (λ p. with_cells p c.place-place.result.zspage
-          (set here.cells c.place-place.result.cell (Some (record c.requires.0 { out = true })))) c.self.view_is,
+          (set here.cells c.place-place.result.cell (Some (record c.requires.0 { out = true }))))
+          c.self.view_is,
     )

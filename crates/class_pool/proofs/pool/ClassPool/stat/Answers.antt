@@ -37,20 +37,26 @@ loop-id-preserved c =
           ] in
           record {
             zspages = w.zspages-is ∙ ap (λ n. n + 1) c.loop-id.invariant.zspages
-                ∙ sym (count_by_more_yes is_some c.self.inside.zspages.zspages c.loop-id.id None low (ap is_some case.1));
+                ∙ sym (count_by_more_yes is_some c.self.inside.zspages.zspages
+                c.loop-id.id None low (ap is_some case.1));
             long = ap length w.groups-is ∙ length-set _ _ _ ∙ c.loop-id.invariant.long;
             counts = rw w.groups-is
-                (group_more c.per-per.result (w.group.result - 1) c.loop-id.id c.self.inside.zspages.zspages case.0 c.loop-id.groups
-                low case.1 (ap (λ n. group_of n c.per-per.result) (sym case.2) ∙ sym w.group.ensures.value
+                (group_more c.per-per.result (w.group.result - 1)
+                c.loop-id.id c.self.inside.zspages.zspages case.0 c.loop-id.groups
+                low case.1 (ap (λ n. group_of n c.per-per.result) (sym case.2)
+                ∙ sym w.group.ensures.value
                 ∙ (omega arith))
-                c.loop-id.invariant.long (omega (arith, w.group.ensures.bound)) c.loop-id.invariant.counts);
+                c.loop-id.invariant.long (omega (arith, w.group.ensures.bound))
+                c.loop-id.invariant.counts);
           }
       | else-used-gt0 w ↦
           let gone : entry c.self.inside.zspages.zspages c.loop-id.id ≡ None =
-          not_there _ _ c.used-used.ensures.used w.if-used-gt0.false (c.self.invariant.filled c.loop-id.id) in
+          not_there _ _ c.used-used.ensures.used w.if-used-gt0.false
+          (c.self.invariant.filled c.loop-id.id) in
           record {
             zspages = w.zspages-is ∙ c.loop-id.invariant.zspages
-                ∙ sym (count_by_more_no is_some c.self.inside.zspages.zspages c.loop-id.id None low (ap is_some gone));
+                ∙ sym (count_by_more_no is_some c.self.inside.zspages.zspages
+                c.loop-id.id None low (ap is_some gone));
             long = ap length w.groups-is ∙ c.loop-id.invariant.long;
             counts = rw w.groups-is (group_same _ _ _ _ low gone c.loop-id.invariant.counts);
           }
@@ -61,7 +67,8 @@ returns-clause-groups c = (
   c.loop-id.invariant.long,
   λ g few.
       c.loop-id.invariant.counts g few
-      ∙ ap (λ zs. count_by (is_in_group c.per-per.result (g + 1)) zs) (take_all c.loop-id.id c.self.inside.zspages.zspages (omega arith))
+      ∙ ap (λ zs. count_by (is_in_group c.per-per.result (g + 1)) zs)
+      (take_all c.loop-id.id c.self.inside.zspages.zspages (omega arith))
       ∙ ap (λ n. count_by (is_in_group n (g + 1)) c.self.inside.zspages.zspages) c.per-per.ensures
       ∙ ap (λ p. count_by (is_in_group p.per (g + 1)) p.zspages) c.self.view_is,
 )

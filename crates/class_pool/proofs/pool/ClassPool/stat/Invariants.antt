@@ -9,5 +9,6 @@ invariant-loop-id l = record {
   zspages : l.zspages ≡ used_of (take l.id l.self-inside.zspages.zspages);
   long : length l.groups ≡ 11;
   counts : (g : ℕ) → g < 11
-      → slice_index l.groups g ≡ count_by (is_in_group l.per (g + 1)) (take l.id l.self-inside.zspages.zspages);
+      → slice_index l.groups g ≡ count_by (is_in_group l.per (g + 1))
+      (take l.id l.self-inside.zspages.zspages);
 }

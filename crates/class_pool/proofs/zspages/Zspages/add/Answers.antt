@@ -25,14 +25,16 @@ pub invariant_of-self-in-Err : goal.invariant_of-self-in-Err
 invariant_of-self-in-Err c =
     let back : c.pop.new.self.items ≡ c.self.inside.items.items =
     c.pop.ensures.rest
-    ∙ taken_back c.self.inside.items.items c.push.new.self.items _ _ c.in_ok-push.ensures.items (omega (arith, c.in_ok-push.ensures.len)) in
+    ∙ taken_back c.self.inside.items.items c.push.new.self.items _ _ c.in_ok-push.ensures.items
+    (omega (arith, c.in_ok-push.ensures.len)) in
     rw (back, c.in-Err.ensures.ranks_err, c.in-Err.ensures.sources_err) c.self.invariant
 
 pub returns-then-id-len-clause-ok : goal.returns-then-id-len-clause-ok
 returns-then-id-len-clause-ok c =
     let low : c.args.id < length c.self.inside.items.items = omega arith in
     let cells : c.in_ok-zspage.zspage.cells ≡ replicate c.self.inside.per None =
-    ap (λ z. z.cells) c.in_ok-zspage.ensures ∙ ap (λ n. replicate n None) (sym c.self.invariant.cells) in
+    ap (λ z. z.cells) c.in_ok-zspage.ensures
+    ∙ ap (λ n. replicate n None) (sym c.self.invariant.cells) in
     rw (← c.self.view_is)
     (ap (λ zs. zspages_made c.self.inside.size c.self.inside.chain c.self.inside.per zs)
     (slot_changes _ _ _ _ cells ∙ sym (put_at-set _ _ _ (rw length-map low))))
@@ -40,20 +42,26 @@ returns-then-id-len-clause-ok c =
 pub invariant_of-self-in_default : goal.invariant_of-self-in_default
 invariant_of-self-in_default c =
     let within : c.args.id ≤ length c.self.inside.items.items =
-    rw length-map at (subst (λ z. c.args.id ≤ length z.zspages) (sym c.self.view_is) c.requires.absent.within) in
+    rw length-map at (subst (λ z. c.args.id ≤ length z.zspages) (sym c.self.view_is)
+    c.requires.absent.within) in
     let last : c.args.id ≡ length c.self.inside.items.items = omega arith in
-    let short : length c.self.inside.items.items + 1 < 2 ^ 32 = omega (arith, last, c.requires.short) in
+    let short : length c.self.inside.items.items + 1 < 2 ^ 32 =
+    omega (arith, last, c.requires.short) in
     rw (c.in_ok-push.ensures.items, c.in_default.ensures.ranks, c.in_default.ensures.sources)
-    (appended _ _ _ _ _ _ _ _ _ c.self.invariant (new_fits _ _ _ _ _ _ c.self.invariant.cells last c.in_ok-zspage.ensures) c.rank-rank.ensures
+    (appended _ _ _ _ _ _ _ _ _ c.self.invariant
+    (new_fits _ _ _ _ _ _ c.self.invariant.cells last c.in_ok-zspage.ensures)
+    c.rank-rank.ensures
     (new_stays c.in_ok-zspage.zspage _ (ap (λ z. z.cells) c.in_ok-zspage.ensures)) short)
 
 pub returns-clause-ok : goal.returns-clause-ok
 returns-clause-ok c =
     let within : c.args.id ≤ length c.self.inside.items.items =
-    rw length-map at (subst (λ z. c.args.id ≤ length z.zspages) (sym c.self.view_is) c.requires.absent.within) in
+    rw length-map at (subst (λ z. c.args.id ≤ length z.zspages) (sym c.self.view_is)
+    c.requires.absent.within) in
     let last : c.args.id ≡ length c.self.inside.items.items = omega arith in
     let cells : c.in_ok-zspage.zspage.cells ≡ replicate c.self.inside.per None =
-    ap (λ z. z.cells) c.in_ok-zspage.ensures ∙ ap (λ n. replicate n None) (sym c.self.invariant.cells) in
+    ap (λ z. z.cells) c.in_ok-zspage.ensures
+    ∙ ap (λ n. replicate n None) (sym c.self.invariant.cells) in
     rw (← c.self.view_is)
     (ap (λ zs. zspages_made c.self.inside.size c.self.inside.chain c.self.inside.per zs)
     (ap (map cells_of) c.in_ok-push.ensures.items ∙ map-append cells_of _ _

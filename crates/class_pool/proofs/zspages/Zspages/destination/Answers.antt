@@ -9,10 +9,13 @@ use Rattle.class_pool.proofs.zspages.Zspages.destination.Goals as goal
 pub returns-then-rank-le-ROOM : goal.returns-then-rank-le-ROOM
 returns-then-rank-le-ROOM c =
     subst (λ z. IsBest IsFuller (IsPartial z.per) (rows z.zspages) None) c.self.view_is
-    (no_destination _ _ _ _ _ _ _ c.self.invariant c.winner-winner.ensures (omega (arith, c.rank.ensures, c.if-rank-le-ROOM.true)))
+    (no_destination _ _ _ _ _ _ _ c.self.invariant c.winner-winner.ensures
+    (omega (arith, c.rank.ensures, c.if-rank-le-ROOM.true)))
 
 pub returns : goal.returns
 returns c =
     subst (λ z. IsBest IsFuller (IsPartial z.per) (rows z.zspages) c.row.result) c.self.view_is
-    (destination_row _ _ _ _ _ _ _ _ c.self.invariant c.winner-winner.ensures (omega (arith, c.rank.ensures, c.if-rank-le-ROOM.false))
-    (subst (λ z. c.row.result ≡ row_at c.winner-winner.result (entry z.zspages c.winner-winner.result)) (sym c.self.view_is) c.row.ensures))
+    (destination_row _ _ _ _ _ _ _ _ c.self.invariant c.winner-winner.ensures
+    (omega (arith, c.rank.ensures, c.if-rank-le-ROOM.false))
+    (subst (λ z. c.row.result ≡ row_at c.winner-winner.result
+    (entry z.zspages c.winner-winner.result)) (sym c.self.view_is) c.row.ensures))

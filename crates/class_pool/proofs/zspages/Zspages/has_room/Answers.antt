@@ -10,7 +10,8 @@ pub returns-clause-room : goal.returns-clause-room
 returns-clause-room c high = (
   c.winner.result,
   subst (λ z. HasRoom (entry z.zspages c.winner.result)) c.self.view_is
-      (winner_has _ _ _ _ _ _ _ c.self.invariant c.winner.ensures (omega (arith, leb-true _ _ high, c.rank.ensures))),
+      (winner_has _ _ _ _ _ _ _ c.self.invariant c.winner.ensures
+      (omega (arith, leb-true _ _ high, c.rank.ensures))),
 )
 
 pub returns-clause-none : goal.returns-clause-none

@@ -15,5 +15,7 @@ returns-then-rank-eq-STAYS c =
 pub returns : goal.returns
 returns c =
     subst (λ z. IsBest IsEmptier (HasMovable z.per) (rows z.zspages) c.row.result) c.self.view_is
-    (source_row _ _ _ _ _ _ _ _ c.self.invariant c.last_winner-last.ensures (λ e. c.if-rank-eq-STAYS.false (c.rank.ensures ∙ e))
-    (subst (λ z. c.row.result ≡ row_at c.last_winner-last.result (entry z.zspages c.last_winner-last.result)) (sym c.self.view_is) c.row.ensures))
+    (source_row _ _ _ _ _ _ _ _ c.self.invariant c.last_winner-last.ensures
+    (λ e. c.if-rank-eq-STAYS.false (c.rank.ensures ∙ e))
+    (subst (λ z. c.row.result ≡ row_at c.last_winner-last.result
+    (entry z.zspages c.last_winner-last.result)) (sym c.self.view_is) c.row.ensures))

@@ -10,6 +10,9 @@ returns-in-Some c bytes stored long =
     let to : CellState = c.copy.new.to in
     let same : to.bytes ≡ c.args.from.now.bytes = ap (λ x. x.bytes) c.copy.ensures in
     let was : c.self.inside.cell ≡ Some c.in-Some.cell = sym c.take.ensures.value ∙ c.in-Some.is in
+    let chain : to.chain ≡ c.args.self.now.chain =
+    ap (λ x. x.chain) c.copy.ensures ∙ ap (λ o. (which o c.self.inside.lent.value).chain) (sym was)
+    ∙ ap (λ s. s.chain) c.self.view_is in
     let number : to.number ≡ c.args.self.now.number =
     ap (λ x. x.number) c.copy.ensures ∙ ap (λ o. (which o c.self.inside.lent.value).number) (sym was)
     ∙ ap (λ s. s.number) c.self.view_is in

@@ -1,6 +1,6 @@
 -- The cell is at home, and all else stays.
 use Rattle.std.proofs.Common.{◌≡◌, ◌+◌, ◌<◌, ◌∙◌, Some, false, length, refl, arith, ap, sym, subst}
-use Rattle.std.proofs.Math.ListN.{set}
+use Rattle.std.proofs.Math.ListN.{set, length-set}
 use Rattle.zspage.specs.Cells.{IsOut, UsedCell, used_of, entry}
 use Rattle.zspage.specs.Spots.{uses}
 use Rattle.zspage.proofs.CellLaws.{Leaves, kept, home_less, used_at, used_within, entry-uses, one_home, one_home-in, one_home-out, made}
@@ -21,26 +21,32 @@ away c =
     let u : UsedCell = c.back.ensures.0 in
     let both : Some u ≡ Some large.0 =
     sym c.back.ensures.1
-    ∙ used_at c.self.inside.spots.items c.args.ix _ large.0 c.index_mut-spot.ensures.value large.1 in
+    ∙ used_at c.self.inside.spots.items c.args.ix _ large.0
+    c.index_mut-spot.ensures.value large.1 in
     let same : u ≡ large.0 = cc in
     one_home-out u (ap (λ v. v.out) same ∙ large.2)
 
 left : (c : After-back)
-    → Leaves c.self.inside.size c.self.inside.used (c.self.inside.home + 1) c.self.inside.spots.items
+    → Leaves c.self.inside.emptied.chain c.self.inside.size c.self.inside.used
+        (c.self.inside.home + 1)
+    c.self.inside.spots.items
     (set c.self.inside.spots.items c.args.ix c.back.new.self) c.self.inside.free c.args.ix
     (Some (record c.back.ensures.0 { out = false }))
 left c =
     let u : UsedCell = c.back.ensures.0 in
-    kept _ _ _ _ _ _ _ _ _ u (record u { out = false }) c.self.invariant (low c) c.index_mut-spot.ensures.value
-    c.back.ensures.1 c.back.ensures.2 (omega (arith, away c, one_home-in (record u { out = false }) refl))
+    kept _ _ _ _ _ _ _ _ _ _ u (record u { out = false }) c.self.invariant.0 (low c)
+    c.index_mut-spot.ensures.value
+    c.back.ensures.1 c.back.ensures.2 (omega
+    (arith, away c, one_home-in (record u { out = false }) refl))
 
 pub invariant_of-self : goal.invariant_of-self
-invariant_of-self c = (left (goal.at.invariant_of-self c).After-back).state
+invariant_of-self c =
+    ((left (goal.at.invariant_of-self c).After-back).state, rw length-set c.self.invariant.1)
 
 pub returns-clause-used : goal.returns-clause-used
 returns-clause-used c =
     let state = (left (goal.at.returns-clause-used c).After-back).state in
-    omega (arith, state.count, c.self.invariant.count, ap (λ z. used_of z.cells) c.self.view_is)
+    omega (arith, state.count, c.self.invariant.0.count, ap (λ z. used_of z.cells) c.self.view_is)
 
 pub returns-clause-after : goal.returns-clause-after
 returns-clause-after c =
@@ -57,7 +63,7 @@ overflow_add-self c =
     let here = (goal.at.overflow_add-self c).After-back in
     omega (
       arith,
-      c.self.invariant.few,
-      home_less _ _ _ _ _ _ _ c.self.invariant (low here) c.index_mut-spot.ensures.value
+      c.self.invariant.0.few,
+      home_less _ _ _ _ _ _ _ _ c.self.invariant.0 (low here) c.index_mut-spot.ensures.value
           (ap one_home c.back.ensures.1 ∙ away here),
     )

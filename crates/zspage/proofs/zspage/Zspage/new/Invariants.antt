@@ -1,11 +1,6 @@
--- So many free cells with their ranks.
-use Rattle.std.proofs.Common.{◌≡◌, length, replicate}
-use Rattle.zspage.proofs.CellLaws.{AreFree}
+-- So many ranks of free cells.
+use Rattle.std.proofs.Common.{◌≡◌, replicate}
 use Rattle.zspage.proofs.zspage.Zspage.new.Given as goal
 
-abbrev pub invariant-loop-number : goal.invariant-loop-number
-invariant-loop-number l = record {
-  long : l.number ≡ length l.spots.items;
-  free : AreFree l.size l.spots.items;
-  ranks : l.free ≡ replicate l.number 1;
-}
+abbrev pub invariant-loop : goal.invariant-loop
+invariant-loop l = l.free ≡ replicate l.counter 1

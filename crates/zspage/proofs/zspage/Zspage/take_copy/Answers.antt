@@ -1,6 +1,6 @@
 -- The winner of the ranks is the lowest free cell, and it takes the bytes of the other cell.
 use Rattle.std.proofs.Common.{◌≡◌, ℕ, List, ◌+◌, ◌<◌, ◌∙◌, None, Some, false, length, refl, arith, ap, sym, subst}
-use Rattle.std.proofs.Math.ListN.{set}
+use Rattle.std.proofs.Math.ListN.{set, length-set}
 use Rattle.zspage.specs.Cells.{IsStored, IsLowestFree, UsedCell, used_of}
 use Rattle.zspage.specs.Spots.{uses, IsZspage}
 use Rattle.zspage.proofs.CellLaws.{Leaves, spot_at, changed, winner_free, lowest_free, home_less, one_of, one_home, one_home-in, made}
@@ -15,9 +15,9 @@ there c =
     let room : used_of (uses c.self.inside.spots.items) < length (uses c.self.inside.spots.items) =
     subst (λ z. used_of z.cells < length z.cells) (sym c.self.view_is) c.requires.free in
     let at = c.index_mut-spot.ensures.value in (
-      omega (arith, c.winner-ix.ensures.within, c.self.invariant.ranked),
-      winner_free _ _ _ _ _ _ _ c.self.invariant room c.winner-ix.ensures at,
-      lowest_free _ _ _ _ _ _ _ c.self.invariant room c.winner-ix.ensures at,
+      omega (arith, c.winner-ix.ensures.within, c.self.invariant.0.ranked),
+      winner_free _ _ _ _ _ _ _ _ c.self.invariant.0 room c.winner-ix.ensures at,
+      lowest_free _ _ _ _ _ _ _ _ c.self.invariant.0 room c.winner-ix.ensures at,
     )
 
 abbrev used : (c : After-set) (bytes : List ℕ) → IsStored c.args.handle.0 bytes c.args.from.now
@@ -27,25 +27,25 @@ used c bytes stored long =
 
 left : (c : After-set) (bytes : List ℕ) (stored : IsStored c.args.handle.0 bytes c.args.from.now)
     (long : length bytes ≡ c.args.len)
-    → Leaves c.self.inside.size (c.self.inside.used + 1) (c.self.inside.home + 1) c.self.inside.spots.items
+    → Leaves c.self.inside.emptied.chain c.self.inside.size (c.self.inside.used + 1) (c.self.inside.home + 1) c.self.inside.spots.items
     (set c.self.inside.spots.items c.winner-ix.result c.copy.new.self) c.set.new.self c.winner-ix.result
     (Some (used c bytes stored long))
 left c bytes stored long =
     let h = there (goal.at.After-set c).After-index_mut-spot in
     let u : UsedCell = used c bytes stored long in
     rw c.set.ensures
-    (changed _ _ _ _ _ _ _ _ _ _ (Some u) c.self.invariant h.0 c.index_mut-spot.ensures.value
+    (changed _ _ _ _ _ _ _ _ _ _ _ (Some u) c.self.invariant.0 h.0 c.index_mut-spot.ensures.value
     (c.copy.ensures bytes stored long).3
     (omega (arith, ap one_of h.1)) (omega (arith, ap one_home h.1, one_home-in u refl)))
 
 state : (c : After-set)
-    → IsZspage c.self.inside.size (c.self.inside.used + 1) (c.self.inside.home + 1)
+    → IsZspage c.self.inside.emptied.chain c.self.inside.size (c.self.inside.used + 1) (c.self.inside.home + 1)
     (set c.self.inside.spots.items c.winner-ix.result c.copy.new.self) c.set.new.self
 state c = (left c c.requires.stored.0 c.requires.stored.1 c.requires.stored.2).state
 
 spot_size : (c : After-index_mut-spot) → c.index_mut-spot.result.now.size ≡ c.args.self.now.size
 spot_size c =
-    (spot_at _ _ _ _ _ _ _ c.self.invariant (there c).0 c.index_mut-spot.ensures.value).sized
+    (spot_at _ _ _ _ _ _ _ _ c.self.invariant.0 (there c).0 c.index_mut-spot.ensures.value).sized
     ∙ ap (λ z. z.size) c.self.view_is
 
 pub copy-requires-clause-free : goal.copy-requires-clause-free
@@ -60,7 +60,8 @@ copy-requires-clause-small c =
     omega (arith, c.requires.small, spot_size (goal.at.copy-requires-clause-small c).After-index_mut-spot)
 
 pub invariant_of-self : goal.invariant_of-self
-invariant_of-self c = state (goal.at.invariant_of-self c).After-set
+invariant_of-self c =
+    (state (goal.at.invariant_of-self c).After-set, rw length-set c.self.invariant.1)
 
 pub returns-clause-lowest : goal.returns-clause-lowest
 returns-clause-lowest c =
@@ -70,13 +71,13 @@ returns-clause-lowest c =
 pub returns-clause-used : goal.returns-clause-used
 returns-clause-used c =
     let now = state (goal.at.returns-clause-used c).After-set in
-    omega (arith, now.count, c.self.invariant.count, ap (λ z. used_of z.cells) c.self.view_is)
+    omega (arith, now.count, c.self.invariant.0.count, ap (λ z. used_of z.cells) c.self.view_is)
 
 pub returns-clause-after : goal.returns-clause-after
 returns-clause-after c bytes stored long =
     let here = goal.at.returns-clause-after c in
     let low = (there here.After-index_mut-spot).0 in
-    let spot = spot_at _ _ _ _ _ _ _ c.self.invariant low c.index_mut-spot.ensures.value in
+    let spot = spot_at _ _ _ _ _ _ _ _ c.self.invariant.0 low c.index_mut-spot.ensures.value in
     let copy = c.copy.ensures bytes stored long in (
       copy.0,
       copy.1,
@@ -94,6 +95,6 @@ overflow_add-self-2 c =
     let h = there (goal.at.overflow_add-self-2 c).After-index_mut-spot in
     omega (
       arith,
-      c.self.invariant.few,
-      home_less _ _ _ _ _ _ _ c.self.invariant h.0 c.index_mut-spot.ensures.value (ap one_home h.1),
+      c.self.invariant.0.few,
+      home_less _ _ _ _ _ _ _ _ c.self.invariant.0 h.0 c.index_mut-spot.ensures.value (ap one_home h.1),
     )

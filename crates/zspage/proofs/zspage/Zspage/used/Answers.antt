@@ -8,4 +8,8 @@ use Rattle.zspage.proofs.zspage.Zspage.used.Goals as goal
 pub returns-clause-most : goal.returns-clause-most
 returns-clause-most c =
     subst (λ z. c.self.inside.used ≤ length z.cells) c.self.view_is
-    (omega (arith, c.self.invariant.count, count_by-le-length is_some (uses c.self.inside.spots.items)))
+    (omega (
+      arith,
+      c.self.invariant.0.count,
+      count_by-le-length is_some (uses c.self.inside.spots.items),
+    ))

@@ -1,0 +1,4 @@
+pub mod Chains
+pub mod Lends
+pub mod Ownership
+pub mod Places
