@@ -87,3 +87,101 @@ fn move_object(zspages: &mut Zspages, places: &mut Places, from: u32, to: u32) -
     let gone = zspages.put_cell(from, object.ix);
     if gone { zspages.chain() } else { 0 }
 }
+
+#[cfg(test)]
+mod tests {
+    use super::*;
+    use size_class::{ClassTable, size};
+    use std::process::Abort;
+    use std::test::Fail;
+    use zr_base::Handle;
+
+    // Adds two objects in a new zspage, while so many others fill the last one. These go away again.
+    fn beside(rt: &impl Abort, pool: &mut ClassPool, bytes: &[u8], others: u32) -> Result<(Handle, Handle), Fail>
+        requires { Fits (length bytes.now) pool.old.size }
+        ensures first { IfOk result (λ h. IsAtHome pool.new h.0.0) }
+        ensures second { IfOk result (λ h. IsAtHome pool.new h.1.0) }
+        ensures apart { IfOk result (λ h. h.0.0 ≢ h.1.0) }
+        ensures home { (h : ℕ) → IsAtHome pool.old h → IsAtHome pool.new h }
+    {
+        assert!(rt; pool.used() < 100);
+        if others == 0 {
+            assert!(rt; !pool.room());
+            let first = pool.alloc_new(bytes)?;
+            assert!(rt; pool.room());
+            let second = pool.alloc(bytes);
+            return Ok((first, second));
+        }
+        assert!(rt; pool.room());
+        let other = pool.alloc(bytes);
+        let two = beside(rt, pool, bytes, others - 1)?;
+        assert!(rt; two.0.0 != other.0);
+        assert!(rt; two.1.0 != other.0);
+        pool.free(other);
+        Ok(two)
+    }
+
+    // Moves objects until none may move. Gives the moves, and the frames of the zspages that were given up.
+    fn compact(rt: &impl Abort, pool: &mut ClassPool) -> (u32, u32)
+        ensures home { (h : ℕ) → IsAtHome pool.old h → IsAtHome pool.new h }
+        ensures lent { (h : ℕ) (cell : CellState) → IsLent pool.old h cell → IsLent pool.new h cell }
+    {
+        let mut budget = pool.used();
+        let mut moves = 0;
+        let mut sum = 0;
+        while let Moved::Moved { frames } = pool.move_one(&mut budget) {
+            assert!(rt; moves < 100);
+            assert!(rt; sum < 100 && frames < 100);
+            moves += 1;
+            sum += frames;
+        }
+        (moves, sum)
+    }
+
+    // The pool of class 71, with cells of 1168 bytes in chains of 2 frames with 7 cells each. So many objects stay in its
+    // first zspage and two in its second one, of which the first may be out while objects move. Gives what moved then,
+    // and what when it was back.
+    fn moved(rt: &HostRuntime, kept: u32, pinned: bool) -> Result<((u32, u32), (u32, u32)), Fail> {
+        let table = ClassTable::new(4);
+        assert_eq!(rt; table.stands_as(71), 71);
+        let mut pool = ClassPool::new(rt.alloc(), 71, size(71), table.chain(71), table.per(71));
+        let bytes = [9; 1120];
+        assert!(rt; 1 <= kept && kept <= 6);
+        pool.alloc_new(&bytes)?;
+        for _ in 1..kept {
+            assert!(rt; pool.room() && pool.used() < 100);
+            pool.alloc(&bytes);
+        }
+        let (first, second) = beside(rt, &mut pool, &bytes, 7 - kept)?;
+        let before = if pinned {
+            let cell = pool.pin(first);
+            let before = compact(rt, &mut pool);
+            pool.unpin(first, cell);
+            before
+        } else {
+            compact(rt, &mut pool)
+        };
+        let after = compact(rt, &mut pool);
+        let cell = pool.pin(second);
+        let (head, _) = cell.parts();
+        assert!(rt; 16 <= head.len());
+        assert_eq!(rt; &head[8..16], &bytes[..8]);
+        pool.unpin(second, cell);
+        Ok((before, after))
+    }
+
+    #[test]
+    fn compacts(rt: HostRuntime) -> Result<(), Fail> {
+        // the emptiest zspage goes into the other one
+        assert_eq!(rt; moved(&rt, 1, false)?, ((1, 2), (0, 0)));
+        // on a tie the one with the lesser id stays
+        assert_eq!(rt; moved(&rt, 2, false)?, ((2, 2), (0, 0)));
+        assert_eq!(rt; moved(&rt, 3, false)?, ((2, 2), (0, 0)));
+        // an object that is out stays where it is
+        assert_eq!(rt; moved(&rt, 3, true)?, ((1, 0), (1, 2)));
+        // a full zspage takes no more
+        assert_eq!(rt; moved(&rt, 6, false)?, ((1, 0), (0, 0)));
+        assert_eq!(rt; moved(&rt, 6, true)?, ((1, 0), (0, 0)));
+        Ok(())
+    }
+}
