@@ -1,8 +1,9 @@
 //! Compacts a pool of half-empty zspages, for measuring: `bench_moves LENGTH OBJECTS BUDGET`.
 //!
-//! It makes the pool of the class that takes objects of so many bytes, fills it with twice so many objects, and frees
-//! every second one. Then it moves objects until none may move or the budget is spent. What it prints is the same
-//! whenever the numbers are: the objects, the zspages before and after, the moves and the frames that they gave back.
+//! It makes the pool of the class that takes objects of so many bytes, fills it with twice so many
+//! objects, and frees every second one. Then it moves objects until none may move or the budget is
+//! spent. What it prints is the same whenever the numbers are: the objects, the zspages before and
+//! after, the moves and the frames that they gave back.
 #![tactic(auto)]
 
 ghost use Rattle.std.specs.Prelude.{ℕ, ◌≡◌, ◌+◌, ◌≤◌, length, IfOk};

@@ -39,7 +39,8 @@ cells_all per (None ∷ zs) whole =
       sum_by-cons one_of None zs,
     )
 cells_all per (Some cells ∷ zs) whole =
-    let more : used_of (Some cells ∷ zs) ≡ used_of zs + 1 = omega (arith, sum_by-cons one_of (Some cells) zs) in
+    let more : used_of (Some cells ∷ zs) ≡ used_of zs + 1 =
+    omega (arith, sum_by-cons one_of (Some cells) zs) in
     let times : (used_of zs + 1) * per ≡ used_of zs * per + per = omega arith in
     let both = ap (λ n. n * per) more in
     omega (
@@ -78,27 +79,36 @@ home_all (Some u ∷ cells) home =
 all_in : (p : PoolState) (k : ℕ) (cells : Cells) → IsNothingOut p → entry p.zspages k ≡ Some cells
     → home_of cells ≡ used_of cells
 all_in p k cells none at =
-    home_all cells (λ j u here. none u (contains_use p.zspages k j u (use_there p.zspages k j cells at ∙ here)))
+    home_all cells (λ j u here.
+    none u (contains_use p.zspages k j u (use_there p.zspages k j cells at ∙ here)))
 
 -- ---- at most one zspage has free cells
 
-full_free : (per : ℕ) (zs : List (Option Cells)) → ((k : ℕ) (cells : Cells) → entry zs k ≡ Some cells → used_of cells ≡ per)
+full_free : (per : ℕ) (zs : List (Option Cells))
+    → ((k : ℕ) (cells : Cells) → entry zs k ≡ Some cells → used_of cells ≡ per)
     → sum_by (free_in per) zs ≡ 0
 full_free per zs full = all_zero (free_in per) zs (λ k. by_entry (entry zs k) (full k)) where
-  by_entry : (o : Option Cells) → ((cells : Cells) → o ≡ Some cells → used_of cells ≡ per) → free_in per o ≡ 0
+  by_entry : (o : Option Cells) → ((cells : Cells) → o ≡ Some cells → used_of cells ≡ per)
+      → free_in per o ≡ 0
   by_entry None full = refl
   by_entry (Some cells) full = omega (arith, full cells refl)
 
-few_free : (p : PoolState) → IsPool p → 1 ≤ p.per → IsNothingOut p → MayMove p 0 → sum_by (free_in p.per) p.zspages < p.per
+few_free : (p : PoolState) → IsPool p → 1 ≤ p.per → IsNothingOut p → MayMove p 0
+    → sum_by (free_in p.per) p.zspages < p.per
 few_free p pool some none rest =
     let zs : List (Option Cells) = p.zspages in
     let per : ℕ = p.per in
-    let fits : (k : ℕ) (cells : Cells) → entry zs k ≡ Some cells → (1 ≤ used_of cells) × (used_of cells ≤ per) =
-    λ k cells at. (pool.filled k cells at, omega (arith, count_by-le-length is_some cells, pool.whole k cells at)) in
+    let fits : (k : ℕ) (cells : Cells) → entry zs k ≡ Some cells → (1 ≤ used_of cells)
+    × (used_of cells ≤ per) =
+    λ k cells at. (
+      pool.filled k cells at,
+      omega (arith, count_by-le-length is_some cells, pool.whole k cells at),
+    ) in
     elim rest [
       | inl w ↦
           let full = full_free per zs (λ k cells at. elim (cases_lt (used_of cells) per) [
-            | inl less ↦ absurd (w.0 (row_of k cells) (row_among k zs cells at) ((fits k cells at).0, less))
+            | inl less ↦ absurd (w.0 (row_of k cells) (row_among k zs cells at)
+                ((fits k cells at).0, less))
             | inr most ↦ omega (arith, (fits k cells at).1)
           ]) in
           omega arith
@@ -107,10 +117,12 @@ few_free p pool some none rest =
           let here = partial_home per w.1 w.3.fits.1 in
           let full = full_free per (set zs w.0 None) (λ k cells at. elim (cases_eq k w.0) [
             | inl e ↦
-                let gone = ap (entry (set zs w.0 None)) e ∙ entry-set_same zs w.0 None (entry_within zs w.0 w.1 w.2) in
+                let gone = ap (entry (set zs w.0 None)) e
+                ∙ entry-set_same zs w.0 None (entry_within zs w.0 w.1 w.2) in
                 absurd (cc (gone, at))
             | inr other ↦
-                let was : entry zs k ≡ Some cells = sym (entry-set_other zs w.0 k None other) ∙ at in
+                let was : entry zs k ≡ Some cells = sym (entry-set_other zs w.0 k None other)
+                ∙ at in
                 elim (cases_lt (used_of cells) per) [
                   | inl less ↦ absurd (omega (
                     arith,
@@ -131,27 +143,32 @@ few_free p pool some none rest =
 -- ---- the number of zspages
 
 -- two numbers of which the multiples are as near are the same
-same_times : (a b per n : ℕ) → 1 ≤ per → n ≤ a * per → a * per < n + per → n ≤ b * per → b * per < n + per → a ≡ b
+same_times : (a b per n : ℕ) → 1 ≤ per → n ≤ a * per → a * per < n + per → n ≤ b * per
+    → b * per < n + per → a ≡ b
 same_times a b per n some a_most a_less b_most b_less =
     elim (cases_lt a b) [
       | inl less ↦
-          let more : (a + 1) * per ≤ b * per = mul-le (a + 1) per b per (omega arith) (omega arith) in
+          let more : (a + 1) * per ≤ b * per =
+          mul-le (a + 1) per b per (omega arith) (omega arith) in
           absurd (omega (arith, more))
       | inr rest ↦ elim (cases_lt b a) [
         | inl less ↦
-            let more : (b + 1) * per ≤ a * per = mul-le (b + 1) per a per (omega arith) (omega arith) in
+            let more : (b + 1) * per ≤ a * per =
+            mul-le (b + 1) per a per (omega arith) (omega arith) in
             absurd (omega (arith, more))
         | inr most ↦ omega arith
       ]
     ]
 
-pub least_zspages : (p : PoolState) → IsPool p → 1 ≤ p.per → MayMove p 0 → IsNothingOut p → IsLeast p
+pub least_zspages : (p : PoolState) → IsPool p → 1 ≤ p.per → MayMove p 0 → IsNothingOut p
+    → IsLeast p
 least_zspages p pool some rest none =
     let n : ℕ = length (objects p) in
     let all = cells_all p.per p.zspages pool.whole in
     let few = few_free p pool some none rest in
     let count : n ≡ sum_by (in_zspage (λ u. 1)) p.zspages =
-    length-map (used_cells p.zspages) object_of ∙ length_sum (used_cells p.zspages) ∙ sum_all (λ u. 1) p.zspages in
+    length-map (used_cells p.zspages) object_of ∙ length_sum (used_cells p.zspages)
+    ∙ sum_all (λ u. 1) p.zspages in
     let bounds = div_ceil_times n p.per (omega arith) in
     same_times (used_of p.zspages) (div_ceil n p.per) p.per n some (omega (arith, all, count))
     (omega (arith, all, count, few)) bounds.0 bounds.1

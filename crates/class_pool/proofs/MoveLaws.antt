@@ -24,26 +24,33 @@ with_zspage z id o = record z { zspages = set z.zspages id o }
 
 -- a cell that was lent is back
 back_same : (cells : Cells) (ix : ℕ) (u : UsedCell) → entry cells ix ≡ Some u → u.out ≡ false
-    → set (set cells ix (Some (record u { out = true }))) ix (Some (record u { out = false })) ≡ cells
+    → set (set cells ix (Some (record u { out = true }))) ix (Some (record u { out = false }))
+    ≡ cells
 back_same cells ix u at home =
     let same : Some (record u { out = false }) ≡ entry cells ix =
     ap (λ b. Some (record u { out = b })) (sym home) ∙ sym at in
-    set-set cells ix (Some (record u { out = true })) (Some (record u { out = false })) ∙ ap (set cells ix) same
+    set-set cells ix (Some (record u { out = true })) (Some (record u { out = false }))
+    ∙ ap (set cells ix) same
     ∙ set-get_or cells ix None
 
 -- a zspage is what it was before another one changed
 beside_same : (zs : List (Option Cells)) (f t : ℕ) (x y : Option Cells) (cells : Cells) → f ≢ t
     → entry zs f ≡ Some cells → set (set (set zs f x) t y) f (Some cells) ≡ set zs t y
 beside_same zs f t x y cells apart at =
-    ap (λ xs. set xs f (Some cells)) (set_comm zs f t x y apart) ∙ set-set (set zs t y) f x (Some cells)
-    ∙ ap (set (set zs t y) f) (sym (entry-set_other zs t f y apart ∙ at)) ∙ set-get_or (set zs t y) f None
+    ap (λ xs. set xs f (Some cells)) (set_comm zs f t x y apart)
+    ∙ set-set (set zs t y) f x (Some cells)
+    ∙ ap (set (set zs t y) f) (sym (entry-set_other zs t f y apart ∙ at))
+    ∙ set-get_or (set zs t y) f None
 
 -- one zspage lends a cell, another one changes, and the cell comes back
-pub restored : (z z1 z2 z3 : ZspagesState) (f t ix : ℕ) (cells : Cells) (u : UsedCell) (y : Option Cells)
+pub restored : (z z1 z2 z3 : ZspagesState) (f t ix : ℕ) (cells : Cells) (u : UsedCell)
+    (y : Option Cells)
     → f ≢ t → entry z.zspages f ≡ Some cells → entry cells ix ≡ Some u → u.out ≡ false
-    → z1 ≡ with_zspage z f (Some (set cells ix (Some (record u { out = true })))) → z2 ≡ with_zspage z1 t y
+    → z1 ≡ with_zspage z f (Some (set cells ix (Some (record u { out = true }))))
+    → z2 ≡ with_zspage z1 t y
     → z3 ≡ with_zspage z2 f
-    (Some (set (set cells ix (Some (record u { out = true }))) ix (Some (record u { out = false }))))
+    (Some (set (set cells ix (Some (record u { out = true }))) ix
+    (Some (record u { out = false }))))
     → z3 ≡ with_zspage z t y
 restored z z1 z2 z3 f t ix cells u y apart at here home is1 is2 is3 =
     let lent : Cells = set cells ix (Some (record u { out = true })) in
@@ -51,11 +58,13 @@ restored z z1 z2 z3 f t ix cells u y apart at here home is1 is2 is3 =
     let new : List (Option Cells) → ZspagesState = λ zs. record z { zspages = zs } in
     is3 ∙ ap (λ v. with_zspage v f (Some back)) is2
     ∙ ap (λ v. with_zspage (with_zspage v t y) f (Some back)) is1
-    ∙ ap (λ cs. new (set (set (set z.zspages f (Some lent)) t y) f (Some cs))) (back_same cells ix u here home)
+    ∙ ap (λ cs. new (set (set (set z.zspages f (Some lent)) t y) f (Some cs)))
+    (back_same cells ix u here home)
     ∙ ap new (beside_same z.zspages f t (Some lent) y cells apart at)
 
 -- the two zspages may change in either order
-pub swapped : (z z3 z4 : ZspagesState) (f t : ℕ) (x y : Option Cells) → f ≢ t → z3 ≡ with_zspage z t y
+pub swapped : (z z3 z4 : ZspagesState) (f t : ℕ) (x y : Option Cells) → f ≢ t
+    → z3 ≡ with_zspage z t y
     → z4 ≡ with_zspage z3 f x → z4 ≡ with_zspage (with_zspage z f x) t y
 swapped z z3 z4 f t x y apart is3 is4 =
     is4 ∙ ap (λ v. with_zspage v f x) is3
@@ -66,10 +75,12 @@ pub beside : (z z' : ZspagesState) (f t : ℕ) (o y : Option Cells) → f ≢ t 
 beside z z' f t o y apart at is =
     ap (λ v. entry v.zspages f) is ∙ entry-set_other z.zspages t f y apart ∙ at
 
-pub changed_here : (z z' : ZspagesState) (f : ℕ) (cells : Cells) (y : Option Cells) → entry z.zspages f ≡ Some cells
+pub changed_here : (z z' : ZspagesState) (f : ℕ) (cells : Cells) (y : Option Cells)
+    → entry z.zspages f ≡ Some cells
     → z' ≡ with_zspage z f y → entry z'.zspages f ≡ y
 changed_here z z' f cells y at is =
-    ap (λ v. entry v.zspages f) is ∙ entry-set_same z.zspages f y (entry_within z.zspages f cells at)
+    ap (λ v. entry v.zspages f) is
+    ∙ entry-set_same z.zspages f y (entry_within z.zspages f cells at)
 
 pub room_cells : (o : Option Cells) → HasRoom o → (cells : Cells) × (o ≡ Some cells)
 room_cells None room = absurd room
@@ -84,7 +95,8 @@ zspages_of p = record { size = p.size; chain = p.chain; per = p.per; zspages = p
 abbrev pub moved_use : Move → UsedCell
 moved_use m = new_use m.object.handle m.object.bytes m.cell
 
-pub record Shifted (used : ℕ) (z z' : ZspagesState) (places : List (Option Place)) (m : Move) : Type 0 where
+pub record Shifted (used : ℕ) (z z' : ZspagesState) (places : List (Option Place)) (m : Move) : Type
+    0 where
   pub pooled : IsPooled used z' (set places m.object.handle (Some (place m.to m.at)))
   pub same : AreSame (map object_of (used_cells z.zspages)) (map object_of (used_cells z'.zspages))
   pub here : Contains (used_cells z'.zspages) (moved_use m)
@@ -104,8 +116,10 @@ between_is class z z' m frames moves =
       | inr w ↦ inr (w.0, ap zspages_of w.1)
     ]
 
-left_is : (z z' : ZspagesState) (p : Place) (cells : Cells) (u : UsedCell) → entry z.zspages p.zspage ≡ Some cells
-    → entry cells p.cell ≡ Some u → Parts z z' p cells → Changes z.zspages z'.zspages p.zspage p.cell None
+left_is : (z z' : ZspagesState) (p : Place) (cells : Cells) (u : UsedCell)
+    → entry z.zspages p.zspage ≡ Some cells
+    → entry cells p.cell ≡ Some u → Parts z z' p cells
+    → Changes z.zspages z'.zspages p.zspage p.cell None
 left_is z z' p cells u at here parts =
     elim parts [
       | inl w ↦ subst (λ v. Changes z.zspages v.zspages p.zspage p.cell None) (sym w.1)
@@ -114,16 +128,20 @@ left_is z z' p cells u at here parts =
           (changes_cell z.zspages p.zspage p.cell cells None at (entry_within cells p.cell u here))
     ]
 
-target_is : (z z' : ZspagesState) (p : Place) (cells : Cells) (t : ℕ) (target : Cells) → p.zspage ≢ t
+target_is : (z z' : ZspagesState) (p : Place) (cells : Cells) (t : ℕ) (target : Cells)
+    → p.zspage ≢ t
     → entry z.zspages t ≡ Some target → Parts z z' p cells → entry z'.zspages t ≡ Some target
 target_is z z' p cells t target apart at parts =
     elim parts [
       | inl w ↦ beside z z' t p.zspage (Some target) None (λ e. apart (sym e)) at w.1
-      | inr w ↦ beside z z' t p.zspage (Some target) (Some (set cells p.cell None)) (λ e. apart (sym e)) at w.1
+      | inr w ↦ beside z z' t p.zspage (Some target) (Some (set cells p.cell None))
+          (λ e. apart (sym e)) at w.1
     ]
 
-pub shifted : (class used : ℕ) (z z' : ZspagesState) (places : List (Option Place)) (m : Move) (frames : ℕ)
-    → IsPooled used z places → Moves (pool_of class z) (pool_of class z') m frames → Shifted used z z' places m
+pub shifted : (class used : ℕ) (z z' : ZspagesState) (places : List (Option Place)) (m : Move)
+    (frames : ℕ)
+    → IsPooled used z places → Moves (pool_of class z) (pool_of class z') m frames
+    → Shifted used z z' places m
 shifted class used z z' places m frames pooled moves =
     let u : UsedCell = m.object in
     let v : UsedCell = moved_use m in
@@ -131,8 +149,10 @@ shifted class used z z' places m frames pooled moves =
     let parts : Parts z mid (place m.from m.ix) m.source = between_is class z z' m frames moves in
     let at : IsAt z.zspages (place m.from m.ix) u =
     record { cells = m.source; zspage = moves.leaves; cell = moves.lowest.used } in
-    let gone : Freed used z mid places u = freed used z mid places (place m.from m.ix) u at pooled parts in
-    let is : z' ≡ with_zspage mid m.to (Some (set m.target m.at (Some v))) = ap zspages_of moves.after in
+    let gone : Freed used z mid places u =
+    freed used z mid places (place m.from m.ix) u at pooled parts in
+    let is : z' ≡ with_zspage mid m.to (Some (set m.target m.at (Some v))) =
+    ap zspages_of moves.after in
     let there : entry mid.zspages m.to ≡ Some m.target =
     target_is z mid (place m.from m.ix) m.source m.to m.target moves.apart moves.comes parts in
     let was : use_at z.zspages m.from m.ix ≡ Some u =
@@ -140,12 +160,14 @@ shifted class used z z' places m frames pooled moves =
     let low : u.handle < length places =
     entry_within places u.handle (place m.from m.ix) (pooled.fit.index.listed m.from m.ix u was) in
     let put : Stored mid z' v =
-    stored mid z' m.to m.at m.target v (λ k cs other. gone.pooled.filled k cs) there moves.free.free is in
+    stored mid z' m.to m.at m.target v (λ k cs other. gone.pooled.filled k cs) there moves.free.free
+    is in
     let some = contains_use z.zspages m.from m.ix u was in
     let cell : m.at < length m.target = slice_get_within m.target m.at None moves.free.free in
     record {
       pooled = record {
-        fit = stored_fit mid z' (set places u.handle None) (set places u.handle (Some (place m.to m.at))) m.to m.at
+        fit = stored_fit mid z' (set places u.handle None)
+            (set places u.handle (Some (place m.to m.at))) m.to m.at
             m.target v gone.pooled.fit there moves.free.free (rw length-set low)
             (entry-set_same places u.handle None low) is
             (sym (set-set places u.handle None (Some (place m.to m.at))));
@@ -166,7 +188,8 @@ shifted class used z z' places m frames pooled moves =
 -- ---- what a move leaves of the other objects
 
 -- an object at another place than the one that changes
-still : (zs zs' : List (Option Cells)) (i j k l : ℕ) (o : Option UsedCell) (w : UsedCell) → Changes zs zs' i j o
+still : (zs zs' : List (Option Cells)) (i j k l : ℕ) (o : Option UsedCell) (w : UsedCell)
+    → Changes zs zs' i j o
     → (use_at zs i j ≡ Some w → ⊥) → use_at zs k l ≡ Some w → use_at zs' k l ≡ Some w
 still zs zs' i j k l o w change other at =
     elim (same_place i j k l) [
@@ -174,11 +197,14 @@ still zs zs' i j k l o w change other at =
       | inr apart ↦ change.others k l apart ∙ at
     ]
 
-pub out_stays : (used : ℕ) (z z' : ZspagesState) (places : List (Option Place)) (m : Move) (k l : ℕ) (w : UsedCell)
-    → m.object.out ≡ false → Shifted used z z' places m → use_at z.zspages k l ≡ Some w → w.out ≡ true
+pub out_stays : (used : ℕ) (z z' : ZspagesState) (places : List (Option Place)) (m : Move) (k l : ℕ)
+    (w : UsedCell)
+    → m.object.out ≡ false → Shifted used z z' places m → use_at z.zspages k l ≡ Some w
+    → w.out ≡ true
     → use_at z'.zspages k l ≡ Some w
 out_stays used z z' places m k l w home s at out =
-    still m.between.zspages z'.zspages m.to m.at k l (Some (moved_use m)) w s.come (λ e. cc (e, s.free))
+    still m.between.zspages z'.zspages m.to m.at k l (Some (moved_use m)) w s.come
+    (λ e. cc (e, s.free))
     (still z.zspages m.between.zspages m.from m.ix k l None w s.left (λ e.
     let both : Some m.object ≡ Some w = sym s.was ∙ e in
     let one : m.object ≡ w = cc in
@@ -190,10 +216,12 @@ pub all_home : (class used h : ℕ) (z z' : ZspagesState) (places : List (Option
 all_home class used h z z' places m s among =
     elim (cases_eq h m.object.handle) [
       | inl e ↦ (moved_use m, s.here, sym e, refl)
-      | inr other ↦ stays_home (pool_of class z) (pool_of class z') m.object.handle h s.keeps other among
+      | inr other ↦ stays_home (pool_of class z) (pool_of class z') m.object.handle h s.keeps other
+          among
     ]
 
-pub all_lent : (class used h : ℕ) (cell : CellState) (z z' : ZspagesState) (places : List (Option Place)) (m : Move)
+pub all_lent : (class used h : ℕ) (cell : CellState) (z z' : ZspagesState)
+    (places : List (Option Place)) (m : Move)
     → IsPooled used z places → m.object.out ≡ false → Shifted used z z' places m
     → IsLent (pool_of class z) h cell → IsLent (pool_of class z') h cell
 all_lent class used h cell z z' places m pooled home s (w, among, same, out, is) =

@@ -59,7 +59,8 @@ around_by old new m left apart from to free low is per loses loses_home =
       left = left;
       list = is;
       per_is = per;
-      from_is = ap (λ xs. entry xs m.from) is ∙ entry-set_other mid m.to m.from (Some (taker m)) apart
+      from_is = ap (λ xs. entry xs m.from) is
+          ∙ entry-set_other mid m.to m.from (Some (taker m)) apart
           ∙ entry-set_same zs m.from left (entry_within zs m.from m.source from);
       to_is = ap (λ xs. entry xs m.to) is ∙ entry-set_same mid m.to (Some (taker m)) within;
       others = λ k off_from off_to.
@@ -71,17 +72,20 @@ around_by old new m left apart from to free low is per loses loses_home =
       gains_home = omega (arith, gains_home, ap one_home free);
     }
 
-pub around : (old new : PoolState) (m : Move) (frames : ℕ) → Moves old new m frames → Around old new m
+pub around : (old new : PoolState) (m : Move) (frames : ℕ) → Moves old new m frames
+    → Around old new m
 around old new m frames moves =
     let u : UsedCell = m.object in
     let low : m.ix < length m.source = entry_within m.source m.ix u moves.lowest.used in
     let loses = sum_by-set one_of m.source m.ix None None low in
     let loses_home = sum_by-set one_home m.source m.ix None None low in
     let one : one_home (entry m.source m.ix) ≡ 1 =
-    ap one_home moves.lowest.used ∙ ap (λ b. one_home (Some (record u { out = b }))) moves.lowest.home in
+    ap one_home moves.lowest.used
+    ∙ ap (λ b. one_home (Some (record u { out = b }))) moves.lowest.home in
     let some = ap one_of moves.lowest.used in
     let room : m.at < length m.target = slice_get_within m.target m.at None moves.free.free in
-    let free : entry m.target m.at ≡ None = get_or_from_slice_get m.target m.at None None moves.free.free in
+    let free : entry m.target m.at ≡ None =
+    get_or_from_slice_get m.target m.at None None moves.free.free in
     elim moves.freed [
       | inl w ↦
           around_by old new m None moves.apart moves.leaves moves.comes free room
@@ -89,9 +93,11 @@ around old new m frames moves =
           (ap (λ p. p.per) moves.after ∙ ap (λ p. p.per) w.1) (omega (arith, w.0))
           (omega (arith, w.0, home_used m.source, loses_home, one))
       | inr w ↦
-          around_by old new m (Some (set m.source m.ix None)) moves.apart moves.leaves moves.comes free room
+          around_by old new m (Some (set m.source m.ix None)) moves.apart moves.leaves moves.comes
+          free room
           (ap (λ p. p.zspages) moves.after ∙ ap (λ p. set p.zspages m.to (Some (taker m))) w.1)
-          (ap (λ p. p.per) moves.after ∙ ap (λ p. p.per) w.1) (omega (arith, loses, some)) (omega (arith, loses_home, one))
+          (ap (λ p. p.per) moves.after ∙ ap (λ p. p.per) w.1) (omega (arith, loses, some))
+          (omega (arith, loses_home, one))
     ]
 
 -- ---- the rows
@@ -137,7 +143,8 @@ fuller_id r s first second =
       | inr w ↦ elim second [ inl v ↦ absurd (omega arith) | inr v ↦ omega arith ]
     ]
 
-pub one_destination : (per : ℕ) (rs : List Row) (r s : Row) → IsDestination per rs r → IsDestination per rs s
+pub one_destination : (per : ℕ) (rs : List Row) (r s : Row) → IsDestination per rs r
+    → IsDestination per rs s
     → r.id ≡ s.id
 one_destination per rs r s first second =
     fuller_id r s (first.before s second.among second.fits) (second.before r first.among first.fits)
@@ -172,11 +179,14 @@ planned per zs m plan from to =
 
 -- the zspage that the object came to is full, or it is the destination
 pub went : (old new : PoolState) (m : Move) → entry old.zspages m.from ≡ Some m.source
-    → entry old.zspages m.to ≡ Some m.target → m.from ≢ m.to → GoesOn old.per (rows old.zspages) m.from m.to
+    → entry old.zspages m.to ≡ Some m.target → m.from ≢ m.to
+    → GoesOn old.per (rows old.zspages) m.from m.to
     → Around old new m
-    → (used_of (taker m) ≡ new.per) ⊎ IsDestination new.per (rows new.zspages) (row_of m.to (taker m))
+    → (used_of (taker m) ≡ new.per)
+    ⊎ IsDestination new.per (rows new.zspages) (row_of m.to (taker m))
 went old new m from to apart goes a =
-    rw a.per_is (goes (rows new.zspages) (row_of m.to (taker m)) (rows_move old new m from to apart a)
+    rw a.per_is (goes (rows new.zspages) (row_of m.to (taker m))
+    (rows_move old new m from to apart a)
     (row_among m.to new.zspages (taker m) a.to_is) refl)
 
 pub settles : (old new : PoolState) (m : Move) (frames : ℕ) → Moves old new m frames
@@ -188,7 +198,11 @@ settles old new m frames moves goes =
       m.at,
       taker m,
       moved_use m,
-      record { zspage = a.to_is; cell = entry-set_same m.target m.at (Some (moved_use m)) room; handle_is = refl },
+      record {
+        zspage = a.to_is;
+        cell = entry-set_same m.target m.at (Some (moved_use m)) room;
+        handle_is = refl;
+      },
       went old new m moves.leaves moves.comes moves.apart goes a,
     )
 
@@ -197,17 +211,21 @@ pub unsettled : (old new : PoolState) (m : Move) (frames : ℕ) → IsPool old �
     → IsPlan old.per (rows old.zspages) m.from m.to → IsSettled old m.object.handle → ⊥
 unsettled old new m frames pool moves plan (id, ix, cells, u, at, done) =
     let p = planned old.per old.zspages m plan moves.leaves moves.comes in
-    let here : use_at old.zspages id ix ≡ Some u = use_there old.zspages id ix cells at.zspage ∙ at.cell in
+    let here : use_at old.zspages id ix ≡ Some u = use_there old.zspages id ix cells at.zspage
+    ∙ at.cell in
     let there : use_at old.zspages m.from m.ix ≡ Some m.object =
     use_there old.zspages m.from m.ix m.source moves.leaves ∙ moves.lowest.used in
-    let same : id ≡ m.from = (pool.distinct id ix m.from m.ix u m.object here there at.handle_is).0 in
+    let same : id ≡ m.from =
+    (pool.distinct id ix m.from m.ix u m.object here there at.handle_is).0 in
     let one : cells ≡ m.source =
-    same_some (entry old.zspages id) cells m.source at.zspage (ap (entry old.zspages) same ∙ moves.leaves) in
+    same_some (entry old.zspages id) cells m.source at.zspage (ap (entry old.zspages) same
+    ∙ moves.leaves) in
     elim done [
       | inl full ↦ omega (arith, full, ap used_of one, p.source_part)
       | inr dest ↦
           moves.apart (sym same
-          ∙ one_destination old.per (rows old.zspages) (row_of id cells) (row_of m.to m.target) dest p.destination)
+          ∙ one_destination old.per (rows old.zspages) (row_of id cells) (row_of m.to m.target) dest
+          p.destination)
     ]
 
 -- a settled object stays so
@@ -219,11 +237,14 @@ stays_settled old new m frames h moves plan goes (id, ix, cells, u, at, done) =
     let a = around old new m frames moves in
     elim done [
       | inl full ↦
-          let off : (k : ℕ) (cs : Cells) → entry old.zspages k ≡ Some cs → used_of cs < old.per → id ≢ k =
+          let off : (k : ℕ) (cs : Cells) → entry old.zspages k ≡ Some cs → used_of cs < old.per
+          → id ≢ k =
           λ k cs is part e.
-          let one = same_some (entry old.zspages id) cells cs at.zspage (ap (entry old.zspages) e ∙ is) in
+          let one = same_some (entry old.zspages id) cells cs at.zspage (ap (entry old.zspages) e
+          ∙ is) in
           omega (arith, full, part, ap used_of one) in
-          let still = a.others id (off m.from m.source moves.leaves p.source_part) (off m.to m.target moves.comes p.target_part) in (
+          let still = a.others id (off m.from m.source moves.leaves p.source_part)
+          (off m.to m.target moves.comes p.target_part) in (
             id,
             ix,
             cells,
@@ -233,11 +254,15 @@ stays_settled old new m frames h moves plan goes (id, ix, cells, u, at, done) =
           )
       | inr dest ↦
           let same : id ≡ m.to =
-          one_destination old.per (rows old.zspages) (row_of id cells) (row_of m.to m.target) dest p.destination in
+          one_destination old.per (rows old.zspages) (row_of id cells) (row_of m.to m.target) dest
+          p.destination in
           let one : cells ≡ m.target =
-          same_some (entry old.zspages id) cells m.target at.zspage (ap (entry old.zspages) same ∙ moves.comes) in
-          let here : entry m.target ix ≡ Some u = ap (λ (cs : Cells). entry cs ix) (sym one) ∙ at.cell in
-          let free : entry m.target m.at ≡ None = get_or_from_slice_get m.target m.at None None moves.free.free in
+          same_some (entry old.zspages id) cells m.target at.zspage (ap (entry old.zspages) same
+          ∙ moves.comes) in
+          let here : entry m.target ix ≡ Some u = ap (λ (cs : Cells). entry cs ix) (sym one)
+          ∙ at.cell in
+          let free : entry m.target m.at ≡ None =
+          get_or_from_slice_get m.target m.at None None moves.free.free in
           let off : ix ≢ m.at = λ e. let was = ap (entry m.target) e ∙ free in cc (was, here) in (
             m.to,
             ix,

@@ -1,5 +1,5 @@
--- What the moves of a pool come to while nothing else touches it: which objects are done, how many may still move, and
--- the least number of zspages.
+-- What the moves of a pool come to while nothing else touches it: which objects are done, how many
+-- may still move, and the least number of zspages.
 use Rattle.std.specs.Prelude.{ℕ, ◌≡◌, ◌+◌, ◌⊎◌, ◌==◌, Option, None, Some, false, Contains, length, sum_by, if◌then◌else◌}
 use Rattle.std.specs.Int.{div_ceil}
 use Rattle.zspage.specs.Cells.{UsedCell, used_of, home_of, entry}
@@ -20,7 +20,8 @@ abbrev pub home_in_partial : ℕ → Option Cells → ℕ
 home_in_partial per None = 0
 home_in_partial per (Some cells) = if used_of cells == per then 0 else home_of cells
 
--- so many objects may still move: those at home in zspages that are not full, but for those of the destination
+-- so many objects may still move: those at home in zspages that are not full, but for those of the
+-- destination
 abbrev pub MayMove : PoolState → ℕ → Type 0
 MayMove p n =
     (((r : Row) → Contains (rows p.zspages) r → IsPartial p.per r → ⊥) × (n ≡ 0))
@@ -32,6 +33,7 @@ MayMove p n =
 abbrev pub IsNothingOut : PoolState → Type 0
 IsNothingOut p = (u : UsedCell) → Contains (used_cells p.zspages) u → u.out ≡ false
 
--- there are no more zspages than the objects need: their number over the cells of a zspage, rounded up
+-- there are no more zspages than the objects need: their number over the cells of a zspage, rounded
+-- up
 abbrev pub IsLeast : PoolState → Type 0
 IsLeast p = used_of p.zspages ≡ div_ceil (length (objects p)) p.per

@@ -17,8 +17,8 @@ abbrev pub IfDone : Answer → Type 0 → Type 0
 IfDone (Moved frames) P = Unit {0}
 IfDone Done P = P
 
--- a move: the zspage and the cell that the object leaves, those that it comes to, its use before, its new cell, and the
--- pool without it
+-- a move: the zspage and the cell that the object leaves, those that it comes to, its use before,
+-- its new cell, and the pool without it
 pub record Move : Type 0 where
   pub from : ℕ
   pub ix : ℕ
@@ -30,8 +30,8 @@ pub record Move : Type 0 where
   pub cell : CellState
   pub between : PoolState
 
--- the object in the lowest used cell at home went into the lowest free cell of another zspage, with its handle and its
--- bytes; the zspage that it left is given up where that was its last
+-- the object in the lowest used cell at home went into the lowest free cell of another zspage, with
+-- its handle and its bytes; the zspage that it left is given up where that was its last
 pub record Moves (old new : PoolState) (m : Move) (frames : ℕ) : Type 0 where
   pub apart : m.from ≢ m.to
   pub leaves : entry old.zspages m.from ≡ Some m.source

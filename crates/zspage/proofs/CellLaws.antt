@@ -160,7 +160,7 @@ changed chain size used used' home home' spots free i s new o z low at is count 
 pub kept : (chain : Ptr) (size used home home' : ℕ) (spots : List SpotState) (free : List ℕ) (i : ℕ)
     (s new : SpotState)
     (u v : UsedCell) → IsZspage chain size used home spots free → i < length spots
-        → s ≡ get_or spots i s
+    → s ≡ get_or spots i s
     → s.use_of ≡ Some u → new ≡ record s { use_of = Some v }
     → home' + one_home (Some u) ≡ home + one_home (Some v)
     → Leaves chain size used home' spots (set spots i new) free i (Some v)
@@ -258,10 +258,10 @@ uses_free chain size spots are =
     same_lists (uses spots) (replicate (length spots) None)
     (length-map spots (λ x. x.use_of) ∙ sym (length-replicate (length spots) None))
     (λ k d low.
-        let small : k < length spots = rw length-map at low in
-        get_or-map (λ x. x.use_of) spots k nowhere d small
-        ∙ ap (λ x. x.use_of) (are k nowhere small)
-        ∙ sym (get_or-replicate (length spots) k None d small))
+    let small : k < length spots = rw length-map at low in
+    get_or-map (λ x. x.use_of) spots k nowhere d small
+    ∙ ap (λ x. x.use_of) (are k nowhere small)
+    ∙ sym (get_or-replicate (length spots) k None d small))
 
 pub fresh : (chain : Ptr) (size n : ℕ) (spots : List SpotState) (free : List ℕ)
     → AreFree chain size spots → length spots ≡ n → free ≡ replicate n 1 → n < 2 ^ 32

@@ -13,21 +13,29 @@ copied handle bytes from to same stored = record {
   fits = subst (λ bs. header_size (length bytes) + length bytes ≤ length bs) (sym same) stored.fits;
 }
 
-pub not_home : (cells : List (Option UsedCell)) (k : ℕ) → is_home (entry cells k) ≡ false → IsHome cells k → ⊥
+pub not_home : (cells : List (Option UsedCell)) (k : ℕ) → is_home (entry cells k) ≡ false
+    → IsHome cells k → ⊥
 not_home cells k away (u, at, home) =
     let yes : is_home (entry cells k) ≡ true = ap is_home at ∙ ap not home in
     cc (away, yes)
 
 -- a used cell at home, where they are counted
-pub some_home : (cells : List (Option UsedCell)) → 1 ≤ home_of cells → (k : ℕ) × (k < length cells) × IsHome cells k
+pub some_home : (cells : List (Option UsedCell)) → 1 ≤ home_of cells → (k : ℕ) × (k < length cells)
+    × IsHome cells k
 some_home [] some = absurd (omega arith)
 some_home (None ∷ cells) some =
     let rest = some_home cells (omega (arith, some, sum_by-cons one_home None cells)) in
     (suc rest.0, omega (arith, rest.1), rest.2)
 some_home (Some u ∷ cells) some = by_first (some_home cells) u.out refl where
-  by_first : (1 ≤ home_of cells → (k : ℕ) × (k < length cells) × IsHome cells k) → (b : Bool) → u.out ≡ b
+  by_first : (1 ≤ home_of cells → (k : ℕ) × (k < length cells) × IsHome cells k) → (b : Bool)
+      → u.out ≡ b
       → (k : ℕ) × (k < length (Some u ∷ cells)) × IsHome (Some u ∷ cells) k
   by_first later false home = (0, omega arith, (u, refl, home))
   by_first later true away =
-      let rest = later (omega (arith, some, sum_by-cons one_home (Some u) cells, one_home-out u away)) in
+      let rest = later (omega (
+        arith,
+        some,
+        sum_by-cons one_home (Some u) cells,
+        one_home-out u away,
+      )) in
       (suc rest.0, omega (arith, rest.1), rest.2)

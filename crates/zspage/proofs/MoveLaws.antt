@@ -27,8 +27,11 @@ last_or_before xs all x is k d low =
       | inl less ↦ inl (less, ap (λ l. get_or l k d) is ∙ get_or_append_left xs (x ∷ []) d k less)
       | inr past ↦
           let e : k ≡ length xs = omega (arith, past, low, long) in
-          inr (e, ap (λ l. get_or l k d) is ∙ ap (λ j. get_or (xs ++ x ∷ []) j d) e
-              ∙ get_or-append_seam xs x [] d)
+          inr (
+            e,
+            ap (λ l. get_or l k d) is ∙ ap (λ j. get_or (xs ++ x ∷ []) j d) e
+                ∙ get_or-append_seam xs x [] d,
+          )
     ]
 
 before_last : {A : Type 0} (xs all : List A) (x : A) → all ≡ xs ++ x ∷ [] → (k : ℕ) (d : A)
@@ -56,9 +59,9 @@ spread_step c₀ c c' spots spots' x s h popped is pushed made =
     let low : m < length c.cells = omega (arith, less) in
     let last : x ≡ get_or c.cells m x = last_is c'.cells c.cells x popped in
     let here : (k : ℕ) → k < length c'.cells
-        → k < length c.cells = λ k small. omega (arith, small, less) in
+    → k < length c.cells = λ k small. omega (arith, small, less) in
     let same : (k : ℕ) (d : CellState) → k < length c'.cells
-        → get_or c'.cells k d ≡ get_or c.cells k d =
+    → get_or c'.cells k d ≡ get_or c.cells k d =
     before_last c'.cells c.cells x popped in
     record {
       same = is ∙ ap (λ (v : CellsState). record v { cells = c'.cells }) h.same;
@@ -79,14 +82,19 @@ spread_step c₀ c c' spots spots' x s h popped is pushed made =
             | inr (end, e) ↦
                 let number : x.number ≡ length c₀.cells - suc k =
                 ap (λ (v : CellState). v.number) last ∙ h.front.places m x low
-                    ∙ omega (arith, h.sum, less, end) in
+                ∙ omega (arith, h.sum, less, end) in
                 e ∙ made
                 ∙ ap (λ p. record { chain = p; number = x.number; size = x.size; use_of = None })
                 (ap (λ (v : CellState). v.chain) last ∙ h.front.ours m x low)
                 ∙ ap (λ n. record { chain = c₀.chain; number = n; size = x.size; use_of = None })
-                    number
-                ∙ ap (λ n. record { chain = c₀.chain; number = length c₀.cells - suc k; size =
-                    n; use_of = None })
+                number
+                ∙ ap (λ n. record {
+                  chain = c₀.chain;
+                  number = length c₀.cells - suc k;
+                  size =
+                      n;
+                  use_of = None;
+                })
                 (ap (λ (v : CellState). v.size) last ∙ h.front.sizes m x low)
           ];
     }
@@ -137,7 +145,7 @@ gather_step c₀ c c' spots₀ spots rest ranks s x h popped is placed (ours, at
     let cells : c'.cells ≡ c.cells ++ x ∷ [] = ap (λ (v : CellsState). v.cells) is in
     let less : length spots ≡ m + 1 = ap length popped ∙ length-append rest (s ∷ []) in
     let more : length c'.cells ≡ length c.cells + 1 = ap length cells
-        ∙ length-append c.cells (x ∷ []) in
+    ∙ length-append c.cells (x ∷ []) in
     let here : s ≡ get_or spots₀ m s =
     last_is rest spots s popped ∙ h.front m s (omega (arith, less)) in
     let spot = placed m s (omega (arith, h.sum, less)) in
@@ -152,18 +160,19 @@ gather_step c₀ c c' spots₀ spots rest ranks s x h popped is placed (ours, at
       back = λ k d small.
           elim (last_or_before c.cells c'.cells x cells k d small) [
             | inl (before, e) ↦
-                let had = h.back k d before in
-                (ap (λ (v : CellState). v.chain) e ∙ had.0,
-                    subst (IsCellAt c₀.size (n - suc k)) (sym e) had.1)
+                let had = h.back k d before in (
+                  ap (λ (v : CellState). v.chain) e ∙ had.0,
+                  subst (IsCellAt c₀.size (n - suc k)) (sym e) had.1,
+                )
             | inr (end, e) ↦ (
-                ap (λ (v : CellState). v.chain) e ∙ ours ∙ ap (λ (v : SpotState). v.chain) here
-                    ∙ spot.ours,
-                subst (IsCellAt c₀.size (n - suc k)) (sym e) (record {
-                  numbered = at.numbered ∙ number ∙ omega (arith, end, h.sum, less);
-                  sized = at.sized ∙ size;
-                  whole = at.whole;
-                }),
-              )
+              ap (λ (v : CellState). v.chain) e ∙ ours ∙ ap (λ (v : SpotState). v.chain) here
+                  ∙ spot.ours,
+              subst (IsCellAt c₀.size (n - suc k)) (sym e) (record {
+                numbered = at.numbered ∙ number ∙ omega (arith, end, h.sum, less);
+                sized = at.sized ∙ size;
+                whole = at.whole;
+              }),
+            )
           ];
     }
 
@@ -178,8 +187,8 @@ gathered_all c₀ c spots₀ spots h gone all =
     let long : length (reverse xs) ≡ n = length-reverse xs ∙ count in
     let size : c.size ≡ c₀.size = ap (λ (x : CellsState). x.size) h.same in
     let at : (k : ℕ) (d : CellState) → k < length (reverse xs)
-        → (get_or (reverse xs) k d ≡ get_or xs (n - suc k) d) × (n - suc k < length xs)
-        × (n - suc (n - suc k) ≡ k) =
+    → (get_or (reverse xs) k d ≡ get_or xs (n - suc k) d) × (n - suc k < length xs)
+    × (n - suc (n - suc k) ≡ k) =
     λ k d low. (
       get_or-reverse xs k d (omega (arith, low, long, count))
           ∙ ap (λ m. get_or xs m d) {x = length xs - 1 - k} (omega (arith, count)),

@@ -136,7 +136,8 @@ impl Spot {
 
     /// The object, where there is one and its cell is at hand.
     pub fn at_home(&self) -> Option<Stored>
-        ensures { MatchOption result (is_home self.now.use_of ≡ false) (λ o. (u : UsedCell) × (self.now.use_of ≡ Some u)
+        ensures { MatchOption result (is_home self.now.use_of ≡ false) (λ o. (u : UsedCell)
+            × (self.now.use_of ≡ Some u)
             × (u.out ≡ false) × (o.handle.0 ≡ u.handle) × (o.len ≡ length u.bytes)) }
     {
         match &self.cell {
@@ -150,9 +151,11 @@ impl Spot {
         requires free { self.old.use_of ≡ None }
         requires size { length from.now.bytes ≡ self.old.size }
         requires small { self.old.size ≤ 4096 }
-        requires stored { (bytes : List ℕ) × IsStored handle.0 bytes from.now × (length bytes ≡ len) }
+        requires stored { (bytes : List ℕ) × IsStored handle.0 bytes from.now
+            × (length bytes ≡ len) }
         ensures { (bytes : List ℕ) → IsStored handle.0 bytes from.now → length bytes ≡ len
-            → (cell : CellState) × IsStored handle.0 bytes cell × IsCellAt self.old.size self.old.number cell
+            → (cell : CellState) × IsStored handle.0 bytes cell
+            × IsCellAt self.old.size self.old.number cell
             × (self.new ≡ record self.old {
               use_of = Some (record { handle = handle.0; bytes = bytes; cell = cell; out = false });
             }) }

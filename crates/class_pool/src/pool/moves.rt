@@ -1,4 +1,5 @@
-//! Compaction: an object moves from the emptiest zspage into the fullest one with room, one at a time.
+//! Compaction: an object moves from the emptiest zspage into the fullest one with room, one at a
+//! time.
 
 ghost use Rattle.std.specs.Prelude.{◌≡◌, ◌≢◌, ◌+◌, ◌<◌, ◌≤◌, ◌⊎◌, ℕ, length, Some, true, slice_set};
 ghost use Rattle.zspage.specs.Cells.{CellState, UsedCell, used_of, entry, home_of, IsStored, IsCellAt, IsLowestFree};
@@ -18,34 +19,40 @@ use crate::zspages::Zspages;
 /// What a call that moves at most one object did.
 #[derive(Clone, Copy, PartialEq, Eq, Debug)]
 pub enum Moved {
-    /// An object moved. `frames` are those of its zspage, where that became empty and was given up, else 0.
+    /// An object moved. `frames` are those of its zspage, where that became empty and was given up,
+    /// else 0.
     Moved { frames: u32 },
     /// Nothing moved.
     Done,
 }
 
 impl ClassPool {
-    /// Moves one object by the plan of compaction, and takes one off the budget. Nothing moves where the budget is 0 or
-    /// there is no plan. It takes no memory.
+    /// Moves one object by the plan of compaction, and takes one off the budget. Nothing moves
+    /// where the budget is 0 or there is no plan. It takes no memory.
     pub fn move_one(&mut self, budget: &mut u32) -> Moved
         ensures done { IfDone result ((self.new ≡ self.old) × (budget.new ≡ budget.old)
             × ((budget.old ≡ 0) ⊎ HasNoPlan self.old.per (rows self.old.zspages))) }
         ensures moved { IfMoved result (λ frames. (budget.new + 1 ≡ budget.old) × (m : Move)
-            × IsPlan self.old.per (rows self.old.zspages) m.from m.to × Moves self.old self.new m frames
+            × IsPlan self.old.per (rows self.old.zspages) m.from m.to
+            × Moves self.old self.new m frames
             × (IsSettled self.old m.object.handle → ⊥) × IsSettled self.new m.object.handle) }
         ensures list { AreSame (objects self.old) (objects self.new) }
         ensures home { (h : ℕ) → IsAtHome self.old h → IsAtHome self.new h }
-        ensures lent { (h : ℕ) (cell : CellState) → IsLent self.old h cell → IsLent self.new h cell }
-        ensures out_stays { (id ix : ℕ) (u : UsedCell) → use_at self.old.zspages id ix ≡ Some u → u.out ≡ true
+        ensures lent { (h : ℕ) (cell : CellState) → IsLent self.old h cell
+            → IsLent self.new h cell }
+        ensures out_stays { (id ix : ℕ) (u : UsedCell) → use_at self.old.zspages id ix ≡ Some u
+            → u.out ≡ true
             → use_at self.new.zspages id ix ≡ Some u }
         ensures pool { IsPool self.new }
 
-        // While nothing else touches the pool no object moves twice: the object that moved was not settled, and is now.
+        // While nothing else touches the pool no object moves twice: the object that moved was not
+        // settled, and is now.
         ensures settled { (h : ℕ) → IsSettled self.old h → IsSettled self.new h }
 
         // Calls move no more objects than there are, and at last nothing may move.
         ensures most { (n : ℕ) × MayMove self.old n × (n ≤ length (objects self.old)) }
-        ensures fewer { IfMoved result (λ frames. (n k : ℕ) → MayMove self.old n → MayMove self.new k → k < n) }
+        ensures fewer { IfMoved result (λ frames. (n k : ℕ) → MayMove self.old n
+            → MayMove self.new k → k < n) }
         ensures rest { IfDone result (1 ≤ budget.old → MayMove self.old 0) }
         ensures none { MayMove self.old 0 → IfMoved result (λ frames. ⊥) }
         ensures least { MayMove self.new 0 → IsNothingOut self.new → IsLeast self.new }
@@ -62,14 +69,16 @@ impl ClassPool {
     }
 }
 
-/// Moves the object in the lowest used cell at home of a zspage into the lowest free cell of another one. Gives the
-/// frames of the first one where it was given up, else 0.
+/// Moves the object in the lowest used cell at home of a zspage into the lowest free cell of
+/// another one. Gives the frames of the first one where it was given up, else 0.
 fn move_object(zspages: &mut Zspages, places: &mut Places, from: u32, to: u32) -> u32
-    requires source { (cells : Cells) × (entry zspages.old.zspages from ≡ Some cells) × (1 ≤ home_of cells) }
+    requires source { (cells : Cells) × (entry zspages.old.zspages from ≡ Some cells)
+        × (1 ≤ home_of cells) }
     requires room { HasRoom (entry zspages.old.zspages to) }
     requires apart { from ≢ to }
     requires pooled { (used : ℕ) × IsPooled used zspages.old places.old }
-    ensures pooled { (used : ℕ) → IsPooled used zspages.old places.old → IsPooled used zspages.new places.new }
+    ensures pooled { (used : ℕ) → IsPooled used zspages.old places.old
+        → IsPooled used zspages.new places.new }
     ensures moved { (class : ℕ) → (m : Move) × (m.from ≡ from) × (m.to ≡ to)
         × Moves (pool_of class zspages.old) (pool_of class zspages.new) m result }
 {
@@ -96,8 +105,14 @@ mod tests {
     use std::test::Fail;
     use zr_base::Handle;
 
-    // Adds two objects in a new zspage, while so many others fill the last one. These go away again.
-    fn beside(rt: &impl Abort, pool: &mut ClassPool, bytes: &[u8], others: u32) -> Result<(Handle, Handle), Fail>
+    // Adds two objects in a new zspage, while so many others fill the last one. These go away
+    // again.
+    fn beside(
+        rt: &impl Abort,
+        pool: &mut ClassPool,
+        bytes: &[u8],
+        others: u32,
+    ) -> Result<(Handle, Handle), Fail>
         requires { Fits (length bytes.now) pool.old.size }
         ensures first { IfOk result (λ h. IsAtHome pool.new h.0.0) }
         ensures second { IfOk result (λ h. IsAtHome pool.new h.1.0) }
@@ -121,10 +136,12 @@ mod tests {
         Ok(two)
     }
 
-    // Moves objects until none may move. Gives the moves, and the frames of the zspages that were given up.
+    // Moves objects until none may move. Gives the moves, and the frames of the zspages that were
+    // given up.
     fn compact(rt: &impl Abort, pool: &mut ClassPool) -> (u32, u32)
         ensures home { (h : ℕ) → IsAtHome pool.old h → IsAtHome pool.new h }
-        ensures lent { (h : ℕ) (cell : CellState) → IsLent pool.old h cell → IsLent pool.new h cell }
+        ensures lent { (h : ℕ) (cell : CellState) → IsLent pool.old h cell
+            → IsLent pool.new h cell }
     {
         let mut budget = pool.used();
         let mut moves = 0;
@@ -138,9 +155,9 @@ mod tests {
         (moves, sum)
     }
 
-    // The pool of class 71, with cells of 1168 bytes in chains of 2 frames with 7 cells each. So many objects stay in its
-    // first zspage and two in its second one, of which the first may be out while objects move. Gives what moved then,
-    // and what when it was back.
+    // The pool of class 71, with cells of 1168 bytes in chains of 2 frames with 7 cells each. So
+    // many objects stay in its first zspage and two in its second one, of which the first may be
+    // out while objects move. Gives what moved then, and what when it was back.
     fn moved(rt: &HostRuntime, kept: u32, pinned: bool) -> Result<((u32, u32), (u32, u32)), Fail> {
         let table = ClassTable::new(4);
         assert_eq!(rt; table.stands_as(71), 71);

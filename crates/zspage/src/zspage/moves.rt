@@ -1,4 +1,5 @@
-//! An object leaves its cell for a cell of another zspage: which one goes first, and how its bytes come over.
+//! An object leaves its cell for a cell of another zspage: which one goes first, and how its bytes
+//! come over.
 
 ghost use Rattle.std.specs.Prelude.{◌≡◌, ◌+◌, ◌<◌, ◌≤◌, ℕ, List, length, Some, false, slice_set};
 ghost use Rattle.zspage.specs.Cells.{CellState, IsStored, IsCellAt, UsedCell, used_of, home_of, IsLowestFree};
@@ -36,12 +37,14 @@ impl Zspage {
         unreachable!()
     }
 
-    /// Puts the object of another cell into the lowest free cell, and gives the cell's number. It takes no memory.
+    /// Puts the object of another cell into the lowest free cell, and gives the cell's number. It
+    /// takes no memory.
     pub fn take_copy(&mut self, handle: Handle, len: u32, from: &Cell) -> u32
         requires free { used_of self.old.cells < length self.old.cells }
         requires size { length from.now.bytes ≡ self.old.size }
         requires small { self.old.size ≤ 4096 }
-        requires stored { (bytes : List ℕ) × IsStored handle.0 bytes from.now × (length bytes ≡ len) }
+        requires stored { (bytes : List ℕ) × IsStored handle.0 bytes from.now
+            × (length bytes ≡ len) }
         ensures lowest { IsLowestFree self.old.cells result }
         ensures used { used_of self.new.cells ≡ used_of self.old.cells + 1 }
         ensures after { (bytes : List ℕ) → IsStored handle.0 bytes from.now → length bytes ≡ len

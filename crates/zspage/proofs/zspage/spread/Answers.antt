@@ -28,8 +28,12 @@ returns c =
     let had = c.loop-cell.invariant.spread in
     let none = gone (goal.at.returns c).After-reverse in
     let left = none_left c.pop.new.self.cells
-    (omega (arith, ap length c.in_default.ensures.cells, ap length none,
-        length-append c.pop.new.self.cells [])) in
+    (omega (
+      arith,
+      ap length c.in_default.ensures.cells,
+      ap length none,
+      length-append c.pop.new.self.cells [],
+    )) in
     record {
       free = spread_free _ _ _ _ had none c.reverse.ensures.items;
       long = ap length c.reverse.ensures.items ∙ length-reverse c.loop-cell.spots.items

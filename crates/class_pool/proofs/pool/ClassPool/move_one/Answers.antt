@@ -18,15 +18,18 @@ use Rattle.class_pool.proofs.pool.ClassPool.move_one.Goals.{After-move_object-fr
 
 pub move_object-frames-requires-clause-source : goal.move_object-frames-requires-clause-source
 move_object-frames-requires-clause-source c =
-    subst (λ p. (cells : Cells) × (entry p.zspages c.in-Some.from ≡ Some cells) × (1 ≤ home_of cells))
+    subst (λ p. (cells : Cells) × (entry p.zspages c.in-Some.from ≡ Some cells)
+    × (1 ≤ home_of cells))
     (sym c.self.view_is)
-    (plan_source c.args.self.now.per c.in-Some.from c.in-Some.to c.args.self.now.zspages c.in-Some.ensures.plan)
+    (plan_source c.args.self.now.per c.in-Some.from c.in-Some.to c.args.self.now.zspages
+    c.in-Some.ensures.plan)
 
 pub move_object-frames-requires-clause-room : goal.move_object-frames-requires-clause-room
 move_object-frames-requires-clause-room c =
     plan_room c.self.inside.zspages.per c.in-Some.from c.in-Some.to c.self.inside.zspages.zspages
     c.self.invariant.fit.whole
-    (subst (λ p. IsPlan p.per (rows p.zspages) c.in-Some.from c.in-Some.to) (sym c.self.view_is) c.in-Some.ensures.plan)
+    (subst (λ p. IsPlan p.per (rows p.zspages) c.in-Some.from c.in-Some.to) (sym c.self.view_is)
+    c.in-Some.ensures.plan)
 
 pub invariant_of-self : goal.invariant_of-self
 invariant_of-self c = c.move_object-frames.ensures.pooled c.self.inside.used c.self.invariant
@@ -39,7 +42,8 @@ returns-clause-pool c =
 -- the move that was made, and its plan
 made : (c : After-move_object-frames)
     → (m : Move) × IsPlan c.args.self.now.per (rows c.args.self.now.zspages) m.from m.to
-    × Moves c.args.self.now (pool_of c.self.inside.class c.move_object-frames.new.zspages) m c.move_object-frames.result
+    × Moves c.args.self.now (pool_of c.self.inside.class c.move_object-frames.new.zspages) m
+    c.move_object-frames.result
     × GoesOn c.args.self.now.per (rows c.args.self.now.zspages) m.from m.to
 made c =
     let m = c.move_object-frames.ensures.moved c.self.inside.class in
@@ -80,14 +84,19 @@ returns-clause-none c =
     rest_no_plan _ _ m.0 _ m.2 m.1
 
 pub returns-in_default-clause-most : goal.returns-in_default-clause-most
-returns-in_default-clause-most c =
-    (0, no_plan_rest c.args.self.now c.in_default.ensures.pool c.in_default.ensures.none, omega arith)
+returns-in_default-clause-most c = (
+  0,
+  no_plan_rest c.args.self.now c.in_default.ensures.pool c.in_default.ensures.none,
+  omega arith,
+)
 
 pub returns-in_default-clause-rest : goal.returns-in_default-clause-rest
-returns-in_default-clause-rest c some = no_plan_rest c.args.self.now c.in_default.ensures.pool c.in_default.ensures.none
+returns-in_default-clause-rest c some =
+    no_plan_rest c.args.self.now c.in_default.ensures.pool c.in_default.ensures.none
 
 pub returns-then-budget-eq0-clause-most : goal.returns-then-budget-eq0-clause-most
-returns-then-budget-eq0-clause-most c = plan_rest c.args.self.now c.in-Some.from c.in-Some.to c.in-Some.ensures.plan
+returns-then-budget-eq0-clause-most c =
+    plan_rest c.args.self.now c.in-Some.from c.in-Some.to c.in-Some.ensures.plan
 
 pub returns-clause-most : goal.returns-clause-most
 returns-clause-most c = plan_rest c.args.self.now c.in-Some.from c.in-Some.to c.in-Some.ensures.plan
@@ -99,20 +108,24 @@ returns-clause-least c =
 
 pub returns-in_default-clause-least : goal.returns-in_default-clause-least
 returns-in_default-clause-least c =
-    least_zspages _ c.next_move.ensures.pool (subst (λ p. 1 ≤ p.per) c.self.view_is c.self.invariant.fit.some)
+    least_zspages _ c.next_move.ensures.pool
+    (subst (λ p. 1 ≤ p.per) c.self.view_is c.self.invariant.fit.some)
 
 pub returns-then-budget-eq0-clause-least : goal.returns-then-budget-eq0-clause-least
 returns-then-budget-eq0-clause-least c =
-    least_zspages _ c.next_move.ensures.pool (subst (λ p. 1 ≤ p.per) c.self.view_is c.self.invariant.fit.some)
+    least_zspages _ c.next_move.ensures.pool
+    (subst (λ p. 1 ≤ p.per) c.self.view_is c.self.invariant.fit.some)
 
 -- ---- what is left
 
 shift : (c : After-move_object-frames)
-    → Shifted c.self.inside.used c.self.inside.zspages c.move_object-frames.new.zspages c.self.inside.places
+    → Shifted c.self.inside.used c.self.inside.zspages c.move_object-frames.new.zspages
+    c.self.inside.places
     (c.move_object-frames.ensures.moved c.self.inside.class).0
 shift c =
     let made = c.move_object-frames.ensures.moved c.self.inside.class in
-    shifted c.self.inside.class c.self.inside.used _ _ c.self.inside.places made.0 _ c.self.invariant made.3
+    shifted c.self.inside.class c.self.inside.used _ _ c.self.inside.places made.0 _
+    c.self.invariant made.3
 
 pub returns-clause-list : goal.returns-clause-list
 returns-clause-list c f =
@@ -128,7 +141,8 @@ returns-clause-home c h among =
 pub returns-clause-lent : goal.returns-clause-lent
 returns-clause-lent c h cell among =
     let made = c.move_object-frames.ensures.moved c.self.inside.class in
-    all_lent c.self.inside.class c.self.inside.used h cell _ _ c.self.inside.places _ c.self.invariant
+    all_lent c.self.inside.class c.self.inside.used h cell _ _ c.self.inside.places _
+    c.self.invariant
     made.3.lowest.home (shift (goal.at.returns-clause-lent c).After-move_object-frames)
     (subst (λ p. IsLent p h cell) (sym c.self.view_is) among)
 

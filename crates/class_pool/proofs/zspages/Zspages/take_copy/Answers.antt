@@ -9,9 +9,11 @@ use Rattle.class_pool.proofs.zspages.Zspages.take_copy.Goals as goal
 use Rattle.class_pool.proofs.zspages.Zspages.take_copy.Goals.{In-Some}
 
 slot : (c : In-Some)
-    → IsSlot c.self.inside.size c.self.inside.chain c.self.inside.per c.self.inside.items.items c.args.id c.in-Some.zspage
+    → IsSlot c.self.inside.size c.self.inside.chain c.self.inside.per c.self.inside.items.items
+    c.args.id c.in-Some.zspage
 slot c =
-    let low = room_within _ _ (subst (λ z. HasRoom (entry z.zspages c.args.id)) (sym c.self.view_is) c.requires.room) in
+    let low = room_within _ _ (subst (λ z. HasRoom (entry z.zspages c.args.id)) (sym c.self.view_is)
+    c.requires.room) in
     slot_is _ _ _ _ _ _ _ _ _ c.self.invariant low c.index_mut-slot.ensures.value c.in-Some.is
 
 slot_size : (c : In-Some) → c.in-Some.zspage.size ≡ c.args.self.now.size
@@ -29,8 +31,10 @@ take_copy-cell-requires-clause-small c =
 pub rank-rank-requires : goal.rank-rank-requires
 rank-rank-requires c =
     let is = slot (goal.at.rank-rank-requires c).In-Some in
-    let few : c.self.inside.per ≤ 2048 = per_bound _ _ _ c.self.invariant.small c.self.invariant.few c.self.invariant.cells in
-    let after = c.take_copy-cell.ensures.after c.requires.stored.0 c.requires.stored.1 c.requires.stored.2 in
+    let few : c.self.inside.per ≤ 2048 =
+    per_bound _ _ _ c.self.invariant.small c.self.invariant.few c.self.invariant.cells in
+    let after = c.take_copy-cell.ensures.after c.requires.stored.0 c.requires.stored.1
+    c.requires.stored.2 in
     let long : length c.take_copy-cell.new.self.cells ≡ length c.in-Some.zspage.cells =
     ap (λ z. length z.cells) after.3 ∙ length-set _ _ _ in
     omega (arith, is.per_is)
@@ -38,10 +42,12 @@ rank-rank-requires c =
 pub invariant_of-self : goal.invariant_of-self
 invariant_of-self c =
     let is = slot (goal.at.invariant_of-self c).In-Some in
-    let after = c.take_copy-cell.ensures.after c.requires.stored.0 c.requires.stored.1 c.requires.stored.2 in
+    let after = c.take_copy-cell.ensures.after c.requires.stored.0 c.requires.stored.1
+    c.requires.stored.2 in
     rw (c.set.ensures, c.set-in-Some.ensures)
     (updated_ranks _ _ _ _ _ _ _ _ _ _ c.self.invariant is.low
-    (still_fits _ _ _ _ _ _ _ _ is after.3 (length-set _ _ _)) c.rank-rank.ensures c.source-source.ensures)
+    (still_fits _ _ _ _ _ _ _ _ is after.3 (length-set _ _ _)) c.rank-rank.ensures
+    c.source-source.ensures)
 
 pub returns : goal.returns
 returns c cells bytes at stored long =

@@ -14,15 +14,22 @@ returns-in-Some c bytes stored long =
     ap (λ x. x.chain) c.copy.ensures ∙ ap (λ o. (which o c.self.inside.lent.value).chain) (sym was)
     ∙ ap (λ s. s.chain) c.self.view_is in
     let number : to.number ≡ c.args.self.now.number =
-    ap (λ x. x.number) c.copy.ensures ∙ ap (λ o. (which o c.self.inside.lent.value).number) (sym was)
+    ap (λ x. x.number) c.copy.ensures
+    ∙ ap (λ o. (which o c.self.inside.lent.value).number) (sym was)
     ∙ ap (λ s. s.number) c.self.view_is in
     let size : to.size ≡ c.args.self.now.size =
     ap (λ x. x.size) c.copy.ensures ∙ ap (λ o. (which o c.self.inside.lent.value).size) (sym was)
     ∙ ap (λ s. s.size) c.self.view_is in
     let body : object_in c.args.len to.bytes ≡ bytes =
-    ap (λ n. object_in n to.bytes) (sym long) ∙ ap (object_in (length bytes)) same ∙ stored.body in (
+    ap (λ n. object_in n to.bytes) (sym long) ∙ ap (object_in (length bytes)) same
+    ∙ stored.body in (
       to,
       copied c.args.handle.0 bytes c.args.from.now to same stored,
-      record { numbered = number; sized = size; whole = ap length same ∙ c.requires.size ∙ sym size },
+      record {
+        numbered = number;
+        sized = size;
+        whole = ap length same ∙ c.requires.size
+            ∙ sym size;
+      },
       cc,
     )

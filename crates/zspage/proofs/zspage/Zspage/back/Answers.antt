@@ -28,7 +28,7 @@ away c =
 
 left : (c : After-back)
     → Leaves c.self.inside.emptied.chain c.self.inside.size c.self.inside.used
-        (c.self.inside.home + 1)
+    (c.self.inside.home + 1)
     c.self.inside.spots.items
     (set c.self.inside.spots.items c.args.ix c.back.new.self) c.self.inside.free c.args.ix
     (Some (record c.back.ensures.0 { out = false }))

@@ -15,7 +15,7 @@ low c =
 
 left : (c : After-lend-cell)
     → Leaves c.self.inside.emptied.chain c.self.inside.size c.self.inside.used
-        (c.self.inside.home - 1)
+    (c.self.inside.home - 1)
     c.self.inside.spots.items
     (set c.self.inside.spots.items c.args.ix c.lend-cell.new.self) c.self.inside.free c.args.ix
     (Some (record c.lend-cell.ensures.0 { out = true }))

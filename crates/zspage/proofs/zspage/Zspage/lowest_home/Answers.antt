@@ -14,11 +14,13 @@ loop-ix-preserved c =
     let here = entry-uses _ _ _ low c.index-spot.ensures in
     below_more (λ k. IsHome c.args.self.now.cells k → ⊥) c.loop-ix.ix c.loop-ix.invariant
     (subst (λ z. IsHome z.cells c.loop-ix.ix → ⊥) c.self.view_is
-    (not_home (uses c.self.inside.spots.items) c.loop-ix.ix (ap is_home here ∙ c.in_default.ensures)))
+    (not_home (uses c.self.inside.spots.items) c.loop-ix.ix (ap is_home here
+    ∙ c.in_default.ensures)))
 
 pub unreachable-requires : goal.unreachable-requires
 unreachable-requires c =
     let found = some_home (uses c.self.inside.spots.items)
     (subst (λ z. 1 ≤ home_of z.cells) (sym c.self.view_is) c.requires) in
     let low : found.0 < length c.self.inside.spots.items = rw length-map at found.1 in
-    c.loop-ix.invariant found.0 (omega arith) (subst (λ z. IsHome z.cells found.0) c.self.view_is found.2)
+    c.loop-ix.invariant found.0 (omega arith) (subst (λ z. IsHome z.cells found.0) c.self.view_is
+    found.2)

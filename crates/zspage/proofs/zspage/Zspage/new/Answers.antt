@@ -53,4 +53,4 @@ returns c =
     ap (made c.args.id c.args.size c.args.chain)
     (uses_free _ _ _ c.spread-spots.ensures.free
     ∙ ap (λ n. replicate {A = Option UsedCell} n None)
-        (many (goal.at.returns c).After-spread-spots))
+    (many (goal.at.returns c).After-spread-spots))

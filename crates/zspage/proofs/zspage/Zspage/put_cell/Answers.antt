@@ -31,7 +31,7 @@ there c =
 
 left : (c : After-set)
     → Leaves c.self.inside.emptied.chain c.self.inside.size (c.self.inside.used - 1)
-        (c.self.inside.home - 1)
+    (c.self.inside.home - 1)
     c.self.inside.spots.items
     (set c.self.inside.spots.items c.args.ix c.clear.new.self) c.set.new.self c.args.ix None
 left c =

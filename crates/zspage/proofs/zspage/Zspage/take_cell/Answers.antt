@@ -32,7 +32,7 @@ used c = record {
 
 left : (c : After-set)
     → Leaves c.self.inside.emptied.chain c.self.inside.size (c.self.inside.used + 1)
-        (c.self.inside.home + 1)
+    (c.self.inside.home + 1)
     c.self.inside.spots.items
     (set c.self.inside.spots.items c.winner-ix.result c.fill.new.self)
     c.set.new.self c.winner-ix.result

@@ -9,7 +9,8 @@ use Rattle.zspage.proofs.zspage.Zspage.take_copy.Goals.{After-index_mut-spot, Af
 
 -- the cell is free
 there : (c : After-index_mut-spot)
-    → (c.winner-ix.result < length c.self.inside.spots.items) × (c.index_mut-spot.result.now.use_of ≡ None)
+    → (c.winner-ix.result < length c.self.inside.spots.items)
+    × (c.index_mut-spot.result.now.use_of ≡ None)
     × IsLowestFree (uses c.self.inside.spots.items) c.winner-ix.result
 there c =
     let room : used_of (uses c.self.inside.spots.items) < length (uses c.self.inside.spots.items) =
@@ -23,12 +24,19 @@ there c =
 abbrev used : (c : After-set) (bytes : List ℕ) → IsStored c.args.handle.0 bytes c.args.from.now
     → length bytes ≡ c.args.len → UsedCell
 used c bytes stored long =
-    record { handle = c.args.handle.0; bytes = bytes; cell = (c.copy.ensures bytes stored long).0; out = false }
+    record {
+      handle = c.args.handle.0;
+      bytes = bytes;
+      cell = (c.copy.ensures bytes stored long).0;
+      out = false;
+    }
 
 left : (c : After-set) (bytes : List ℕ) (stored : IsStored c.args.handle.0 bytes c.args.from.now)
     (long : length bytes ≡ c.args.len)
-    → Leaves c.self.inside.emptied.chain c.self.inside.size (c.self.inside.used + 1) (c.self.inside.home + 1) c.self.inside.spots.items
-    (set c.self.inside.spots.items c.winner-ix.result c.copy.new.self) c.set.new.self c.winner-ix.result
+    → Leaves c.self.inside.emptied.chain c.self.inside.size (c.self.inside.used + 1)
+    (c.self.inside.home + 1) c.self.inside.spots.items
+    (set c.self.inside.spots.items c.winner-ix.result c.copy.new.self) c.set.new.self
+    c.winner-ix.result
     (Some (used c bytes stored long))
 left c bytes stored long =
     let h = there (goal.at.After-set c).After-index_mut-spot in
@@ -39,7 +47,8 @@ left c bytes stored long =
     (omega (arith, ap one_of h.1)) (omega (arith, ap one_home h.1, one_home-in u refl)))
 
 state : (c : After-set)
-    → IsZspage c.self.inside.emptied.chain c.self.inside.size (c.self.inside.used + 1) (c.self.inside.home + 1)
+    → IsZspage c.self.inside.emptied.chain c.self.inside.size (c.self.inside.used + 1)
+    (c.self.inside.home + 1)
     (set c.self.inside.spots.items c.winner-ix.result c.copy.new.self) c.set.new.self
 state c = (left c c.requires.stored.0 c.requires.stored.1 c.requires.stored.2).state
 
@@ -57,7 +66,11 @@ copy-requires-clause-size c =
 
 pub copy-requires-clause-small : goal.copy-requires-clause-small
 copy-requires-clause-small c =
-    omega (arith, c.requires.small, spot_size (goal.at.copy-requires-clause-small c).After-index_mut-spot)
+    omega (
+      arith,
+      c.requires.small,
+      spot_size (goal.at.copy-requires-clause-small c).After-index_mut-spot,
+    )
 
 pub invariant_of-self : goal.invariant_of-self
 invariant_of-self c =
@@ -87,7 +100,8 @@ returns-clause-after c bytes stored long =
         whole = copy.2.whole;
       },
       rw (← c.self.view_is)
-          (ap (made c.self.inside.id c.self.inside.size c.self.inside.frames) (left here.After-set bytes stored long).cells),
+          (ap (made c.self.inside.id c.self.inside.size c.self.inside.frames)
+          (left here.After-set bytes stored long).cells),
     )
 
 pub overflow_add-self-2 : goal.overflow_add-self-2
@@ -96,5 +110,6 @@ overflow_add-self-2 c =
     omega (
       arith,
       c.self.invariant.0.few,
-      home_less _ _ _ _ _ _ _ _ c.self.invariant.0 h.0 c.index_mut-spot.ensures.value (ap one_home h.1),
+      home_less _ _ _ _ _ _ _ _ c.self.invariant.0 h.0 c.index_mut-spot.ensures.value
+          (ap one_home h.1),
     )
