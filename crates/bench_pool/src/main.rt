@@ -108,6 +108,21 @@ fn plan(pool: &mut ClassPool, bytes: &[u8], other: Handle, times: u32) -> Result
     Ok(plans)
 }
 
+// Fills a pool with so many objects more, and empties it of them again, the last first.
+fn fill_and_empty(pool: &mut ClassPool, bytes: &[u8], objects: u32) -> Result<(), AllocError>
+    requires { Fits (length bytes.now) pool.old.size }
+    ensures size { pool.new.size ≡ pool.old.size }
+    ensures others { (h : ℕ) → IsAtHome pool.old h → IsAtHome pool.new h }
+{
+    if objects == 0 {
+        return Ok(());
+    }
+    let handle = add(pool, bytes)?;
+    fill_and_empty(pool, bytes, objects - 1)?;
+    pool.free(handle);
+    Ok(())
+}
+
 // What is measured.
 fn run(
     pool: &mut ClassPool,
@@ -115,9 +130,13 @@ fn run(
     objects: u32,
     rounds: u32,
     times: u32,
+    fills: u32,
 ) -> Result<u32, AllocError>
     requires { Fits (length bytes.now) pool.old.size }
 {
+    for _ in 0..fills {
+        fill_and_empty(pool, bytes, objects)?;
+    }
     let first = add(pool, bytes)?;
     churn(pool, bytes, objects.saturating_sub(1), rounds)?;
     plan(pool, bytes, first, times)
@@ -130,14 +149,22 @@ fn main(rt: HostRuntime) -> io::Result<()> {
     let objects = number(words.next());
     let rounds = number(words.next());
     let times = number(words.next());
+    let fills = number(words.next());
     let page = [7; 4096];
     let (stat, plans) = if 1 <= len && len <= 3256 {
         let mut pool = packed_pool(rt.alloc(), len);
-        let plans = run(&mut pool, &page[..len as usize], objects, rounds, times)?;
+        let plans = run(
+            &mut pool,
+            &page[..len as usize],
+            objects,
+            rounds,
+            times,
+            fills,
+        )?;
         (pool.stat(), plans)
     } else {
         let mut pool = huge_pool(rt.alloc());
-        let plans = run(&mut pool, &page, objects, rounds, times)?;
+        let plans = run(&mut pool, &page, objects, rounds, times, fills)?;
         (pool.stat(), plans)
     };
     println!(rt;

@@ -17,8 +17,10 @@ use Rattle.cell_arena.specs.contracts.raw.Deed as Deed
 module _ (R : RattleType) where
   slots-Keyless : IsSend R → (b o : ℕ) (cs : List (Option R.Denot)) → Keyless (slots R b o cs)
   slots-Keyless s b o [] = tt
-  slots-Keyless s b o (Some x ∷ cs) = (part_keyless R s full_share x b o,
-      slots-Keyless s b (o + type_size R) cs)
+  slots-Keyless s b o (Some x ∷ cs) = (
+    part_keyless R s full_share x b o,
+    slots-Keyless s b (o + type_size R) cs,
+  )
   slots-Keyless s b o (None ∷ cs) = (tt, slots-Keyless s b (o + type_size R) cs)
 
   slots_lent-Common : IsSync R → (b o : ℕ) (cs : List (Option R.Denot))
@@ -40,21 +42,31 @@ module _ (R : RattleType) where
   Strip-send s =
       let O = Strip.the_type R in let all : AllSend (fields O) = (search sendable, tt) in
       owning_send O all (λ d. cells-Keyless s d.at d.slots)
-          (λ k. quiet (to O) (exits_of k (fields O)) ((struct_send (shape O) all).leaving k))
+      (λ k. quiet (to O) (exits_of k (fields O)) ((struct_send (shape O) all).leaving k))
 
   pub Strip-sync : IsSync R → IsSync (Strip.the_row R)
   Strip-sync y = let O = Strip.the_type R in
-      record { shared = λ d b o κ. ((struct_sync (shape O) (search sendable, tt)).shared (to O d)
-      b o κ, cells_lent-Common y d.at d.slots κ) }
+      record {
+        shared = λ d b o κ. (
+          (struct_sync (shape O) (search sendable, tt)).shared (to O d)
+              b o κ,
+          cells_lent-Common y d.at d.slots κ,
+        );
+      }
 
   module _ (A : RattleType) (g : Ghosts A.Denot) where
     pub Deed-send : FreesAnywhere A.Denot g → IsSend (Deed.the_row R A g)
     Deed-send f =
         let O = Deed.the_type R A g in let all : AllSend (fields O) = (search sendable, tt) in
         owning_send O all (λ d. f.frees d.alloc _ d.at)
-            (λ k. quiet (to O) (exits_of k (fields O)) ((struct_send (shape O) all).leaving k))
+        (λ k. quiet (to O) (exits_of k (fields O)) ((struct_send (shape O) all).leaving k))
 
     pub Deed-sync : IsSync (Deed.the_row R A g)
     Deed-sync = let O = Deed.the_type R A g in
-        record { shared = λ d b o κ. ((struct_sync (shape O) (search sendable, tt)).shared
-        (to O d) b o κ, tt) }
+        record {
+          shared = λ d b o κ. (
+            (struct_sync (shape O) (search sendable, tt)).shared
+                (to O d) b o κ,
+            tt,
+          );
+        }

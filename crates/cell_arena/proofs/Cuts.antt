@@ -1,11 +1,11 @@
 -- A chain that is cut, cell by cell.
-use Rattle.std.proofs.Common.{◌≡◌, ℕ, zero, suc, ◌+◌, ◌*◌, ◌/◌, ◌-◌, ◌<◌, ◌≤◌, List, [], ◌∷◌, ◌++◌, length, take, drop, Some, refl, sym, ap, ◌∙◌, arith, length-append, length-take, length-drop, take_at, get_or}
+use Rattle.std.proofs.Common.{◌≡◌, ℕ, zero, suc, ◌+◌, ◌*◌, ◌/◌, ◌-◌, ◌<◌, ◌≤◌, List, [], ◌∷◌, ◌++◌, length, take, drop, Some, refl, sym, ap, ◌∙◌, arith, length-append, take_at, get_or}
 use mathlib.Core.List.{map}
 use Rattle.std.specs.Prelude.{Option}
-use Rattle.std.proofs.Math.Nat.{div-mul-le_self, le-div_iff_mul-le}
-use Rattle.std.proofs.lemmas.List.{take-map, drop-map, drop-drop, length-map, map-append, take-append-drop, get_or-append_right}
+use Rattle.std.proofs.Math.Nat.{le-div_iff_mul-le}
+use Rattle.std.proofs.lemmas.List.{take-map, drop-map, drop-drop, map-append, take-append-drop, get_or-append_right}
 use denote.RawPtr.{Ptr, block_ptr, null_ptr, ◌+ₚ◌}
-use Rattle.cell_arena.specs.Chains.{CellState, cell_of, cells_of, per}
+use Rattle.cell_arena.specs.Chains.{CellState, cell_of, cells_of}
 
 pub moved_on : (p : Ptr) (a b : ℕ) → p +ₚ a +ₚ b ≡ p +ₚ (a + b)
 moved_on (block_ptr x o) a b = ap (λ k. block_ptr x k) (omega arith)
@@ -19,7 +19,7 @@ moved_none null_ptr = refl
 pub cell_fits : (n a s : ℕ) → 0 < s → n < a / s → n * s + s ≤ a
 cell_fits n a s some lt =
     let up : suc n * s ≤ a = (le-div_iff_mul-le {k = s} {x = suc n} {y = a} some).0 (omega arith)
-        in omega (arith, up, native.Mathlib.Nat.suc-mul n s)
+    in omega (arith, up, native.Mathlib.Nat.suc-mul n s)
 
 pub length-cells_of : (c : Ptr) (s : ℕ) (bs : List ℕ) (n : ℕ) → length (cells_of c s bs n) ≡ n
 length-cells_of c s bs zero = refl
@@ -43,7 +43,7 @@ pub regrown : (bs : List ℕ) (at s : ℕ) (xs ys : List (Option ℕ))
 regrown bs at s xs ys ex ey =
     let d = drop at bs in
     ap (λ l. l ++ ys) ex ∙ ap (λ l. map Some (take s d) ++ l) ey
-        ∙ sym (map-append Some (take s d) (drop (at + s) bs))
+    ∙ sym (map-append Some (take s d) (drop (at + s) bs))
     ∙ ap (λ l. map Some l) (ap (λ l. take s d ++ l) (sym (drop-drop s at bs))
     ∙ take-append-drop s d)
 
@@ -53,7 +53,7 @@ pub popped : (c : Ptr) (s : ℕ) (bs : List ℕ) (all rest : List CellState) (x 
     → (rest ≡ cells_of c s bs (length rest)) × (x ≡ cell_of c s bs (length rest))
 popped c s bs all rest x are is =
     let m : ℕ = length rest in let here : List CellState = cells_of c s bs m in
-        let y : CellState = cell_of c s bs m in
+    let y : CellState = cell_of c s bs m in
     let n : length all ≡ suc m = ap length is ∙ omega (arith, length-append rest (x ∷ [])) in
     let same : rest ++ x ∷ [] ≡ here ++ y ∷ [] = sym is ∙ are ∙ ap (λ k. cells_of c s bs k) n in
     let none : m - m ≡ 0 = omega arith in (

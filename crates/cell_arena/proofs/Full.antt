@@ -1,5 +1,5 @@
 -- Runs of places that all hold a value.
-use Rattle.std.proofs.Common.{◌≡◌, ℕ, ◌+◌, ◌-◌, ◌≤◌, List, [], ◌∷◌, ◌++◌, length, take, drop, Some, refl, sym, ap, ◌∙◌, arith, take_at, length-append, length-take, length-drop}
+use Rattle.std.proofs.Common.{◌≡◌, ℕ, ◌+◌, ◌≤◌, List, [], ◌∷◌, ◌++◌, length, take, drop, Some, refl, sym, ap, ◌∙◌, arith, take_at, length-append, length-take, length-drop}
 use mathlib.Core.List.{map}
 use Rattle.std.specs.Prelude.{Option}
 use Rattle.std.specs.List.{refill}
@@ -39,7 +39,7 @@ pub seen_whole : (cs : List (Option ℕ)) (n : ℕ) (xs : List ℕ) → IsFull c
     → take n (drop 0 cs) ≡ map Some xs → xs ≡ somes cs
 seen_whole cs n xs full long e =
     sym (somes-map xs) ∙ ap somes (sym e) ∙ ap (λ k. somes (take k cs)) (sym long)
-        ∙ ap somes (take_whole cs) where
+    ∙ ap somes (take_whole cs) where
       take_whole : (l : List (Option ℕ)) → take (length l) l ≡ l
       take_whole [] = refl
       take_whole (x ∷ l) = ap (λ m. x ∷ m) (take_whole l)
@@ -47,17 +47,17 @@ seen_whole cs n xs full long e =
 -- places that are written
 pub written : (cs : List (Option ℕ)) (at len : ℕ) (ws : List ℕ) → IsFull cs → length ws ≡ len
     → spliced cs at len (refill len (somes (take len (drop at cs))) ws) ≡ map Some
-        (take at (somes cs) ++ ws ++ drop (at + len) (somes cs))
+    (take at (somes cs) ++ ws ++ drop (at + len) (somes cs))
 written cs at len ws full long =
     let old = somes (take len (drop at cs)) in
     ap (λ l. take at cs ++ (map Some l ++ drop (at + len) cs))
-        (take_at ws (drop (length ws) old) len long)
+    (take_at ws (drop (length ws) old) len long)
     ∙ ap (λ l. l ++ (map Some ws ++ drop (at + len) cs)) (full_take cs at full)
     ∙ ap (λ l. map Some (take at (somes cs)) ++ (map Some ws ++ l)) (full_drop cs (at + len) full)
     ∙ sym (map-append Some (take at (somes cs) ++ ws) (drop (at + len) (somes cs))
     ∙ ap (λ l. l ++ map Some (drop (at + len) (somes cs))) (map-append Some (take at (somes cs)) ws)
     ∙ append_assoc (map Some (take at (somes cs))) (map Some ws)
-        (map Some (drop (at + len) (somes cs))))
+    (map Some (drop (at + len) (somes cs))))
 
 pub length-written : (cs : List (Option ℕ)) (at len : ℕ) (ws : List ℕ) → IsFull cs
     → length ws ≡ len → at + len ≤ length cs
@@ -65,7 +65,12 @@ pub length-written : (cs : List (Option ℕ)) (at len : ℕ) (ws : List ℕ) →
 length-written cs at len ws full long le =
     let bs = somes cs in
     ap length (written cs at len ws full long)
-        ∙ length-map (take at bs ++ ws ++ drop (at + len) bs) Some
-    ∙ omega (arith, length-append (take at bs ++ ws) (drop (at + len) bs),
-        length-append (take at bs) ws, length-take at bs, length-drop (at + len) bs,
-        length-somes cs full)
+    ∙ length-map (take at bs ++ ws ++ drop (at + len) bs) Some
+    ∙ omega (
+      arith,
+      length-append (take at bs ++ ws) (drop (at + len) bs),
+      length-append (take at bs) ws,
+      length-take at bs,
+      length-drop (at + len) bs,
+      length-somes cs full,
+    )

@@ -13,12 +13,11 @@ use seplogic.Ra.Ura.{Ura}
 use base.Fraction.{full_share}
 use mir.Syntax.{Ty, ty_array}
 use mir.Val.{Val, vstruct, vcons, vnil, of_list}
-use base.Logic.{SProp, ent, sep, emp, ex, guard, via, snd∗, id⊢, mono_r}
+use base.Logic.{ent, sep, emp, ex, guard, via, snd∗, id⊢, mono_r}
 use base.Fml.{Fml, Lft, ftrue, fsep, fat, froom}
 use types.Logic.{Logic, sem}
 use types.SemTy.{cells}
-use contract.Monad.{fact, fact_i}
-use types.Kit.{given, learn, Item, Goal, Seq, Step, step, prop, ‵, raw, some, ◌⊛◌, ◌$◌, ◌∵◌, !, qed, by, move, keep, drop as skip, use0, use1, use2, pick, split, check, show, frame, fsplit, fjoin, fpick, fpack, feq_i, feq_l, rewrite, done}
+use types.Kit.{given, learn, Item, Goal, Seq, Step, step, ‵, some, ◌⊛◌, ◌$◌, ◌∵◌, !, qed, by, move, keep, drop as skip, use1, use2, pick, split, check, show, frame, fsplit, fjoin, fpick, fpack, feq_i, feq_l, rewrite, done}
 use denote.RattleType.{RattleType, Valss}
 use denote.Laws.{Typed, Is, shows}
 use denote.Param.{param, layout}
@@ -83,9 +82,9 @@ module _ {M : Type 1} {𝓤 : Ura M} {𝓛 : Logic 𝓤} {K : Type 0} {Γ : List
   pub word_made : K → (c : Ptr) → Step K 𝓛 (‵ (Word.own_val (c, tt) (word c ∷ [])) ∷ Γ) G Γ G
   word_made t c = step (λ s.
       nothing t $ feq_i t (List Val) (ptr_val c ∷ []) (ptr_val c ∷ []) refl $ fjoin t $
-          feq_i t (List Val) (word c ∷ []) (word c ∷ []) refl $ fjoin t $
+      feq_i t (List Val) (word c ∷ []) (word c ∷ []) refl $ fjoin t $
       fpack t (Valss (RawPtr ∷ [])) (within one_field (c, tt) (word c ∷ [])) (ptr_val c ∷ [], tt)
-          $ s)
+      $ s)
 
   pub mark_had : K → (E : El) (vs : List Val) → (vs ≡ mark ∷ [] → Seq K 𝓛 Γ G)
       → Seq K 𝓛 (‵ ((Mark E).own_val (tt, tt) vs) ∷ Γ) G
@@ -102,12 +101,12 @@ module _ (i : ℕ) (Y : RattleType) (L : Laws Y) {M : Type 1} {𝓤 : Ura M} (�
       (sep 𝓤 (H.at full_share (layout Y) b o v) (sem 𝓛 (Y.own_val x (v ∷ []))))))
   value_out x b o = qed 𝓛 (‵ (part_at (param i Y) full_share x b o) ∷ []) ∵
       use1 𝓛 (some (λ (v : Val). ‵ (fat full_share (layout Y) b o v) ⊛ ‵ (Y.own_val x (v ∷ []))))
-          (part_out 𝓛 (param i Y) refl full_share x b o) $ pick ! (λ v. split ! $ move ! (1 ∷ []) $
+      (part_out 𝓛 (param i Y) refl full_share x b o) $ pick ! (λ v. split ! $ move ! (1 ∷ []) $
       peeks ! (param i Y) (Is (param i Y)) (shows 𝓛 (param i Y)) x (v ∷ []) (λ p.
       show ! (λ (w : Val). guard 𝓤 (Good (layout Y) w)
-          (sep 𝓤 (H.at full_share (layout Y) b o w) (sem 𝓛 (Y.own_val x (w ∷ []))))) v $
-          check ! (((param_laws i Y L).lawful 𝓛).typed x (v ∷ []) p).0 $ move ! (1 ∷ 0 ∷ []) $
-          done !))
+      (sep 𝓤 (H.at full_share (layout Y) b o w) (sem 𝓛 (Y.own_val x (w ∷ []))))) v $
+      check ! (((param_laws i Y L).lawful 𝓛).typed x (v ∷ []) p).0 $ move ! (1 ∷ 0 ∷ []) $
+      done !))
 
   pub value_in : (x : Y.Denot) (b o : ℕ) (v : Val)
       → ent 𝓤 (sep 𝓤 (H.at full_share (layout Y) b o v) (sem 𝓛 (Y.own_val x (v ∷ []))))
@@ -120,15 +119,15 @@ three_val u v w = vstruct (vcons u (vcons v (vcons w vnil)))
 pub three_of : {M : Type 1} {𝓤 : Ura M} (𝓛 : Logic 𝓤) (R S T : RattleType) (x : R.Denot)
     (y : S.Denot) (z : T.Denot) (u v w : Val)
     → ent 𝓤 (sep 𝓤 (sem 𝓛 (R.own_val x (u ∷ [])))
-        (sep 𝓤 (sem 𝓛 (S.own_val y (v ∷ []))) (sem 𝓛 (T.own_val z (w ∷ [])))))
-        (sem 𝓛 ((Tuple (R ∷ S ∷ T ∷ [])).own_val (x, y, z) (three_val u v w ∷ [])))
+    (sep 𝓤 (sem 𝓛 (S.own_val y (v ∷ []))) (sem 𝓛 (T.own_val z (w ∷ [])))))
+    (sem 𝓛 ((Tuple (R ∷ S ∷ T ∷ [])).own_val (x, y, z) (three_val u v w ∷ [])))
 three_of 𝓛 R S T x y z u v w =
     qed 𝓛 (‵ (R.own_val x (u ∷ [])) ∷ ‵ (S.own_val y (v ∷ [])) ∷ ‵ (T.own_val z (w ∷ [])) ∷ []) ∵
-        nothing ! $ move ! (3 ∷ 0 ∷ []) $ fjoin ! $ move ! (2 ∷ 0 ∷ []) $ fjoin ! $
-        move ! (1 ∷ 0 ∷ []) $ fjoin ! $
+    nothing ! $ move ! (3 ∷ 0 ∷ []) $ fjoin ! $ move ! (2 ∷ 0 ∷ []) $ fjoin ! $
+    move ! (1 ∷ 0 ∷ []) $ fjoin ! $
     feq_i ! (List Val) (three_val u v w ∷ []) (three_val u v w ∷ []) refl $ fjoin ! $
     fpack ! (Valss (R ∷ S ∷ T ∷ [])) (within (Declared.shape (tuple_type (R ∷ S ∷ T ∷ [])))
-        (x, (y, (z, tt))) (three_val u v w ∷ [])) (u ∷ [], (v ∷ [], (w ∷ [], tt))) $ done !
+    (x, (y, (z, tt))) (three_val u v w ∷ [])) (u ∷ [], (v ∷ [], (w ∷ [], tt))) $ done !
 
 alone : (τ : Ty) (vs : List Val) → Typed (τ ∷ []) vs → (v : Val) × ((vs ≡ v ∷ []) × Good τ v)
 alone τ [] t = absurd t
@@ -163,8 +162,8 @@ module _ (E : El) {M : Type 1} {𝓤 : Ura M} (𝓛 : Logic 𝓤) (b : ℕ) wher
   cut (x ∷ xs) ys o at e = let more : at ≡ suc (length xs) * s + o = e in
       qed 𝓛 (‵ (Row o (x ∷ xs ++ ys)) ∷ []) ∵ fsplit ! $ move ! (1 ∷ []) $
       use1 𝓛 (‵ (Row (o + s) xs) ⊛ ‵ (Row at ys))
-          (cut xs ys (o + s) at (omega (arith, suc-mul (length xs) s))) $ split ! $
-          move ! (2 ∷ 0 ∷ []) $ fjoin ! $ done !
+      (cut xs ys (o + s) at (omega (arith, suc-mul (length xs) s))) $ split ! $
+      move ! (2 ∷ 0 ∷ []) $ fjoin ! $ done !
 
   pub glue : (xs ys : List (Place E)) (o at : ℕ) → at ≡ length xs * s + o
       → ent 𝓤 (sep 𝓤 (sem 𝓛 (Row o xs)) (sem 𝓛 (Row at ys))) (sem 𝓛 (Row o (xs ++ ys)))
@@ -173,7 +172,7 @@ module _ (E : El) {M : Type 1} {𝓤 : Ura M} (𝓛 : Logic 𝓤) (b : ℕ) wher
   glue (x ∷ xs) ys o at e = let more : at ≡ suc (length xs) * s + o = e in
       qed 𝓛 (‵ (Row o (x ∷ xs)) ∷ ‵ (Row at ys) ∷ []) ∵ fsplit ! $ move ! (1 ∷ 2 ∷ []) $
       use2 𝓛 (‵ (Row (o + s) (xs ++ ys))) (glue xs ys (o + s) at
-          (omega (arith, suc-mul (length xs) s))) $ move ! (1 ∷ 0 ∷ []) $ fjoin ! $ done !
+      (omega (arith, suc-mul (length xs) s))) $ move ! (1 ∷ 0 ∷ []) $ fjoin ! $ done !
 
   module _ (o : ℕ) (cs : List (Place E)) (i : ℕ) where
     -- the places but for the i-th
@@ -188,12 +187,12 @@ module _ (E : El) {M : Type 1} {𝓤 : Ura M} (𝓛 : Logic 𝓤) (b : ℕ) wher
         (sep 𝓤 (sem 𝓛 (slot (R E) b (i * s + o) (get_or cs i None))) (sem 𝓛 Besides))
     slot_out lt = qed 𝓛 (‵ (Row o cs) ∷ []) ∵
         rewrite ! 0 (λ (l : List (Place E)). ‵ (Row o l))
-            (sym (take-append-drop i cs) ∙ ap (λ l. take i cs ++ l) (drop-cons cs i None lt)) refl $
+        (sym (take-append-drop i cs) ∙ ap (λ l. take i cs ++ l) (drop-cons cs i None lt)) refl $
         use1 𝓛 (‵ (Row o (take i cs)) ⊛ ‵ (Row (i * s + o) (get_or cs i None ∷ drop (suc i) cs)))
-            (cut (take i cs) (get_or cs i None ∷ drop (suc i) cs) o (i * s + o)
-            (before (omega arith))) $
+        (cut (take i cs) (get_or cs i None ∷ drop (suc i) cs) o (i * s + o)
+        (before (omega arith))) $
         split ! $ move ! (1 ∷ []) $ fsplit ! $ move ! (2 ∷ 1 ∷ []) $ fjoin ! $ move ! (1 ∷ []) $
-            done !
+        done !
 
     pub slot_in : i < length cs → (c : Place E)
         → ent 𝓤 (sep 𝓤 (sem 𝓛 (slot (R E) b (i * s + o) c)) (sem 𝓛 Besides))
@@ -201,7 +200,7 @@ module _ (E : El) {M : Type 1} {𝓤 : Ura M} (𝓛 : Logic 𝓤) (b : ℕ) wher
     slot_in lt c = qed 𝓛 (‵ (slot (R E) b (i * s + o) c) ∷ ‵ Besides ∷ []) ∵ move ! (1 ∷ []) $
         fsplit ! $ move ! (2 ∷ 1 ∷ []) $ fjoin ! $ move ! (1 ∷ 0 ∷ []) $
         use2 𝓛 (‵ (Row o (take i cs ++ c ∷ drop (suc i) cs)))
-            (glue (take i cs) (c ∷ drop (suc i) cs) o (i * s + o) (before (omega arith))) $
+        (glue (take i cs) (c ∷ drop (suc i) cs) o (i * s + o) (before (omega arith))) $
         rewrite ! 0 (λ (l : List (Place E)). ‵ (Row o l)) (sym (set_split cs i c lt)) refl $ done !
 
     module _ (n : ℕ) where
@@ -213,27 +212,27 @@ module _ (E : El) {M : Type 1} {𝓤 : Ura M} (𝓛 : Logic 𝓤) (b : ℕ) wher
           (sep 𝓤 (sem 𝓛 (Row (i * s + o) (take n (drop i cs)))) (sem 𝓛 Around))
       run_out le =
           let run = take n (drop i cs) in let long : n ≡ length run =
-              omega (arith, length-take n (drop i cs), length-drop i cs) in
+          omega (arith, length-take n (drop i cs), length-drop i cs) in
           qed 𝓛 (‵ (Row o cs) ∷ []) ∵
           rewrite ! 0 (λ (l : List (Place E)). ‵ (Row o l))
-              (sym (take-append-drop i cs) ∙ ap (λ l. take i cs ++ l)
-              (sym (take-append-drop n (drop i cs)) ∙ ap (λ l. run ++ l) (drop-drop n i cs))) refl $
+          (sym (take-append-drop i cs) ∙ ap (λ l. take i cs ++ l)
+          (sym (take-append-drop n (drop i cs)) ∙ ap (λ l. run ++ l) (drop-drop n i cs))) refl $
           use1 𝓛 (‵ (Row o (take i cs)) ⊛ ‵ (Row (i * s + o) (run ++ drop (i + n) cs)))
-              (cut (take i cs) (run ++ drop (i + n) cs) o (i * s + o) (before (omega arith))) $
-              split ! $ move ! (1 ∷ []) $
+          (cut (take i cs) (run ++ drop (i + n) cs) o (i * s + o) (before (omega arith))) $
+          split ! $ move ! (1 ∷ []) $
           use1 𝓛 (‵ (Row (i * s + o) run) ⊛ ‵ (Row (n * s + (i * s + o)) (drop (i + n) cs)))
-              (cut run (drop (i + n) cs) (i * s + o) (n * s + (i * s + o))
-              (ap (λ k. k * s + (i * s + o)) long)) $
+          (cut run (drop (i + n) cs) (i * s + o) (n * s + (i * s + o))
+          (ap (λ k. k * s + (i * s + o)) long)) $
           split ! $ move ! (2 ∷ 1 ∷ []) $ fjoin ! $ move ! (1 ∷ []) $ done !
 
       pub run_in : i + n ≤ length cs → (ws : List (Place E)) → n ≡ length ws
           → ent 𝓤 (sep 𝓤 (sem 𝓛 (Row (i * s + o) ws)) (sem 𝓛 Around))
-              (sem 𝓛 (Row o (take i cs ++ (ws ++ drop (i + n) cs))))
+          (sem 𝓛 (Row o (take i cs ++ (ws ++ drop (i + n) cs))))
       run_in le ws long = qed 𝓛 (‵ (Row (i * s + o) ws) ∷ ‵ Around ∷ []) ∵ move ! (1 ∷ []) $
           fsplit ! $ move ! (2 ∷ 1 ∷ []) $
           use2 𝓛 (‵ (Row (i * s + o) (ws ++ drop (i + n) cs)))
-              (glue ws (drop (i + n) cs) (i * s + o) (n * s + (i * s + o))
-              (ap (λ k. k * s + (i * s + o)) long)) $ move ! (1 ∷ 0 ∷ []) $
+          (glue ws (drop (i + n) cs) (i * s + o) (n * s + (i * s + o))
+          (ap (λ k. k * s + (i * s + o)) long)) $ move ! (1 ∷ 0 ∷ []) $
           by ! (glue (take i cs) (ws ++ drop (i + n) cs) o (i * s + o) (before (omega arith)))
 
   pub to_cells : (xs : List (el_x E)) (o : ℕ)
@@ -251,9 +250,9 @@ module _ (E : El) {M : Type 1} {𝓤 : Ura M} (𝓛 : Logic 𝓤) (b : ℕ) wher
   of_room zero o = qed 𝓛 (‵ (froom (ty_array (elτ E) 0) b o) ∷ []) ∵ keep ! [] $ done !
   of_room (suc n) o = qed 𝓛 (‵ (froom (ty_array (elτ E) (suc n)) b o) ∷ []) ∵
       use1 𝓛 (‵ (froom (elτ E) b o) ⊛ ‵ (froom (ty_array (elτ E) n) b (o + s)))
-          (𝓛.laws.room_uncons (elτ E) n b o) $ split ! $
+      (𝓛.laws.room_uncons (elτ E) n b o) $ split ! $
       use1 𝓛 (‵ (slot (R E) b o None)) (𝓛.laws.room-raw (elτ E) b o) $ frame ! $
-          by ! (of_room n (o + s))
+      by ! (of_room n (o + s))
 
   pub to_room : (n o : ℕ) → ent 𝓤 (sem 𝓛 (Row o (replicate n None)))
       (H.room (ty_array (elτ E) n) b o)
@@ -261,7 +260,7 @@ module _ (E : El) {M : Type 1} {𝓤 : Ura M} (𝓛 : Logic 𝓤) (b : ℕ) wher
   to_room (suc n) o = qed 𝓛 (‵ (slot (R E) b o None) ∷ ‵ (Row (o + s) (replicate n None)) ∷ []) ∵
       use1 𝓛 (‵ (froom (elτ E) b o)) (𝓛.laws.raw-room (elτ E) b o) $ move ! (1 ∷ []) $
       use1 𝓛 (‵ (froom (ty_array (elτ E) n) b (o + s))) (to_room n (o + s)) $ move ! (1 ∷ []) $
-          by ! (𝓛.laws.room_cons (elτ E) n b o)
+      by ! (𝓛.laws.room_cons (elτ E) n b o)
 
   -- whatever the places hold, they are room again
   pub vacates : (cs : List (Place E)) (o : ℕ)
@@ -270,11 +269,11 @@ module _ (E : El) {M : Type 1} {𝓤 : Ura M} (𝓛 : Logic 𝓤) (b : ℕ) wher
   vacates (None ∷ cs) o = mono_r 𝓤 (sem 𝓛 (slot (R E) b o None)) (vacates cs (o + s))
   vacates (Some x ∷ cs) o = qed 𝓛 (‵ (slot (R E) b o (Some x)) ∷ ‵ (Row (o + s) cs) ∷ []) ∵
       use1 𝓛 (some (λ (v : Val). given (Good (elτ E) v)
-          (‵ (fat full_share (elτ E) b o v) ⊛ ‵ (E.row.own_val x (v ∷ [])))))
-          (value_out 0 E.row E.laws 𝓛 x b o) $
+      (‵ (fat full_share (elτ E) b o v) ⊛ ‵ (E.row.own_val x (v ∷ [])))))
+      (value_out 0 E.row E.laws 𝓛 x b o) $
       pick ! (λ v. learn ! (λ good. split ! $
       use1 𝓛 (‵ (froom (elτ E) b o)) (𝓛.laws.at_room (elτ E) b o v) $
-          use1 𝓛 (‵ (slot (R E) b o None)) (𝓛.laws.room-raw (elτ E) b o) $
+      use1 𝓛 (‵ (slot (R E) b o None)) (𝓛.laws.room-raw (elτ E) b o) $
       keep ! (0 ∷ 2 ∷ []) $ frame ! $ by ! (vacates cs (o + s))))
 
   module _ (κ : Lft) where
@@ -288,8 +287,8 @@ module _ (E : El) {M : Type 1} {𝓤 : Ura M} (𝓛 : Logic 𝓤) (b : ℕ) wher
     from_on [] (suc i) o at le e = absurd (omega arith)
     from_on (c ∷ cs) (suc i) o at le e =
         via 𝓤 (sem 𝓛 (Seen (o + s) cs)) (snd∗ 𝓤 (sem 𝓛 (slot_lent (R E) b o c κ))
-            (sem 𝓛 (Seen (o + s) cs))) (from_on cs i (o + s) at (omega arith)
-            (omega (arith, suc-mul i s)))
+        (sem 𝓛 (Seen (o + s) cs))) (from_on cs i (o + s) at (omega arith)
+        (omega (arith, suc-mul i s)))
 
     up_to : (xs : List (el_x E)) (rest : List (Place E)) (o : ℕ)
         → ent 𝓤 (sem 𝓛 (Seen o (map Some xs ++ rest))) (sem 𝓛 (elements_shared (R E) xs b o κ))
@@ -303,5 +302,5 @@ module _ (E : El) {M : Type 1} {𝓤 : Ura M} (𝓛 : Logic 𝓤) (b : ℕ) wher
     run_seen o cs i n xs le e = qed 𝓛 (‵ (Seen o cs) ∷ []) ∵
         use1 𝓛 (‵ (Seen (i * s + o) (drop i cs))) (from_on cs i o (i * s + o) le refl) $
         rewrite ! 0 (λ (l : List (Place E)). ‵ (Seen (i * s + o) l))
-            (sym (take-append-drop n (drop i cs)) ∙ ap (λ l. l ++ drop n (drop i cs)) e) refl $
-            by ! (up_to xs (drop n (drop i cs)) (i * s + o))
+        (sym (take-append-drop n (drop i cs)) ∙ ap (λ l. l ++ drop n (drop i cs)) e) refl $
+        by ! (up_to xs (drop n (drop i cs)) (i * s + o))

@@ -40,8 +40,8 @@ module _ {M : Type 1} {𝓤 : Ura M} (𝓛 : Logic 𝓤) (l : Lft) (R : RattleTy
   Lends-slots b o [] = Lends-nothing 𝓛 ftrue l
   Lends-slots b o (c ∷ cs) =
       Lends-both 𝓛 (slot R b o c) (slots R b (o + type_size R) cs) (slot_lent R b o c)
-          (slots_lent R b (o + type_size R) cs) l (Lends-slot b o c)
-          (Lends-slots b (o + type_size R) cs)
+      (slots_lent R b (o + type_size R) cs) l (Lends-slot b o c)
+      (Lends-slots b (o + type_size R) cs)
 
   pub Lends-cells : (p : Ptr) (cs : List (Option R.Denot))
       → Lends 𝓛 (cells_own R p cs) (cells_lent R p cs) l

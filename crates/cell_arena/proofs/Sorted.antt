@@ -1,5 +1,5 @@
 -- The cells of a chain in any order, once they are sorted by their numbers.
-use Rattle.std.proofs.Common.{◌≡◌, ℕ, zero, suc, ◌+◌, ◌-◌, ◌<◌, ◌≤◌, ◌⊎◌, inl, inr, List, [], ◌∷◌, ◌++◌, length, get_or, refl, sym, ap, ◌∙◌, arith, length-append, min, Bool, true, false, nat_lt, if◌then◌else◌, subst}
+use Rattle.std.proofs.Common.{◌≡◌, ℕ, zero, suc, ◌-◌, ◌<◌, ◌≤◌, ◌⊎◌, inl, inr, List, [], ◌∷◌, length, get_or, sym, ap, ◌∙◌, arith, min, nat_lt, if◌then◌else◌, subst}
 use Rattle.std.specs.List.{All, sum_by}
 use Rattle.std.specs.List.Sorted.{IsPermutation, IsNonDecreasingBy}
 use Rattle.std.proofs.lemmas.List.{same_lists, get_or_append_left, get_or-append_right}
@@ -39,16 +39,24 @@ place_low [] up i k d lt low = omega arith
 place_low (y ∷ ys) up zero k d lt low = omega (arith, sum_by-cons (below k) y ys, below_yes k y low)
 place_low (y ∷ ys) up (suc i) k d lt low =
     let first : y.number ≤ (get_or ys i d).number = up 0 (suc i) d (omega arith) lt in
-    omega (arith, sum_by-cons (below k) y ys, below_yes k y (omega arith),
-        place_low ys (tail_sorted y ys up) i k d (omega arith) low)
+    omega (
+      arith,
+      sum_by-cons (below k) y ys,
+      below_yes k y (omega arith),
+      place_low ys (tail_sorted y ys up) i k d (omega arith) low,
+    )
 
 none : (y : CellState) (ys : List CellState) (k : ℕ) → Sorted (y ∷ ys) → k ≤ y.number
     → counted k (y ∷ ys) ≡ 0
 none y [] k up high = omega (arith, sum_by-cons (below k) y [], below_no k y high)
 none y (z ∷ ys) k up high =
     let next : y.number ≤ z.number = up 0 1 y (omega arith) (omega arith) in
-    omega (arith, sum_by-cons (below k) y (z ∷ ys), below_no k y high,
-        none z ys k (tail_sorted y (z ∷ ys) up) (omega arith))
+    omega (
+      arith,
+      sum_by-cons (below k) y (z ∷ ys),
+      below_no k y high,
+      none z ys k (tail_sorted y (z ∷ ys) up) (omega arith),
+    )
 
 below_one : (k : ℕ) (x : CellState) → below k x ≤ 1
 below_one k x = elim (low_or_high x.number k)
@@ -60,18 +68,24 @@ place_high : (ys : List CellState) → Sorted ys → (i k : ℕ) (d : CellState)
 place_high [] up i k d lt high = omega arith
 place_high (y ∷ ys) up zero k d lt high = omega (arith, none y ys k up high)
 place_high (y ∷ ys) up (suc i) k d lt high =
-    omega (arith, sum_by-cons (below k) y ys, below_one k y,
-        place_high ys (tail_sorted y ys up) i k d (omega arith) high)
+    omega (
+      arith,
+      sum_by-cons (below k) y ys,
+      below_one k y,
+      place_high ys (tail_sorted y ys up) i k d (omega arith) high,
+    )
 
 module _ (c : Ptr) (s : ℕ) (bs : List ℕ) where
   counts : (k n : ℕ) → counted k (cells_of c s bs n) ≡ min k n
   counts k zero = omega arith
   counts k (suc n) =
       let x : CellState = cell_of c s bs n in
-          let all = sum_by-append (below k) (cells_of c s bs n) (x ∷ []) in
-          let one = sum_by-cons (below k) x [] in
-      elim (low_or_high n k) [ inl lt ↦ omega (arith, all, one, below_yes k x lt, counts k n)
-          | inr le ↦ omega (arith, all, one, below_no k x le, counts k n) ]
+      let all = sum_by-append (below k) (cells_of c s bs n) (x ∷ []) in
+      let one = sum_by-cons (below k) x [] in
+      elim (low_or_high n k) [
+        | inl lt ↦ omega (arith, all, one, below_yes k x lt, counts k n)
+        | inr le ↦ omega (arith, all, one, below_no k x le, counts k n)
+      ]
 
   pub get_or-cells_of : (n i : ℕ) (d : CellState) → i < n
       → get_or (cells_of c s bs n) i d ≡ cell_of c s bs i
@@ -85,14 +99,14 @@ module _ (c : Ptr) (s : ℕ) (bs : List ℕ) where
             let same : n ≡ i = omega (arith, lt, le) in
             subst (λ j. get_or (cells_of c s bs (suc n)) j d ≡ cell_of c s bs j) same
             (get_or-append_right (cells_of c s bs n) (x ∷ []) n n d long (omega arith)
-                ∙ ap (λ j. get_or (x ∷ []) j d) {x = n - n} {y = 0} (omega arith))
+            ∙ ap (λ j. get_or (x ∷ []) j d) {x = n - n} {y = 0} (omega arith))
       ]
 
   all_cells : (n : ℕ) → All (λ x. x ≡ cell_of c s bs x.number) (cells_of c s bs n)
   all_cells n = All-from_get_or (λ x. x ≡ cell_of c s bs x.number) (cells_of c s bs n)
       (cell_of c s bs 0) (λ i lt.
       let here = get_or-cells_of n i (cell_of c s bs 0)
-          (omega (arith, lt, length-cells_of c s bs n)) in
+      (omega (arith, lt, length-cells_of c s bs n)) in
       here ∙ sym (ap (λ (x : CellState). cell_of c s bs x.number) here))
 
   module _ (ys : List CellState) (n : ℕ) (moved : IsPermutation ys (cells_of c s bs n))
@@ -109,8 +123,13 @@ module _ (c : Ptr) (s : ℕ) (bs : List ℕ) where
         elim (low_or_high m i) [
           | inl low ↦ omega (arith, place_low ys up i i d lt low, count i)
           | inr high ↦ elim (low_or_high i m) [
-            | inl more ↦ omega (arith, place_high ys up i (suc i) d lt (omega (arith, more)),
-                count (suc i), long, lt)
+            | inl more ↦ omega (
+              arith,
+              place_high ys up i (suc i) d lt (omega (arith, more)),
+              count (suc i),
+              long,
+              lt,
+            )
             | inr less ↦ omega (arith, high, less)
           ]
         ]
@@ -118,7 +137,7 @@ module _ (c : Ptr) (s : ℕ) (bs : List ℕ) where
     pub in_order : ys ≡ cells_of c s bs n
     in_order = same_lists ys (cells_of c s bs n) (long ∙ sym (length-cells_of c s bs n)) (λ k d lt.
         All-get_or (λ x. x ≡ cell_of c s bs x.number) ys k d lt
-            (All-permutation (λ x. x ≡ cell_of c s bs x.number) (cells_of c s bs n) ys
-            (IsPermutation-sym ys (cells_of c s bs n) moved) (all_cells n))
+        (All-permutation (λ x. x ≡ cell_of c s bs x.number) (cells_of c s bs n) ys
+        (IsPermutation-sym ys (cells_of c s bs n) moved) (all_cells n))
         ∙ ap (λ j. cell_of c s bs j) (at_place k d lt)
         ∙ sym (get_or-cells_of n k d (omega (arith, lt, long))))

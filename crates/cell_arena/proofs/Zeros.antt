@@ -1,5 +1,5 @@
 -- A run of places whose first ones hold zeros.
-use Rattle.std.proofs.Common.{◌≡◌, ℕ, zero, suc, ◌+◌, ◌-◌, ◌<◌, List, [], ◌∷◌, ◌++◌, length, get_or, set, Some, None, refl, sym, ap, subst, ◌∙◌, arith, replicate}
+use Rattle.std.proofs.Common.{◌≡◌, ℕ, zero, suc, List, ◌∷◌, ◌++◌, get_or, set, Some, None, refl, ap, replicate}
 use mathlib.Core.List.{map}
 use Rattle.std.specs.Prelude.{Option}
 

@@ -1,5 +1,5 @@
 -- A chain of frames and its cells, as contracts see them.
-use Rattle.std.specs.Prelude.{ℕ, zero, suc, ◌≡◌, ◌+◌, ◌*◌, ◌/◌, ◌-◌, ◌<◌, ◌≤◌, ◌++◌, List, [], ◌∷◌, length, take, drop, map, slice_index_or, Option, Some}
+use Rattle.std.specs.Prelude.{ℕ, zero, suc, ◌≡◌, ◌+◌, ◌*◌, ◌/◌, ◌<◌, ◌≤◌, ◌++◌, List, [], ◌∷◌, length, take, drop, map, slice_index_or, Option, Some}
 use Rattle.std.specs.List.Sorted.{IsPermutation}
 use denote.RawPtr.{Ptr, InBlock, ◌+ₚ◌}
 use Rattle.cell_arena.specs.Places.{somes}
@@ -26,8 +26,13 @@ per frames size = frames * 4096 / size
 
 -- the k-th cell of the bytes
 abbrev pub cell_of : Ptr → ℕ → List ℕ → ℕ → CellState
-cell_of chain size bytes k = record { chain = chain; number = k; size = size; bytes =
-    take size (drop (k * size) bytes) }
+cell_of chain size bytes k = record {
+  chain = chain;
+  number = k;
+  size = size;
+  bytes =
+      take size (drop (k * size) bytes);
+}
 
 -- the first n cells of the bytes
 abbrev pub cells_of : Ptr → ℕ → List ℕ → ℕ → List CellState

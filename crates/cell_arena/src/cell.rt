@@ -24,8 +24,13 @@ impl Model for Cell {
 
     ghost Value = { CellState };
 
-    ghost view = { λ c. record { chain = c.base.ptr; number = c.number; size = c.size; bytes =
-        somes c.strip.slots } };
+    ghost view = { λ c. record {
+      chain = c.base.ptr;
+      number = c.number;
+      size = c.size;
+      bytes =
+          somes c.strip.slots;
+    } };
 
     ghost invariant = { λ c. IsCell c.base.ptr c.number c.size c.strip.at c.strip.slots };
 }
@@ -62,8 +67,10 @@ impl Cell {
     /// Writes the bytes of `from` at `at`.
     pub fn write(&mut self, at: u32, from: &[u8])
         requires { at + length from.now ≤ length self.old.bytes }
-        ensures { self.new ≡ record self.old { bytes =
-            take at self.old.bytes ++ from.now ++ drop (at + length from.now) self.old.bytes } }
+        ensures { self.new ≡ record self.old {
+          bytes =
+              take at self.old.bytes ++ from.now ++ drop (at + length from.now) self.old.bytes;
+        } }
     {
         let start = self.number as usize * self.size as usize;
         let here = self.base.after(start);

@@ -32,8 +32,14 @@ impl Model for Cells {
 
     ghost Value = { CellsState };
 
-    ghost view = { λ c. record { chain = c.base.ptr; frames = c.frames; size = c.size; cells =
-        c.list.items; rest = somes c.rest.slots } };
+    ghost view = { λ c. record {
+      chain = c.base.ptr;
+      frames = c.frames;
+      size = c.size;
+      cells =
+          c.list.items;
+      rest = somes c.rest.slots;
+    } };
 
     ghost invariant = { λ c. IsCells c.base.ptr c.frames c.size (length c.list.items)
         (vec_capacity c.list) c.rest.at c.rest.slots (manually_drop_value c.deed).at

@@ -286,7 +286,9 @@ mod tests {
     use super::*;
     use size_class::{ClassTable, size};
     use std::process::Abort;
+    use std::snapshot::Snapshot;
     use std::test::Fail;
+    use std::thread::{self, Promise};
 
     fn full_group(at: usize, count: u32) -> [u32; 11]
         requires { at < 11 }
@@ -375,6 +377,50 @@ mod tests {
         assert_eq!(rt; pool.next_move(), Some((1, 0)));
         pool.unpin(fifth, last);
         assert_eq!(rt; pool.next_move(), Some((2, 0)));
+        Ok(())
+    }
+
+    // The cell that comes back from a thread is the one that went.
+    #[derive(Drop)]
+    struct Same(Snapshot<Cell>);
+
+    impl Promise<((usize, Option<u8>, Option<u8>), Cell)> for Same {
+        ghost kept_by = { λ p r. r.1 ≡ p.0.value };
+    }
+
+    // Cell 3 of class 71 lies over the border of the two frames. It is read on another thread while
+    // an object of another zspage moves into the cell beside it.
+    #[test]
+    fn a_cell_on_another_thread(rt: HostRuntime) -> Result<(), Fail> {
+        let table = ClassTable::new(4);
+        assert_eq!(rt; table.stands_as(71), 71);
+        let mut pool = ClassPool::new(rt.alloc(), 71, size(71), table.chain(71), table.per(71));
+        let bytes = [9; 1120];
+        for _ in 0..3 {
+            add(&rt, &mut pool, &bytes)?;
+        }
+        let lent = add(&rt, &mut pool, &bytes)?;
+        let fifth = add(&rt, &mut pool, &bytes)?;
+        for _ in 0..3 {
+            add(&rt, &mut pool, &bytes)?;
+        }
+        assert!(rt; fifth.0 != lent.0);
+        pool.free(fifth);
+        let cell = pool.pin(lent);
+        let child = match thread::spawn_with(&rt, Same(Snapshot::of(&cell)), move || {
+            let (front, back) = cell.parts();
+            let seen = (front.len(), front.last().copied(), back.first().copied());
+            (seen, cell)
+        }) {
+            Ok(child) => child,
+            Err(_) => return Err(Fail::from(AllocError)),
+        };
+        let mut budget = 1;
+        assert_eq!(rt; pool.move_one(&mut budget), Moved::Moved { frames: 2 });
+        let (seen, cell) = child.join(&rt);
+        assert_eq!(rt; seen, (592, Some(9), Some(9)));
+        pool.unpin(lent, cell);
+        assert_eq!(rt; pool.free(lent), 0);
         Ok(())
     }
 }

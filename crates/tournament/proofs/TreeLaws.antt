@@ -8,7 +8,7 @@ use Rattle.tournament.specs.declared.tree.Node.{Node}
 use Rattle.tournament.specs.Tree.{Beats, HasSameFirst, HasSameLast, IsBetter, IsTree, IsTreeBut, node, leaf, spare, IsTournament}
 use Rattle.tournament.specs.Winner.{IsWinner, IsLastWinner}
 
-node-set_same : (nodes : List Node) (p : ℕ) (n : Node) → p < length nodes
+pub node-set_same : (nodes : List Node) (p : ℕ) (n : Node) → p < length nodes
     → node (set nodes p n) p ≡ n
 node-set_same nodes p n low = rw get_or-set_same refl
 

@@ -1,6 +1,5 @@
 -- The tree of a tournament, laid out in a list: the leaves are its second half, and node p has the
--- better of the nodes
--- 2p and 2p + 1.
+-- better of the nodes 2p and 2p + 1.
 use Rattle.std.specs.Prelude.{ℕ, ◌≡◌, ◌≢◌, ◌+◌, ◌*◌, ◌<◌, ◌≤◌, ◌^◌, ◌⊎◌, List, length, slice_index, slice_index_or}
 use Rattle.tournament.specs.declared.tree.Node.{Node}
 

@@ -5,11 +5,11 @@
 
 mod tree;
 
-ghost use Rattle.std.specs.Prelude.{◌≡◌, ◌-◌, ◌<◌, ◌≤◌, ◌^◌, ◌++◌, ◌∷◌, [], List, length, take, slice_index, slice_set, IfOk, OnOk, OnErr};
+ghost use Rattle.std.specs.Prelude.{◌≡◌, ◌+◌, ◌-◌, ◌*◌, ◌<◌, ◌≤◌, ◌^◌, ◌++◌, ◌∷◌, [], ℕ, List, length, take, replicate, slice_index, slice_set, IfOk, OnOk, OnErr};
 ghost use Rattle.tournament.specs.Winner.{IsWinner, IsLastWinner};
-ghost use Rattle.tournament.specs.Tree.{IsTournament};
+ghost use Rattle.tournament.specs.Tree.{IsTournament, IsTree, node, leaf};
 
-use crate::tree::{Node, put};
+use crate::tree::{Node, better, put};
 use std::alloc::{AllocError, Global};
 use std::marker::Model;
 
@@ -47,6 +47,22 @@ impl Tournament {
             room: 0,
             nodes: Vec::new(alloc),
         }
+    }
+
+    /// So many places of one rank. It takes a time that grows with their number, and memory twice.
+    pub fn filled(alloc: Global, len: usize, rank: u32) -> Result<Tournament, AllocError>
+        requires { len < 2 ^ 40 }
+        ensures { IfOk result (λ t. t ≡ replicate len rank) }
+    {
+        let mut ranks = Vec::new(alloc);
+        ranks.resize(len, rank)?;
+        let nodes = even_tree(alloc, len, rank)?;
+        Ok(Tournament {
+            alloc,
+            ranks,
+            room: len,
+            nodes,
+        })
     }
 
     /// The number of places.
@@ -118,6 +134,25 @@ impl Tournament {
     {
         self.nodes[1].last
     }
+}
+
+/// The tree of so many places of one rank.
+fn even_tree(alloc: Global, room: usize, rank: u32) -> Result<Vec<Node>, AllocError>
+    requires { room < 2 ^ 62 }
+    ensures long { IfOk result (λ nodes. length nodes.items ≡ 2 * room) }
+    ensures tree { IfOk result (λ nodes. IsTree room nodes.items) }
+    ensures leaves { IfOk result (λ nodes. (i : ℕ) → i < room
+        → node nodes.items (room + i) ≡ leaf rank i) }
+{
+    let mut nodes = Vec::new(alloc);
+    nodes.resize(2 * room, Node::spare(0))?;
+    for place in 0..room {
+        nodes[room + place] = Node::leaf(rank, place);
+    }
+    for at in (1..room).rev() {
+        nodes[at] = better(nodes[2 * at], nodes[2 * at + 1]);
+    }
+    Ok(nodes)
 }
 
 /// The tree of some ranks with room for more.

@@ -1,12 +1,11 @@
 -- How one cell's change shows in the counts of used cells, in the ranks and in what contracts see.
-use Rattle.std.proofs.Common.{◌≡◌, ℕ, suc, ◌+◌, ◌<◌, ◌≤◌, ◌^◌, List, [], ◌∷◌, ◌++◌, Option, None, Some, true, false, cond, not, length, replicate, get_or, slice_index, refl, sym, ◌∙◌, ap, subst, inl, inr, arith, get_or-set_same, get_or-set_other}
+use Rattle.std.proofs.Common.{◌≡◌, ℕ, suc, ◌+◌, ◌<◌, ◌≤◌, ◌^◌, List, [], ◌∷◌, Option, None, Some, true, false, cond, not, length, replicate, get_or, slice_index, refl, sym, ◌∙◌, ap, subst, inl, inr, arith, get_or-set_same, get_or-set_other}
 use Rattle.std.specs.Prelude.{is_some, sum_by}
 use Rattle.std.specs.Ptr.{Ptr, null_ptr}
 use Rattle.std.proofs.Math.ListN.{set, length-set, get_or-eq_default}
-use Rattle.std.proofs.lemmas.List.{map-set, length-map, get_or-map, get_or_append_left, length-append, length-replicate, get_or-replicate, set-get_or, same_lists}
+use Rattle.std.proofs.lemmas.List.{map-set, length-map, get_or-map, length-replicate, get_or-replicate, set-get_or, same_lists}
 use Rattle.std.proofs.lemmas.List.Sums.{sum_by-set, sum_by-cons, get_or-le-sum_by, count_by-le-length}
 use Rattle.std.proofs.lemmas.List.Folds.{sum_by-replicate}
-use Rattle.std.proofs.Math.Seq.{get_or-append_seam}
 use Rattle.std.proofs.lemmas.Option.{slice_get-get_or, slice_get_within, get_or_from_slice_get}
 use Rattle.std.proofs.lemmas.Bool.{cases_lt, cases_eq}
 use Rattle.tournament.specs.Winner.{IsWinner}

@@ -1,14 +1,12 @@
 -- Cells on their way into spots, and back.
 use Rattle.std.proofs.Common.{◌≡◌, ℕ, suc, zero, ◌+◌, ◌-◌, ◌*◌, ◌<◌, ◌≤◌, ◌⊎◌, inl, inr, ◌++◌, List, [], ◌∷◌, Option, None, Some, Bool, true, false, not, cond, subst, length, get_or, refl, sym, ◌∙◌, ap, arith}
 use mathlib.Core.List.{reverse}
-use Rattle.std.specs.Prelude.{is_some}
-use Rattle.std.specs.List.Sorted.{IsPermutation}
 use Rattle.std.proofs.lemmas.List.{length-map, get_or-map, get_or-reverse, length-reverse, length-append, get_or_append_left}
 use Rattle.std.proofs.lemmas.List.Sums.{sum_by-cons}
 use Rattle.std.proofs.lemmas.List.Sorted.{IsPermutation-reverse}
 use Rattle.std.proofs.lemmas.Bool.{cases_lt}
 use Rattle.std.proofs.Math.Seq.{get_or-append_seam}
-use Rattle.cell_arena.specs.Chains.{CellsState, per, AreNumbered, AreInOrder, HasAllCells}
+use Rattle.cell_arena.specs.Chains.{CellsState, per, AreInOrder, HasAllCells}
 use Rattle.zspage.specs.Cells.{CellState, UsedCell, IsCellAt, used_of, home_of}
 use Rattle.zspage.specs.Spots.{SpotState, uses, IsHere, AreHere, AreFree, ArePlaced, IsEmptied}
 use Rattle.zspage.specs.Moves.{IsSpread, IsGathered}

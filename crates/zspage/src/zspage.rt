@@ -73,10 +73,7 @@ impl Zspage {
         }) }
     {
         let per = chain * FRAME / size;
-        let mut free = Tournament::new(alloc);
-        for _ in 0..per {
-            free.push(FREE)?;
-        }
+        let free = Tournament::filled(alloc, per as usize, FREE)?;
         let spots = Vec::with_capacity(alloc, per as usize)?;
         let Ok(cells) = split(alloc, Chain::new(alloc, chain)?, size) else {
             return Err(AllocError);

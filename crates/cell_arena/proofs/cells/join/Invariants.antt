@@ -1,8 +1,7 @@
-use Rattle.std.proofs.Common.{◌≡◌, ◌+◌, ◌*◌, ◌<◌, ◌≤◌, ◌++◌, ℕ, List, [], ◌∷◌, Some, length, drop}
+use Rattle.std.proofs.Common.{◌≡◌, ◌*◌, ◌≤◌, ℕ, List, Some, length, drop}
 use mathlib.Core.List.{map}
 use denote.RawPtr.{◌+ₚ◌}
 use Rattle.cell_arena.specs.Chains.{cells_of, per, AreCellsOf}
-use Rattle.cell_arena.proofs.Sorted.{in_order}
 use Rattle.cell_arena.proofs.cells.join.Given as goal
 
 abbrev pub invariant-loop-cell : goal.invariant-loop-cell

@@ -1,8 +1,8 @@
-use Rattle.std.proofs.Common.{◌≡◌, ◌+◌, ◌*◌, ◌/◌, ◌<◌, ◌≤◌, ◌++◌, ℕ, List, [], ◌∷◌, Some, length, drop}
+use Rattle.std.proofs.Common.{◌≡◌, ◌*◌, ◌≤◌, Some, drop}
 use mathlib.Core.List.{map}
-use denote.RawPtr.{InBlock, ◌+ₚ◌}
+use denote.RawPtr.{◌+ₚ◌}
 use Rattle.std.specs.Vec.{vec_capacity}
-use Rattle.cell_arena.specs.Chains.{cells_of, per}
+use Rattle.cell_arena.specs.Chains.{cells_of}
 use Rattle.cell_arena.proofs.cells.split.Given as goal
 
 abbrev pub invariant-loop-number : goal.invariant-loop-number

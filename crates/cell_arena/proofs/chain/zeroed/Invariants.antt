@@ -1,4 +1,4 @@
-use Rattle.std.proofs.Common.{◌≡◌, ◌*◌, ◌≤◌, Some, None, map, length, replicate, IfOk, ℕ, ◌+◌, ◌-◌, ◌<◌}
+use Rattle.std.proofs.Common.{◌≡◌, ◌≤◌, ◌-◌}
 use Rattle.cell_arena.proofs.Zeros.{zeros}
 use Rattle.cell_arena.proofs.chain.zeroed.Given as goal
 

@@ -1,5 +1,5 @@
 -- Each cell is in a spot.
-use Rattle.std.proofs.Common.{◌≡◌, ◌+◌, ◌<◌, [], length, inl, inr, ap, ◌∙◌, arith}
+use Rattle.std.proofs.Common.{◌≡◌, [], length, inl, inr, ap, ◌∙◌, arith}
 use Rattle.std.proofs.lemmas.List.{length-append, length-reverse}
 use Rattle.std.proofs.lemmas.Bool.{cases_lt}
 use Rattle.cell_arena.specs.Chains.{CellsState}

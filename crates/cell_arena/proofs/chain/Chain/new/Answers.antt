@@ -1,13 +1,12 @@
-use Rattle.std.proofs.Common.{◌≡◌, ◌*◌, ◌≤◌, Some, None, map, length, replicate, ℕ, sym, ap, refl, ◌∙◌}
+use Rattle.std.proofs.Common.{◌*◌, Some, length, replicate, ℕ, ap, ◌∙◌}
 use Rattle.std.proofs.lemmas.List.{length-map, length-replicate}
-use Rattle.cell_arena.specs.Places.{somes}
 use Rattle.cell_arena.proofs.Full.{is_full, somes_of}
 use Rattle.cell_arena.proofs.chain.Chain.new.Goals as goal
 
 pub invariant_of-result : goal.invariant_of-result
 invariant_of-result c =
     let made = c.in_ok-base.ensures in let zs = c.zeroed-strip.ensures in
-        let n : ℕ = c.args.frames * 4096 in (
+    let n : ℕ = c.args.frames * 4096 in (
       record {
         block = made.0;
         place = zs.0;

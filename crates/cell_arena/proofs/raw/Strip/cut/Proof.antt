@@ -1,5 +1,5 @@
 -- `cut` gives the places out in two runs. Assumes `Logic`.
-use mathlib.Core.Path.{◌≡◌, refl, sym, ap, subst, ◌∙◌}
+use mathlib.Core.Path.{◌≡◌, refl, sym, ap, subst}
 use Prim.Native.Nat.{ℕ, ◌+◌, ◌*◌, ◌<◌, ◌≤◌, ◌^◌}
 use native.Mathlib.Omega.{arith}
 use mathlib.Core.List.{List, [], ◌∷◌, ◌++◌}
@@ -20,12 +20,12 @@ use contract.BorrowLft.{◌⊑◌}
 use contract.Running.{tables, tables_of}
 use sound.WpLaws.{WpFn-mono}
 use types.Kit.{Item, ⋆, ‵, ◌⊛◌, ◌$◌, ◌∵◌, !, qed, by, move, keep, use0, use1, use2, split, join, rewrite, fsplit, fjoin, feq_l, flt_l, flt_i, suffices, frame, done}
-use types.Part.{whole, agg}
+use types.Part.{agg}
 use types.Run.{and_then, no_more, returns, enter}
-use types.ByLocal.{alloc_all, pass_all, free_all, look_at, get, sets, is, env}
+use types.ByLocal.{alloc_all, pass_all, free_all, look_at, get, sets, env}
 use denote.Exit.{yes, no}
 use denote.RattleType.{RattleType, owns}
-use denote.RawPtr.{Ptr, block_ptr, in_a_block, ◌+ₚ◌}
+use denote.RawPtr.{block_ptr, in_a_block, ◌+ₚ◌}
 use denote.Builtin.{usize}
 use denote.Signature.{plain}
 use denote.Steps.{nothing}
@@ -83,9 +83,9 @@ module _ (E : El) {M : Type 1} {𝓤 : Ura M} (𝓛 : Logic 𝓤) (at_mem : Memo
   exits r v g =
       qed 𝓛 (‵ (flft κ q) ∷ ‵ ((Two E).own_val r (v ∷ [])) ∷ []) ∵
       suffices ! _ (ends_at 𝓛 (ended E) (stayed E) (clauses E 𝓛 at_mem run) bound v r
-          (tt, (tt, tt)) (tt, (tt, tt))) $ says ! g $
+      (tt, (tt, tt)) (tt, (tt, tt))) $ says ! g $
       nothing ! $ move ! (1 ∷ 0 ∷ []) $ join ! $ frame ! $ nothing ! $ nothing ! $ fjoin ! $
-          nothing ! $ fjoin ! $ done !
+      nothing ! $ fjoin ! $ done !
 
   abbrev Had : List (Item 𝓤)
   Had = ‵ (cells_own (R E) d.at d.slots) ∷ ‵ (flft κ q) ∷ []
@@ -94,67 +94,69 @@ module _ (E : El) {M : Type 1} {𝓤 : Ura M} (𝓛 : Logic 𝓤) (at_mem : Memo
       → ent 𝓤 (⋆ 𝓛 Had) (WpFn 𝓤 H C Λ (function E) (mark ∷ vint w64 n ∷ []) Post)
   walk asked fits =
       let s = sz E in let xs : List (Place E) = take n d.slots in
-          let ys : List (Place E) = drop_l n d.slots in
+      let ys : List (Place E) = drop_l n d.slots in
       let long : n ≡ length xs = omega (arith, length-take n d.slots) in
       let rest : length ys ≤ length d.slots = omega (arith, length-drop n d.slots) in
       qed 𝓛 Had ∵ enter ! C Λ (function E) (mark ∷ vint w64 n ∷ []) _ $
       alloc_all ! (λ l. pass_all ! refl ((tt, (tt, tt)), ((tt, record { fits = fits }), tt)) $
       let En : Env 𝓤 H = env (function E).locals l in
       in_a_block ! d.at (λ p. cells_own (R E) p d.slots) (id⊢ 𝓤 (never 𝓤))
-          (λ b o e. fsplit ! $ flt_l ! (λ small.
+      (λ b o e. fsplit ! $ flt_l ! (λ small.
       let mid : ℕ = o + n * s in
       let left : (Cr E).Denot = record { mark = record {}; at = block_ptr b o; slots = xs } in
       let right : (Cr E).Denot = record { mark = record {}; at = block_ptr b mid; slots = ys } in
       rewrite ! 0 (λ (l : List (Place E)). ‵ (slots (R E) b o l))
-          (sym (take-append-drop n d.slots)) refl $
+      (sym (take-append-drop n d.slots)) refl $
       use1 𝓛 (‵ (slots (R E) b o xs) ⊛ ‵ (slots (R E) b mid ys))
-          (cut E 𝓛 b xs ys o mid (subst (λ k. mid ≡ k * s + o) long (omega arith))) $ split ! $
+      (cut E 𝓛 b xs ys o mid (subst (λ k. mid ≡ k * s + o) long (omega arith))) $ split ! $
       flt_i ! (length xs * s) (2 ^ 63) (times_below (length xs) (length d.slots) s (2 ^ 63)
-          (omega arith) small) $ fjoin ! $
+      (omega arith) small) $ fjoin ! $
       use0 𝓛 (‵ ((Mark E).own_val (tt, tt) (mark ∷ []))) (mark_made E 𝓛) $ fjoin ! $
-          move ! (1 ∷ []) $
+      move ! (1 ∷ []) $
       flt_i ! (length ys * s) (2 ^ 63) (times_below (length ys) (length d.slots) s (2 ^ 63)
-          (omega arith) small) $ fjoin ! $
+      (omega arith) small) $ fjoin ! $
       use0 𝓛 (‵ ((Mark E).own_val (tt, tt) (mark ∷ []))) (mark_made E 𝓛) $ fjoin ! $
-          move ! (1 ∷ 0 ∷ []) $
+      move ! (1 ∷ 0 ∷ []) $
       use2 𝓛 (‵ ((Two E).own_val (left, right) (pair_val mark mark ∷ [])))
-          (pair_of 𝓛 (Cr E) (Cr E) left right mark mark) $
+      (pair_of 𝓛 (Cr E) (Cr E) left right mark mark) $
       sets ! (agg ! (no_more !)) refl (tt, tt) $
-          sets ! (agg ! (and_then ! (get ! refl) (no_more !))) refl (tt, (tt, tt)) $
+      sets ! (agg ! (and_then ! (get ! refl) (no_more !))) refl (tt, (tt, tt)) $
       sets ! (agg ! (no_more !)) refl (tt, tt) $
-          sets ! (agg ! (and_then ! (get ! refl) (no_more !))) refl (tt, (tt, tt)) $
+      sets ! (agg ! (and_then ! (get ! refl) (no_more !))) refl (tt, (tt, tt)) $
       sets ! (agg ! (and_then ! (get ! refl) (and_then ! (get ! refl) (no_more !)))) refl
-          (tt, ((tt, tt), ((tt, tt), tt))) $
+      (tt, ((tt, tt), ((tt, tt), tt))) $
       returns ! (look_at ! 0 refl) $ free_all ! refl $ keep ! (1 ∷ 0 ∷ []) $
-          by ! (exits (left, right) (pair_val mark mark)
-          (sym e, refl, ap (λ p. p +ₚ n * s) (sym e), refl)))))
+      by ! (exits (left, right) (pair_val mark mark)
+      (sym e, refl, ap (λ p. p +ₚ n * s) (sym e), refl)))))
 
   entry : n ≤ length d.slots → ent 𝓤 (on_entry 𝓛 (ended E).signature (κ, tt) (q, tt) (d, (n, tt))
       (us0, (us1, tt))) (WpFn 𝓤 H C Λ (function E) (us0 ++ (us1 ++ [])) Post)
   entry asked =
       qed 𝓛 ((‵ (flft κ q) ⊛ ‵ ftrue) ∷ ‵ (owns (Cr E ∷ usize ∷ []) (d, (n, tt)) (us0, (us1, tt)))
-          ∷ []) ∵
+      ∷ []) ∵
       split ! $ move ! (2 ∷ []) $ fsplit ! $ fsplit ! $
-          mark_had ! E us0 (λ e0. move ! (1 ∷ []) $ fsplit ! $ fsplit ! $
-          feq_l ! (λ e1. flt_l ! (λ fits. keep ! (1 ∷ 2 ∷ []) $
+      mark_had ! E us0 (λ e0. move ! (1 ∷ []) $ fsplit ! $ fsplit ! $
+      feq_l ! (λ e1. flt_l ! (λ fits. keep ! (1 ∷ 2 ∷ []) $
       by ! (subst (λ (ws : List Val × List Val). ent 𝓤 (⋆ 𝓛 Had)
-          (WpFn 𝓤 H C Λ (function E) (ws.0 ++ (ws.1 ++ [])) Post)) (λ j. (sym e0 j, sym e1 j))
-          (walk asked fits)))))
+      (WpFn 𝓤 H C Λ (function E) (ws.0 ++ (ws.1 ++ [])) Post)) (λ j. (sym e0 j, sym e1 j))
+      (walk asked fits)))))
 
 meets : (E : El) {M : Type 1} {𝓤 : Ura M} (𝓛 : Logic 𝓤) (at_mem : Memory → SProp 𝓤)
     (run : Routine → Fun 𝓤) (𝓣 : Tables 𝓤 𝓛.H)
     → Meets 𝓛 (ended E).signature (WpFn 𝓤 𝓛.H 𝓣.C 𝓣.Λ (function E))
-        (closing 𝓛 (ended E) (clauses E 𝓛 at_mem run))
+    (closing 𝓛 (ended E) (clauses E 𝓛 at_mem run))
 meets E {𝓤 = 𝓤} 𝓛 at_mem run 𝓣 =
-    walk_Meets 𝓛 (ended E) (stayed E) (Goes-blank 𝓛 1 (plain (λ _. Cr E)) no (λ κs x f. tt),
-        (Goes-dropped 𝓛 1 (plain (λ _. usize)) yes (λ κs x f. refl), tt))
+    walk_Meets 𝓛 (ended E) (stayed E) (
+      Goes-blank 𝓛 1 (plain (λ _. Cr E)) no (λ κs x f. tt),
+      (Goes-dropped 𝓛 1 (plain (λ _. usize)) yes (λ κs x f. refl), tt),
+    )
     (clauses E 𝓛 at_mem run) (WpFn 𝓤 𝓛.H 𝓣.C 𝓣.Λ (function E))
-        (WpFn-mono 𝓤 𝓛.H 𝓛.laws 𝓣 (function E))
+    (WpFn-mono 𝓤 𝓛.H 𝓛.laws 𝓣 (function E))
     (λ z. let κs = z.0.0 in let qs = z.0.1 in let a = z.0.3 in let vss = z.0.4 in
-        let On : SProp 𝓤 = on_entry 𝓛 (ended E).signature κs qs a vss in
+    let On : SProp 𝓤 = on_entry 𝓛 (ended E).signature κs qs a vss in
     let asks : Type 0 = a.1.0 ≤ length a.0.slots in
     via 𝓤 _ (mono_r 𝓤 On (snd∗ 𝓤 (fact 𝓤 (κs.0 ⊑ E.row.lives)) (fact 𝓤 asks)))
-        (needs 𝓤 asks On (entry E 𝓛 at_mem run 𝓣.C 𝓣.Λ κs.0 qs.0 a.0 a.1.0 vss.0 vss.1.0)))
+    (needs 𝓤 asks On (entry E 𝓛 at_mem run 𝓣.C 𝓣.Λ κs.0 qs.0 a.0 a.1.0 vss.0 vss.1.0)))
 
 pub cut_spec : {M : Type 1} → stated.statement M
 unfolding tables_of
@@ -162,5 +164,5 @@ cut_spec 𝓤 𝓛 𝓜 𝓡 wired X LX =
     let E : El = record { row = X; laws = LX } in
     let 𝓣 : Tables 𝓤 𝓛.H = tables_of 𝓤 𝓛.H 𝓜 (tables 𝓤 𝓛.H 𝓜 𝓡 𝓡.env) in
     entered 𝓤 𝓛.H (triple_of 𝓛 (ended E).signature (F.spec X 𝓛 𝓜.mem 𝓡.returns)) 𝓣.C 𝓣.Λ
-        (#self (args E)) (function E) (code.unfolded 𝓤 𝓛.H 𝓜 𝓡 wired (X, tt))
+    (#self (args E)) (function E) (code.unfolded 𝓤 𝓛.H 𝓜 𝓡 wired (X, tt))
     (meets E 𝓛 𝓜.mem 𝓡.returns 𝓣)

@@ -1,8 +1,8 @@
 -- The chain is cut, and its cells are spread.
-use Rattle.std.proofs.Common.{◌≡◌, ◌*◌, ◌/◌, ◌<◌, ◌^◌, ◌++◌, ℕ, [], ◌∷◌, None, length, replicate, ap, sym, subst, ◌∙◌, arith}
+use Rattle.std.proofs.Common.{◌≡◌, ◌*◌, ◌/◌, ℕ, None, length, replicate, ap, sym, subst, ◌∙◌, arith}
 use Rattle.std.specs.Prelude.{Option}
 use Rattle.std.proofs.Math.Nat.{div-le_self}
-use Rattle.std.proofs.lemmas.List.{replicate-append-replicate, length-replicate}
+use Rattle.std.proofs.lemmas.List.{length-replicate}
 use Rattle.cell_arena.specs.Chains.{per}
 use Rattle.zspage.specs.Cells.{UsedCell}
 use Rattle.zspage.specs.Spots.{AreFree}
@@ -10,11 +10,6 @@ use Rattle.zspage.proofs.CellLaws.{uses_free, fresh, made}
 use Rattle.zspage.proofs.MoveLaws.{emptied}
 use Rattle.zspage.proofs.zspage.Zspage.new.Goals as goal
 use Rattle.zspage.proofs.zspage.Zspage.new.Goals.{After-spread-spots}
-
-pub loop-preserved : goal.loop-preserved
-loop-preserved c =
-    c.in_ok-push.ensures.ok ∙ ap (λ xs. xs ++ 1 ∷ []) c.loop.invariant
-    ∙ replicate-append-replicate c.loop.counter 1 1
 
 -- the chain has the frames that were asked for, and as many cells as fit
 framed : (c : After-spread-spots) → c.in-Ok.cells.frames ≡ c.args.chain
@@ -39,11 +34,9 @@ invariant_of-result c =
     let size = c.in-Ok.ensures.cut.1 in
     let spots = c.spread-spots.result.0.items in
     let free = subst (λ p. AreFree p c.args.size spots) (sym (ap (λ v. v.chain) made.left))
-    (subst (λ n. AreFree c.in-Ok.cells.chain n spots) size made.free) in
-    let all : c.loop.counter ≡ c.args.chain * 4096 / c.args.size =
-    omega (arith, c.loop.auto.counter-end, c.loop-test.false) in (
-      fresh _ c.args.size _ spots c.loop.free free (many here)
-          (c.loop.invariant ∙ ap (λ n. replicate n 1) all)
+    (subst (λ n. AreFree c.in-Ok.cells.chain n spots) size made.free) in (
+      fresh _ c.args.size _ spots c.in_ok-free.free free (many here)
+          c.in_ok-free.ensures
           (omega (arith, div-le_self (c.args.chain * 4096) c.args.size, c.requires.few)),
       emptied c.in-Ok.cells _ _ _ _ c.in-Ok.ensures.order made.left size (framed here) made.long,
     )
