@@ -396,14 +396,14 @@ mod tests {
         assert_eq!(rt; table.stands_as(71), 71);
         let mut pool = ClassPool::new(rt.alloc(), 71, size(71), table.chain(71), table.per(71));
         let bytes = [9; 1120];
-        for _ in 0..3 {
-            add(&rt, &mut pool, &bytes)?;
-        }
+        add(&rt, &mut pool, &bytes)?;
+        add(&rt, &mut pool, &bytes)?;
+        add(&rt, &mut pool, &bytes)?;
         let lent = add(&rt, &mut pool, &bytes)?;
         let fifth = add(&rt, &mut pool, &bytes)?;
-        for _ in 0..3 {
-            add(&rt, &mut pool, &bytes)?;
-        }
+        add(&rt, &mut pool, &bytes)?;
+        add(&rt, &mut pool, &bytes)?;
+        add(&rt, &mut pool, &bytes)?;
         assert!(rt; fifth.0 != lent.0);
         pool.free(fifth);
         let cell = pool.pin(lent);

@@ -1,8 +1,8 @@
 //! Compaction: an object moves from the emptiest zspage into the fullest one with room, one at a
 //! time.
 
-ghost use Rattle.std.specs.Prelude.{◌≡◌, ◌≢◌, ◌+◌, ◌<◌, ◌≤◌, ◌⊎◌, ℕ, length, Some, true, slice_set};
-ghost use Rattle.zspage.specs.Cells.{CellState, UsedCell, used_of, entry, home_of, IsStored, IsCellAt, IsLowestFree};
+ghost use Rattle.std.specs.Prelude.{◌≡◌, ◌≢◌, ◌+◌, ◌<◌, ◌≤◌, ◌⊎◌, ℕ, length, Some, true, slice_set, IfOk};
+ghost use Rattle.zspage.specs.Cells.{CellState, UsedCell, used_of, entry, home_of, IsStored, IsCellAt, IsLowestFree, Fits};
 ghost use Rattle.zspage.specs.Movable.{IsLowestHome};
 ghost use Rattle.zs_plan.specs.Plan.{IsPlan, HasNoPlan};
 ghost use Rattle.class_pool.specs.Zspages.{Cells, HasRoom, use_at};
@@ -101,17 +101,19 @@ fn move_object(zspages: &mut Zspages, places: &mut Places, from: u32, to: u32) -
 mod tests {
     use super::*;
     use size_class::{ClassTable, size};
+    use std::alloc::Global;
     use std::process::Abort;
     use std::test::Fail;
     use zr_base::Handle;
 
-    // Adds two objects in a new zspage, while so many others fill the last one. These go away
-    // again.
+    // Fills the last zspage by so many objects and adds two in a new one. Then it takes all but the
+    // first so many away again.
     fn beside(
         rt: &impl Abort,
         pool: &mut ClassPool,
         bytes: &[u8],
-        others: u32,
+        kept: u32,
+        more: u32,
     ) -> Result<(Handle, Handle), Fail>
         requires { Fits (length bytes.now) pool.old.size }
         ensures first { IfOk result (λ h. IsAtHome pool.new h.0.0) }
@@ -120,19 +122,22 @@ mod tests {
         ensures home { (h : ℕ) → IsAtHome pool.old h → IsAtHome pool.new h }
     {
         assert!(rt; pool.used() < 100);
-        if others == 0 {
+        if more == 0 {
             assert!(rt; !pool.room());
             let first = pool.alloc_new(bytes)?;
             assert!(rt; pool.room());
+            assert!(rt; pool.used() < 100);
             let second = pool.alloc(bytes);
             return Ok((first, second));
         }
         assert!(rt; pool.room());
         let other = pool.alloc(bytes);
-        let two = beside(rt, pool, bytes, others - 1)?;
-        assert!(rt; two.0.0 != other.0);
-        assert!(rt; two.1.0 != other.0);
-        pool.free(other);
+        let two = beside(rt, pool, bytes, kept.saturating_sub(1), more - 1)?;
+        if kept == 0 {
+            assert!(rt; two.0.0 != other.0);
+            assert!(rt; two.1.0 != other.0);
+            pool.free(other);
+        }
         Ok(two)
     }
 
@@ -158,18 +163,18 @@ mod tests {
     // The pool of class 71, with cells of 1168 bytes in chains of 2 frames with 7 cells each. So
     // many objects stay in its first zspage and two in its second one, of which the first may be
     // out while objects move. Gives what moved then, and what when it was back.
-    fn moved(rt: &HostRuntime, kept: u32, pinned: bool) -> Result<((u32, u32), (u32, u32)), Fail> {
+    fn moved(
+        rt: &impl Abort,
+        alloc: Global,
+        kept: u32,
+        pinned: bool,
+    ) -> Result<((u32, u32), (u32, u32)), Fail> {
         let table = ClassTable::new(4);
         assert_eq!(rt; table.stands_as(71), 71);
-        let mut pool = ClassPool::new(rt.alloc(), 71, size(71), table.chain(71), table.per(71));
+        let mut pool = ClassPool::new(alloc, 71, size(71), table.chain(71), table.per(71));
         let bytes = [9; 1120];
-        assert!(rt; 1 <= kept && kept <= 6);
         pool.alloc_new(&bytes)?;
-        for _ in 1..kept {
-            assert!(rt; pool.room() && pool.used() < 100);
-            pool.alloc(&bytes);
-        }
-        let (first, second) = beside(rt, &mut pool, &bytes, 7 - kept)?;
+        let (first, second) = beside(rt, &mut pool, &bytes, kept.saturating_sub(1), 6)?;
         let before = if pinned {
             let cell = pool.pin(first);
             let before = compact(rt, &mut pool);
@@ -190,15 +195,15 @@ mod tests {
     #[test]
     fn compacts(rt: HostRuntime) -> Result<(), Fail> {
         // the emptiest zspage goes into the other one
-        assert_eq!(rt; moved(&rt, 1, false)?, ((1, 2), (0, 0)));
+        assert_eq!(rt; moved(&rt, rt.alloc(), 1, false)?, ((1, 2), (0, 0)));
         // on a tie the one with the lesser id stays
-        assert_eq!(rt; moved(&rt, 2, false)?, ((2, 2), (0, 0)));
-        assert_eq!(rt; moved(&rt, 3, false)?, ((2, 2), (0, 0)));
+        assert_eq!(rt; moved(&rt, rt.alloc(), 2, false)?, ((2, 2), (0, 0)));
+        assert_eq!(rt; moved(&rt, rt.alloc(), 3, false)?, ((2, 2), (0, 0)));
         // an object that is out stays where it is
-        assert_eq!(rt; moved(&rt, 3, true)?, ((1, 0), (1, 2)));
+        assert_eq!(rt; moved(&rt, rt.alloc(), 3, true)?, ((1, 0), (1, 2)));
         // a full zspage takes no more
-        assert_eq!(rt; moved(&rt, 6, false)?, ((1, 0), (0, 0)));
-        assert_eq!(rt; moved(&rt, 6, true)?, ((1, 0), (0, 0)));
+        assert_eq!(rt; moved(&rt, rt.alloc(), 6, false)?, ((1, 0), (0, 0)));
+        assert_eq!(rt; moved(&rt, rt.alloc(), 6, true)?, ((1, 0), (0, 0)));
         Ok(())
     }
 }
