@@ -7,3 +7,8 @@ pub mod PoolLaws
 pub mod StatLaws
 pub mod HomeLaws
 pub mod PlanLaws
+pub mod MoveLaws
+pub mod PlannedLaws
+pub mod SettledLaws
+pub mod RestLaws
+pub mod LeastLaws

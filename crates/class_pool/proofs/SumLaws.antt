@@ -41,7 +41,7 @@ sum_none f [] none = refl
 sum_none f (None ∷ cells) none = let r = sum_none f cells none in omega arith
 sum_none f (Some u ∷ cells) none = absurd (omega (arith, none, sum_by-cons one_of (Some u) cells))
 
-sum_ones : (cells : Cells) → sum_by (at_use (λ u. 1)) cells ≡ used_of cells
+pub sum_ones : (cells : Cells) → sum_by (at_use (λ u. 1)) cells ≡ used_of cells
 sum_ones [] = refl
 sum_ones (None ∷ cells) = let r = sum_ones cells in omega arith
 sum_ones (Some u ∷ cells) =
@@ -70,7 +70,7 @@ sum_alone f cells j u at one =
 
 -- ---- all zspages
 
-sum_all : (f : UsedCell → ℕ) (zs : List (Option Cells))
+pub sum_all : (f : UsedCell → ℕ) (zs : List (Option Cells))
     → sum_by f (used_cells zs) ≡ sum_by (in_zspage f) zs
 sum_all f [] = refl
 sum_all f (None ∷ zs) = let r = sum_all f zs in omega arith

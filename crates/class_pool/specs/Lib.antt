@@ -3,3 +3,5 @@ pub mod Rows
 pub mod Places
 pub mod Pool
 pub mod Index
+pub mod Moves
+pub mod Compaction

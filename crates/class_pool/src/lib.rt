@@ -5,4 +5,4 @@ mod places;
 mod pool;
 mod zspages;
 
-pub use pool::ClassPool;
+pub use pool::{ClassPool, Moved};

@@ -18,6 +18,10 @@ use zr_base::Handle;
 use zs_plan::plan_of;
 use zspage::Cell;
 
+mod moves;
+
+pub use moves::Moved;
+
 /// The objects of one size class.
 #[derive(Drop)]
 pub struct ClassPool {
@@ -385,7 +389,7 @@ mod tests {
     }
 
     // Cell 3 of class 71 lies over the border of the two frames. It is read on another thread while
-    // another object of the zspage is freed.
+    // an object of another zspage moves into the cell beside it.
     #[test]
     fn a_cell_on_another_thread(rt: HostRuntime) -> Result<(), Fail> {
         let table = ClassTable::new(4);
@@ -394,9 +398,14 @@ mod tests {
         let bytes = [9; 1120];
         add(&rt, &mut pool, &bytes)?;
         add(&rt, &mut pool, &bytes)?;
-        let third = add(&rt, &mut pool, &bytes)?;
+        add(&rt, &mut pool, &bytes)?;
         let lent = add(&rt, &mut pool, &bytes)?;
-        assert!(rt; third.0 != lent.0);
+        let fifth = add(&rt, &mut pool, &bytes)?;
+        add(&rt, &mut pool, &bytes)?;
+        add(&rt, &mut pool, &bytes)?;
+        add(&rt, &mut pool, &bytes)?;
+        assert!(rt; fifth.0 != lent.0);
+        pool.free(fifth);
         let cell = pool.pin(lent);
         let child = match thread::spawn_with(&rt, Same(Snapshot::of(&cell)), move || {
             let (front, back) = cell.parts();
@@ -406,7 +415,8 @@ mod tests {
             Ok(child) => child,
             Err(_) => return Err(Fail::from(AllocError)),
         };
-        pool.free(third);
+        let mut budget = 1;
+        assert_eq!(rt; pool.move_one(&mut budget), Moved::Moved { frames: 2 });
         let (seen, cell) = child.join(&rt);
         assert_eq!(rt; seen, (592, Some(9), Some(9)));
         pool.unpin(lent, cell);

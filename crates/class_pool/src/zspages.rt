@@ -16,6 +16,8 @@ use zr_base::Handle;
 use zs_plan::Row;
 use zspage::{Cell, Zspage};
 
+mod moves;
+
 /// The rank of a zspage without room.
 const FULL: u32 = 0;
 

@@ -1,2 +1,3 @@
 pub mod CellLaws
+pub mod MovableLaws
 pub mod MoveLaws

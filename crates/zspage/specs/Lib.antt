@@ -1,3 +1,4 @@
 pub mod Cells
 pub mod Moves
 pub mod Spots
+pub mod Movable

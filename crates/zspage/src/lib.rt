@@ -7,4 +7,4 @@ mod spot;
 mod zspage;
 
 pub use cell_arena::Cell;
-pub use zspage::Zspage;
+pub use zspage::{Movable, Zspage};

@@ -1,7 +1,7 @@
 //! A place for one object: a cell, the object's handle and length, and whether the cell is lent.
 
-ghost use Rattle.std.specs.Prelude.{◌≡◌, length, Some, None, true, false};
-ghost use Rattle.zspage.specs.Cells.{CellState, IsWhole, IsCellAt, IsStored, Fits, UsedCell};
+ghost use Rattle.std.specs.Prelude.{◌≡◌, ◌≤◌, ℕ, List, length, Some, None, MatchOption, true, false};
+ghost use Rattle.zspage.specs.Cells.{CellState, IsWhole, IsCellAt, IsStored, Fits, UsedCell, is_home};
 ghost use Rattle.zspage.specs.Spots.{SpotState, IsHere};
 
 use crate::cell::store;
@@ -133,4 +133,48 @@ impl Spot {
     {
         self.cell = Some(cell);
     }
+
+    /// The object, where there is one and its cell is at hand.
+    pub fn at_home(&self) -> Option<Stored>
+        ensures { MatchOption result (is_home self.now.use_of ≡ false) (λ o. (u : UsedCell)
+            × (self.now.use_of ≡ Some u)
+            × (u.out ≡ false) × (o.handle.0 ≡ u.handle) × (o.len ≡ length u.bytes)) }
+    {
+        match &self.cell {
+            Some(_) => self.object,
+            None => None,
+        }
+    }
+
+    /// Puts the object of another cell into the free cell.
+    pub fn copy(&mut self, handle: Handle, len: u32, from: &Cell)
+        requires free { self.old.use_of ≡ None }
+        requires size { length from.now.bytes ≡ self.old.size }
+        requires small { self.old.size ≤ 4096 }
+        requires stored { (bytes : List ℕ) × IsStored handle.0 bytes from.now
+            × (length bytes ≡ len) }
+        ensures { (bytes : List ℕ) → IsStored handle.0 bytes from.now → length bytes ≡ len
+            → (cell : CellState) × IsStored handle.0 bytes cell
+            × IsCellAt self.old.size self.old.number cell
+            × (self.new ≡ record self.old {
+              use_of = Some (record { handle = handle.0; bytes = bytes; cell = cell; out = false });
+            }) }
+    {
+        if let Some(mut cell) = self.cell.take() {
+            copy(&mut cell, from);
+            self.cell = Some(cell);
+            self.object = Some(Stored { handle, len });
+        }
+    }
+}
+
+/// Writes the bytes of another cell of the same size over those of a cell.
+fn copy(to: &mut Cell, from: &Cell)
+    requires size { length from.now.bytes ≡ length to.old.bytes }
+    requires small { length from.now.bytes ≤ 4096 }
+    ensures { to.new ≡ record to.old { bytes = from.now.bytes } }
+{
+    let (first, second) = from.parts();
+    to.write(0, first);
+    to.write(first.len() as u32, second);
 }

@@ -14,6 +14,10 @@ use std::marker::Model;
 use tournament::Tournament;
 use zr_base::Handle;
 
+mod moves;
+
+pub use moves::Movable;
+
 /// The bytes of a frame.
 const FRAME: u32 = 4096;
 
