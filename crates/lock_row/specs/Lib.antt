@@ -5,3 +5,4 @@ pub mod Totals
 pub mod Laws
 pub mod Hands
 pub mod HandLaws
+pub mod Rules

@@ -6,8 +6,10 @@ mod hand;
 mod laws;
 mod names;
 mod row;
+mod rule;
 
 pub use hand::{Hand, NextLocal, Still};
 pub use laws::{sums_move, totals_move, values_stay_apart};
 pub use names::{At, Held, Local, LockNo, Plan, State};
 pub use row::{SimHand, SimRow};
+pub use rule::{PhaseStart, RowValue};
