@@ -1,0 +1,5 @@
+pub mod Phases
+pub mod Tables
+pub mod Plays
+pub mod Sittings
+pub mod Hands
