@@ -9,16 +9,8 @@ use Rattle.lock_row.specs.declared.names.State.{State}
 use Rattle.lock_row.specs.Rules.{RowRule}
 use Rattle.lock_row.specs.Machine.{Turn, taken, given, Run}
 use Rattle.lock_row.specs.Totals.{mass, held_sum}
-use Rattle.lock_row.specs.Laws.{TakingStaysApart, GivingStaysApart, TakingKeepsTotal, GivingMovesTotal, SumMoves}
+use Rattle.lock_table.specs.Laws.{Laws}
 use Rattle.lock_table.specs.Phases.{IsReached, told, noted}
-
--- the laws of the machine that are rested on
-pub record Laws (V : Type 0) : Type 0 where
-  pub taken : TakingStaysApart V
-  pub given : GivingStaysApart V
-  pub keeps : TakingKeepsTotal V
-  pub moves : GivingMovesTotal V
-  pub sums : SumMoves V
 
 module _ {V : Type 0} (r : RowRule V) where
   run_on : (turns : List ℕ) (start now next : State V) (a : ℕ) → Run r.spot r.plan r.took r.works turns start now

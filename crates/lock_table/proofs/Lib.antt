@@ -1,4 +1,5 @@
 pub mod Lists
 pub mod Events
 pub mod Moves
--- pub mod Kept
+pub mod Kept
+pub mod Steps

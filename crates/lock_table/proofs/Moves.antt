@@ -9,6 +9,7 @@ use Rattle.lock_row.specs.declared.names.LockNo.{LockNo}
 use Rattle.lock_row.specs.declared.names.Local.{Local}
 use Rattle.lock_row.specs.declared.names.State.{State}
 use Rattle.lock_row.specs.Rules.{RowRule}
+use Rattle.lock_row.specs.Values.{Exclusive}
 use Rattle.lock_table.specs.declared.view.View.{View}
 use Rattle.lock_table.specs.declared.view.View.TheVariants.{Blank, Closed, Open}
 use Rattle.lock_table.specs.declared.view.Seated.{Seated}
@@ -103,6 +104,34 @@ module _ {V : Type 0} (r : RowRule V) where
       left : (j : ℕ) → j ≢ P → (i : ℕ) (y : LockNo × V) → slice_get ((k, last) ∷ m.held) i ≡ Some y → r.spot y.0 ≡ j → (h : ℕ) × (slice_get m.held h ≡ Some y)
       left j ne zero y e is = let q : y ≡ (k, last) = cc in absurd (ne (sym is ∙ ap (λ (z : LockNo × V). r.spot z.0) q))
       left j ne (suc i) y e is = (i, e)
+
+  second : (x y : LockNo × V) → x ≡ y → x.1 ≡ y.1
+  second x y e = ap (λ (z : LockNo × V). z.1) e
+
+  -- the value of a place that an actor holds is the one that it holds
+  pub held_one : (w : State V) (a : ℕ) (m : Local V) (k : LockNo) (v : V) → Exclusive r.spot w → slice_get w.locals a ≡ Some m
+      → slice_get m.held 0 ≡ Some (k, v) → slice_get w.row (r.spot k) ≡ Some None → (u : V) → IsAt r w (r.spot k) u → u ≡ v
+  held_one w a m k v apart at mine gone u (home e) = let q : Some None ≡ Some (Some u) = sym gone ∙ e in absurd (cc)
+  held_one w a m k v apart at mine gone u (held b i n y e f is) =
+      let one = apart.alone b a i 0 n m (y, u) (k, v) e at f mine is in
+      let x : Some n ≡ Some m = sym e ∙ (ap (slice_get w.locals) one.0 ∙ at) in
+      let z : n ≡ m = cc in
+      let g : Some (y, u) ≡ Some (k, v) = sym f ∙ (ap (λ (o : Local V). slice_get o.held i) z ∙ (ap (slice_get m.held) one.1 ∙ mine)) in
+      let h : (y, u) ≡ (k, v) = cc in
+      second _ _ h
+
+  -- that of a place that is at home is the one there
+  pub home_one : (w : State V) (p : ℕ) (v : V) → Exclusive r.spot w → slice_get w.row p ≡ Some (Some v) → (u : V) → IsAt r w p u → u ≡ v
+  home_one w p v apart at u (home e) = let q : Some (Some u) ≡ Some (Some v) = sym e ∙ at in cc
+  home_one w p v apart at u (held b i n y e f is) =
+      let q : Some None ≡ Some (Some v) = sym (apart.out b i n (y, u) e f) ∙ (ap (slice_get w.row) is ∙ at) in absurd (cc)
+
+  -- one more order is seen
+  pub begin_more : (w : State V) (p : ℕ) (order : List Tag) (seen : List (ℕ × List Tag)) → ((u : V) → IsAt r w p u → Begins order (r.order u))
+      → Begin r seen w → Begin r ((p, order) ∷ seen) w
+  begin_more w p order seen new old zero k tags v e at = let q : (p, order) ≡ (k, tags) = cc in
+      subst (λ (z : ℕ × List Tag). IsAt r w z.0 v → Begins z.1 (r.order v)) q (new v) at
+  begin_more w p order seen new old (suc i) k tags v e at = old i k tags v e at
 
   module _ (now next : State V) (a p : ℕ) (m : Local V) (moves : Moves now next a p m) where
     pub begin_on : (seen : List (ℕ × List Tag)) → Begin r seen now → Begin r seen next

@@ -15,9 +15,11 @@
 //! phase's start.
 #![tactic(auto)]
 
+mod at_row;
 mod plays;
 mod row;
 mod view;
 
+pub use at_row::AtRow;
 pub use row::{TableHand, TableRow};
 pub use view::{LocksRule, Seated, View};
