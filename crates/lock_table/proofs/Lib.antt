@@ -3,3 +3,5 @@ pub mod Events
 pub mod Moves
 pub mod Kept
 pub mod Steps
+pub mod Parts
+pub mod Openings

@@ -53,3 +53,9 @@ module _ {A : Type 0} where
   set_again [] i a e = refl
   set_again (x ∷ xs) zero a e = λ k. sym (some-injective x a e) k ∷ xs
   set_again (x ∷ xs) (suc i) a e = λ k. x ∷ set_again xs i a e k
+
+  pub at_end : (l : List A) (a b : A) (j : ℕ) → get_elem? (l ++ a ∷ []) j ≡ some b → (get_elem? l j ≡ some b) ⊎ ((j ≡ length l) × (a ≡ b))
+  at_end [] a b zero e = inr (refl, some-injective a b e)
+  at_end [] a b (suc j) e = absurd (some-ne-none b (sym e))
+  at_end (x ∷ xs) a b zero e = inl e
+  at_end (x ∷ xs) a b (suc j) e = ⊎_elim (λ t. inl t) (λ t. inr (ap suc t.0, t.1)) (at_end xs a b j e)

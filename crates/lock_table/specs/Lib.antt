@@ -6,3 +6,5 @@ pub mod Hands
 pub mod Laws
 pub mod HandLaws
 pub mod Grounds
+pub mod Starts
+pub mod Shut

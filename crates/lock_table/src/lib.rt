@@ -16,10 +16,13 @@
 #![tactic(auto)]
 
 mod at_row;
+mod hands;
+mod make;
 mod plays;
 mod row;
 mod view;
 
 pub use at_row::AtRow;
+pub use hands::TableHands;
 pub use row::{TableHand, TableRow};
 pub use view::{LocksRule, Seated, View};

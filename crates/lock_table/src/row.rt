@@ -21,6 +21,8 @@ pub struct TableRow<V: RowValue<R>, R> {
     pub(crate) names: Vec<LockNo>,
     // the place of the first slot: in rising order from there on, a slot is found at once
     pub(crate) first: usize,
+    // where the values come back when the row is shut, which takes no memory
+    pub(crate) values: Vec<(LockNo, V)>,
 }
 
 impl<V: RowValue<R>, R> Model for TableRow<V, R> {
@@ -28,11 +30,12 @@ impl<V: RowValue<R>, R> Model for TableRow<V, R> {
 
     ghost Value = { Ground };
 
+    ghost use Rattle.std.specs.Prelude.{vec_capacity};
     ghost use Rattle.lock_table.specs.Grounds.{IsGround};
 
     ghost view = { λ r. record { id = r.table.shared.table_id; names = r.names.items } };
 
-    ghost invariant = { λ r. IsGround V.rule.spot r.table.shared.table_id r.names.items };
+    ghost invariant = { λ r. IsGround V.rule.spot r.table.shared.table_id r.names.items r.values.items (vec_capacity r.values) };
 }
 
 // The laws of the machine.
@@ -58,7 +61,7 @@ impl<V: RowValue<R>, R> TableRow<V, R> {
     }
 }
 
-fn find(names: &[LockNo], first: usize, lock: LockNo) -> Option<usize>
+pub(crate) fn find(names: &[LockNo], first: usize, lock: LockNo) -> Option<usize>
     ensures found { IfSome result (λ i. slice_get names.now i ≡ Some lock) }
     ensures none { IfNone result ((i : ℕ) → slice_get names.now i ≢ Some lock) }
 {
