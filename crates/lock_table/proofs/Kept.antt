@@ -36,16 +36,16 @@ module _ {V : Type 0} (r : RowRule V) where
   opened values s id start xs (inl h) at = absurd (closed_at id start xs (subst (λ (vs : List (View V)). get_elem? vs id ≡ some (Open start xs)) h.views at))
   opened values s id start xs (inr h) at = h
 
-  is_free : (s : Table V) (w : State V) (k : ℕ) → IsPlace r s w k → slice_index s.words k ≡ 0 → (v : V) × (get_elem? s.homes k ≡ some (some (Some v))) × (slice_get w.row k ≡ Some (Some v))
+  is_free : (s : Table V) (w : State V) (k : ℕ) → IsPlace r s.words s.homes w k → slice_index s.words k ≡ 0 → (v : V) × (get_elem? s.homes k ≡ some (some (Some v))) × (slice_get w.row k ≡ Some (Some v))
   is_free s w k (free v z h c) e = (v, h, c)
   is_free s w k (out a z h c b) e = absurd (omega arith)
 
-  is_held : (s : Table V) (w : State V) (k : ℕ) → IsPlace r s w k → slice_index s.words k ≢ 0 → (a : ℕ) × (slice_get w.row k ≡ Some None) × Holds r w a k
+  is_held : (s : Table V) (w : State V) (k : ℕ) → IsPlace r s.words s.homes w k → slice_index s.words k ≢ 0 → (a : ℕ) × (slice_get w.row k ≡ Some None) × Holds r w a k
   is_held s w k (free v z h c) ne = absurd (ne z)
   is_held s w k (out a z h c b) ne = (a, c, b)
 
   -- what is out in the row is out of its slot
-  is_out : (s : Table V) (w : State V) (k : ℕ) → IsPlace r s w k → slice_get w.row k ≡ Some None → get_elem? s.homes k ≡ some none
+  is_out : (s : Table V) (w : State V) (k : ℕ) → IsPlace r s.words s.homes w k → slice_get w.row k ≡ Some None → get_elem? s.homes k ≡ some none
   is_out s w k (free v z h c) e = let q : Some None ≡ Some (Some v) = sym e ∙ c in absurd (cc)
   is_out s w k (out a z h c b) e = h
 
@@ -60,11 +60,11 @@ module _ {V : Type 0} (r : RowRule V) where
     abbrev table : Table V
     table = record { words = set s.words P n; homes = set s.homes P house; views = set s.views id view }
 
-    place_else : Moves r o.now next a P m → (j : ℕ) → j ≢ P → IsPlace r s o.now j → IsPlace r table next j
+    place_else : Moves r o.now next a P m → (j : ℕ) → j ≢ P → IsPlace r s.words s.homes o.now j → IsPlace r (set s.words P n) (set s.homes P house) next j
     place_else moves j ne (free v z h c) = free v (get_or-set_other s.words P j n 0 ne ∙ z) (set_else s.homes P j house ne ∙ h) (get_else o.now.row P j cell ne ∙ c)
     place_else moves j ne (out b z h c x) = out b (get_or-set_other s.words P j n 0 ne ∙ z) (set_else s.homes P j house ne ∙ h) (get_else o.now.row P j cell ne ∙ c) (moves.holds b j ne x)
 
-    stays_open : IsReached r o.start next → Moves r o.now next a P m → o.owner a ≡ id → IsPlace r table next P → Knows r o.start next o.owner id view → IsOpen r table
+    stays_open : IsReached r o.start next → Moves r o.now next a P m → o.owner a ≡ id → IsPlace r (set s.words P n) (set s.homes P house) next P → Knows r o.start next o.owner id view → IsOpen r table
     stays_open reached moves own here knows = record {
       start = o.start;
       now = next;
@@ -73,7 +73,7 @@ module _ {V : Type 0} (r : RowRule V) where
       wide = length-set s.words P n ∙ o.wide ∙ sym (length-set o.now.row P cell);
       deep = length-set s.homes P house ∙ o.deep ∙ sym (length-set o.now.row P cell);
       each_place = λ j below. dite (ℕ_discrete j P)
-          (λ same. subst (IsPlace r table next) (sym same) here)
+          (λ same. subst (IsPlace r (set s.words P n) (set s.homes P house) next) (sym same) here)
           (λ ne. place_else moves j ne (o.each_place j (let q = length-set o.now.row P cell in omega arith)));
       each_seat = all_know r o.now next a P m moves o.start o.owner id s.views view own knows o.each_seat;
     }

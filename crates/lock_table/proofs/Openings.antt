@@ -1,9 +1,10 @@
 -- The opening of a table, and the dealing of its hands.
-use Rattle.std.proofs.Common.{◌≡◌, ◌≢◌, ◌⊎◌, ℕ, zero, suc, ◌+◌, ◌<◌, eqb, cond, List, [], ◌∷◌, ◌++◌, map, length, slice_index, set, replicate, Option, Some, None, slice_get, sym, refl, ap, ◌∙◌, subst, inl, inr, ⊎_elim, arith, eq-eqb, ne_eqb, length-set}
-use Rattle.std.proofs.lemmas.List.{length-replicate}
+use Rattle.std.proofs.Common.{◌≡◌, ◌≢◌, ◌⊎◌, ℕ, zero, suc, ◌+◌, ◌<◌, eqb, cond, List, [], ◌∷◌, ◌++◌, map, length, slice_index, set, replicate, Option, Some, None, slice_get, sym, refl, ap, ◌∙◌, subst, inl, inr, ⊎_elim, arith, eq-eqb, ne_eqb, length-set, drop, ◌≤◌, append_assoc}
+use Rattle.std.proofs.lemmas.List.{length-replicate, length-map}
 use mathlib.Core.Option.{some, some-injective, some-ne-none}
 use lib.ListN.{get_elem?}
 use Rattle.atomic_table.specs.Table.{Splits}
+use Rattle.atomic_table.specs.Seated.{TableId}
 use Rattle.lock_row.specs.declared.names.LockNo.{LockNo}
 use Rattle.lock_row.specs.declared.names.Local.{Local}
 use Rattle.lock_row.specs.declared.names.State.{State}
@@ -14,9 +15,13 @@ use Rattle.lock_table.specs.declared.view.View.TheVariants.{Blank, Closed, Open}
 use Rattle.lock_table.specs.declared.view.Seated.{Seated}
 use Rattle.lock_table.specs.Phases.{IsReached}
 use Rattle.lock_table.specs.Tables.{IsPlace, free, AllStand, Stands, NotAmong, Knows, IsOpen, IsTable}
-use Rattle.lock_table.specs.Starts.{all_home, MayBegin, newly, seats_from, first_of, others_of}
+use Rattle.lock_table.specs.Plays.{Mine, alone}
+use Rattle.lock_table.specs.Sittings.{Sitting, emptied}
+use Rattle.lock_table.specs.Grounds.{IsGround}
+use Rattle.lock_table.specs.Starts.{all_home, MayBegin, CanOpen, fresh, fresh_from, newly, seats_from, first_of, others_of}
 use Rattle.lock_table.proofs.Lists.{at_set, at_end}
 use Rattle.lock_table.proofs.Kept.{opened}
+use Rattle.lock_table.proofs.Steps.{Sits}
 
 zero_at : (n k : ℕ) → slice_index (replicate n 0) k ≡ 0
 zero_at zero k = refl
@@ -50,7 +55,7 @@ module _ {V : Type 0} (r : RowRule V) where
       → AllStand r w (λ _. 0) 0 (seats_from n ls)
   stand_from w n [] at = tt
   stand_from w n (l ∷ ls) at = (
-    record { at = at 0 l refl; own = refl; seen = λ i k tags v e there. absurd (cc) },
+    record { at = ap (slice_get w.locals) (let q : n ≡ 0 + n = omega arith in q) ∙ at 0 l refl; own = refl; seen = λ i k tags v e there. absurd (cc) },
     later n (suc n) ls (omega arith),
     stand_from w (suc n) ls (λ i m e. ap (slice_get w.locals) (let q : i + suc n ≡ suc i + n = omega arith in q) ∙ at (suc i) m e),
   )
@@ -74,9 +79,6 @@ module _ {V : Type 0} (r : RowRule V) where
   one_view v w zero (suc zero) d e f = inr (some-injective Blank d f)
   one_view v w zero (suc (suc j)) d e f = absurd (some-ne-none d (sym f))
   one_view v w (suc id) j d e f = absurd (some-ne-none w (sym e))
-
-  pub begins : (words : List ℕ) (slots : List (Option V)) → words ≡ replicate (length slots) 0 → IsTable r slots (record { words = words; homes = map some slots; views = Closed ∷ [] })
-  begins words slots w = inl record { words = w; homes = refl; views = refl }
 
   -- the first seat comes to stand for all actors
   pub opens : (values : List (LockNo × V)) (id actors : ℕ) (start : State V) → MayBegin r start values actors
@@ -152,3 +154,67 @@ module _ {V : Type 0} (r : RowRule V) where
                 (k.0, (record { at = k.1.0.at; own = new_owner o.now o.owner x.actor new; seen = k.1.0.seen }, tt, tt)))
             (at_end (set s.views id (Open start xs)) (Open start (x ∷ [])) d j seen);
       }
+
+  pub deals_at : (slots : List (Option V)) (id : ℕ) (start : State V) (x : Seated V) (xs : List (Seated V)) (v : View V) → v ≡ Open start (x ∷ xs)
+      → Splits (IsTable r slots) id v (others_of v) (first_of v)
+  deals_at slots id start x xs v e = subst (λ (m : View V). Splits (IsTable r slots) id m (others_of m) (first_of m)) (sym e) (deals slots id start x xs)
+
+  -- the hand that was dealt
+  pub dealt : (id : TableId) (start : State V) (a : ℕ) (l : Local V) (xs : List (Seated V)) (was me : Mine V) → was ≡ (Open start (newly a l ∷ xs), [])
+      → l.held ≡ [] → me ≡ (first_of was.0, []) → Sits r (fresh id start a l) me
+  dealt id start a l xs was me e idle is = is ∙ ap (λ (m : Mine V). let p : Mine V = (first_of m.0, []) in p) e
+      ∙ ap (λ (held : List (LockNo × V)). let p : Mine V = (alone start a l [], emptied r.spot held) in p) (sym idle)
+
+  pub opens_by : (slots : List (Option V)) (values : List (LockNo × V)) (id actors : ℕ) (start : State V) (v : View V) → slots ≡ all_home values → v ≡ Closed
+      → MayBegin r start values actors → Splits (IsTable r slots) id v (Open start (seats_from 0 start.locals)) Blank
+  opens_by slots values id actors start v same e b = subst (λ (p : List (Option V) × View V). Splits (IsTable r p.0) id p.1 (Open start (seats_from 0 start.locals)) Blank)
+      (λ i. (sym same i, sym e i)) (opens values id actors start b)
+
+  named_at : (values : List (LockNo × V)) (i : ℕ) (k : LockNo) → slice_get (map (λ x. x.0) values) i ≡ Some k
+      → (x : LockNo × V) × (slice_get values i ≡ Some x) × (x.0 ≡ k)
+  named_at [] i k e = absurd (cc)
+  named_at (x ∷ xs) zero k e = (x, refl, cc)
+  named_at (x ∷ xs) (suc i) k e = named_at xs i k e
+
+  -- a row of these parts
+  pub grounded : (start : State V) (names : List LockNo) (words : List ℕ) (slots : List (Option V)) (id : TableId) (back : List (LockNo × V)) (spare : ℕ)
+      → CanOpen r start names words slots → id.words ≡ length words → id.slots ≡ length slots → back ≡ [] → length names ≤ spare
+      → IsGround r.spot id names back spare
+  grounded start names words slots id back spare can wide deep empty room =
+      let n : length names ≡ length can.values = ap length can.names_are ∙ length-map can.values (λ (x : LockNo × V). x.0) in
+      let w : length words ≡ length can.values = ap length can.words_are ∙ length-replicate (length can.values) 0 in
+      let s : length slots ≡ length can.values = ap length can.slots_are ∙ length-map can.values (λ (x : LockNo × V). Some x.1) in
+      record {
+        some = (let z = can.some in omega arith);
+        words = wide ∙ w ∙ sym n;
+        slots = deep ∙ s ∙ sym n;
+        placed = λ i k e. let x = named_at can.values i k (ap (λ ns. slice_get ns i) (sym can.names_are) ∙ e) in
+            ap r.spot (sym x.2) ∙ can.placed i x.0 x.1;
+        empty = empty;
+        room = room;
+      }
+
+module _ {V : Type 0} where
+  next_local : (ls : List (Local V)) (i : ℕ) → i < length ls → (l : Local V) × (drop i ls ≡ l ∷ drop (suc i) ls) × (slice_get ls i ≡ Some l)
+  next_local [] i h = absurd (omega arith)
+  next_local (l ∷ ls) zero h = (l, refl, refl)
+  next_local (l ∷ ls) (suc i) h = next_local ls i (omega arith)
+
+  -- the next actor of the start
+  pub next_hand : (id : TableId) (start : State V) (ls : List (Local V)) (i : ℕ) → i < length ls
+      → (l : Local V) × (slice_get ls i ≡ Some l) × (seats_from i (drop i ls) ≡ newly i l ∷ seats_from (i + 1) (drop (i + 1) ls))
+      × (fresh_from id start i (drop i ls) ≡ fresh id start i l ∷ fresh_from id start (i + 1) (drop (i + 1) ls))
+  next_hand id start ls i below =
+      let n = next_local ls i below in
+      let up : suc i ≡ i + 1 = omega arith in (
+        n.0,
+        n.2,
+        ap (seats_from i) n.1 ∙ ap (λ j. newly i n.0 ∷ seats_from j (drop j ls)) up,
+        ap (fresh_from id start i) n.1 ∙ ap (λ j. fresh id start i n.0 ∷ fresh_from id start j (drop j ls)) up,
+      )
+
+  -- a hand more
+  pub one_hand : (id : TableId) (start : State V) (ls : List (Local V)) (i : ℕ) (l : Local V) (hands whole : List (Sitting V))
+      → fresh_from id start i (drop i ls) ≡ fresh id start i l ∷ fresh_from id start (i + 1) (drop (i + 1) ls) → hands ++ fresh_from id start i (drop i ls) ≡ whole
+      → (hands ++ fresh id start i l ∷ []) ++ fresh_from id start (i + 1) (drop (i + 1) ls) ≡ whole
+  one_hand id start ls i l hands whole e w = append_assoc hands (fresh id start i l ∷ []) (fresh_from id start (i + 1) (drop (i + 1) ls)) ∙ (ap (λ hs. hands ++ hs) (sym e) ∙ w)

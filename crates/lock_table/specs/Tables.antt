@@ -1,6 +1,7 @@
 -- The rule of a table of locks: each lock has a word and a slot.
 use Rattle.std.specs.Prelude.{◌≡◌, ◌≢◌, ◌⊎◌, ℕ, ◌+◌, ◌<◌, List, [], ◌∷◌, map, length, slice_index, Option, Some, None, slice_get, replicate, ⊤}
 use mathlib.Core.Option.{some, none}
+use mathlib.Core.Option as maybe
 use lib.ListN.{get_elem?}
 use Rattle.atomic_table.specs.Table.{State as Words}
 use Rattle.lock_row.specs.declared.names.State.{State}
@@ -27,9 +28,9 @@ module _ {V : Type 0} where
 
 module _ {V : Type 0} (r : RowRule V) where
   -- The word of the place k is 0 and its value is in the slot, or the value is out, and the word has the number of the actor that holds it: 1 for actor 0.
-  pub data IsPlace (s : Table V) (w : State V) (k : ℕ) : Type 0 where
-    free : (v : V) → slice_index s.words k ≡ 0 → get_elem? s.homes k ≡ some (some (Some v)) → slice_get w.row k ≡ Some (Some v) → IsPlace s w k
-    out : (a : ℕ) → slice_index s.words k ≡ a + 1 → get_elem? s.homes k ≡ some none → slice_get w.row k ≡ Some None → Holds r w a k → IsPlace s w k
+  pub data IsPlace (words : List ℕ) (homes : List (maybe.Option (Option V))) (w : State V) (k : ℕ) : Type 0 where
+    free : (v : V) → slice_index words k ≡ 0 → get_elem? homes k ≡ some (some (Some v)) → slice_get w.row k ≡ Some (Some v) → IsPlace words homes w k
+    out : (a : ℕ) → slice_index words k ≡ a + 1 → get_elem? homes k ≡ some none → slice_get w.row k ≡ Some None → Holds r w a k → IsPlace words homes w k
 
   -- The actor is at this local, this seat alone stands for it, and what it saw begins the orders of now.
   pub record Stands (w : State V) (owner : ℕ → ℕ) (seat : ℕ) (x : Seated V) : Type 0 where
@@ -54,7 +55,7 @@ module _ {V : Type 0} (r : RowRule V) where
     pub reached : IsReached r start now
     pub wide : length s.words ≡ length now.row
     pub deep : length s.homes ≡ length now.row
-    pub each_place : (k : ℕ) → k < length now.row → IsPlace s now k
+    pub each_place : (k : ℕ) → k < length now.row → IsPlace s.words s.homes now k
     pub each_seat : (j : ℕ) (d : View V) → get_elem? s.views j ≡ some d → Knows start now owner j d
 
   abbrev pub IsTable : List (Option V) → Table V → Type 0

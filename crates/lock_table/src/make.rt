@@ -19,7 +19,7 @@ use std::snapshot::Snapshot;
 use zr_base::PageIx;
 
 /// The first step: the seat stands for all actors of the start.
-struct Opens<P> {
+pub(crate) struct Opens<P> {
     of: PhantomData<P>,
 }
 
@@ -33,7 +33,7 @@ impl<V, P: PhaseStart<V>> Split<View<V>> for Opens<P> {
 }
 
 /// The first actor gets a seat of its own.
-struct Deals;
+pub(crate) struct Deals;
 
 impl<V> Split<View<V>> for Deals {
     ghost use Rattle.lock_table.specs.Starts.{first_of, others_of};
