@@ -5,3 +5,4 @@ pub mod Kept
 pub mod Steps
 pub mod Parts
 pub mod Openings
+pub mod Shuts

@@ -7,12 +7,11 @@ use Rattle.atomic_table.specs.Seated.{TableId}
 use Rattle.lock_row.specs.declared.names.LockNo.{LockNo}
 use Rattle.lock_row.specs.declared.names.Local.{Local}
 use Rattle.lock_row.specs.Rules.{RowRule}
-use Rattle.lock_table.specs.declared.view.Seated.{Seated}
 use Rattle.lock_table.specs.Laws.{Laws}
 use Rattle.lock_table.specs.Phases.{Finds}
 use Rattle.lock_table.specs.Tables.{IsTable}
 use Rattle.lock_table.specs.Plays.{Mine, alone, Took, Missed, tried, gave}
-use Rattle.lock_table.specs.Sittings.{Ground, Sitting, actor_of, start_of, emptied}
+use Rattle.lock_table.specs.Sittings.{Ground, Sitting, seated, actor_of, start_of, emptied}
 use Rattle.lock_table.specs.Hands.{moved, MayTake, Takes, Misses, MayGive}
 use Rattle.lock_table.proofs.Kept.{tries_allowed, gives_allowed}
 
@@ -26,9 +25,6 @@ module _ {V : Type 0} (r : RowRule V) where
   -- the seat stands for this actor alone, and what it holds is out of its slots
   abbrev pub Sits : Sitting V → Mine V → Type 0
   Sits h me = me ≡ (alone h.start h.actor h.local h.seen, emptied r.spot h.local.held)
-
-  abbrev pub seated : Sitting V → Seated V
-  seated h = record { actor = h.actor; local = h.local; seen = h.seen }
 
   -- how contracts see a seat
   abbrev pub seen_as : TableId → ℕ → Mine V → Sitting V

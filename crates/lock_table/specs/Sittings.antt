@@ -24,6 +24,10 @@ pub record Sitting (V : Type 0) : Type 0 where
   pub seen : List (ℕ × List Tag)
 
 module _ {V : Type 0} where
+  -- the actor of a hand, as a view has it
+  abbrev pub seated : Sitting V → Seated V
+  seated h = record { actor = h.actor; local = h.local; seen = h.seen }
+
   -- an actor without a number and without work
   abbrev pub nobody : Seated V
   nobody = record { actor = 0; local = record { actor = 0; at = Start; todo = []; held = []; done = [] }; seen = [] }

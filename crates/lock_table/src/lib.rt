@@ -16,13 +16,16 @@
 #![tactic(auto)]
 
 mod at_row;
+mod closing;
 mod hands;
 mod make;
 mod plays;
 mod row;
+
 mod view;
 
 pub use at_row::AtRow;
 pub use hands::TableHands;
 pub use row::{TableHand, TableRow};
+pub use closing::shut;
 pub use view::{LocksRule, Seated, View};
