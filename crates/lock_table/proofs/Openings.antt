@@ -177,10 +177,9 @@ module _ {V : Type 0} (r : RowRule V) where
   named_at (x ∷ xs) (suc i) k e = named_at xs i k e
 
   -- a row of these parts
-  pub grounded : (start : State V) (names : List LockNo) (words : List ℕ) (slots : List (Option V)) (id : TableId) (back : List (LockNo × V)) (spare : ℕ)
-      → CanOpen r start names words slots → id.words ≡ length words → id.slots ≡ length slots → back ≡ [] → length names ≤ spare
-      → IsGround r.spot id names back spare
-  grounded start names words slots id back spare can wide deep empty room =
+  pub grounded : (start : State V) (names : List LockNo) (words : List ℕ) (slots : List (Option V)) (id : TableId)
+      → CanOpen r start names words slots → id.words ≡ length words → id.slots ≡ length slots → IsGround r.spot id names
+  grounded start names words slots id can wide deep =
       let n : length names ≡ length can.values = ap length can.names_are ∙ length-map can.values (λ (x : LockNo × V). x.0) in
       let w : length words ≡ length can.values = ap length can.words_are ∙ length-replicate (length can.values) 0 in
       let s : length slots ≡ length can.values = ap length can.slots_are ∙ length-map can.values (λ (x : LockNo × V). Some x.1) in
@@ -190,8 +189,6 @@ module _ {V : Type 0} (r : RowRule V) where
         slots = deep ∙ s ∙ sym n;
         placed = λ i k e. let x = named_at can.values i k (ap (λ ns. slice_get ns i) (sym can.names_are) ∙ e) in
             ap r.spot (sym x.2) ∙ can.placed i x.0 x.1;
-        empty = empty;
-        room = room;
       }
 
 module _ {V : Type 0} where

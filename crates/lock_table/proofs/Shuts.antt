@@ -15,7 +15,10 @@ use Rattle.lock_row.specs.Rules.{RowRule}
 use Rattle.lock_table.specs.declared.view.View.{View}
 use Rattle.lock_table.specs.declared.view.View.TheVariants.{Blank, Closed, Open}
 use Rattle.lock_table.specs.declared.view.Seated.{Seated}
-use Rattle.lock_table.specs.Phases.{IsReached, Holds}
+use Rattle.std.specs.List.{sum_by}
+use Rattle.std.proofs.lemmas.List.Sums.{sum_by-cons}
+use Rattle.lock_row.specs.Totals.{row_sum, locals_sum, held_sum, mass}
+use Rattle.lock_table.specs.Phases.{IsReached, Holds, told, noted}
 use Rattle.lock_table.specs.Tables.{IsPlace, free, out, AllStand, Stands, NotAmong, Knows, IsOpen, IsTable}
 use Rattle.lock_table.specs.Plays.{Mine, alone}
 use Rattle.lock_table.specs.Sittings.{Ground, Sitting, seated, emptied}
@@ -126,6 +129,22 @@ module _ {V : Type 0} where
       let f : y ≡ Some z.0 = some-injective y (Some z.0) z.2 in
       λ i. (e ∙ sym f) i ∷ row_is xs ys (omega arith) (λ k b. h (suc k) (omega arith)) i
 
+  nothing_held : (held : List (LockNo × V)) → ((i : ℕ) (x : LockNo × V) → slice_get held i ≡ Some x → ⊥) → held ≡ []
+  nothing_held [] h = refl
+  nothing_held (x ∷ xs) h = absurd (h 0 x refl)
+
+  home_sum : (g : V → ℕ) (values : List (LockNo × V)) → row_sum (λ _ v. g v) (all_home values) ≡ sum_by (λ x. g x.1) values
+  home_sum g [] = refl
+  home_sum g (x ∷ xs) = ap (λ n. g x.1 + n) (home_sum g xs) ∙ sym (sum_by-cons (λ (y : LockNo × V). g y.1) x xs)
+
+  held_none : (spot : LockNo → ℕ) (f : ℕ → V → ℕ) (ls : List (Local V)) → ((a : ℕ) (l : Local V) → slice_get ls a ≡ Some l → l.held ≡ [])
+      → locals_sum (mass spot f (λ _. 0)) ls ≡ 0
+  held_none spot f [] h = refl
+  held_none spot f (l ∷ ls) h =
+      let e : held_sum spot f l.held ≡ 0 = ap (held_sum spot f) (h 0 l refl) in
+      let t = held_none spot f ls (λ a m at. h (suc a) m at) in
+      omega arith
+
   stand_at : (r : RowRule V) (w : State V) (owner : ℕ → ℕ) (seat i : ℕ) (hands : List (Sitting V)) (h : Sitting V) → AllStand r w owner seat (map seated hands)
       → slice_get hands i ≡ Some h → Stands r w owner seat (seated h)
   stand_at r w owner seat i [] h s e = absurd (cc)
@@ -152,6 +171,9 @@ module _ {V : Type 0} (r : RowRule V) (values : List (Option V)) (id : ℕ) (g :
       let none : slice_get [] i ≡ Some x = ap (λ (xs : List (LockNo × V)). slice_get xs i) (sym (all.free h.0 h.1 h.2) ∙ ap (λ (m : Local V). m.held) same) ∙ e in
       absurd (cc)
 
+  idle : (a : ℕ) (l : Local V) → slice_get o.now.locals a ≡ Some l → l.held ≡ []
+  idle a l at = nothing_held l.held (λ i x e. nobody_holds a (r.spot x.0) (l, i, x, at, e, refl))
+
   all_back : AllSame o.now.row slots
   all_back k below = back (o.each_place k below)
     where
@@ -170,12 +192,20 @@ module _ {V : Type 0} (r : RowRule V) (values : List (Option V)) (id : ℕ) (g :
       (b.0, cc)
 
   pub leaves : (left : List (LockNo × V)) → all_home left ≡ slots → Left r start hands left
-  leaves left e = record {
+  leaves left e = let back_row = row_is o.now.row slots size all_back ∙ sym e in record {
     now = o.now;
     reached = subst (λ (w : State V). IsReached r w o.now) (sym knows.0) o.reached;
     locals = λ i h at. (stand_at r o.now o.owner id i hands h knows.1 at).at;
     seen = λ i h at. (stand_at r o.now o.owner id i hands h knows.1 at).seen;
-    row = row_is o.now.row slots size all_back ∙ sym e;
+    row = back_row;
+    tags = λ c.
+        let t = o.reached.tags c in
+        let f : ℕ → V → ℕ = λ _ v. sum_by c (r.order v) in
+        let a : row_sum f o.now.row ≡ sum_by (λ x. sum_by c (r.order x.1)) left = ap (row_sum f) back_row ∙ home_sum (λ v. sum_by c (r.order v)) left in
+        let b = held_none r.spot f o.now.locals idle in
+        let s : told r c start ≡ told r c o.start = ap (told r c) knows.0 in
+        let n : noted r c start ≡ noted r c o.start = ap (noted r c) knows.0 in
+        omega arith;
   }
 
 -- ---- the hands, the last first

@@ -11,11 +11,11 @@ use Rattle.lock_table.specs.Sittings.{Ground, Sitting}
 abbrev pub IsLock : Ground → ℕ → LockNo → Type 0
 IsLock g i k = slice_get g.names i ≡ Some k
 
-module _ {V : Type 0} (r : RowRule V) where
-  -- the actor has the lock's value
-  abbrev pub HasLock : Sitting V → LockNo → Type 0
-  HasLock h k = (i : ℕ) × (v : V) × (slice_get h.local.held i ≡ Some (k, v))
+-- the actor has the lock's value
+abbrev pub HasLock : {V : Type 0} → Sitting V → LockNo → Type 0
+HasLock {V} h k = (i : ℕ) × (v : V) × (slice_get h.local.held i ≡ Some (k, v))
 
+module _ {V : Type 0} (r : RowRule V) where
   -- what may stand at the lock's place at its next step
   abbrev pub MayFind : Sitting V → LockNo → Option V → Type 0
   MayFind h k x = Finds r h.start h.actor h.local h.seen (r.spot k) x

@@ -1,11 +1,13 @@
 -- How a row is shut.
-use Rattle.std.specs.Prelude.{◌≡◌, ℕ, ◌<◌, List, [], ◌∷◌, map, length, Some, slice_get}
+use Rattle.std.specs.Prelude.{◌≡◌, ℕ, ◌+◌, ◌<◌, List, [], ◌∷◌, map, length, Some, slice_get}
+use Rattle.std.specs.List.{sum_by}
+use Rattle.zr_base.specs.declared.op.Tag.{Tag}
 use Rattle.lock_row.specs.declared.names.LockNo.{LockNo}
 use Rattle.lock_row.specs.declared.names.State.{State}
 use Rattle.lock_row.specs.Rules.{RowRule}
 use Rattle.lock_table.specs.declared.view.View.{View}
 use Rattle.lock_table.specs.declared.view.View.TheVariants.{Open}
-use Rattle.lock_table.specs.Phases.{IsReached, Begin}
+use Rattle.lock_table.specs.Phases.{IsReached, Begin, told, noted}
 use Rattle.lock_table.specs.Sittings.{Ground, Sitting}
 use Rattle.lock_table.specs.Starts.{all_home}
 
@@ -30,3 +32,5 @@ module _ {V : Type 0} where
     pub locals : (i : ℕ) (h : Sitting V) → slice_get hands i ≡ Some h → slice_get now.locals h.actor ≡ Some h.local
     pub seen : (i : ℕ) (h : Sitting V) → slice_get hands i ≡ Some h → Begin r h.seen now
     pub row : now.row ≡ all_home values
+    -- for each weight of tags: the values' orders have those of the start, and what the actors have noted since
+    pub tags : (c : Tag → ℕ) → sum_by (λ x. sum_by c (r.order x.1)) values + noted r c start ≡ told r c start + noted r c now

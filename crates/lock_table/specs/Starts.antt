@@ -67,7 +67,14 @@ module _ {V : Type 0} where
   others_of (Open start (x ∷ xs)) = Open start xs
   others_of view = view
 
--- A list of hands, and how many its row has.
+-- A list of hands, and how many hands and locks its row has.
 pub record Hands (V : Type 0) : Type 0 where
   pub list : List (Sitting V)
   pub most : ℕ
+  pub locks : ℕ
+
+-- There is room for all hands, and for all values in the list where they come back, which is empty.
+pub record HasRoom {V : Type 0} (most spare locks : ℕ) (back : List (LockNo × V)) (room : ℕ) : Type 0 where
+  pub hands : most ≤ spare
+  pub empty : back ≡ []
+  pub values : locks ≤ room

@@ -32,7 +32,7 @@ impl<'a, V: RowValue<R>, R> Hand for AtRow<'a, V, R> {
 
     type Value = V;
 
-    ghost holds = { λ h lock. HasLock V.rule h.hand.now lock };
+    ghost holds = { λ h lock. HasLock h.hand.now lock };
 
     ghost local = { λ h. Some h.hand.now.local };
 

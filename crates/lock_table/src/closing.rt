@@ -73,12 +73,15 @@ fn take_all<V>(
 /// The values of a row's locks, once all its hands are back. It takes no memory.
 pub fn shut<V: RowValue<R>, R>(row: TableRow<V, R>, hands: TableHands<V, R>) -> Vec<(LockNo, V)>
     requires hands { (start : State V) × AllHands row start hands.list }
+    requires locks { hands.locks ≡ length row.names }
     ensures names { map (λ (x : LockNo × V). x.0) result.items ≡ row.names }
     ensures left { (start : State V) → AllHands row start hands.list → Left V.rule start hands.list result.items }
 {
     let TableHands {
         hands: mut list,
         most: _,
+        values,
+        locks: _,
     } = hands;
     let Some(hand) = list.pop() else {
         unreachable!()
@@ -95,7 +98,6 @@ pub fn shut<V: RowValue<R>, R>(row: TableRow<V, R>, hands: TableHands<V, R>) -> 
         table,
         names,
         first: _,
-        values,
     } = row;
     let closed = table.close_with(seat);
     take_all(closed, &names, values)

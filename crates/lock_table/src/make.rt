@@ -88,6 +88,13 @@ fn move_back<V>(names: &[LockNo], mut slots: Vec<Option<V>>, values: &mut Vec<(L
     values.reverse();
 }
 
+// A row, a seat that stands for all actors, and the emptied list of the row's values.
+struct Opened<V: RowValue<R>, R> {
+    row: TableRow<V, R>,
+    seat: Seat<Option<V>, View<V>>,
+    values: Vec<(LockNo, V)>,
+}
+
 // The parts of a row's table. On Err the values are as they were.
 fn part<V>(alloc: Global, values: &mut Vec<(LockNo, V)>) -> Result<Parts<V>, AllocError>
     ensures names { IfOk result (λ p. p.names.items ≡ map (λ (x : LockNo × _). x.0) values.old.items) }
@@ -109,18 +116,19 @@ fn part<V>(alloc: Global, values: &mut Vec<(LockNo, V)>) -> Result<Parts<V>, All
 }
 
 impl<V: RowValue<R>, R> TableRow<V, R> {
-    // The row of these parts, and a seat that stands for all actors. The list of values is empty, and keeps its room.
+    // The row of these parts. The list of values is empty, and keeps its room.
     fn open<P: PhaseStart<V>>(
         alloc: Global,
         parts: Parts<V>,
         mut values: Vec<(LockNo, V)>,
-    ) -> Result<(TableRow<V, R>, Seat<Option<V>, View<V>>), Vec<(LockNo, V)>>
+    ) -> Result<Opened<V, R>, Vec<(LockNo, V)>>
         requires can { CanOpen V.rule P.start parts.names.items parts.words.items parts.slots.items }
         requires empty { values.items ≡ [] }
         requires room { vec_len parts.names ≤ vec_capacity values }
-        ensures names { IfOk result (λ t. t.0.names ≡ parts.names.items) }
-        ensures own { IfOk result (λ t. t.1.table_id ≡ t.0.id) }
-        ensures all { IfOk result (λ t. t.1.me ≡ (Open P.start (seats_from 0 P.start.locals), [])) }
+        ensures names { IfOk result (λ t. t.row.names ≡ parts.names.items) }
+        ensures own { IfOk result (λ t. t.seat.table_id ≡ t.row.id) }
+        ensures all { IfOk result (λ t. t.seat.me ≡ (Open P.start (seats_from 0 P.start.locals), [])) }
+        ensures values { IfOk result (λ t. t.values ≡ values) }
         ensures err { IfErr result (λ v. (was : _) → parts.names.items ≡ map (λ (x : LockNo × _). x.0) was → parts.slots.items ≡ all_home was → v.items ≡ was) }
     {
         let Parts {
@@ -137,9 +145,8 @@ impl<V: RowValue<R>, R> TableRow<V, R> {
                     table,
                     names,
                     first,
-                    values,
                 };
-                Ok((row, seat))
+                Ok(Opened { row, seat, values })
             }
             Err(Refused { slots }) => {
                 move_back(&names, slots, &mut values);
@@ -177,6 +184,7 @@ impl<V: RowValue<R>, R> TableRow<V, R> {
         ensures names { IfOk result (λ t. t.0.names ≡ map (λ (x : LockNo × _). x.0) values.items) }
         ensures hands { IfOk result (λ t. t.1.list ≡ fresh_from t.0.id P.start 0 P.start.locals) }
         ensures most { IfOk result (λ t. t.1.most ≡ actors) }
+        ensures locks { IfOk result (λ t. t.1.locks ≡ length values.items) }
         ensures err { IfErr result (λ v. v.items ≡ values.items) }
     {
         let Ok(mut hands) = Vec::with_capacity(alloc, actors as usize) else {
@@ -185,11 +193,22 @@ impl<V: RowValue<R>, R> TableRow<V, R> {
         let Ok(parts) = part(alloc, &mut values) else {
             return Err(values);
         };
-        let (row, mut seat) = Self::open::<P>(alloc, parts, values)?;
+        let locks = parts.names.len();
+        let Opened {
+            row,
+            mut seat,
+            values,
+        } = Self::open::<P>(alloc, parts, values)?;
         for actor in 0..actors {
             hands.push_reserved(row.deal(&mut seat, actor));
         }
         let most = actors as usize;
-        Ok((row, TableHands { hands, most }))
+        let hands = TableHands {
+            hands,
+            most,
+            values,
+            locks,
+        };
+        Ok((row, hands))
     }
 }

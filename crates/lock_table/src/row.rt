@@ -21,8 +21,6 @@ pub struct TableRow<V: RowValue<R>, R> {
     pub(crate) names: Vec<LockNo>,
     // the place of the first slot: in rising order from there on, a slot is found at once
     pub(crate) first: usize,
-    // where the values come back when the row is shut, which takes no memory
-    pub(crate) values: Vec<(LockNo, V)>,
 }
 
 impl<V: RowValue<R>, R> Model for TableRow<V, R> {
@@ -30,12 +28,11 @@ impl<V: RowValue<R>, R> Model for TableRow<V, R> {
 
     ghost Value = { Ground };
 
-    ghost use Rattle.std.specs.Prelude.{vec_capacity};
     ghost use Rattle.lock_table.specs.Grounds.{IsGround};
 
     ghost view = { λ r. record { id = r.table.shared.table_id; names = r.names.items } };
 
-    ghost invariant = { λ r. IsGround V.rule.spot r.table.shared.table_id r.names.items r.values.items (vec_capacity r.values) };
+    ghost invariant = { λ r. IsGround V.rule.spot r.table.shared.table_id r.names.items };
 }
 
 // The laws of the machine.
