@@ -1,0 +1,4 @@
+pub mod Tagging
+pub mod Ready
+pub mod TagRule
+pub mod Made
