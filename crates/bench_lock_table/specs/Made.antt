@@ -7,8 +7,9 @@ use Rattle.lock_table.specs.Sittings.{Ground}
 use Rattle.lock_table.specs.Starts.{all_home, StandAt}
 use Rattle.bench_lock_table.specs.declared.rows.Locks.{Locks}
 use Rattle.bench_lock_table.specs.declared.rows.Made.{Made}
+use Rattle.bench_lock_table.specs.declared.rows.Job.{Job}
 use Rattle.bench_lock_table.specs.Tagging.{spot, lock_at, pieces_for, idle}
-use Rattle.bench_lock_table.specs.Ready.{Mine, IsReady}
+use Rattle.bench_lock_table.specs.Ready.{Mine, IsReady, IsSame}
 
 -- each actor at its lock
 abbrev pub start_of : List (LockNo × List Tag) → Locks → State (List Tag)
@@ -33,6 +34,7 @@ pub record IsSeat (g : Ground) (start : State (List Tag)) (a : ℕ) (k : LockNo)
   pub start_is : h.start ≡ start
   pub actor : h.actor ≡ a
   pub number : h.local.actor ≡ a
+  pub none_done : h.local.done ≡ []
 
 -- All four hands are out, and the list of hands has room for them.
 pub record IsMade (start : State (List Tag)) (locks : Locks) (m : Made) : Type 0 where
@@ -43,3 +45,14 @@ pub record IsMade (start : State (List Tag)) (locks : Locks) (m : Made) : Type 0
   pub empty : m.hands.list ≡ []
   pub most : m.hands.most ≡ 4
   pub locks_are : m.hands.locks ≡ length m.row.names
+
+-- The hand may do this job.
+pub record CanServe (g : Ground) (h : Mine) (j : Job) : Type 0 where
+  pub ready : IsReady g h j.lock
+  pub number : h.local.actor ≡ j.actor
+  pub none_done : h.local.done ≡ []
+
+-- It has done the job.
+pub record IsServed (g : Ground) (h : Mine) (j : Job) (after : Mine) : Type 0 where
+  pub ready : IsReady g after j.lock
+  pub same : IsSame h after

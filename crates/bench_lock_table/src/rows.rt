@@ -1,12 +1,13 @@
 //! A row of tags with four hands, for threads of their own.
 
-ghost use Rattle.std.specs.Prelude.{◌≡◌, ◌<◌, ℕ, [], ◌∷◌, map, length, IfOk, IfErr, slice_index_or};
+ghost use Rattle.std.specs.Prelude.{◌≡◌, ◌<◌, ℕ, ◌+◌, [], ◌∷◌, map, length, IfOk};
 ghost use Rattle.lock_row.specs.declared.names.LockNo.{LockNo};
 ghost use Rattle.lock_table.specs.Shut.{Left};
 ghost use Rattle.bench_lock_table.specs.Tagging.{next_tag};
 ghost use Rattle.bench_lock_table.specs.TagRule.{tagging};
 ghost use Rattle.bench_lock_table.specs.Ready.{IsReady, Has, IsSame};
-ghost use Rattle.bench_lock_table.specs.Made.{start_of, CanMake, IsMade, IsSeat};
+ghost use Rattle.bench_lock_table.specs.Ready.{Mine};
+ghost use Rattle.bench_lock_table.specs.Made.{start_of, CanMake, IsMade, CanServe, IsServed};
 
 use crate::tags::{Tagging, Tags};
 use crate::turns::{Row, give, give_tagged, take};
@@ -25,6 +26,16 @@ pub struct Locks {
     pub two: LockNo,
     pub three: LockNo,
     pub four: LockNo,
+}
+
+/// What an actor does.
+#[derive(Clone, Copy)]
+pub struct Job {
+    pub lock: LockNo,
+    pub actor: u32,
+    pub rounds: u32,
+    /// It adds a tag in each round; else it only takes and gives.
+    pub adds: bool,
 }
 
 /// A row with the hands of its four actors.
@@ -73,4 +84,119 @@ pub fn make(
     ensures { IfOk result (λ m. IsMade (start_of values.items locks.now) locks.now m) }
 {
     make_by::<Brand>(alloc, values, locks)
+}
+
+/// Takes the lock as soon as it is free.
+fn take_soon<R: Wait>(
+    rt: &R,
+    row: &Row,
+    hand: &mut TableHand<Tags, Tagging>,
+    lock: LockNo,
+) -> Tags
+    requires { IsReady row.now hand.old lock }
+    ensures got { Has row.now hand.new lock result }
+    ensures same { IsSame hand.old hand.new }
+    ensures done { hand.new.local.done ≡ hand.old.local.done }
+{
+    for _ in rt.forever() {
+        if let Some(tags) = take(row, hand, lock) {
+            return tags;
+        }
+    }
+    unreachable!()
+}
+
+/// Takes and gives the lock so many times.
+fn pass<R: Wait>(
+    rt: &R,
+    row: &Row,
+    hand: &mut TableHand<Tags, Tagging>,
+    lock: LockNo,
+    rounds: u32,
+)
+    requires { IsReady row.now hand.old lock }
+    ensures free { IsReady row.now hand.new lock }
+    ensures same { IsSame hand.old hand.new }
+{
+    for _ in 0..rounds {
+        let tags = take_soon(rt, row, hand, lock);
+        give(row, hand, lock, tags);
+    }
+}
+
+/// Adds a tag of the actor. Err is want of memory, and then the tags are as they were.
+fn add<R: Wait>(
+    rt: &R,
+    row: &Row,
+    hand: &mut TableHand<Tags, Tagging>,
+    lock: LockNo,
+    tag: Tag,
+) -> Result<(), AllocError>
+    requires ready { IsReady row.now hand.old lock }
+    requires next { next_tag hand.old.local ≡ tag }
+    ensures free { IsReady row.now hand.new lock }
+    ensures same { IsSame hand.old hand.new }
+    ensures done { IfOk result (λ _. length hand.new.local.done ≡ tag.op + 1) }
+{
+    let mut tags = take_soon(rt, row, hand, lock);
+    if tags.push(tag).is_err() {
+        give(row, hand, lock, tags);
+        return Err(AllocError);
+    }
+    give_tagged(row, hand, lock, tags);
+    Ok(())
+}
+
+/// Does an actor's job, and says whether there was memory.
+fn serve<R: Wait>(
+    rt: &R,
+    row: &Row,
+    mut hand: TableHand<Tags, Tagging>,
+    job: Job,
+) -> (TableHand<Tags, Tagging>, bool)
+    requires { CanServe row.now hand job }
+    ensures { IsServed row.now hand job result.0 }
+{
+    if !job.adds {
+        pass(rt, row, &mut hand, job.lock, job.rounds);
+        return (hand, true);
+    }
+    for op in 0..job.rounds {
+        let tag = Tag {
+            actor: job.actor,
+            op,
+        };
+        if add(rt, row, &mut hand, job.lock, tag).is_err() {
+            return (hand, false);
+        }
+    }
+    (hand, true)
+}
+
+/// Does two jobs, each in a thread of its own.
+fn both<R: Threads + Wait + Sync>(
+    rt: &R,
+    row: &Row,
+    one: (TableHand<Tags, Tagging>, Job),
+    two: (TableHand<Tags, Tagging>, Job),
+) -> (
+    (TableHand<Tags, Tagging>, bool),
+    (TableHand<Tags, Tagging>, bool),
+)
+    requires { CanServe row.now one.0 one.1 × CanServe row.now two.0 two.1 }
+    ensures { IsServed row.now one.0 one.1 result.0.0 × IsServed row.now two.0 two.1 result.1.0 }
+{
+    let (first, job) = one;
+    let (second, other) = two;
+    join(
+        rt,
+        move || -> (TableHand<Tags, Tagging>, bool)
+            requires { CanServe row.now first job }
+            ensures { IsServed row.entry.now first job result.0 }
+        { serve(rt, row, first, job) },
+        move || -> (TableHand<Tags, Tagging>, bool)
+            requires { CanServe row.now second other }
+            ensures { IsServed row.entry.now second other result.0 }
+        { serve(rt, row, second, other) },
+    )
 }
