@@ -8,9 +8,10 @@ use Rattle.lock_table.specs.Starts.{fresh}
 use Rattle.lock_table.specs.Shut.{AllHands}
 use Rattle.bench_lock_table.specs.declared.rows.Locks.{Locks}
 use Rattle.bench_lock_table.specs.declared.rows.Job.{Job}
+use Rattle.bench_lock_table.specs.declared.rows.Made.{Made}
 use Rattle.bench_lock_table.specs.Tagging.{spot, idle}
 use Rattle.bench_lock_table.specs.Ready.{Mine}
-use Rattle.bench_lock_table.specs.Made.{start_of, IsOwn, IsSeat, CanServe, IsServed}
+use Rattle.bench_lock_table.specs.Made.{start_of, IsOwn, IsSeat, IsMade, CanServe, IsServed}
 
 same_ends : {A : Type 0} (xs ys : List A) (x y : A) → xs ++ x ∷ [] ≡ ys ++ y ∷ [] → (xs ≡ ys) × (x ≡ y)
 same_ends [] [] x y e = (refl, cc)
@@ -82,3 +83,19 @@ module _ (g : Ground) (values : List (LockNo × List Tag)) (locks : Locks) (a b 
       free = λ i h at. (each i h at).1.2;
       all = found;
     }
+
+-- all hands are back after their jobs
+pub four_back : (values : List (LockNo × List Tag)) (locks : Locks) (m : Made) (is : IsMade (start_of values locks) locks m) (j0 j1 j2 j3 : Job) (a b c d : Mine)
+    → j0.lock ≡ locks.one → j1.lock ≡ locks.two → j2.lock ≡ locks.three → j3.lock ≡ locks.four
+    → IsServed m.row m.one j0 a → IsServed m.row m.two j1 b → IsServed m.row m.three j2 c → IsServed m.row m.four j3 d
+    → (l0 l1 l2 l3 l4 : List Mine) → l0 ≡ [] → l1 ≡ l0 ++ a ∷ [] → l2 ≡ l1 ++ b ∷ [] → l3 ≡ l2 ++ c ∷ [] → l4 ≡ l3 ++ d ∷ []
+    → AllHands m.row (start_of values locks) l4
+four_back values locks m is j0 j1 j2 j3 a b c d e0 e1 e2 e3 s0 s1 s2 s3 l0 l1 l2 l3 l4 p0 p1 p2 p3 p4 =
+    let start = start_of values locks in
+    all_four m.row values locks a b c d
+    (comes_back m.row start 0 j0 m.one a (subst (λ k. IsSeat m.row start 0 k m.one) (sym e0) is.one) s0)
+    (comes_back m.row start 1 j1 m.two b (subst (λ k. IsSeat m.row start 1 k m.two) (sym e1) is.two) s1)
+    (comes_back m.row start 2 j2 m.three c (subst (λ k. IsSeat m.row start 2 k m.three) (sym e2) is.three) s2)
+    (comes_back m.row start 3 j3 m.four d (subst (λ k. IsSeat m.row start 3 k m.four) (sym e3) is.four) s3)
+    l4
+    (p4 ∙ ap (λ hs. hs ++ d ∷ []) (p3 ∙ ap (λ hs. hs ++ c ∷ []) (p2 ∙ ap (λ hs. hs ++ b ∷ []) (p1 ∙ ap (λ hs. hs ++ a ∷ []) p0))))

@@ -10,9 +10,9 @@ ghost use Rattle.bench_lock_table.specs.Ready.{Mine};
 ghost use Rattle.bench_lock_table.specs.Made.{start_of, CanMake, IsMade, CanServe, IsServed};
 
 use crate::tags::{Tagging, Tags};
-use crate::turns::{Row, give, give_tagged, take};
+use crate::turns::{Row, TagHand, give, give_tagged, take};
 use lock_row::{LockNo, PhaseStart};
-use lock_table::{TableHand, TableHands, TableRow, shut};
+use lock_table::{TableHands, TableRow, shut};
 use std::alloc::{AllocError, Global};
 use std::marker::Brand;
 use std::sync::Wait;
@@ -40,12 +40,12 @@ pub struct Job {
 
 /// A row with the hands of its four actors.
 pub struct Made {
-    pub row: TableRow<Tags, Tagging>,
+    pub row: Row,
     pub hands: TableHands<Tags, Tagging>,
-    pub one: TableHand<Tags, Tagging>,
-    pub two: TableHand<Tags, Tagging>,
-    pub three: TableHand<Tags, Tagging>,
-    pub four: TableHand<Tags, Tagging>,
+    pub one: TagHand,
+    pub two: TagHand,
+    pub three: TagHand,
+    pub four: TagHand,
 }
 
 fn make_by<P: PhaseStart<Tags>>(
@@ -90,7 +90,7 @@ pub fn make(
 fn take_soon<R: Wait>(
     rt: &R,
     row: &Row,
-    hand: &mut TableHand<Tags, Tagging>,
+    hand: &mut TagHand,
     lock: LockNo,
 ) -> Tags
     requires { IsReady row.now hand.old lock }
@@ -110,7 +110,7 @@ fn take_soon<R: Wait>(
 fn pass<R: Wait>(
     rt: &R,
     row: &Row,
-    hand: &mut TableHand<Tags, Tagging>,
+    hand: &mut TagHand,
     lock: LockNo,
     rounds: u32,
 )
@@ -128,7 +128,7 @@ fn pass<R: Wait>(
 fn add<R: Wait>(
     rt: &R,
     row: &Row,
-    hand: &mut TableHand<Tags, Tagging>,
+    hand: &mut TagHand,
     lock: LockNo,
     tag: Tag,
 ) -> Result<(), AllocError>
@@ -151,9 +151,9 @@ fn add<R: Wait>(
 fn serve<R: Wait>(
     rt: &R,
     row: &Row,
-    mut hand: TableHand<Tags, Tagging>,
+    mut hand: TagHand,
     job: Job,
-) -> (TableHand<Tags, Tagging>, bool)
+) -> (TagHand, bool)
     requires { CanServe row.now hand job }
     ensures { IsServed row.now hand job result.0 }
 {
@@ -177,11 +177,11 @@ fn serve<R: Wait>(
 fn both<R: Threads + Wait + Sync>(
     rt: &R,
     row: &Row,
-    one: (TableHand<Tags, Tagging>, Job),
-    two: (TableHand<Tags, Tagging>, Job),
+    one: (TagHand, Job),
+    two: (TagHand, Job),
 ) -> (
-    (TableHand<Tags, Tagging>, bool),
-    (TableHand<Tags, Tagging>, bool),
+    (TagHand, bool),
+    (TagHand, bool),
 )
     requires { CanServe row.now one.0 one.1 × CanServe row.now two.0 two.1 }
     ensures { IsServed row.now one.0 one.1 result.0.0 × IsServed row.now two.0 two.1 result.1.0 }
@@ -190,13 +190,88 @@ fn both<R: Threads + Wait + Sync>(
     let (second, other) = two;
     join(
         rt,
-        move || -> (TableHand<Tags, Tagging>, bool)
+        move || -> (TagHand, bool)
             requires { CanServe row.now first job }
             ensures { IsServed row.entry.now first job result.0 }
         { serve(rt, row, first, job) },
-        move || -> (TableHand<Tags, Tagging>, bool)
+        move || -> (TagHand, bool)
             requires { CanServe row.now second other }
             ensures { IsServed row.entry.now second other result.0 }
         { serve(rt, row, second, other) },
     )
+}
+
+/// Does four jobs, each in a thread of its own.
+fn all_four<R: Threads + Wait + Sync>(
+    rt: &R,
+    row: &Row,
+    front: ((TagHand, Job), (TagHand, Job)),
+    back: ((TagHand, Job), (TagHand, Job)),
+) -> (((TagHand, bool), (TagHand, bool)), ((TagHand, bool), (TagHand, bool)))
+    requires front { CanServe row.now front.0.0 front.0.1 × CanServe row.now front.1.0 front.1.1 }
+    requires back { CanServe row.now back.0.0 back.0.1 × CanServe row.now back.1.0 back.1.1 }
+    ensures front { IsServed row.now front.0.0 front.0.1 result.0.0.0 × IsServed row.now front.1.0 front.1.1 result.0.1.0 }
+    ensures back { IsServed row.now back.0.0 back.0.1 result.1.0.0 × IsServed row.now back.1.0 back.1.1 result.1.1.0 }
+{
+    let (one, two) = front;
+    let (three, four) = back;
+    join(
+        rt,
+        move || -> ((TagHand, bool), (TagHand, bool))
+            requires { CanServe row.now one.0 one.1 × CanServe row.now two.0 two.1 }
+            ensures { IsServed row.entry.now one.0 one.1 result.0.0 × IsServed row.entry.now two.0 two.1 result.1.0 }
+        { both(rt, row, one, two) },
+        move || -> ((TagHand, bool), (TagHand, bool))
+            requires { CanServe row.now three.0 three.1 × CanServe row.now four.0 four.1 }
+            ensures { IsServed row.entry.now three.0 three.1 result.0.0 × IsServed row.entry.now four.0 four.1 result.1.0 }
+        { both(rt, row, three, four) },
+    )
+}
+
+fn new_job(lock: LockNo, actor: u32, rounds: u32, adds: bool) -> Job
+    ensures { (result.lock ≡ lock) × (result.actor ≡ actor) }
+{
+    Job {
+        lock,
+        actor,
+        rounds,
+        adds,
+    }
+}
+
+/// Makes a row, does a job of so many rounds with each of its hands, and shuts it; false says that there was no
+/// memory for a tag. Err is want of memory for the row, and hands the values back.
+pub fn run<R: Threads + Wait + Sync>(
+    rt: &R,
+    alloc: Global,
+    values: Vec<(LockNo, Tags)>,
+    locks: &Locks,
+    rounds: [u32; 4],
+    adds: bool,
+) -> Result<(Vec<(LockNo, Tags)>, bool), Vec<(LockNo, Tags)>>
+    requires { CanMake values.items locks.now }
+    ensures { IfOk result (λ t. (hands : _) × Left tagging (start_of values.items locks.now) hands t.0.items) }
+{
+    let Made {
+        row,
+        mut hands,
+        one,
+        two,
+        three,
+        four,
+    } = make(alloc, values, locks)?;
+    let front = (
+        (one, new_job(locks.one, 0, rounds[0], adds)),
+        (two, new_job(locks.two, 1, rounds[1], adds)),
+    );
+    let back = (
+        (three, new_job(locks.three, 2, rounds[2], adds)),
+        (four, new_job(locks.four, 3, rounds[3], adds)),
+    );
+    let (((one, a), (two, b)), ((three, c), (four, d))) = all_four(rt, &row, front, back);
+    hands.push(one);
+    hands.push(two);
+    hands.push(three);
+    hands.push(four);
+    Ok((shut(row, hands), a && b && c && d))
 }

@@ -10,8 +10,10 @@ use lock_table::{TableHand, TableRow};
 
 pub type Row = TableRow<Tags, Tagging>;
 
+pub type TagHand = TableHand<Tags, Tagging>;
+
 /// Takes the lock of the hand's actor.
-pub fn take(row: &Row, hand: &mut TableHand<Tags, Tagging>, lock: LockNo) -> Option<Tags>
+pub fn take(row: &Row, hand: &mut TagHand, lock: LockNo) -> Option<Tags>
     requires { IsReady row.now hand.old lock }
     ensures got { MatchOption result (IsReady row.now hand.new lock) (λ v. Has row.now hand.new lock v) }
     ensures same { IsSame hand.old hand.new }
@@ -22,7 +24,7 @@ pub fn take(row: &Row, hand: &mut TableHand<Tags, Tagging>, lock: LockNo) -> Opt
 }
 
 /// Gives the lock back with the tags as they were.
-pub fn give(row: &Row, hand: &mut TableHand<Tags, Tagging>, lock: LockNo, tags: Tags)
+pub fn give(row: &Row, hand: &mut TagHand, lock: LockNo, tags: Tags)
     requires { Has row.now hand.old lock tags }
     ensures free { IsReady row.now hand.new lock }
     ensures same { IsSame hand.old hand.new }
@@ -33,7 +35,7 @@ pub fn give(row: &Row, hand: &mut TableHand<Tags, Tagging>, lock: LockNo, tags: 
 }
 
 /// Gives the lock back with the actor's next tag.
-pub fn give_tagged(row: &Row, hand: &mut TableHand<Tags, Tagging>, lock: LockNo, tags: Tags)
+pub fn give_tagged(row: &Row, hand: &mut TagHand, lock: LockNo, tags: Tags)
     requires { (last : _) × Has row.now hand.old lock last × (tags ≡ last ++ next_tag hand.old.local ∷ []) }
     ensures free { IsReady row.now hand.new lock }
     ensures same { IsSame hand.old hand.new }
