@@ -1,2 +1,3 @@
 pub mod Gifts
 pub mod Fours
+pub mod Naming

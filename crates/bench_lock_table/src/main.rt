@@ -4,6 +4,7 @@
 mod rows;
 mod tags;
 mod turns;
+mod values;
 
 use std::io;
 
