@@ -1,11 +1,9 @@
 //! The values of a row of tags before its first turn.
 
-ghost use Rattle.std.specs.Prelude.{◌≡◌, ◌<◌, ℕ, ◌+◌, length, map, IfOk};
-ghost use Rattle.lock_row.specs.declared.names.LockNo.{LockNo};
-ghost use Rattle.lock_table.specs.Starts.{StandAt};
-ghost use Rattle.bench_lock_table.specs.Tagging.{spot};
-ghost use Rattle.bench_lock_table.specs.Names.{names_to, IsAmong};
-ghost use Rattle.bench_lock_table.specs.Made.{IsOwn};
+ghost use Rattle.std.specs.Prelude.{IfOk};
+ghost use Rattle.bench_lock_table.specs.declared.rows.Locks.{Locks};
+ghost use Rattle.bench_lock_table.specs.Names.{AreAmong};
+ghost use Rattle.bench_lock_table.specs.Made.{CanMake};
 
 use crate::tags::Tags;
 use lock_row::LockNo;
@@ -14,9 +12,7 @@ use zr_base::PageIx;
 
 /// The account and so many slots, each without tags.
 pub fn new_values(alloc: Global, slots: u32) -> Result<Vec<(LockNo, Tags)>, AllocError>
-    ensures some { IfOk result (λ v. 0 < length v.items) }
-    ensures placed { IfOk result (λ v. StandAt spot v.items) }
-    ensures own { IfOk result (λ v. (k : LockNo) → IsAmong slots k → IsOwn v.items k) }
+    ensures { IfOk result (λ v. (locks : Locks) → AreAmong slots locks → CanMake v.items locks) }
 {
     let mut values = Vec::with_capacity(alloc, slots as usize + 1)?;
     values.push_reserved((LockNo::Account, Tags::new(alloc)));
