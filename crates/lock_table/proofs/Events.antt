@@ -1,5 +1,5 @@
 -- What an event of the machine keeps of a reached state.
-use Rattle.std.proofs.Common.{◌≡◌, ℕ, ◌+◌, List, [], ◌∷◌, ◌++◌, length, Option, Some, None, slice_get, slice_set, sym, refl, ap, ◌∙◌, subst, arith, length-set}
+use Rattle.std.proofs.Common.{◌≡◌, ℕ, ◌+◌, List, [], ◌∷◌, ◌++◌, Option, Some, None, slice_get, slice_set, refl, ap, ◌∙◌, subst, arith, length-set}
 use Rattle.std.specs.List.{sum_by}
 use Rattle.std.proofs.lemmas.List.Sums.{sum_by-append}
 use Rattle.lock_row.specs.declared.names.LockNo.{LockNo}
@@ -10,7 +10,7 @@ use Rattle.lock_row.specs.Rules.{RowRule}
 use Rattle.lock_row.specs.Machine.{Turn, taken, given, Run}
 use Rattle.lock_row.specs.Totals.{mass, held_sum}
 use Rattle.lock_table.specs.Laws.{Laws}
-use Rattle.lock_table.specs.Phases.{IsReached, told, noted}
+use Rattle.lock_table.specs.Phases.{IsReached}
 
 module _ {V : Type 0} (r : RowRule V) where
   run_on : (turns : List ℕ) (start now next : State V) (a : ℕ) → Run r.spot r.plan r.took r.works turns start now
@@ -29,8 +29,11 @@ module _ {V : Type 0} (r : RowRule V) where
         let has : m.held ≡ (k, v) ∷ l.held = r.take_holds l k v plan in
         record {
           may = n.may;
-          turns = (n.turns.0 ++ a ∷ [], run_on n.turns.0 start now _ a n.turns.1
-              (taken l k v record { who = who; what = plan; there = there; after = refl }));
+          turns = (
+            n.turns.0 ++ a ∷ [],
+            run_on n.turns.0 start now _ a n.turns.1
+                (taken l k v record { who = who; what = plan; there = there; after = refl }),
+          );
           size = length-set now.row (r.spot k) None ∙ n.size;
           actors = length-set now.locals a m ∙ n.actors;
           apart = laws.taken r.spot now a l k v m who there has n.apart;
@@ -47,8 +50,11 @@ module _ {V : Type 0} (r : RowRule V) where
         let g = r.give_notes l k v m plan work in
         record {
           may = n.may;
-          turns = (n.turns.0 ++ a ∷ [], run_on n.turns.0 start now _ a n.turns.1
-              (given l k v m record { who = who; what = plan; there = there; work = work; after = refl }));
+          turns = (
+            n.turns.0 ++ a ∷ [],
+            run_on n.turns.0 start now _ a n.turns.1
+                (given l k v m record { who = who; what = plan; there = there; work = work; after = refl }),
+          );
           size = length-set now.row (r.spot k) (Some v) ∙ n.size;
           actors = length-set now.locals a m ∙ n.actors;
           apart = laws.given r.spot now a l k g.last v m who there g.held n.apart;
@@ -57,7 +63,7 @@ module _ {V : Type 0} (r : RowRule V) where
               let t = laws.moves r.spot f (λ _. 0) now a l k v m who there in
               let s = laws.sums (λ x. sum_by c (r.noted x)) now.locals a l m who in
               let h : mass r.spot f (λ _. 0) l ≡ sum_by c (r.order g.last) + mass r.spot f (λ _. 0) m =
-                  (let q : held_sum r.spot f l.held ≡ sum_by c (r.order g.last) + held_sum r.spot f m.held = ap (held_sum r.spot f) g.held in omega arith) in
+              (let q : held_sum r.spot f l.held ≡ sum_by c (r.order g.last) + held_sum r.spot f m.held = ap (held_sum r.spot f) g.held in omega arith) in
               let o : sum_by c (r.order v) ≡ sum_by c (r.order g.last) + sum_by c g.tags = ap (sum_by c) g.grown ∙ sum_by-append c (r.order g.last) g.tags in
               let e : sum_by c (r.noted m) ≡ sum_by c (r.noted l) + sum_by c g.tags = ap (sum_by c) g.noted_so ∙ sum_by-append c (r.noted l) g.tags in
               let old = n.tags c in

@@ -1,5 +1,5 @@
 -- Each step on a lock's word keeps the rule of the table.
-use Rattle.std.proofs.Common.{◌≡◌, ◌≢◌, ℕ, zero, suc, ◌+◌, ◌<◌, eqb, List, [], ◌∷◌, length, slice_index, get_or, set, Option, Some, None, slice_get, slice_set, sym, refl, ap, ◌∙◌, subst, inl, inr, arith, length-set, get_or-set_same, get_or-set_other, eq-eqb, ne_eqb}
+use Rattle.std.proofs.Common.{◌≡◌, ◌≢◌, ℕ, zero, suc, ◌+◌, ◌<◌, eqb, List, [], ◌∷◌, slice_index, set, Option, Some, None, slice_get, slice_set, sym, refl, ap, ◌∙◌, subst, inl, inr, arith, length-set, get_or-set_same, get_or-set_other, eq-eqb, ne_eqb}
 use Rattle.std.proofs.lemmas.List.{set-get_or}
 use Rattle.std.proofs.lemmas.Option.{slice_get_within}
 use mathlib.Core.Logic.{dite}
@@ -8,7 +8,7 @@ use mathlib.Core.Option.{none, some, some-injective, some-ne-none}
 use native.Mathlib.Decide.{ℕ_discrete}
 use lib.ListN.{get_elem?}
 use prog.Atomic.{either}
-use Rattle.atomic_table.specs.Table.{State as Words, keeps, takes, gives, step, stepped, Allows}
+use Rattle.atomic_table.specs.Table.{keeps, takes, gives, step, stepped, Allows}
 use Rattle.zr_base.specs.declared.op.Tag.{Tag}
 use Rattle.lock_row.specs.declared.names.LockNo.{LockNo}
 use Rattle.lock_row.specs.declared.names.Local.{Local}
@@ -88,17 +88,17 @@ module _ {V : Type 0} (r : RowRule V) where
         let next : State V = record { row = slice_set o.now.row Q None; locals = slice_set o.now.locals a l' } in
         let within = slice_get_within o.now.row Q (Some v) there in
         let reached : IsReached r o.start next = subst (λ (m : Local V). IsReached r o.start (record { row = slice_set o.now.row Q None; locals = slice_set o.now.locals a m })) (sym named)
-            (reached_taken r laws o.start o.now o.reached a l k h.at v plan there) in
+        (reached_taken r laws o.start o.now o.reached a l k h.at v plan there) in
         let has : l'.held ≡ (k, v) ∷ l.held = ap (λ (m : Local V). m.held) named ∙ r.take_holds l k v plan in
         let moves = take_moves r o.now a l l' k v h.at there has in
         let mine : slice_get l'.held 0 ≡ Some (k, v) = ap (λ (ys : List (LockNo × V)). slice_get ys 0) has in
         let gone : slice_get next.row Q ≡ Some None = get_here o.now.row Q None (Some v) there in
         let new : (u : V) → IsAt r next Q u → Begins (r.order v) (r.order u) = λ u at.
-            subst (λ (z : V). Begins (r.order v) (r.order z)) (sym (held_one r next a l' k v reached.apart moves.mine mine gone u at)) (begins_itself (r.order v)) in
+        subst (λ (z : V). Begins (r.order v) (r.order z)) (sym (held_one r next a l' k v reached.apart moves.mine mine gone u at)) (begins_itself (r.order v)) in
         let sees = begin_more r next Q (r.order v) seen new (begin_on r o.now next a Q l' moves seen h.seen) in
         stays_open s o id a (a + 1) l' k none None (alone start a l' ((Q, r.order v) ∷ seen)) reached moves h.own
-            (out a (get_or-set_same s.words Q (a + 1) 0 (let q = o.wide in omega arith)) (set_here s.homes Q none (let q = o.deep in omega arith)) gone (l', 0, (k, v), moves.mine, mine, refl))
-            (same, (record { at = moves.mine; own = h.own; seen = sees }, tt, tt))
+        (out a (get_or-set_same s.words Q (a + 1) 0 (let q = o.wide in omega arith)) (set_here s.homes Q none (let q = o.deep in omega arith)) gone (l', 0, (k, v), moves.mine, mine, refl))
+        (same, (record { at = moves.mine; own = h.own; seen = sees }, tt, tt))
 
     after_give : (l' : Local V) (v : V) (carried : List (ℕ × Option V)) → r.plan l ≡ Give k → r.works l v l'
         → IsOpen r (stepped s Q 0 id ((Q, Some v) ∷ carried) (alone start a l' ((Q, r.order v) ∷ seen)) gives)
@@ -111,11 +111,11 @@ module _ {V : Type 0} (r : RowRule V) where
         let moves = give_moves r o.now a l l' k v h.at g.last gone g.held (g.tags, g.grown) in
         let back : slice_get next.row Q ≡ Some (Some v) = get_here o.now.row Q (Some v) None gone in
         let new : (u : V) → IsAt r next Q u → Begins (r.order v) (r.order u) = λ u at.
-            subst (λ (z : V). Begins (r.order v) (r.order z)) (sym (home_one r next (r.spot k) v reached.apart back u at)) (begins_itself (r.order v)) in
+        subst (λ (z : V). Begins (r.order v) (r.order z)) (sym (home_one r next (r.spot k) v reached.apart back u at)) (begins_itself (r.order v)) in
         let sees = begin_more r next Q (r.order v) seen new (begin_on r o.now next a Q l' moves seen h.seen) in
         stays_open s o id a 0 l' k (some (Some v)) (Some v) (alone start a l' ((Q, r.order v) ∷ seen)) reached moves h.own
-            (free v (get_or-set_same s.words Q 0 0 (let q = o.wide in omega arith)) (set_here s.homes Q (some (Some v)) (let q = o.deep in omega arith)) back)
-            (same, (record { at = moves.mine; own = h.own; seen = sees }, tt, tt))
+        (free v (get_or-set_same s.words Q 0 0 (let q = o.wide in omega arith)) (set_here s.homes Q (some (Some v)) (let q = o.deep in omega arith)) back)
+        (same, (record { at = moves.mine; own = h.own; seen = sees }, tt, tt))
 
   -- a step that changes nothing
   unchanged : (values : List (Option V)) (s : Table V) (id p n : ℕ) (view : View V) (carried : List (ℕ × Option V)) → IsTable r values s → get_elem? s.views id ≡ some view → slice_index s.words p ≡ n
@@ -145,29 +145,35 @@ module _ {V : Type 0} (r : RowRule V) where
         let place = o.each_place p (let q = o.deep in omega arith) in
         dite (ℕ_discrete (slice_index s.words p) 0)
         (λ zero_there.
-            let f = is_free s o.now p place zero_there in
-            let v = f.0 in
-            let view = alone start a (next l v) ((p, r.order v) ∷ seen) in (
-              view,
-              takes p (Some v),
-              f.1,
-              inr (subst (λ b. IsOpen r (stepped s p (either b (a + 1) (slice_index s.words p)) id carried view (takes p (Some v)))) (sym (eq-eqb _ 0 zero_there))
-                  (after_take laws start a l seen k s o id h.0 h.1 (next l v) v carried plan (named v) f.2)),
-              ((λ _. (v, refl, finds s o seat (Some v) f.2)), λ not. absurd (not zero_there)),
-            ))
+        let f = is_free s o.now p place zero_there in
+        let v = f.0 in
+        let view = alone start a (next l v) ((p, r.order v) ∷ seen) in (
+          view,
+          takes p (Some v),
+          f.1,
+          inr (subst (λ b. IsOpen r (stepped s p (either b (a + 1) (slice_index s.words p)) id carried view (takes p (Some v)))) (sym (eq-eqb _ 0 zero_there))
+              (after_take laws start a l seen k s o id h.0 h.1 (next l v) v carried plan (named v) f.2)),
+          ((λ _. (v, refl, finds s o seat (Some v) f.2)), λ not. absurd (not zero_there)),
+        ))
         (λ busy.
-            let f = is_held s o.now p place busy in (
-              mine,
-              keeps,
-              tt,
-              subst (λ b. IsTable r values (stepped s p (either b (a + 1) (slice_index s.words p)) id carried mine keeps)) (sym (ne_eqb _ 0 busy)) (unchanged values s id p _ mine carried kept seat refl),
-              ((λ z. absurd (busy z)), λ _. (refl, record {
+        let f = is_held s o.now p place busy in (
+          mine,
+          keeps,
+          tt,
+          subst (λ b. IsTable r values (stepped s p (either b (a + 1) (slice_index s.words p)) id carried mine keeps)) (sym (ne_eqb _ 0 busy)) (unchanged values s id p _ mine carried kept seat refl),
+          (
+            (λ z. absurd (busy z)),
+            λ _. (
+              refl,
+              record {
                 found = finds s o seat None f.1;
                 by = f.0;
                 other = λ same. another s o seat fresh (subst (λ b. Holds r o.now b p) same f.2);
                 holds = f.2;
-              })),
-            ))
+              },
+            ),
+          ),
+        ))
       where
         another : (s : Table V) (o : IsOpen r s) → get_elem? s.views id ≡ some mine → ((i : ℕ) (x : LockNo × V) → slice_get l.held i ≡ Some x → r.spot x.0 ≢ r.spot k) → Holds r o.now a (r.spot k) → ⊥
         another s o seat fresh (n, i, x, at, e, is) =

@@ -22,8 +22,11 @@ module _ {A : Type 0} where
   pub get_set : (l : List A) (i j : ℕ) (a b c : A) → slice_get l i ≡ Some c → slice_get (slice_set l i a) j ≡ Some b
       → ((j ≡ i) × (a ≡ b)) ⊎ ((j ≢ i) × (slice_get l j ≡ Some b))
   get_set l i j a b c here e = dite (ℕ_discrete j i)
-      (λ same. inl (same, let q : Some a ≡ Some b = sym (get_here l i a c here)
-          ∙ (ap (λ k. slice_get (slice_set l i a) k) (sym same) ∙ e) in cc))
+      (λ same. inl (
+        same,
+        let q : Some a ≡ Some b = sym (get_here l i a c here)
+            ∙ (ap (λ k. slice_get (slice_set l i a) k) (sym same) ∙ e) in cc,
+      ))
       (λ ne. inr (ne, sym (get_else l i j a ne) ∙ e))
 
   -- ---- by the table's reading

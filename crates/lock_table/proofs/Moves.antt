@@ -1,5 +1,5 @@
 -- What an event moves: who holds what, where the values are, and what the seats know.
-use Rattle.std.proofs.Common.{◌≡◌, ◌≢◌, ◌⊎◌, ℕ, zero, suc, List, [], ◌∷◌, ◌++◌, Option, Some, None, slice_get, slice_set, set, sym, refl, ap, ◌∙◌, subst, ⊎_elim, append_assoc, append-nil}
+use Rattle.std.proofs.Common.{◌≡◌, ◌≢◌, ℕ, zero, suc, List, [], ◌∷◌, ◌++◌, Option, Some, None, slice_get, slice_set, set, sym, refl, ap, ◌∙◌, subst, ⊎_elim, append_assoc, append-nil}
 use mathlib.Core.Logic.{dite}
 use mathlib.Core.Option.{some}
 use native.Mathlib.Decide.{ℕ_discrete}
@@ -14,7 +14,7 @@ use Rattle.lock_table.specs.declared.view.View.{View}
 use Rattle.lock_table.specs.declared.view.View.TheVariants.{Blank, Closed, Open}
 use Rattle.lock_table.specs.declared.view.Seated.{Seated}
 use Rattle.lock_table.specs.Phases.{Begins, Holds, IsAt, home, held, Begin}
-use Rattle.lock_table.specs.Tables.{Stands, NotAmong, AllStand, Knows}
+use Rattle.lock_table.specs.Tables.{AllStand, Knows}
 use Rattle.lock_table.proofs.Lists.{get_here, get_else, get_set, at_set}
 
 pub begins_itself : (tags : List Tag) → Begins tags tags
@@ -56,8 +56,8 @@ module _ {V : Type 0} (r : RowRule V) where
           → (b j : ℕ) → j ≢ P → Holds r now b j → Holds r Next b j
       holds_on own b j ne (n, i, y, at, e, is) = dite (ℕ_discrete b a)
           (λ same.
-              let o = own j ne i y (subst (λ (z : Local V). slice_get z.held i ≡ Some y) (same_local b n same at) e) is in
-              (m, o.0, y, ap (slice_get (slice_set now.locals a m)) same ∙ mine_after, o.1, is))
+          let o = own j ne i y (subst (λ (z : Local V). slice_get z.held i ≡ Some y) (same_local b n same at) e) is in
+          (m, o.0, y, ap (slice_get (slice_set now.locals a m)) same ∙ mine_after, o.1, is))
           (λ other. (n, i, y, get_else now.locals a b m other ∙ at, e, is))
 
       older_on : (cell : Option V) → slice_get now.row P ≡ Some cell
@@ -98,7 +98,7 @@ module _ {V : Type 0} (r : RowRule V) where
       holds = holds_on (Some v) (λ j ne i y e is. left j ne i y (sym (ap (λ (ys : List (LockNo × V)). slice_get ys i) has) ∙ e) is);
       older = older_on (Some v) None there
           (λ j u at e. let q : v ≡ u = cc in
-              (last, held a 0 l k who (first_held l m.held (k, last) has) (sym at), subst (λ z. Begins (r.order last) (r.order z)) q grown))
+          (last, held a 0 l k who (first_held l m.held (k, last) has) (sym at), subst (λ z. Begins (r.order last) (r.order z)) q grown))
           (λ i y u e. held a (suc i) l y who (ap (λ (ys : List (LockNo × V)). slice_get ys (suc i)) has ∙ e) refl);
     } where
       left : (j : ℕ) → j ≢ P → (i : ℕ) (y : LockNo × V) → slice_get ((k, last) ∷ m.held) i ≡ Some y → r.spot y.0 ≡ j → (h : ℕ) × (slice_get m.held h ≡ Some y)

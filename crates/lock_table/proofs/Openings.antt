@@ -1,5 +1,5 @@
 -- The opening of a table, and the dealing of its hands.
-use Rattle.std.proofs.Common.{◌≡◌, ◌≢◌, ◌⊎◌, ℕ, zero, suc, ◌+◌, ◌<◌, eqb, cond, List, [], ◌∷◌, ◌++◌, map, length, slice_index, set, replicate, Option, Some, None, slice_get, sym, refl, ap, ◌∙◌, subst, inl, inr, ⊎_elim, arith, eq-eqb, ne_eqb, length-set, drop, ◌≤◌, append_assoc}
+use Rattle.std.proofs.Common.{◌≡◌, ◌≢◌, ◌⊎◌, ℕ, zero, suc, ◌+◌, ◌<◌, eqb, cond, List, [], ◌∷◌, ◌++◌, map, length, slice_index, set, replicate, Option, Some, None, slice_get, sym, refl, ap, ◌∙◌, subst, inl, inr, ⊎_elim, arith, eq-eqb, ne_eqb, length-set, drop, append_assoc}
 use Rattle.std.proofs.lemmas.List.{length-replicate, length-map}
 use mathlib.Core.Option.{some, some-injective, some-ne-none}
 use lib.ListN.{get_elem?}
@@ -14,7 +14,7 @@ use Rattle.lock_table.specs.declared.view.View.{View}
 use Rattle.lock_table.specs.declared.view.View.TheVariants.{Blank, Closed, Open}
 use Rattle.lock_table.specs.declared.view.Seated.{Seated}
 use Rattle.lock_table.specs.Phases.{IsReached}
-use Rattle.lock_table.specs.Tables.{IsPlace, free, AllStand, Stands, NotAmong, Knows, IsOpen, IsTable}
+use Rattle.lock_table.specs.Tables.{free, AllStand, NotAmong, Knows, IsTable}
 use Rattle.lock_table.specs.Plays.{Mine, alone}
 use Rattle.lock_table.specs.Sittings.{Sitting, emptied}
 use Rattle.lock_table.specs.Grounds.{IsGround}
@@ -99,7 +99,7 @@ module _ {V : Type 0} (r : RowRule V) where
             free t.0 (zeros k) (ap (λ hs. get_elem? hs k) h.homes ∙ t.1) (ap (λ xs. slice_get xs k) b.row ∙ t.2);
         each_seat = λ j d seen. ⊎_elim
             (λ p. subst (λ (q : ℕ × View V). Knows r start start (λ _. 0) q.0 q.1) (λ i. (sym p.0 i, p.1 i))
-                (refl, stand_from start 0 start.locals (λ i l e. ap (slice_get start.locals) (let q : i + 0 ≡ i = omega arith in q) ∙ e)))
+            (refl, stand_from start 0 start.locals (λ i l e. ap (slice_get start.locals) (let q : i + 0 ≡ i = omega arith in q) ∙ e)))
             (λ p. subst (Knows r start start (λ _. 0) j) p tt)
             (one_view left Closed id j d (subst (λ (vs : List (View V)). get_elem? vs id ≡ some Closed) h.views at)
             (subst (λ (vs : List (View V)). get_elem? (set vs id left ++ Blank ∷ []) j ≡ some d) h.views seen));
@@ -147,11 +147,11 @@ module _ {V : Type 0} (r : RowRule V) where
         each_place = o.each_place;
         each_seat = λ j d seen. ⊎_elim
             (λ old. ⊎_elim
-                (λ p. subst (λ (q : ℕ × View V). Knows r o.start o.now owners q.0 q.1) (λ i. (sym p.0 i, p.1 i)) (k.0, moved o.now o.owner x.actor new id xs k.1.1 k.1.2))
-                (λ p. still_knows o.now o.owner x.actor new o.start j d (λ e. p.0 (sym e ∙ k.1.0.own)) (o.each_seat j d p.1))
-                (at_set s.views id j (Open start xs) d old))
+            (λ p. subst (λ (q : ℕ × View V). Knows r o.start o.now owners q.0 q.1) (λ i. (sym p.0 i, p.1 i)) (k.0, moved o.now o.owner x.actor new id xs k.1.1 k.1.2))
+            (λ p. still_knows o.now o.owner x.actor new o.start j d (λ e. p.0 (sym e ∙ k.1.0.own)) (o.each_seat j d p.1))
+            (at_set s.views id j (Open start xs) d old))
             (λ p. subst (λ (q : ℕ × View V). Knows r o.start o.now owners q.0 q.1) (λ i. ((sym (length-set s.views id (Open start xs)) ∙ sym p.0) i, p.1 i))
-                (k.0, (record { at = k.1.0.at; own = new_owner o.now o.owner x.actor new; seen = k.1.0.seen }, tt, tt)))
+            (k.0, (record { at = k.1.0.at; own = new_owner o.now o.owner x.actor new; seen = k.1.0.seen }, tt, tt)))
             (at_end (set s.views id (Open start xs)) (Open start (x ∷ [])) d j seen);
       }
 

@@ -1,5 +1,5 @@
 -- The values of a row on their way to the slots and back.
-use Rattle.std.proofs.Common.{◌≡◌, ℕ, zero, suc, ◌+◌, ◌<◌, List, [], ◌∷◌, ◌++◌, length, map, reverse, get_or, Option, Some, None, sym, refl, ap, ◌∙◌, subst, append_assoc}
+use Rattle.std.proofs.Common.{◌≡◌, ℕ, List, [], ◌∷◌, ◌++◌, length, map, reverse, get_or, Option, Some, sym, refl, ap, ◌∙◌, append_assoc}
 use Rattle.std.proofs.lemmas.List.{reverse-append}
 use Rattle.lock_row.specs.declared.names.LockNo.{LockNo}
 use Rattle.lock_table.specs.Starts.{all_home}

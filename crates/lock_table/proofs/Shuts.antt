@@ -1,10 +1,9 @@
 -- The joining of hands, and what the last seat knows of what is left.
-use Rattle.std.proofs.Common.{◌≡◌, ◌≢◌, ℕ, zero, suc, ◌<◌, Bool, false, eqb, cond, take, get_or, get_or-set_other, ◌+◌, List, [], ◌∷◌, ◌++◌, map, length, set, Option, Some, None, slice_get, sym, refl, ap, ◌∙◌, subst, inr, ⊎_elim, arith, eq-eqb, ne_eqb}
+use Rattle.std.proofs.Common.{◌≡◌, ◌≢◌, ℕ, zero, suc, ◌<◌, Bool, false, eqb, cond, take, get_or, get_or-set_other, ◌+◌, List, [], ◌∷◌, ◌++◌, map, length, set, Option, Some, slice_get, sym, refl, ap, ◌∙◌, subst, inr, ⊎_elim, arith, eq-eqb, ne_eqb}
 use Rattle.std.proofs.lemmas.List.{map-append, take_more}
 use Rattle.std.proofs.lemmas.Option.{slice_get_within, get_or_from_slice_get}
 use mathlib.Core.Logic.{dite}
 use native.Mathlib.Decide.{ℕ_discrete}
-use mathlib.Core.Option as maybe
 use mathlib.Core.Option.{some, some-injective, some-ne-none}
 use lib.ListN.{get_elem?}
 use Rattle.atomic_table.specs.Table.{Joins, Final, Seen}
@@ -71,13 +70,19 @@ module _ {V : Type 0} (r : RowRule V) where
       let k' = o.each_seat other (Open begun (y ∷ [])) (sym (set_else s.views id other both apart) ∙ at') in
       let owners : ℕ → ℕ = taken o.now o.owner id other apart in
       inr record {
-        start = o.start; now = o.now; owner = owners; reached = o.reached; wide = o.wide; deep = o.deep; each_place = o.each_place;
+        start = o.start;
+        now = o.now;
+        owner = owners;
+        reached = o.reached;
+        wide = o.wide;
+        deep = o.deep;
+        each_place = o.each_place;
         each_seat = λ j d seen. ⊎_elim
             (λ p. subst (Knows r o.start o.now owners j) p.1 tt)
             (λ p. ⊎_elim
-                (λ q. subst (λ (z : ℕ × View V). Knows r o.start o.now owners z.0 z.1) (λ i. (sym q.0 i, q.1 i)) (k.0, one_more o.now o.owner id other apart y xs k.1 k'.1.0))
-                (λ q. third o.now o.owner id other apart o.start j d p.0 (o.each_seat j d q.1))
-                (at_set s.views id j both d p.1))
+            (λ q. subst (λ (z : ℕ × View V). Knows r o.start o.now owners z.0 z.1) (λ i. (sym q.0 i, q.1 i)) (k.0, one_more o.now o.owner id other apart y xs k.1 k'.1.0))
+            (λ q. third o.now o.owner id other apart o.start j d p.0 (o.each_seat j d q.1))
+            (at_set s.views id j both d p.1))
             (at_set (set s.views id both) other j Blank d seen);
       }
 

@@ -1,5 +1,5 @@
 -- What the steps of a hand owe and tell, over plain values.
-use Rattle.std.proofs.Common.{◌≡◌, ◌≢◌, ℕ, ◌+◌, ◌<◌, eqb, List, [], ◌∷◌, Option, Some, None, sym, refl, ap, ◌∙◌, subst}
+use Rattle.std.proofs.Common.{◌≡◌, ◌≢◌, ℕ, ◌+◌, ◌<◌, eqb, List, ◌∷◌, Option, Some, None, sym, refl, ap, ◌∙◌, subst}
 use mathlib.Core.Option.{none}
 use prog.Atomic.{either}
 use Rattle.atomic_table.specs.Table.{step, rest, Allows}
@@ -85,9 +85,9 @@ module _ {V : Type 0} (r : RowRule V) where
         took_sits =
             let t = got_it e in
             let q : me'' ≡ (alone h.start h.actor (next h.local t.0) ((r.spot k, r.order t.0) ∷ h.seen), (at, None) ∷ emptied r.spot h.local.held) =
-                after ∙ ap (λ (m : Mine V). let p : Mine V = (m.0, (at, None) ∷ rest m.1) in p) t.1 in
+            after ∙ ap (λ (m : Mine V). let p : Mine V = (m.0, (at, None) ∷ rest m.1) in p) t.1 in
             q ∙ (λ i. (alone h.start h.actor (next h.local (same_value i)) ((r.spot k, r.order (same_value i)) ∷ h.seen), (here i, None) ∷ emptied r.spot h.local.held))
-              ∙ ap (λ (xs : List (LockNo × V)). let p : Mine V = (alone h.start h.actor (next h.local v) ((r.spot k, r.order v) ∷ h.seen), emptied r.spot xs) in p) (sym has)
+            ∙ ap (λ (xs : List (LockNo × V)). let p : Mine V = (alone h.start h.actor (next h.local v) ((r.spot k, r.order v) ∷ h.seen), emptied r.spot xs) in p) (sym has)
 
         pub took_it : (h' : Sitting V) → h' ≡ moved r h k next v → Takes r h k next v h'
         took_it h' moves = record {

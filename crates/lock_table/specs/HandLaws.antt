@@ -1,5 +1,5 @@
 -- Why the hand of a table has the laws of hands. A law's proof cites no lemma outside of specs/.
-use Rattle.std.proofs.Common.{◌≡◌, List, ◌∷◌, Option, Some, None, slice_get, refl, sym, ap, ◌∙◌, subst}
+use Rattle.std.proofs.Common.{◌≡◌, List, Option, Some, None, slice_get, sym, ap, ◌∙◌, subst}
 use Rattle.lock_row.specs.declared.names.LockNo.{LockNo}
 use Rattle.lock_row.specs.declared.names.Local.{Local}
 use Rattle.lock_row.specs.Rules.{RowRule}

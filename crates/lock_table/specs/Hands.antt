@@ -1,5 +1,5 @@
 -- What a hand of a table may do, and what its steps leave.
-use Rattle.std.specs.Prelude.{◌≡◌, ◌≢◌, ℕ, List, ◌∷◌, Option, Some, None, slice_get}
+use Rattle.std.specs.Prelude.{◌≡◌, ◌≢◌, ℕ, ◌∷◌, Option, Some, slice_get}
 use Rattle.lock_row.specs.declared.names.LockNo.{LockNo}
 use Rattle.lock_row.specs.declared.names.Local.{Local}
 use Rattle.lock_row.specs.declared.names.Plan.TheVariants.{Take, Give}

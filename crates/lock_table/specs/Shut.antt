@@ -1,5 +1,5 @@
 -- How a row is shut.
-use Rattle.std.specs.Prelude.{◌≡◌, ℕ, ◌+◌, ◌<◌, List, [], ◌∷◌, map, length, Some, slice_get}
+use Rattle.std.specs.Prelude.{◌≡◌, ℕ, ◌+◌, ◌<◌, List, [], ◌∷◌, length, Some, slice_get}
 use Rattle.std.specs.List.{sum_by}
 use Rattle.zr_base.specs.declared.op.Tag.{Tag}
 use Rattle.lock_row.specs.declared.names.LockNo.{LockNo}

@@ -1,5 +1,5 @@
 -- How a row is made for a phase.
-use Rattle.std.specs.Prelude.{◌≡◌, ℕ, zero, suc, ◌≤◌, List, [], ◌∷◌, map, length, Option, Some, None, slice_get, replicate, ◌<◌}
+use Rattle.std.specs.Prelude.{◌≡◌, ℕ, suc, ◌≤◌, List, [], ◌∷◌, map, length, Option, Some, slice_get, replicate, ◌<◌}
 use Rattle.atomic_table.specs.Seated.{TableId}
 use Rattle.lock_row.specs.declared.names.LockNo.{LockNo}
 use Rattle.lock_row.specs.declared.names.Local.{Local}

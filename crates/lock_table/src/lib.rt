@@ -21,11 +21,10 @@ mod hands;
 mod make;
 mod plays;
 mod row;
-
 mod view;
 
 pub use at_row::AtRow;
+pub use closing::shut;
 pub use hands::TableHands;
 pub use row::{TableHand, TableRow};
-pub use closing::shut;
 pub use view::{LocksRule, Seated, View};

@@ -1,5 +1,4 @@
-use Rattle.std.proofs.Common.{◌≡◌, ◌∷◌, [], ◌++◌, length, sym, ap, ◌∙◌, subst, append_assoc, arith}
-use Rattle.lock_table.specs.declared.view.View.TheVariants.{Open}
+use Rattle.std.proofs.Common.{◌∷◌, [], ◌++◌, sym, ap, ◌∙◌, subst, append_assoc, arith}
 use Rattle.lock_table.proofs.Steps.{Sits}
 use Rattle.lock_table.proofs.Shuts.{slot_there, leaves, hand_is, last_seat, none_left}
 use Rattle.lock_table.proofs.closing.shut.Goals as goal

@@ -1,5 +1,5 @@
-use Rattle.std.proofs.Common.{◌≡◌, ◌+◌, ◌<◌, ◌≤◌, true, false, map, slice_index_or, Some, length, slice_get, ap, ◌∙◌, sym, subst, arith, get_or-set_other}
-use Rattle.std.specs.Slots.{slots_items, slots_counts, slots_len, slots_filled}
+use Rattle.std.proofs.Common.{◌≡◌, true, false, map, slice_index_or, Some, slice_get, ap, ◌∙◌, sym, subst, arith, get_or-set_other}
+use Rattle.std.specs.Slots.{slots_items, slots_counts, slots_filled}
 use Rattle.lock_row.specs.declared.names.LockNo.{LockNo}
 use Rattle.lock_table.specs.Starts.{all_home}
 use lib.ListN.{get_elem?}

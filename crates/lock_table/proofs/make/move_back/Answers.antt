@@ -1,4 +1,4 @@
-use Rattle.std.proofs.Common.{◌≡◌, ◌∷◌, [], ◌++◌, length, Some, sym, ◌∙◌, subst, arith}
+use Rattle.std.proofs.Common.{sym, ◌∙◌, subst, arith}
 use Rattle.lock_table.proofs.Parts.{last_home, IsBack, one_back}
 use Rattle.lock_table.proofs.make.move_back.Goals as goal
 

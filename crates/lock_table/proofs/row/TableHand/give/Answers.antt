@@ -1,4 +1,4 @@
-use Rattle.std.proofs.Common.{◌≡◌, ◌<◌, ℕ, None, slice_get, sym, refl, ap, ◌∙◌, subst, arith, length}
+use Rattle.std.proofs.Common.{None, slice_get, sym, ap, ◌∙◌, subst, arith}
 use Rattle.std.proofs.lemmas.Option.{slice_get_within}
 use Rattle.lock_table.specs.Hands.{moved}
 use Rattle.lock_table.proofs.Steps.{Sits, is_seen, closes, last_taken, was_empty, may_give, gave_sits}
@@ -33,12 +33,12 @@ invariant_of-self g c =
     let r = g.V.RowValue.rule in
     let sits = subst (λ h. Sits r h c.self.inside.seat.me) c.self.view_is c.self.invariant in
     closes r c.self.inside.actor (moved r c.args.self.now c.args.lock g.N.NextLocal.next c.args.value) c.store.new.seat.me (ap (λ h. h.actor) c.self.view_is)
-        (gave_sits r c.args.self.now c.args.lock g.N.NextLocal.next c.row.inside.table.shared.table_id.slots c.place-at.result c.place-at.ensures.spot c.args.row.now c.args.value c.requires c.self.inside.seat.me sits c.exchange-old.new.seat.me c.exchange-old.ensures.3 c.store.new.seat.me c.store.ensures.2)
+    (gave_sits r c.args.self.now c.args.lock g.N.NextLocal.next c.row.inside.table.shared.table_id.slots c.place-at.result c.place-at.ensures.spot c.args.row.now c.args.value c.requires c.self.inside.seat.me sits c.exchange-old.new.seat.me c.exchange-old.ensures.3 c.store.new.seat.me c.store.ensures.2)
 
 pub returns : goal.returns
 returns g c =
     let r = g.V.RowValue.rule in
     let sits = subst (λ h. Sits r h c.self.inside.seat.me) c.self.view_is c.self.invariant in
     is_seen r c.store.new.seat.table_id c.self.inside.actor (moved r c.args.self.now c.args.lock g.N.NextLocal.next c.args.value) c.store.new.seat.me
-        (c.store.ensures.0 ∙ (c.exchange-old.ensures.0 ∙ ap (λ h. h.id) c.self.view_is)) (ap (λ h. h.actor) c.self.view_is)
-        (gave_sits r c.args.self.now c.args.lock g.N.NextLocal.next c.row.inside.table.shared.table_id.slots c.place-at.result c.place-at.ensures.spot c.args.row.now c.args.value c.requires c.self.inside.seat.me sits c.exchange-old.new.seat.me c.exchange-old.ensures.3 c.store.new.seat.me c.store.ensures.2)
+    (c.store.ensures.0 ∙ (c.exchange-old.ensures.0 ∙ ap (λ h. h.id) c.self.view_is)) (ap (λ h. h.actor) c.self.view_is)
+    (gave_sits r c.args.self.now c.args.lock g.N.NextLocal.next c.row.inside.table.shared.table_id.slots c.place-at.result c.place-at.ensures.spot c.args.row.now c.args.value c.requires c.self.inside.seat.me sits c.exchange-old.new.seat.me c.exchange-old.ensures.3 c.store.new.seat.me c.store.ensures.2)

@@ -1,7 +1,5 @@
-use Rattle.std.proofs.Common.{sym, ap, ◌∙◌, refl}
-use Rattle.lock_table.specs.Starts.{fresh}
-use Rattle.lock_table.proofs.Steps.{is_seen, closes}
-use Rattle.lock_table.proofs.Openings.{deals_at, dealt}
+use Rattle.std.proofs.Common.{sym, ap, ◌∙◌}
+use Rattle.lock_table.proofs.Openings.{deals_at}
 use Rattle.lock_table.proofs.row.TableRow.deal.Goals as goal
 
 pub split_seat-seat-requires : goal.split_seat-seat-requires

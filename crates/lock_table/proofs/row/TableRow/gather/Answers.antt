@@ -1,5 +1,4 @@
-use Rattle.std.proofs.Common.{◌≡◌, ◌∷◌, [], sym, ap, ◌∙◌, subst}
-use Rattle.lock_table.specs.declared.view.View.TheVariants.{Open}
+use Rattle.std.proofs.Common.{sym, ap, ◌∙◌, subst}
 use Rattle.lock_table.specs.Sittings.{emptied, seated}
 use Rattle.lock_table.specs.Shut.{joined}
 use Rattle.lock_table.proofs.Steps.{Sits}

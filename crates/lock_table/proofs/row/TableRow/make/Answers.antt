@@ -1,6 +1,6 @@
-use Rattle.std.proofs.Common.{◌≡◌, ◌+◌, ◌<◌, ◌≤◌, ℕ, drop, [], ◌∷◌, ◌++◌, length, sym, ap, ◌∙◌, subst, arith}
+use Rattle.std.proofs.Common.{◌+◌, drop, [], ◌∷◌, ◌++◌, ap, ◌∙◌, arith}
 use Rattle.lock_table.specs.declared.view.View.TheVariants.{Open}
-use Rattle.lock_table.specs.Starts.{fresh_from, newly}
+use Rattle.lock_table.specs.Starts.{fresh_from}
 use Rattle.lock_table.proofs.Openings.{next_hand, one_hand}
 use Rattle.lock_table.proofs.row.TableRow.make.Goals as goal
 
