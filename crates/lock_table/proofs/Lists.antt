@@ -6,12 +6,14 @@ use native.Mathlib.Decide.{ℕ_discrete}
 use lib.ListN.{get_elem?}
 
 module _ {A : Type 0} where
-  pub get_here : (l : List A) (i : ℕ) (a b : A) → slice_get l i ≡ Some b → slice_get (slice_set l i a) i ≡ Some a
+  pub get_here : (l : List A) (i : ℕ) (a b : A) → slice_get l i ≡ Some b
+      → slice_get (slice_set l i a) i ≡ Some a
   get_here [] i a b e = absurd (cc)
   get_here (x ∷ xs) zero a b e = refl
   get_here (x ∷ xs) (suc i) a b e = get_here xs i a b e
 
-  pub get_else : (l : List A) (i j : ℕ) (a : A) → j ≢ i → slice_get (slice_set l i a) j ≡ slice_get l j
+  pub get_else : (l : List A) (i j : ℕ) (a : A) → j ≢ i
+      → slice_get (slice_set l i a) j ≡ slice_get l j
   get_else [] i j a n = refl
   get_else (x ∷ xs) zero zero a n = absurd (n refl)
   get_else (x ∷ xs) zero (suc j) a n = refl
@@ -19,7 +21,8 @@ module _ {A : Type 0} where
   get_else (x ∷ xs) (suc i) (suc j) a n = get_else xs i j a (λ e. n (ap suc e))
 
   -- what stands at a place after a write of a place that was there
-  pub get_set : (l : List A) (i j : ℕ) (a b c : A) → slice_get l i ≡ Some c → slice_get (slice_set l i a) j ≡ Some b
+  pub get_set : (l : List A) (i j : ℕ) (a b c : A) → slice_get l i ≡ Some c
+      → slice_get (slice_set l i a) j ≡ Some b
       → ((j ≡ i) × (a ≡ b)) ⊎ ((j ≢ i) × (slice_get l j ≡ Some b))
   get_set l i j a b c here e = dite (ℕ_discrete j i)
       (λ same. inl (
@@ -57,8 +60,10 @@ module _ {A : Type 0} where
   set_again (x ∷ xs) zero a e = λ k. sym (some-injective x a e) k ∷ xs
   set_again (x ∷ xs) (suc i) a e = λ k. x ∷ set_again xs i a e k
 
-  pub at_end : (l : List A) (a b : A) (j : ℕ) → get_elem? (l ++ a ∷ []) j ≡ some b → (get_elem? l j ≡ some b) ⊎ ((j ≡ length l) × (a ≡ b))
+  pub at_end : (l : List A) (a b : A) (j : ℕ) → get_elem? (l ++ a ∷ []) j ≡ some b
+      → (get_elem? l j ≡ some b) ⊎ ((j ≡ length l) × (a ≡ b))
   at_end [] a b zero e = inr (refl, some-injective a b e)
   at_end [] a b (suc j) e = absurd (some-ne-none b (sym e))
   at_end (x ∷ xs) a b zero e = inl e
-  at_end (x ∷ xs) a b (suc j) e = ⊎_elim (λ t. inl t) (λ t. inr (ap suc t.0, t.1)) (at_end xs a b j e)
+  at_end (x ∷ xs) a b (suc j) e = ⊎_elim (λ t. inl t) (λ t. inr (ap suc t.0, t.1))
+      (at_end xs a b j e)

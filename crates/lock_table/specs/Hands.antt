@@ -22,10 +22,19 @@ module _ {V : Type 0} (r : RowRule V) where
 
   -- the hand after an event with this value, whose order it has seen then
   abbrev pub moved : Sitting V → LockNo → (Local V → V → Local V) → V → Sitting V
-  moved h k next v = record { id = h.id; start = h.start; actor = h.actor; local = next h.local v; seen = (r.spot k, r.order v) ∷ h.seen }
+  moved h k next v = record {
+    id = h.id;
+    start = h.start;
+    actor = h.actor;
+    local =
+        next h.local v;
+    seen = (r.spot k, r.order v) ∷ h.seen;
+  }
 
-  -- The hand is of this row, the rule has its actor take this lock of the row next, which it doesn't hold, and the local that is named is the rule's.
-  pub record MayTake (g : Ground) (h : Sitting V) (k : LockNo) (next : Local V → V → Local V) : Type 0 where
+  -- The hand is of this row, the rule has its actor take this lock of the row next, which it
+  -- doesn't hold, and the local that is named is the rule's.
+  pub record MayTake (g : Ground) (h : Sitting V) (k : LockNo)
+      (next : Local V → V → Local V) : Type 0 where
     pub own : h.id ≡ g.id
     pub there : IsLock g (r.spot k) k
     pub plan : r.plan h.local ≡ Take k
@@ -33,7 +42,8 @@ module _ {V : Type 0} (r : RowRule V) where
     pub new : (i : ℕ) (x : LockNo × V) → slice_get h.local.held i ≡ Some x → r.spot x.0 ≢ r.spot k
 
   -- The value was at home, and is with the actor.
-  pub record Takes (h : Sitting V) (k : LockNo) (next : Local V → V → Local V) (v : V) (after : Sitting V) : Type 0 where
+  pub record Takes (h : Sitting V) (k : LockNo) (next : Local V → V → Local V) (v : V)
+      (after : Sitting V) : Type 0 where
     pub found : MayFind h k (Some v)
     pub has : (next h.local v).held ≡ (k, v) ∷ h.local.held
     pub moves : after ≡ moved h k next v
@@ -44,7 +54,8 @@ module _ {V : Type 0} (r : RowRule V) where
     pub same : after ≡ h
 
   -- The hand is of this row, and the rule has its actor give this lock next with this value.
-  pub record MayGive (g : Ground) (h : Sitting V) (k : LockNo) (next : Local V → V → Local V) (v : V) : Type 0 where
+  pub record MayGive (g : Ground) (h : Sitting V) (k : LockNo) (next : Local V → V → Local V)
+      (v : V) : Type 0 where
     pub own : h.id ≡ g.id
     pub there : IsLock g (r.spot k) k
     pub plan : r.plan h.local ≡ Give k

@@ -22,14 +22,20 @@ module _ {V : Type 0} where
 module _ {V : Type 0} (r : RowRule V) (next : Local V → V → Local V) where
   -- the lock was free: its value comes to the actor, whose local is the one that was named
   abbrev pub Took : State V → Seated V → ℕ → List (ℕ × Option V) → Mine V → Type 0
-  Took start x k carried after = (v : V) × (after ≡ (alone start x.actor (next x.local v) ((k, r.order v) ∷ x.seen), (k, Some v) ∷ carried)) × Finds r start x.actor x.local x.seen k (Some v)
+  Took start x k carried after = (v : V)
+      × (after ≡ (
+        alone start x.actor (next x.local v) ((k, r.order v) ∷ x.seen),
+        (k, Some v) ∷ carried,
+      )) × Finds r start x.actor x.local x.seen k (Some v)
 
   -- it was held, and nothing changes
   abbrev pub Missed : State V → Seated V → ℕ → List (ℕ × Option V) → Mine V → Type 0
-  Missed start x k carried after = (after ≡ (alone start x.actor x.local x.seen, carried)) × FindsHeld r start x.actor x.local x.seen k
+  Missed start x k carried after = (after ≡ (alone start x.actor x.local x.seen, carried))
+      × FindsHeld r start x.actor x.local x.seen k
 
   abbrev pub tried_at : ℕ → List (ℕ × Option V) → View V → ℕ → Mine V → Type 0
-  tried_at k carried (Open start (x ∷ [])) found after = (found ≡ 0 → Took start x k carried after) × (found ≢ 0 → Missed start x k carried after)
+  tried_at k carried (Open start (x ∷ [])) found after = (found ≡ 0 → Took start x k carried after)
+      × (found ≢ 0 → Missed start x k carried after)
   tried_at k carried view found after = ⊤
 
   -- what a try to take tells, by the number found in the word
@@ -37,7 +43,8 @@ module _ {V : Type 0} (r : RowRule V) (next : Local V → V → Local V) where
   tried step me found after = tried_at step.word me.1 me.0 found after
 
   abbrev pub gave_at : View V → List (ℕ × Option V) → Mine V → Type 0
-  gave_at (Open start (x ∷ [])) ((k, Some v) ∷ carried) after = after ≡ (alone start x.actor (next x.local v) ((k, r.order v) ∷ x.seen), carried)
+  gave_at (Open start (x ∷ [])) ((k, Some v) ∷ carried) after =
+      after ≡ (alone start x.actor (next x.local v) ((k, r.order v) ∷ x.seen), carried)
   gave_at view carried after = ⊤
 
   -- what the giving of the slot that the seat took last tells

@@ -15,7 +15,8 @@ pub record Ground : Type 0 where
   pub id : TableId
   pub names : List LockNo
 
--- A hand: its table, the phase's start, its actor with the actor's local, and the orders that it has seen, each with its place, the last first.
+-- A hand: its table, the phase's start, its actor with the actor's local, and the orders that it
+-- has seen, each with its place, the last first.
 pub record Sitting (V : Type 0) : Type 0 where
   pub id : TableId
   pub start : State V
@@ -30,7 +31,12 @@ module _ {V : Type 0} where
 
   -- an actor without a number and without work
   abbrev pub nobody : Seated V
-  nobody = record { actor = 0; local = record { actor = 0; at = Start; todo = []; held = []; done = [] }; seen = [] }
+  nobody = record {
+    actor = 0;
+    local =
+        record { actor = 0; at = Start; todo = []; held = []; done = [] };
+    seen = [];
+  }
 
   -- the first actor of a view
   abbrev pub first_in : List (Seated V) → Seated V

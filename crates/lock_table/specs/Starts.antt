@@ -21,14 +21,16 @@ module _ {V : Type 0} where
   StandAt spot values = (i : ℕ) (x : LockNo × V) → slice_get values i ≡ Some x → spot x.0 ≡ i
 
   -- The rule allows this start, its row has these values, and its actors hold nothing.
-  pub record MayBegin (r : RowRule V) (start : State V) (values : List (LockNo × V)) (actors : ℕ) : Type 0 where
+  pub record MayBegin (r : RowRule V) (start : State V) (values : List (LockNo × V))
+      (actors : ℕ) : Type 0 where
     pub may : r.may_start start
     pub row : start.row ≡ all_home values
     pub count : length start.locals ≡ actors
     pub free : (a : ℕ) (l : Local V) → slice_get start.locals a ≡ Some l → l.held ≡ []
 
   -- These are the names, the words and the slots of values that may begin.
-  pub record CanOpen (r : RowRule V) (start : State V) (names : List LockNo) (words : List ℕ) (slots : List (Option V)) : Type 0 where
+  pub record CanOpen (r : RowRule V) (start : State V) (names : List LockNo) (words : List ℕ)
+      (slots : List (Option V)) : Type 0 where
     pub values : List (LockNo × V)
     pub some : 0 < length values
     pub names_are : names ≡ map (λ x. x.0) values
@@ -56,7 +58,8 @@ module _ {V : Type 0} where
 
   -- the actor is the first for which the seat stands, and holds nothing
   abbrev pub IsFirst : ℕ → Mine V → Type 0
-  IsFirst a me = (start : State V) × (l : Local V) × (xs : List (Seated V)) × (me ≡ (Open start (newly a l ∷ xs), [])) × (l.held ≡ [])
+  IsFirst a me = (start : State V) × (l : Local V) × (xs : List (Seated V))
+      × (me ≡ (Open start (newly a l ∷ xs), [])) × (l.held ≡ [])
 
   -- the view of the first actor alone, and that of the others
   abbrev pub first_of : View V → View V
@@ -73,8 +76,10 @@ pub record Hands (V : Type 0) : Type 0 where
   pub most : ℕ
   pub locks : ℕ
 
--- There is room for all hands, and for all values in the list where they come back, which is empty.
-pub record HasRoom {V : Type 0} (most spare locks : ℕ) (back : List (LockNo × V)) (room : ℕ) : Type 0 where
+-- There is room for all hands, and for all values in the list where they come back, which is
+-- empty.
+pub record HasRoom {V : Type 0} (most spare locks : ℕ) (back : List (LockNo × V))
+    (room : ℕ) : Type 0 where
   pub hands : most ≤ spare
   pub empty : back ≡ []
   pub values : locks ≤ room

@@ -27,12 +27,17 @@ module _ {V : Type 0} where
     pub views : s.views ≡ Closed ∷ []
 
 module _ {V : Type 0} (r : RowRule V) where
-  -- The word of the place k is 0 and its value is in the slot, or the value is out, and the word has the number of the actor that holds it: 1 for actor 0.
-  pub data IsPlace (words : List ℕ) (homes : List (maybe.Option (Option V))) (w : State V) (k : ℕ) : Type 0 where
-    free : (v : V) → slice_index words k ≡ 0 → get_elem? homes k ≡ some (some (Some v)) → slice_get w.row k ≡ Some (Some v) → IsPlace words homes w k
-    out : (a : ℕ) → slice_index words k ≡ a + 1 → get_elem? homes k ≡ some none → slice_get w.row k ≡ Some None → Holds r w a k → IsPlace words homes w k
+  -- The word of the place k is 0 and its value is in the slot, or the value is out, and the word
+  -- has the number of the actor that holds it: 1 for actor 0.
+  pub data IsPlace (words : List ℕ) (homes : List (maybe.Option (Option V))) (w : State V)
+      (k : ℕ) : Type 0 where
+    free : (v : V) → slice_index words k ≡ 0 → get_elem? homes k ≡ some (some (Some v))
+        → slice_get w.row k ≡ Some (Some v) → IsPlace words homes w k
+    out : (a : ℕ) → slice_index words k ≡ a + 1 → get_elem? homes k ≡ some none
+        → slice_get w.row k ≡ Some None → Holds r w a k → IsPlace words homes w k
 
-  -- The actor is at this local, this seat alone stands for it, and what it saw begins the orders of now.
+  -- The actor is at this local, this seat alone stands for it, and what it saw begins the orders
+  -- of now.
   pub record Stands (w : State V) (owner : ℕ → ℕ) (seat : ℕ) (x : Seated V) : Type 0 where
     pub at : slice_get w.locals x.actor ≡ Some x.local
     pub own : owner x.actor ≡ seat
@@ -40,7 +45,8 @@ module _ {V : Type 0} (r : RowRule V) where
 
   abbrev pub AllStand : State V → (ℕ → ℕ) → ℕ → List (Seated V) → Type 0
   AllStand w owner seat [] = ⊤
-  AllStand w owner seat (x ∷ xs) = Stands w owner seat x × NotAmong x.actor xs × AllStand w owner seat xs
+  AllStand w owner seat (x ∷ xs) = Stands w owner seat x × NotAmong x.actor xs
+      × AllStand w owner seat xs
 
   abbrev pub Knows : State V → State V → (ℕ → ℕ) → ℕ → View V → Type 0
   Knows start w owner seat Blank = ⊤

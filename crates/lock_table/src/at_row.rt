@@ -5,7 +5,8 @@ ghost use Rattle.std.specs.Prelude.{◌≡◌};
 use crate::row::{TableHand, TableRow};
 use lock_row::{Hand, LockNo, NextLocal, RowValue};
 
-/// The row and an actor's hand of it, which are borrowed. It may find what the row's rule leaves possible beside what
+/// The row and an actor's hand of it, which are borrowed. It may find what the row's rule leaves
+/// possible beside what
 /// the hand has seen, and allows the events that the rule names next.
 #[derive(Drop)]
 pub struct AtRow<'a, V: RowValue<R>, R> {

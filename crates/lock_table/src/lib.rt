@@ -1,4 +1,5 @@
-//! A row of locks on atomic words, for hands on threads of their own. Each lock has one word and one slot of a
+//! A row of locks on atomic words, for hands on threads of their own. Each lock has one word and
+//! one slot of a
 //! table. These are all the steps on them:
 //!
 //! | Step | Move | Event of the machine |
@@ -11,7 +12,8 @@
 //! | split | a load of word 0, in `make` | none |
 //! | join | a load of word 0, in `shut` | none |
 //!
-//! Between any two steps the words, the slots and what the hands know make a state that is reached from the
+//! Between any two steps the words, the slots and what the hands know make a state that is reached
+//! from the
 //! phase's start.
 #![tactic(auto)]
 

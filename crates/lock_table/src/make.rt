@@ -170,7 +170,8 @@ impl<V: RowValue<R>, R> TableRow<V, R> {
         }
     }
 
-    /// The row of these values, and a hand for each actor of the phase, whose start `P` names. Err is want of
+    /// The row of these values, and a hand for each actor of the phase, whose start `P` names. Err
+    /// is want of
     /// memory, and hands the values back.
     pub fn make<P: PhaseStart<V>>(
         alloc: Global,

@@ -45,7 +45,8 @@ fn laws<V>()
 }
 
 impl<V: RowValue<R>, R> TableRow<V, R> {
-    // The place of a lock of the row. From the first slot on a slot is at its page's number, or is searched.
+    // The place of a lock of the row. From the first slot on a slot is at its page's number, or is
+    // searched.
     fn place(&self, lock: LockNo) -> usize
         requires { (i : ℕ) × IsLock self.now i lock }
         ensures there { IsLock self.now result lock }

@@ -8,7 +8,8 @@ abbrev pub invariant-loop-at : goal.invariant-loop-at
 invariant-loop-at g l = record {
   items : slots_items l.closed.slots ≡ slots_items l.fn.closed.slots;
   count : slots_len l.closed.slots ≡ slots_len l.fn.closed.slots;
-  full : (k : ℕ) → l.at ≤ k → k < slots_len l.closed.slots → slice_index_or (slots_filled l.closed.slots) k false ≡ true;
+  full : (k : ℕ) → l.at ≤ k → k < slots_len l.closed.slots
+      → slice_index_or (slots_filled l.closed.slots) k false ≡ true;
   taken : (k : ℕ) → k < l.at → slice_index_or (slots_filled l.closed.slots) k false ≡ false;
   names : map (λ (x : LockNo × _). x.0) l.values.items ≡ take l.at l.names;
   values : all_home l.values.items ≡ take l.at (slots_items l.fn.closed.slots);

@@ -5,7 +5,8 @@ use Rattle.lock_table.proofs.make.move_back.Given as goal
 
 abbrev pub invariant-loop-slot : goal.invariant-loop-slot
 invariant-loop-slot g l = record {
-  back : (was : _) → l.names ≡ names_in was → l.fn.slots.items ≡ all_home was → IsBack was l.slots.items l.values.items;
+  back : (was : _) → l.names ≡ names_in was → l.fn.slots.items ≡ all_home was
+      → IsBack was l.slots.items l.values.items;
   room : vec_len l.values + vec_len l.slots ≤ vec_capacity l.values;
 }
 

@@ -15,7 +15,8 @@ join_seat-requires g c =
       ap (λ h. h.id) c.hand.view_is ∙ (c.requires.own.1 ∙ sym here),
       ap (λ m. m.1) sits ∙ ap (emptied r.spot) c.requires.free,
       c.self.invariant.some,
-      joins_at r _ _ _ a.0 c.args.hand.start a.1 (seated c.args.hand) _ _ (ap (λ m. m.0) a.2) (ap (λ m. m.0) sits),
+      joins_at r _ _ _ a.0 c.args.hand.start a.1 (seated c.args.hand) _ _ (ap (λ m. m.0) a.2)
+          (ap (λ m. m.0) sits),
     )
 
 pub returns-clause-both : goal.returns-clause-both

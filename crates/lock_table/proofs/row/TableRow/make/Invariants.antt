@@ -9,8 +9,14 @@ invariant-loop-actor g l = record {
   own : l.seat.table_id ≡ l.row.id;
   named : l.row.names ≡ map (λ (x : LockNo × _). x.0) l.fn.values.items;
   count : length g.P.PhaseStart.start.locals ≡ l.actors;
-  left : l.seat.me ≡ (Open g.P.PhaseStart.start (seats_from l.actor (drop l.actor g.P.PhaseStart.start.locals)), []);
-  made : l.hands.items ++ fresh_from l.row.id g.P.PhaseStart.start l.actor (drop l.actor g.P.PhaseStart.start.locals) ≡ fresh_from l.row.id g.P.PhaseStart.start 0 g.P.PhaseStart.start.locals;
+  left : l.seat.me ≡ (
+    Open g.P.PhaseStart.start
+        (seats_from l.actor (drop l.actor g.P.PhaseStart.start.locals)),
+    [],
+  );
+  made : l.hands.items ++ fresh_from l.row.id g.P.PhaseStart.start l.actor
+      (drop l.actor g.P.PhaseStart.start.locals) ≡ fresh_from l.row.id g.P.PhaseStart.start 0
+      g.P.PhaseStart.start.locals;
   len : vec_len l.hands ≡ l.actor;
   room : l.actors ≤ vec_capacity l.hands;
 }
