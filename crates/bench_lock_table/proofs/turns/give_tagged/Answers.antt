@@ -1,0 +1,14 @@
+use Rattle.std.proofs.Common.{sym, subst}
+use Rattle.lock_table.specs.Sittings.{Ground}
+use Rattle.lock_table.specs.Hands.{MayGive}
+use Rattle.bench_lock_table.specs.Tagging.{tagged}
+use Rattle.bench_lock_table.specs.TagRule.{tagging}
+use Rattle.bench_lock_table.specs.Ready.{Mine}
+use Rattle.bench_lock_table.proofs.Gifts.{may_tag}
+use Rattle.bench_lock_table.proofs.turns.give_tagged.Goals as goal
+
+pub give-requires : goal.give-requires
+give-requires c = let r = c.requires in
+    subst (λ (p : Ground × Mine). MayGive tagging p.0 p.1 c.args.lock tagged c.args.tags)
+    (λ i. (sym c.at-at.ensures.row i, sym c.at-at.ensures.hand i))
+    (may_tag c.args.row.now c.args.hand.now c.args.lock c.args.tags r.0 r.1 r.2)

@@ -1,0 +1,10 @@
+pub mod Phases
+pub mod Tables
+pub mod Plays
+pub mod Sittings
+pub mod Hands
+pub mod Laws
+pub mod HandLaws
+pub mod Grounds
+pub mod Starts
+pub mod Shut
