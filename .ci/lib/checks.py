@@ -31,7 +31,11 @@ HEADINGS = [
 ]
 IMPORT = re.compile(r"\s*(?:pub )?(?:ghost )?use ")
 # The laws of a trait's impl may cite lemmas of specs alone.
-LEMMAS_OF_SPECS = {"crates/lock_row/specs/HandLaws.antt"}
+LEMMAS_OF_SPECS = {
+    "crates/lock_row/specs/HandLaws.antt",
+    "crates/lock_table/specs/HandLaws.antt",
+    "crates/bench_lock_table/specs/TagRule.antt",
+}
 LANES = ("words", "halves", "quarters")
 
 

@@ -4,6 +4,7 @@ use Rattle.lock_row.specs.declared.names.LockNo.{LockNo}
 use Rattle.bench_lock_table.specs.declared.rows.Locks.{Locks}
 use Rattle.lock_row.specs.declared.names.LockNo.TheVariants.{Slot, Class, Account, Blocks, Device}
 
+-- the lock of a page
 abbrev pub slot : ℕ → LockNo
 slot page = Slot (record { 0 = page })
 
@@ -20,5 +21,7 @@ IsAmong n (Class c) = ⊥
 IsAmong n Blocks = ⊥
 IsAmong n Device = ⊥
 
+-- each of four locks is among the first
 abbrev pub AreAmong : ℕ → Locks → Type 0
-AreAmong n locks = IsAmong n locks.one × IsAmong n locks.two × IsAmong n locks.three × IsAmong n locks.four
+AreAmong n locks = IsAmong n locks.one × IsAmong n locks.two × IsAmong n locks.three
+    × IsAmong n locks.four

@@ -53,12 +53,6 @@ module _ {V : Type 0} (r : RowRule V) where
   is_held s w k (free v z h c) ne = absurd (ne z)
   is_held s w k (out a z h c b) ne = (a, c, b)
 
-  -- what is out in the row is out of its slot
-  is_out : (s : Table V) (w : State V) (k : ℕ) → IsPlace r s.words s.homes w k
-      → slice_get w.row k ≡ Some None → get_elem? s.homes k ≡ some none
-  is_out s w k (free v z h c) e = let q : Some None ≡ Some (Some v) = sym e ∙ c in absurd (cc)
-  is_out s w k (out a z h c b) e = h
-
   -- the table after an event of the actor that the seat id stands for
   module _ (s : Table V) (o : IsOpen r s) (id a n : ℕ) (m : Local V) (k : LockNo)
       (house : maybe.Option (Option V)) (cell : Option V) (view : View V) where

@@ -219,15 +219,6 @@ module _ {V : Type 0} (r : RowRule V) where
       subst (λ (m : View V). Splits (IsTable r slots) id m (others_of m) (first_of m)) (sym e)
       (deals slots id start x xs)
 
-  -- the hand that was dealt
-  pub dealt : (id : TableId) (start : State V) (a : ℕ) (l : Local V) (xs : List (Seated V))
-      (was me : Mine V) → was ≡ (Open start (newly a l ∷ xs), [])
-      → l.held ≡ [] → me ≡ (first_of was.0, []) → Sits r (fresh id start a l) me
-  dealt id start a l xs was me e idle is = is
-      ∙ ap (λ (m : Mine V). let p : Mine V = (first_of m.0, []) in p) e
-      ∙ ap (λ (held : List (LockNo × V)). let p : Mine V =
-      (alone start a l [], emptied r.spot held) in p) (sym idle)
-
   pub opens_by : (slots : List (Option V)) (values : List (LockNo × V)) (id actors : ℕ)
       (start : State V) (v : View V) → slots ≡ all_home values → v ≡ Closed
       → MayBegin r start values actors

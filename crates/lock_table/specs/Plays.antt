@@ -33,6 +33,7 @@ module _ {V : Type 0} (r : RowRule V) (next : Local V → V → Local V) where
   Missed start x k carried after = (after ≡ (alone start x.actor x.local x.seen, carried))
       × FindsHeld r start x.actor x.local x.seen k
 
+  -- what follows of an exchange of a lock's word by what was found there
   abbrev pub tried_at : ℕ → List (ℕ × Option V) → View V → ℕ → Mine V → Type 0
   tried_at k carried (Open start (x ∷ [])) found after = (found ≡ 0 → Took start x k carried after)
       × (found ≢ 0 → Missed start x k carried after)
@@ -42,6 +43,7 @@ module _ {V : Type 0} (r : RowRule V) (next : Local V → V → Local V) where
   abbrev pub tried : Step (Option V) → Mine V → ℕ → Mine V → Type 0
   tried step me found after = tried_at step.word me.1 me.0 found after
 
+  -- what a giving leaves of a view
   abbrev pub gave_at : View V → List (ℕ × Option V) → Mine V → Type 0
   gave_at (Open start (x ∷ [])) ((k, Some v) ∷ carried) after =
       after ≡ (alone start x.actor (next x.local v) ((k, r.order v) ∷ x.seen), carried)

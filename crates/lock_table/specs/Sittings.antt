@@ -43,6 +43,7 @@ module _ {V : Type 0} where
   first_in [] = nobody
   first_in (x ∷ xs) = x
 
+  -- the actor of a view of one seat
   abbrev pub actor_of : View V → Seated V
   actor_of (Open start xs) = first_in xs
   actor_of view = nobody

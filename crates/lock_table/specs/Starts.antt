@@ -48,6 +48,7 @@ module _ {V : Type 0} where
   fresh_from id start a [] = []
   fresh_from id start a (l ∷ ls) = fresh id start a l ∷ fresh_from id start (suc a) ls
 
+  -- an actor that has seen nothing
   abbrev pub newly : ℕ → Local V → Seated V
   newly a l = record { actor = a; local = l; seen = [] }
 
@@ -66,6 +67,7 @@ module _ {V : Type 0} where
   first_of (Open start (x ∷ xs)) = Open start (x ∷ [])
   first_of view = Blank
 
+  -- a view without its first seat
   abbrev pub others_of : View V → View V
   others_of (Open start (x ∷ xs)) = Open start xs
   others_of view = view

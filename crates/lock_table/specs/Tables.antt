@@ -16,6 +16,7 @@ abbrev pub Table : Type 0 → Type 0
 Table V = Words (Option V) (View V)
 
 module _ {V : Type 0} where
+  -- the actor has none of these seats
   abbrev pub NotAmong : ℕ → List (Seated V) → Type 0
   NotAmong a [] = ⊤
   NotAmong a (x ∷ xs) = (a ≢ x.actor) × NotAmong a xs
@@ -43,11 +44,13 @@ module _ {V : Type 0} (r : RowRule V) where
     pub own : owner x.actor ≡ seat
     pub seen : Begin r x.seen w
 
+  -- all seats stand in this state, and each actor has one
   abbrev pub AllStand : State V → (ℕ → ℕ) → ℕ → List (Seated V) → Type 0
   AllStand w owner seat [] = ⊤
   AllStand w owner seat (x ∷ xs) = Stands w owner seat x × NotAmong x.actor xs
       × AllStand w owner seat xs
 
+  -- what a seat's view says of the table
   abbrev pub Knows : State V → State V → (ℕ → ℕ) → ℕ → View V → Type 0
   Knows start w owner seat Blank = ⊤
   Knows start w owner seat Closed = ⊥
@@ -64,5 +67,6 @@ module _ {V : Type 0} (r : RowRule V) where
     pub each_place : (k : ℕ) → k < length now.row → IsPlace s.words s.homes now k
     pub each_seat : (j : ℕ) (d : View V) → get_elem? s.views j ≡ some d → Knows start now owner j d
 
+  -- the table is closed over these values, or open
   abbrev pub IsTable : List (Option V) → Table V → Type 0
   IsTable values s = IsClosed values s ⊎ IsOpen s

@@ -35,7 +35,8 @@ impl<V: RowValue<R>, R> TableRow<V, R> {
         requires free { hand.local.held ≡ [] }
         requires seat { (start : _) × (xs : _) × (seat.old.me ≡ (Open start xs, [])) }
         ensures own { seat.new.table_id ≡ seat.old.table_id }
-        ensures both { (start : _) (xs : _) → seat.old.me ≡ (Open start xs, []) → seat.new.me ≡ (Open start (seated hand ∷ xs), []) }
+        ensures both { (start : _) (xs : _) → seat.old.me ≡ (Open start xs, [])
+            → seat.new.me ≡ (Open start (seated hand ∷ xs), []) }
     {
         let TableHand {
             actor: _,
@@ -75,7 +76,8 @@ pub fn shut<V: RowValue<R>, R>(row: TableRow<V, R>, hands: TableHands<V, R>) -> 
     requires hands { (start : State V) × AllHands row start hands.list }
     requires locks { hands.locks ≡ length row.names }
     ensures names { map (λ (x : LockNo × V). x.0) result.items ≡ row.names }
-    ensures left { (start : State V) → AllHands row start hands.list → Left V.rule start hands.list result.items }
+    ensures left { (start : State V) → AllHands row start hands.list
+        → Left V.rule start hands.list result.items }
 {
     let TableHands {
         hands: mut list,

@@ -32,7 +32,8 @@ impl<V: RowValue<R>, R> Model for TableHands<V, R> {
 impl<V: RowValue<R>, R> TableHands<V, R> {
     /// Takes the last hand out.
     pub fn pop(&mut self) -> Option<TableHand<V, R>>
-        ensures hand { MatchOption result ((self.old.list ≡ []) × (self.new.list ≡ [])) (λ h. self.old.list ≡ self.new.list ++ h ∷ []) }
+        ensures hand { MatchOption result ((self.old.list ≡ []) × (self.new.list ≡ []))
+            (λ h. self.old.list ≡ self.new.list ++ h ∷ []) }
         ensures most { self.new.most ≡ self.old.most }
         ensures locks { self.new.locks ≡ self.old.locks }
     {

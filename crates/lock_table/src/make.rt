@@ -78,7 +78,8 @@ fn move_back<V>(names: &[LockNo], mut slots: Vec<Option<V>>, values: &mut Vec<(L
     requires empty { values.old.items ≡ [] }
     requires room { vec_len slots ≤ vec_capacity values.old }
     requires parts { (was : _) × (names.now ≡ map (λ (x : LockNo × _). x.0) was) × (slots.items ≡ all_home was) }
-    ensures { (was : _) → names.now ≡ map (λ (x : LockNo × _). x.0) was → slots.items ≡ all_home was → values.new.items ≡ was }
+    ensures { (was : _) → names.now ≡ map (λ (x : LockNo × _). x.0) was → slots.items ≡ all_home was
+        → values.new.items ≡ was }
 {
     while let Some(slot) = slots.pop() {
         let Some(value) = slot else { unreachable!() };
@@ -129,7 +130,9 @@ impl<V: RowValue<R>, R> TableRow<V, R> {
         ensures own { IfOk result (λ t. t.seat.table_id ≡ t.row.id) }
         ensures all { IfOk result (λ t. t.seat.me ≡ (Open P.start (seats_from 0 P.start.locals), [])) }
         ensures values { IfOk result (λ t. t.values ≡ values) }
-        ensures err { IfErr result (λ v. (was : _) → parts.names.items ≡ map (λ (x : LockNo × _). x.0) was → parts.slots.items ≡ all_home was → v.items ≡ was) }
+        ensures err { IfErr result
+            (λ v. (was : _) → parts.names.items ≡ map (λ (x : LockNo × _). x.0) was
+            → parts.slots.items ≡ all_home was → v.items ≡ was) }
     {
         let Parts {
             names,
@@ -160,7 +163,8 @@ impl<V: RowValue<R>, R> TableRow<V, R> {
         requires own { seat.old.table_id ≡ self.now.id }
         requires first { IsFirst actor seat.old.me }
         ensures own { seat.new.table_id ≡ seat.old.table_id }
-        ensures dealt { (start : _) (l : _) (xs : _) → seat.old.me ≡ (Open start (newly actor l ∷ xs), []) → (seat.new.me ≡ (Open start xs, [])) × (result ≡ fresh self.now.id start actor l) }
+        ensures dealt { (start : _) (l : _) (xs : _) → seat.old.me ≡ (Open start (newly actor l ∷ xs), [])
+            → (seat.new.me ≡ (Open start xs, [])) × (result ≡ fresh self.now.id start actor l) }
     {
         let seat = self.table.shared.split_seat::<Deals>(seat);
         TableHand {

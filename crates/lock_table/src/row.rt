@@ -97,7 +97,8 @@ impl<V: RowValue<R>, R> Model for TableHand<V, R> {
 impl<V: RowValue<R>, R> TableHand<V, R> {
     pub(crate) fn take<N: NextLocal<V>>(&mut self, row: &TableRow<V, R>, lock: LockNo) -> Option<V>
         requires { MayTake V.rule row.now self.old lock N.next }
-        ensures { MatchOption result (Misses V.rule self.old lock self.new) (λ v. Takes V.rule self.old lock N.next v self.new) }
+        ensures { MatchOption result (Misses V.rule self.old lock self.new)
+            (λ v. Takes V.rule self.old lock N.next v self.new) }
     {
         let at = row.place(lock);
         laws::<V>();
