@@ -11,16 +11,20 @@ use Rattle.bench_lock_table.specs.Made.{IsOwn}
 
 names_length : (n : ℕ) → length (names_to n) ≡ n + 1
 names_length zero = refl
-names_length (suc n) = let r = names_length n in omega (arith, length-append (names_to n) (slot n ∷ []))
+names_length (suc n) = let r = names_length n in
+    omega (arith, length-append (names_to n) (slot n ∷ []))
 
 -- the last of a list, or one before it
-at_snoc : {A : Type 0} (xs : List A) (x y : A) (i : ℕ) → slice_get (xs ++ x ∷ []) i ≡ Some y → (slice_get xs i ≡ Some y) ⊎ ((i ≡ length xs) × (x ≡ y))
+at_snoc : {A : Type 0} (xs : List A) (x y : A) (i : ℕ) → slice_get (xs ++ x ∷ []) i ≡ Some y
+    → (slice_get xs i ≡ Some y) ⊎ ((i ≡ length xs) × (x ≡ y))
 at_snoc [] x y zero e = inr (refl, cc)
 at_snoc [] x y (suc i) e = absurd (cc)
 at_snoc (z ∷ xs) x y zero e = inl e
-at_snoc (z ∷ xs) x y (suc i) e = ⊎_elim (λ h. inl h) (λ h. inr (ap suc h.0, h.1)) (at_snoc xs x y i e)
+at_snoc (z ∷ xs) x y (suc i) e = ⊎_elim (λ h. inl h) (λ h. inr (ap suc h.0, h.1))
+    (at_snoc xs x y i e)
 
-before : {A : Type 0} (xs ys : List A) (y : A) (i : ℕ) → slice_get xs i ≡ Some y → slice_get (xs ++ ys) i ≡ Some y
+before : {A : Type 0} (xs ys : List A) (y : A) (i : ℕ) → slice_get xs i ≡ Some y
+    → slice_get (xs ++ ys) i ≡ Some y
 before [] ys y i e = absurd (cc)
 before (x ∷ xs) ys y zero e = e
 before (x ∷ xs) ys y (suc i) e = before xs ys y i e
@@ -35,14 +39,17 @@ names_placed zero zero k e = let q : Account ≡ k = cc in ap spot (sym q)
 names_placed zero (suc i) k e = absurd (cc)
 names_placed (suc n) i k e = ⊎_elim
     (λ h. names_placed n i k h)
-    (λ h. ap spot (sym h.1) ∙ (let l = names_length n in let q = h.0 in let s : suc n ≡ i = omega arith in s))
+    (λ h. ap spot (sym h.1)
+    ∙ (let l = names_length n in let q = h.0 in let s : suc n ≡ i = omega arith in s))
     (at_snoc (names_to n) (slot n) k i e)
 
 slot_there : (n p : ℕ) → p < n → slice_get (names_to n) (suc p) ≡ Some (slot p)
 slot_there zero p h = absurd (omega arith)
 slot_there (suc n) p h = ⊎_elim
     (λ same. subst (λ q. slice_get (names_to n ++ slot n ∷ []) (suc q) ≡ Some (slot q)) (sym same)
-        (ap (slice_get (names_to n ++ slot n ∷ [])) (let l = names_length n in let s : suc n ≡ length (names_to n) = omega arith in s) ∙ last_at (names_to n) (slot n)))
+    (ap (slice_get (names_to n ++ slot n ∷ []))
+    (let l = names_length n in let s : suc n ≡ length (names_to n) = omega arith in s)
+    ∙ last_at (names_to n) (slot n)))
     (λ less. before (names_to n) (slot n ∷ []) (slot p) (suc p) (slot_there n p less))
     (eq-or-lt_of_le (let b : p ≤ n = omega arith in b))
 
@@ -50,11 +57,14 @@ account_there : (n : ℕ) → slice_get (names_to n) 0 ≡ Some Account
 account_there zero = refl
 account_there (suc n) = before (names_to n) (slot n ∷ []) Account 0 (account_there n)
 
-module _ (values : List (LockNo × List Tag)) (n : ℕ) (e : map (λ (x : LockNo × List Tag). x.0) values ≡ names_to n) where
+module _ (values : List (LockNo × List Tag)) (n : ℕ)
+    (e : map (λ (x : LockNo × List Tag). x.0) values ≡ names_to n) where
   pub stand : StandAt spot values
   stand i x at = names_placed n i x.0 (ap (λ ks. slice_get ks i) (sym e) ∙ named values i x at)
     where
-      named : (xs : List (LockNo × List Tag)) (i : ℕ) (x : LockNo × List Tag) → slice_get xs i ≡ Some x → slice_get (map (λ (y : LockNo × List Tag). y.0) xs) i ≡ Some x.0
+      named : (xs : List (LockNo × List Tag)) (i : ℕ) (x : LockNo × List Tag)
+          → slice_get xs i ≡ Some x
+          → slice_get (map (λ (y : LockNo × List Tag). y.0) xs) i ≡ Some x.0
       named [] i x h = absurd (cc)
       named (y ∷ ys) zero x h = let q : y ≡ x = cc in ap (λ (z : LockNo × List Tag). Some z.0) q
       named (y ∷ ys) (suc i) x h = named ys i x h

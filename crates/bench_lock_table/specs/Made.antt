@@ -13,11 +13,17 @@ use Rattle.bench_lock_table.specs.Ready.{Mine, IsReady, IsSame}
 
 -- each actor at its lock
 abbrev pub start_of : List (LockNo × List Tag) → Locks → State (List Tag)
-start_of values locks = record { row = all_home values; locals = idle 0 locks.one ∷ idle 1 locks.two ∷ idle 2 locks.three ∷ idle 3 locks.four ∷ [] }
+start_of values locks =
+    record {
+      row = all_home values;
+      locals = idle 0 locks.one ∷ idle 1 locks.two ∷ idle 2
+          locks.three ∷ idle 3 locks.four ∷ [];
+    }
 
 -- the lock stands among the values, and is one that an actor may have
 abbrev pub IsOwn : List (LockNo × List Tag) → LockNo → Type 0
-IsOwn values k = (slice_get (map (λ x. x.0) values) (spot k) ≡ Some k) × (lock_at (pieces_for k) ≡ k)
+IsOwn values k = (slice_get (map (λ x. x.0) values) (spot k) ≡ Some k)
+    × (lock_at (pieces_for k) ≡ k)
 
 -- The values stand at their places, and each actor has one of their locks.
 pub record CanMake (values : List (LockNo × List Tag)) (locks : Locks) : Type 0 where
@@ -29,7 +35,8 @@ pub record CanMake (values : List (LockNo × List Tag)) (locks : Locks) : Type 0
   pub four : IsOwn values locks.four
 
 -- The hand of this actor is ready, and has nothing done.
-pub record IsSeat (g : Ground) (start : State (List Tag)) (a : ℕ) (k : LockNo) (h : Mine) : Type 0 where
+pub record IsSeat (g : Ground) (start : State (List Tag)) (a : ℕ) (k : LockNo)
+    (h : Mine) : Type 0 where
   pub ready : IsReady g h k
   pub start_is : h.start ≡ start
   pub actor : h.actor ≡ a

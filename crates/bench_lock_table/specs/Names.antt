@@ -21,4 +21,5 @@ IsAmong n Blocks = ⊥
 IsAmong n Device = ⊥
 
 abbrev pub AreAmong : ℕ → Locks → Type 0
-AreAmong n locks = IsAmong n locks.one × IsAmong n locks.two × IsAmong n locks.three × IsAmong n locks.four
+AreAmong n locks = IsAmong n locks.one × IsAmong n locks.two × IsAmong n locks.three
+    × IsAmong n locks.four

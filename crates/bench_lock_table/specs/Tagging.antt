@@ -1,5 +1,6 @@
--- A small rule of a row: a lock guards a list of tags, and each actor has one lock, to which it adds tags of its own.
-use Rattle.std.specs.Prelude.{◌≡◌, ℕ, suc, List, [], ◌∷◌, ◌++◌, map, length, Some, slice_get}
+-- A small rule of a row: a lock guards a list of tags, and each actor has one lock, to which it
+-- adds tags of its own.
+use Rattle.std.specs.Prelude.{◌≡◌, ℕ, suc, List, [], ◌∷◌, ◌++◌, map, length}
 use Rattle.zr_base.specs.declared.op.Tag.{Tag}
 use Rattle.zr_base.specs.declared.op.Op.TheVariants.{Discard}
 use Rattle.call_history.specs.declared.part.Part.{Part}
@@ -9,10 +10,8 @@ use Rattle.lock_row.specs.declared.names.LockNo.{LockNo}
 use Rattle.lock_row.specs.declared.names.LockNo.TheVariants as lock
 use Rattle.lock_row.specs.declared.names.At.TheVariants.{Start}
 use Rattle.lock_row.specs.declared.names.Local.{Local}
-use Rattle.lock_row.specs.declared.names.State.{State}
 use Rattle.lock_row.specs.declared.names.Plan.{Plan}
 use Rattle.lock_row.specs.declared.names.Plan.TheVariants.{Take, Give}
-use Rattle.lock_row.specs.Rules.{RowRule, Notes}
 
 abbrev pub Here : Type 0
 Here = Local (List Tag)
@@ -50,11 +49,25 @@ rest_of [] = []
 rest_of (x ∷ xs) = xs
 
 abbrev pub took : Here → List Tag → Here
-took l v = record { actor = l.actor; at = l.at; todo = l.todo; held = (lock_at l.todo, v) ∷ l.held; done = l.done }
+took l v = record {
+  actor = l.actor;
+  at = l.at;
+  todo = l.todo;
+  held =
+      (lock_at l.todo, v) ∷ l.held;
+  done = l.done;
+}
 
 -- it gives the tags back as they were
 abbrev pub gave : Here → List Tag → Here
-gave l v = record { actor = l.actor; at = l.at; todo = l.todo; held = rest_of l.held; done = l.done }
+gave l v = record {
+  actor = l.actor;
+  at = l.at;
+  todo = l.todo;
+  held = rest_of l.held;
+  done =
+      l.done;
+}
 
 -- its next tag
 abbrev pub next_tag : Here → Tag
@@ -62,11 +75,20 @@ next_tag l = record { actor = l.actor; op = length l.done }
 
 -- it gives them back with that tag
 abbrev pub tagged : Here → List Tag → Here
-tagged l v = record { actor = l.actor; at = l.at; todo = l.todo; held = rest_of l.held; done = l.done ++ record { part = piece (length l.done) 0; end = Carried; got = [] } ∷ [] }
+tagged l v = record {
+  actor = l.actor;
+  at = l.at;
+  todo = l.todo;
+  held = rest_of l.held;
+  done =
+      l.done ++ record { part = piece (length l.done) 0; end = Carried; got = [] } ∷ [];
+}
 
 pub data Works (l : Here) (v : List Tag) (m : Here) : Type 0 where
-  as_was : (k : LockNo) (rest : List (LockNo × List Tag)) → l.held ≡ (k, v) ∷ rest → m ≡ gave l v → Works l v m
-  one_more : (k : LockNo) (last : List Tag) (rest : List (LockNo × List Tag)) → l.held ≡ (k, last) ∷ rest → v ≡ last ++ next_tag l ∷ [] → m ≡ tagged l v → Works l v m
+  as_was : (k : LockNo) (rest : List (LockNo × List Tag)) → l.held ≡ (k, v) ∷ rest → m ≡ gave l v
+      → Works l v m
+  one_more : (k : LockNo) (last : List Tag) (rest : List (LockNo × List Tag))
+      → l.held ≡ (k, last) ∷ rest → v ≡ last ++ next_tag l ∷ [] → m ≡ tagged l v → Works l v m
 
 abbrev pub noted : Here → List Tag
 noted l = map (λ (d : Done). record { actor = l.actor; op = d.part.nr }) l.done

@@ -1,8 +1,10 @@
 //! Takes and gives locks of a row from four threads, for measuring:
 //! `bench_lock_table SLOTS ONE TWO THREE FOUR SPREAD`.
 //!
-//! It makes a row of the account and so many slots, at least four. Each actor takes and gives its lock so many times, in a
-//! thread of its own, and then the row is shut. All have one slot, or each has its own where SPREAD isn't 0. What it
+//! It makes a row of the account and so many slots, at least four. Each actor takes and gives its
+//! lock so many times, in a
+//! thread of its own, and then the row is shut. All have one slot, or each has its own where
+//! SPREAD isn't 0. What it
 //! prints is the same whenever the numbers are: how many locks came back.
 #![tactic(auto)]
 

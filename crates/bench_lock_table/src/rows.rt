@@ -58,12 +58,18 @@ fn make_by<P: PhaseStart<Tags>>(
     ensures { IfOk result (λ m. IsMade (start_of values.items locks.now) locks.now m) }
 {
     let (row, mut hands) = TableRow::make::<P>(alloc, values, 4)?;
-    let Some(four) = hands.pop() else { unreachable!() };
+    let Some(four) = hands.pop() else {
+        unreachable!()
+    };
     let Some(three) = hands.pop() else {
         unreachable!()
     };
-    let Some(two) = hands.pop() else { unreachable!() };
-    let Some(one) = hands.pop() else { unreachable!() };
+    let Some(two) = hands.pop() else {
+        unreachable!()
+    };
+    let Some(one) = hands.pop() else {
+        unreachable!()
+    };
     Ok(Made {
         row,
         hands,
@@ -74,7 +80,8 @@ fn make_by<P: PhaseStart<Tags>>(
     })
 }
 
-/// The row of these values, with a hand for each lock. Err is want of memory, and hands the values back.
+/// The row of these values, with a hand for each lock. Err is want of memory, and hands the values
+/// back.
 pub fn make(
     alloc: Global,
     values: Vec<(LockNo, Tags)>,
@@ -87,12 +94,7 @@ pub fn make(
 }
 
 /// Takes the lock as soon as it is free.
-fn take_soon<R: Wait>(
-    rt: &R,
-    row: &Row,
-    hand: &mut TagHand,
-    lock: LockNo,
-) -> Tags
+fn take_soon<R: Wait>(rt: &R, row: &Row, hand: &mut TagHand, lock: LockNo) -> Tags
     requires { IsReady row.now hand.old lock }
     ensures got { Has row.now hand.new lock result }
     ensures same { IsSame hand.old hand.new }
@@ -107,13 +109,7 @@ fn take_soon<R: Wait>(
 }
 
 /// Takes and gives the lock so many times.
-fn pass<R: Wait>(
-    rt: &R,
-    row: &Row,
-    hand: &mut TagHand,
-    lock: LockNo,
-    rounds: u32,
-)
+fn pass<R: Wait>(rt: &R, row: &Row, hand: &mut TagHand, lock: LockNo, rounds: u32)
     requires { IsReady row.now hand.old lock }
     ensures free { IsReady row.now hand.new lock }
     ensures same { IsSame hand.old hand.new }
@@ -148,12 +144,7 @@ fn add<R: Wait>(
 }
 
 /// Does an actor's job, and says whether there was memory.
-fn serve<R: Wait>(
-    rt: &R,
-    row: &Row,
-    mut hand: TagHand,
-    job: Job,
-) -> (TagHand, bool)
+fn serve<R: Wait>(rt: &R, row: &Row, mut hand: TagHand, job: Job) -> (TagHand, bool)
     requires { CanServe row.now hand job }
     ensures { IsServed row.now hand job result.0 }
 {
@@ -179,10 +170,7 @@ fn both<R: Threads + Wait + Sync>(
     row: &Row,
     one: (TagHand, Job),
     two: (TagHand, Job),
-) -> (
-    (TagHand, bool),
-    (TagHand, bool),
-)
+) -> ((TagHand, bool), (TagHand, bool))
     requires { CanServe row.now one.0 one.1 × CanServe row.now two.0 two.1 }
     ensures { IsServed row.now one.0 one.1 result.0.0 × IsServed row.now two.0 two.1 result.1.0 }
 {
@@ -207,7 +195,10 @@ fn all_four<R: Threads + Wait + Sync>(
     row: &Row,
     front: ((TagHand, Job), (TagHand, Job)),
     back: ((TagHand, Job), (TagHand, Job)),
-) -> (((TagHand, bool), (TagHand, bool)), ((TagHand, bool), (TagHand, bool)))
+) -> (
+    ((TagHand, bool), (TagHand, bool)),
+    ((TagHand, bool), (TagHand, bool)),
+)
     requires front { CanServe row.now front.0.0 front.0.1 × CanServe row.now front.1.0 front.1.1 }
     requires back { CanServe row.now back.0.0 back.0.1 × CanServe row.now back.1.0 back.1.1 }
     ensures front { IsServed row.now front.0.0 front.0.1 result.0.0.0 × IsServed row.now front.1.0 front.1.1 result.0.1.0 }
@@ -239,7 +230,8 @@ fn new_job(lock: LockNo, actor: u32, rounds: u32, adds: bool) -> Job
     }
 }
 
-/// Makes a row, does a job of so many rounds with each of its hands, and shuts it; false says that there was no
+/// Makes a row, does a job of so many rounds with each of its hands, and shuts it; false says that
+/// there was no
 /// memory for a tag. Err is want of memory for the row, and hands the values back.
 pub fn run<R: Threads + Wait + Sync>(
     rt: &R,

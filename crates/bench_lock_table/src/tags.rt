@@ -1,4 +1,5 @@
-//! A lock's tags, and the rule of a row of them: each actor has one lock, to which it adds tags of its own.
+//! A lock's tags, and the rule of a row of them: each actor has one lock, to which it adds tags of
+//! its own.
 
 ghost use Rattle.std.specs.Prelude.{◌≡◌, [], ◌∷◌, ◌++◌, OnOk, OnErr};
 

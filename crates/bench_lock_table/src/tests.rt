@@ -24,7 +24,8 @@ fn last_tag(row: &Row, hand: &mut TagHand, lock: LockNo) -> Option<Option<Tag>>
     Some(last)
 }
 
-// While the first has the slot, the second tries it, and the third tries the account. Then the first gives the slot back
+// While the first has the slot, the second tries it, and the third tries the account. Then the
+// first gives the slot back
 // with a tag, and the second tries it again.
 fn probe(
     row: &Row,

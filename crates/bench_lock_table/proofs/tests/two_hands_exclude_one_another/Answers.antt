@@ -14,9 +14,18 @@ shut-values-requires-clause-hands g c =
     let i = c.in-Ok.ensures in
     let e = c.probe-found.ensures in (
       _,
-      four_back c.in_ok-values.values.items _ m i (job _) (job _) (job _) (job _) c.probe-found.new.one c.probe-found.new.two c.probe-found.new.three m.four refl refl refl refl
-      (record { ready = e.one.0; same = e.one.1 }) (record { ready = e.two.0; same = e.two.1 }) (record { ready = e.three.0; same = e.three.1 })
-      (record { ready = i.four.ready; same = record { start = refl; actor = refl; number = refl } })
-      m.hands.list c.push.new.self.list c.push-2.new.self.list c.push-3.new.self.list c.push-4.new.self.list
-      i.empty c.push.ensures.hand c.push-2.ensures.hand c.push-3.ensures.hand c.push-4.ensures.hand,
+      four_back c.in_ok-values.values.items _ m i (job _) (job _) (job _)
+          (job _) c.probe-found.new.one c.probe-found.new.two c.probe-found.new.three m.four refl
+          refl refl refl
+          (record { ready = e.one.0; same = e.one.1 }) (record { ready = e.two.0; same = e.two.1 })
+          (record { ready = e.three.0; same = e.three.1 })
+          (record {
+            ready = i.four.ready;
+            same =
+                record { start = refl; actor = refl; number = refl };
+          })
+          m.hands.list c.push.new.self.list c.push-2.new.self.list c.push-3.new.self.list
+          c.push-4.new.self.list
+          i.empty c.push.ensures.hand c.push-2.ensures.hand c.push-3.ensures.hand
+          c.push-4.ensures.hand,
     )
