@@ -8,7 +8,7 @@ from definitions import WORD, Definition, found_at, imports
 
 OPENS = re.compile(r"^(?P<unsafe>unsafe )?(?:pub )?(?P<kind>impl|trait|struct|enum)\b(?P<rest>.*)")
 FUNCTION = re.compile(r"^(?P<indent> *)(?P<pub>pub )?(?:const |unsafe )*fn (?P<name>\w+)")
-MODEL = re.compile(r"^impl(?:<[^>]*>)? Model for (\w+).*?ghost Value = \{(.*?)\};", re.MULTILINE | re.DOTALL)
+MODEL = re.compile(r"^impl(?:<(?:[^<>]|<[^<>]*>)*>)? Model for (\w+).*?ghost Value = \{(.*?)\};", re.MULTILINE | re.DOTALL)
 CLAUSE = re.compile(r"\b(?:requires|ensures)\b *(?P<name>[a-z_0-9]*) *\{")
 
 
@@ -47,7 +47,7 @@ def owner_of(line: str) -> str:
     match = OPENS.match(line)
     if not match:
         return ""
-    rest = re.sub(r"^<[^>]*>", "", match["rest"]).strip()
+    rest = re.sub(r"^<(?:[^<>]|<[^<>]*>)*>", "", match["rest"]).strip()
     target = re.search(r"\bfor (\w+)|\bfor &mut (\w+)", rest)
     if target:
         return target.group(1) or target.group(2)

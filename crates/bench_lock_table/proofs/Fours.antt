@@ -1,5 +1,5 @@
 -- The four hands of a row of tags.
-use Rattle.std.proofs.Common.{◌≡◌, ℕ, zero, suc, List, [], ◌∷◌, ◌++◌, map, length, ◌<◌, Some, slice_get, arith, refl, sym, ap, ◌∙◌, subst}
+use Rattle.std.proofs.Common.{◌≡◌, ℕ, zero, suc, List, [], ◌∷◌, ◌++◌, map, ◌<◌, Some, slice_get, arith, refl, sym, ap, ◌∙◌, subst}
 use Rattle.zr_base.specs.declared.op.Tag.{Tag}
 use Rattle.lock_row.specs.declared.names.LockNo.{LockNo}
 use Rattle.lock_row.specs.declared.names.State.{State}
@@ -29,8 +29,8 @@ same_ends (a ∷ xs) (b ∷ ys) x y e =
 -- four hands that are taken out, the last first
 pub four_out : (l0 l1 l2 l3 l4 : List Mine) (a b c d one two three four : Mine)
     → l0 ≡ a ∷ b ∷ c ∷ d ∷ [] → l0 ≡ l1 ++ four ∷ [] → l1 ≡ l2 ++ three ∷ []
-    → l2 ≡ l3 ++ two ∷ [] → l3 ≡ l4 ++ one ∷ []
-    → (l4 ≡ []) × (a ≡ one) × (b ≡ two) × (c ≡ three) × (d ≡ four)
+    → l2 ≡ l3 ++ two ∷ [] → l3 ≡ l4 ++ one ∷ [] → (l4 ≡ []) × (a ≡ one) × (b ≡ two) × (c ≡ three)
+    × (d ≡ four)
 four_out l0 l1 l2 l3 l4 a b c d one two three four is e1 e2 e3 e4 =
     let r1 = same_ends (a ∷ b ∷ c ∷ []) l1 d four (sym is ∙ e1) in
     let r2 = same_ends (a ∷ b ∷ []) l2 c three (r1.0 ∙ e2) in
@@ -79,8 +79,8 @@ module _ (g : Ground) (values : List (LockNo × List Tag)) (locks : Locks) (a b 
     each (suc (suc (suc zero))) h e = let q : d ≡ h = cc in (3, subst (IsBack g start 3) q h3)
     each (suc (suc (suc (suc i)))) h e = absurd (cc)
 
-    found : (n : ℕ) → n < 4
-        → (i : ℕ) × (h : Mine) × (slice_get (a ∷ b ∷ c ∷ d ∷ []) i ≡ Some h) × (h.actor ≡ n)
+    found : (n : ℕ) → n < 4 → (i : ℕ) × (h : Mine) × (slice_get (a ∷ b ∷ c ∷ d ∷ []) i ≡ Some h)
+        × (h.actor ≡ n)
     found zero n = (0, a, refl, h0.3)
     found (suc zero) n = (1, b, refl, h1.3)
     found (suc (suc zero)) n = (2, c, refl, h2.3)

@@ -20,8 +20,8 @@ at_snoc : {A : Type 0} (xs : List A) (x y : A) (i : ℕ) → slice_get (xs ++ x 
 at_snoc [] x y zero e = inr (refl, cc)
 at_snoc [] x y (suc i) e = absurd (cc)
 at_snoc (z ∷ xs) x y zero e = inl e
-at_snoc (z ∷ xs) x y (suc i) e =
-    ⊎_elim (λ h. inl h) (λ h. inr (ap suc h.0, h.1)) (at_snoc xs x y i e)
+at_snoc (z ∷ xs) x y (suc i) e = ⊎_elim (λ h. inl h) (λ h. inr (ap suc h.0, h.1))
+    (at_snoc xs x y i e)
 
 before : {A : Type 0} (xs ys : List A) (y : A) (i : ℕ) → slice_get xs i ≡ Some y
     → slice_get (xs ++ ys) i ≡ Some y

@@ -16,8 +16,8 @@ abbrev pub start_of : List (LockNo × List Tag) → Locks → State (List Tag)
 start_of values locks =
     record {
       row = all_home values;
-      locals =
-          idle 0 locks.one ∷ idle 1 locks.two ∷ idle 2 locks.three ∷ idle 3 locks.four ∷ [];
+      locals = idle 0 locks.one ∷ idle 1 locks.two ∷ idle 2
+          locks.three ∷ idle 3 locks.four ∷ [];
     }
 
 -- the lock stands among the values, and is one that an actor may have

@@ -1,22 +1,22 @@
 -- A hand of a row of tags between its turns, and while it has its lock.
-use Rattle.std.specs.Prelude.{◌≡◌, ℕ, List, [], ◌∷◌}
+use Rattle.std.specs.Prelude.{◌≡◌, List, [], ◌∷◌}
 use Rattle.zr_base.specs.declared.op.Tag.{Tag}
 use Rattle.lock_row.specs.declared.names.LockNo.{LockNo}
 use Rattle.lock_table.specs.Sittings.{Ground, Sitting}
 use Rattle.lock_table.specs.Hands.{IsLock}
-use Rattle.bench_lock_table.specs.Tagging.{spot, lock_at, Here}
+use Rattle.bench_lock_table.specs.Tagging.{spot, lock_at}
 
 -- a hand of the rule
 abbrev pub Mine : Type 0
 Mine = Sitting (List Tag)
 
 -- It is of the row, the lock is its actor's, and it holds what it holds.
-pub record Sits (g : Ground) (h : Mine) (k : LockNo)
-    (held : List (LockNo × List Tag)) : Type 0 where
-  pub own : h.id ≡ g.id
-  pub there : IsLock g (spot k) k
-  pub its : lock_at h.local.todo ≡ k
-  pub held_so : h.local.held ≡ held
+pub record Sits (g : Ground) (h : Mine) (k : LockNo) (held : List (LockNo × List Tag)) : Type 0
+  where
+    pub own : h.id ≡ g.id
+    pub there : IsLock g (spot k) k
+    pub its : lock_at h.local.todo ≡ k
+    pub held_so : h.local.held ≡ held
 
 -- it holds nothing
 abbrev pub IsReady : Ground → Mine → LockNo → Type 0

@@ -1,6 +1,6 @@
 -- A small rule of a row: a lock guards a list of tags, and each actor has one lock, to which it
 -- adds tags of its own.
-use Rattle.std.specs.Prelude.{◌≡◌, ℕ, suc, List, [], ◌∷◌, ◌++◌, map, length, Some, slice_get}
+use Rattle.std.specs.Prelude.{◌≡◌, ℕ, suc, List, [], ◌∷◌, ◌++◌, map, length}
 use Rattle.zr_base.specs.declared.op.Tag.{Tag}
 use Rattle.zr_base.specs.declared.op.Op.TheVariants.{Discard}
 use Rattle.call_history.specs.declared.part.Part.{Part}
@@ -10,10 +10,8 @@ use Rattle.lock_row.specs.declared.names.LockNo.{LockNo}
 use Rattle.lock_row.specs.declared.names.LockNo.TheVariants as lock
 use Rattle.lock_row.specs.declared.names.At.TheVariants.{Start}
 use Rattle.lock_row.specs.declared.names.Local.{Local}
-use Rattle.lock_row.specs.declared.names.State.{State}
 use Rattle.lock_row.specs.declared.names.Plan.{Plan}
 use Rattle.lock_row.specs.declared.names.Plan.TheVariants.{Take, Give}
-use Rattle.lock_row.specs.Rules.{RowRule, Notes}
 
 -- an actor of the rule
 abbrev pub Here : Type 0
@@ -83,15 +81,14 @@ next_tag l = record { actor = l.actor; op = length l.done }
 
 -- it gives them back with that tag
 abbrev pub tagged : Here → List Tag → Here
-tagged l v =
-    record {
-      actor = l.actor;
-      at = l.at;
-      todo = l.todo;
-      held = rest_of l.held;
-      done =
-          l.done ++ record { part = piece (length l.done) 0; end = Carried; got = [] } ∷ [];
-    }
+tagged l v = record {
+  actor = l.actor;
+  at = l.at;
+  todo = l.todo;
+  held = rest_of l.held;
+  done =
+      l.done ++ record { part = piece (length l.done) 0; end = Carried; got = [] } ∷ [];
+}
 
 -- The givings of the rule: the tags as they were, or with one more.
 pub data Works (l : Here) (v : List Tag) (m : Here) : Type 0 where

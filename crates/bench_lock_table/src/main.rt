@@ -3,8 +3,8 @@
 //!
 //! It makes a row of the account and so many slots, at least four. Each actor takes and gives its
 //! lock so many times, in a
-//! thread of its own, and then the row is shut. All have one slot, or each has its own where SPREAD
-//! isn't 0. What it
+//! thread of its own, and then the row is shut. All have one slot, or each has its own where
+//! SPREAD isn't 0. What it
 //! prints is the same whenever the numbers are: how many locks came back.
 #![tactic(auto)]
 

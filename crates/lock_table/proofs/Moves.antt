@@ -139,24 +139,23 @@ module _ {V : Type 0} (r : RowRule V) where
           absurd (ne (sym is ∙ ap (λ (z : LockNo × V). r.spot z.0) q))
       left j ne (suc i) y e is = (i, e)
 
-  second : (x y : LockNo × V) → x ≡ y → x.1 ≡ y.1
-  second x y e = ap (λ (z : LockNo × V). z.1) e
+  same_value : (n m : Local V) (i : ℕ) (x y : LockNo × V) → n ≡ m → slice_get n.held i ≡ Some x
+      → slice_get m.held i ≡ Some y → x.1 ≡ y.1
+  same_value n m i x y same e f =
+      let g : Some x ≡ Some y = sym e ∙ (ap (λ (o : Local V). slice_get o.held i) same ∙ f) in
+      let h : x ≡ y = cc in
+      ap (λ (z : LockNo × V). z.1) h
 
   -- the value of a place that an actor holds is the one that it holds
   pub held_one : (w : State V) (a : ℕ) (m : Local V) (k : LockNo) (v : V) → Exclusive r.spot w
-      → slice_get w.locals a ≡ Some m
-      → slice_get m.held 0 ≡ Some (k, v) → slice_get w.row (r.spot k) ≡ Some None → (u : V)
-      → IsAt r w (r.spot k) u → u ≡ v
-  held_one w a m k v apart at mine gone u (home e) = let q : Some None ≡ Some (Some u) = sym gone
-      ∙ e in absurd (cc)
+      → slice_get w.locals a ≡ Some m → slice_get m.held 0 ≡ Some (k, v)
+      → slice_get w.row (r.spot k) ≡ Some None → (u : V) → IsAt r w (r.spot k) u → u ≡ v
+  held_one w a m k v apart at mine gone u (home e) =
+      let q : Some None ≡ Some (Some u) = sym gone ∙ e in absurd (cc)
   held_one w a m k v apart at mine gone u (held b i n y e f is) =
       let one = apart.alone b a i 0 n m (y, u) (k, v) e at f mine is in
       let x : Some n ≡ Some m = sym e ∙ (ap (slice_get w.locals) one.0 ∙ at) in
-      let z : n ≡ m = cc in
-      let g : Some (y, u) ≡ Some (k, v) = sym f
-      ∙ (ap (λ (o : Local V). slice_get o.held i) z ∙ (ap (slice_get m.held) one.1 ∙ mine)) in
-      let h : (y, u) ≡ (k, v) = cc in
-      second _ _ h
+      same_value n m i (y, u) (k, v) (cc) f (ap (slice_get m.held) one.1 ∙ mine)
 
   -- that of a place that is at home is the one there
   pub home_one : (w : State V) (p : ℕ) (v : V) → Exclusive r.spot w

@@ -1,4 +1,4 @@
-use Rattle.std.proofs.Common.{◌≡◌, length, map, sym, ap, ◌∙◌}
+use Rattle.std.proofs.Common.{length, sym, ap, ◌∙◌}
 use Rattle.std.proofs.lemmas.List.{length-map}
 use Rattle.lock_table.specs.Starts.{fresh_from}
 use Rattle.bench_lock_table.specs.Made.{start_of}
@@ -26,8 +26,8 @@ returns g c =
       three = seat_is values row start 2 locks.three c.in-Some-pop.three can.three named o.3;
       four = seat_is values row start 3 locks.four c.in-Some.four can.four named o.4;
       empty = o.0;
-      most = c.pop-4.ensures.most ∙ c.pop-3.ensures.most ∙ c.pop-2.ensures.most ∙ c.pop.ensures.most
-          ∙ c.in_ok-row.ensures.most;
+      most = c.pop-4.ensures.most ∙ c.pop-3.ensures.most ∙ c.pop-2.ensures.most
+          ∙ c.pop.ensures.most ∙ c.in_ok-row.ensures.most;
       locks_are = c.pop-4.ensures.locks ∙ c.pop-3.ensures.locks ∙ c.pop-2.ensures.locks
           ∙ c.pop.ensures.locks ∙ c.in_ok-row.ensures.locks
           ∙ sym (ap length named ∙ length-map values _);

@@ -1,4 +1,4 @@
-use Rattle.std.proofs.Common.{◌≡◌, ◌<◌, ◌+◌, length, ap, ◌∙◌, arith}
+use Rattle.std.proofs.Common.{◌≡◌, ap, ◌∙◌, arith}
 use Rattle.bench_lock_table.specs.Names.{names_to}
 use Rattle.bench_lock_table.proofs.Naming.{stand, are_own}
 use Rattle.bench_lock_table.proofs.values.new_values.Goals as goal
@@ -7,8 +7,7 @@ pub returns : goal.returns
 returns c locks among =
     let values = c.loop-page.values.items in
     let named = c.loop-page.invariant.names in
-    let whole = named
-    ∙ ap names_to
+    let whole = named ∙ ap names_to
     (let t = c.loop-page-test.false in
     let q : c.loop-page.page ≡ c.args.slots = omega (arith, c.loop-page.auto.page-end) in q) in
     record {

@@ -1,5 +1,4 @@
 use Rattle.std.proofs.Common.{◌≡◌, ◌+◌, ◌≤◌, map, vec_len, vec_capacity}
-use Rattle.zr_base.specs.declared.op.Tag.{Tag}
 use Rattle.lock_row.specs.declared.names.LockNo.{LockNo}
 use Rattle.bench_lock_table.specs.Names.{names_to}
 use Rattle.bench_lock_table.proofs.values.new_values.Given as goal
