@@ -1,0 +1,5 @@
+pub mod Pages
+pub mod Pools
+pub mod Steps
+pub mod Nexts
+pub mod Givings
