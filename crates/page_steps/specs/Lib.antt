@@ -3,3 +3,4 @@ pub mod Pools
 pub mod Steps
 pub mod Nexts
 pub mod Givings
+pub mod Fits

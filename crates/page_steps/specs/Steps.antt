@@ -221,8 +221,8 @@ on l at held fresh pin owed ahead behind page fail = record {
 }
 
 -- the piece is over
-abbrev pub over : Here → Part → PartEnd → List (List ℕ) → List Part → Here
-over l p end got rest = record {
+abbrev pub piece_over : Here → Part → PartEnd → List (List ℕ) → List Part → Here
+piece_over l p end got rest = record {
   actor = l.actor;
   at = Start;
   todo = left_by end p.nr rest;

@@ -1,0 +1,2 @@
+//! The steps of pages.
+#![tactic(auto)]
