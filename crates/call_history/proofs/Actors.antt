@@ -128,7 +128,8 @@ module _ (t : Ground) (b : Bounds) where
       let back = sym (back_ends (By t b) t nr op ops done c) in
       ap (noted_on p) c.is ∙ noted_append p c.front c.back
       ∙ (λ i. o.noted i ++ more i)
-      ∙ push (stands_on op (end_of nr c.front) p) (stood p (nr + 1) ops (ends_from (nr + 1) ops c.back))
+      ∙ push (stands_on op (end_of nr c.front) p)
+      (stood p (nr + 1) ops (ends_from (nr + 1) ops c.back))
       ∙ (λ i. cond (stands_on op (front i) p) (nr ∷ stood p (nr + 1) ops (back i))
       (stood p (nr + 1) ops (back i))) where
         push : (x : Bool) (xs : List ℕ) → cond x (nr ∷ []) [] ++ xs ≡ cond x (nr ∷ xs) xs

@@ -207,12 +207,12 @@ module _ (So : Part → PartEnd → Type 0) where
   split nr (p ∷ ps) rest [] of above f = absurd (let q : [] ≡ p ∷ (ps ++ rest) = f in cc)
   split nr (p ∷ ps) rest (d ∷ ds) of above f =
       by_end (λ g. split nr ps rest ds of.1 above g) (is_carried d.end) refl where
-        by_end : (Follows So (ps ++ rest) ds [] → Split ps rest ds) → (b : Bool) → is_carried d.end ≡ b
-            → Split (p ∷ ps) rest (d ∷ ds)
+        by_end : (Follows So (ps ++ rest) ds [] → Split ps rest ds) → (b : Bool)
+            → is_carried d.end ≡ b → Split (p ∷ ps) rest (d ∷ ds)
         by_end again true e =
             let s = again
-            (subst (λ (x : Bool). Follows So (cond x (ps ++ rest) (without p.nr (ps ++ rest))) ds []) e
-            f.2) in
+            (subst (λ (x : Bool). Follows So
+            (cond x (ps ++ rest) (without p.nr (ps ++ rest))) ds []) e f.2) in
             record {
               front = d ∷ s.front;
               back = s.back;
@@ -223,7 +223,8 @@ module _ (So : Part → PartEnd → Type 0) where
                   (f.0, f.1, subst (λ (x : Bool). Mine (cond x ps []) s.front) (sym e) s.mine);
             }
         by_end again false e =
-            let left : without p.nr (ps ++ rest) ≡ rest = ap (λ (n : ℕ). without n (ps ++ rest)) of.0
+            let left : without p.nr (ps ++ rest) ≡ rest =
+            ap (λ (n : ℕ). without n (ps ++ rest)) of.0
             ∙ without_all nr ps rest of.1 ∙ without_none nr rest above in
             record {
               front = d ∷ [];
@@ -236,8 +237,8 @@ module _ (So : Part → PartEnd → Type 0) where
                     (sym e) refl,
               );
               later = subst (λ (qs : List Part). Follows So qs ds []) left
-                  (subst (λ (x : Bool). Follows So (cond x (ps ++ rest) (without p.nr (ps ++ rest))) ds []) e
-                  f.2);
+                  (subst (λ (x : Bool). Follows So
+                  (cond x (ps ++ rest) (without p.nr (ps ++ rest))) ds []) e f.2);
             }
 
   -- each piece that is over is of the program
@@ -256,12 +257,14 @@ module _ (So : Part → PartEnd → Type 0) where
         → AllByRecursion (λ (d : Done). P d.part) ds
     every_mine ps [] m all = tt
     every_mine [] (d ∷ ds) m all = absurd m
-    every_mine (p ∷ ps) (d ∷ ds) m all =
-        (subst P (sym m.0) all.0, every_mine (kept d.end ps) ds m.2 (every_kept d.end ps all.1)) where
-          every_kept : (end : PartEnd) (qs : List Part) → AllByRecursion P qs
-              → AllByRecursion P (kept end qs)
-          every_kept end qs all =
-              elim (cases_Bool (is_carried end)) [ inl on ↦ rw on all | inr off ↦ rw off tt ]
+    every_mine (p ∷ ps) (d ∷ ds) m all = (
+      subst P (sym m.0) all.0,
+      every_mine (kept d.end ps) ds m.2 (every_kept d.end ps all.1),
+    ) where
+      every_kept : (end : PartEnd) (qs : List Part) → AllByRecursion P qs
+          → AllByRecursion P (kept end qs)
+      every_kept end qs all =
+          elim (cases_Bool (is_carried end)) [ inl on ↦ rw on all | inr off ↦ rw off tt ]
 
   pub mine_with : (nr : ℕ) (op : Op) (a n : ℕ) (front : List Done) → has_event op a ≡ true
       → Mine (parts_from nr op a (suc n)) front
@@ -297,12 +300,13 @@ module _ (So : Part → PartEnd → Type 0) where
   pages_noted nr op p a (suc n) (d ∷ ds) on m =
       by_end (mine_with nr op a n (d ∷ ds) (on a) m) (λ k. pages_noted nr op p (a + 1) n ds on k)
       (is_carried d.end) refl where
-        by_note : Mine (piece_of nr op a ∷ parts_from nr op (a + 1) n) (d ∷ ds) → is_carried d.end ≡ false
-            → (b : Bool) → stands_so op d.end ≡ b
+        by_note : Mine (piece_of nr op a ∷ parts_from nr op (a + 1) n) (d ∷ ds)
+            → is_carried d.end ≡ false → (b : Bool) → stands_so op d.end ≡ b
             → noted_on p (d ∷ []) ≡ cond (is_among a (cond b 1 0) p) (nr ∷ []) []
         by_note k e true h = noted_one nr p a op d [] true k.0 h
             ∙ ap (λ (x : Bool). cond x (nr ∷ []) []) (and_true (eqb a p))
-            ∙ page_push a 0 p nr [] (sym (ap (λ (x : Bool). cond x (nr ∷ []) []) (among_none (a + 1) p)))
+            ∙ page_push a 0 p nr []
+            (sym (ap (λ (x : Bool). cond x (nr ∷ []) []) (among_none (a + 1) p)))
         by_note k e false h = noted_one nr p a op d [] false k.0 h
             ∙ ap (λ (x : Bool). cond x (nr ∷ []) [])
             (and_right (eqb a p) false refl ∙ sym (among_none a p))
@@ -327,7 +331,8 @@ module _ (So : Part → PartEnd → Type 0) where
             ∙ sym (ap (λ (c : Bool). cond
             (is_among a (cond c (suc (noted ds)) (cond (stands_so d.part.op d.end) 1 0)) p)
             (nr ∷ []) []) e
-            ∙ ap (λ (x : Part). cond (is_among a (cond (stands_so x.op d.end) 1 0) p) (nr ∷ []) []) k.0)
+            ∙ ap (λ (x : Part). cond (is_among a (cond (stands_so x.op d.end) 1 0) p)
+            (nr ∷ []) []) k.0)
 
   -- how the operation ends: with all its pieces, or with one that was refused
   pub record Refused (nr : ℕ) (op : Op) (a n c : ℕ) (end : OpEnd) (front : List Done) : Type 0 where
@@ -351,12 +356,14 @@ module _ (So : Part → PartEnd → Type 0) where
       absurd (let q : piece_of nr op a ∷ parts_from nr op (a + 1) n ≡ [] =
       mine_with nr op a n [] (on a) m in cc)
   pages_end nr op a (suc n) c (d ∷ ds) on m =
-      by_end (mine_with nr op a n (d ∷ ds) (on a) m) (λ k. pages_end nr op (a + 1) n (c + 1) ds on k)
+      by_end (mine_with nr op a n (d ∷ ds) (on a) m)
+      (λ k. pages_end nr op (a + 1) n (c + 1) ds on k)
       (is_carried d.end) refl where
         by_end : Mine (piece_of nr op a ∷ parts_from nr op (a + 1) n) (d ∷ ds)
             → (Mine (parts_from nr op (a + 1) n) ds
             → EndIs nr op (a + 1) n (c + 1) (end_by nr (c + 1) ds) ds)
-            → (b : Bool) → is_carried d.end ≡ b → EndIs nr op a (suc n) c (end_by nr c (d ∷ ds)) (d ∷ ds)
+            → (b : Bool) → is_carried d.end ≡ b
+            → EndIs nr op a (suc n) c (end_by nr c (d ∷ ds)) (d ∷ ds)
         by_end k again true e =
             let here = end_here nr op a c d ds k.0
             ∙ ap (λ (x : Bool). cond x (end_by nr (c + 1) ds) (op_end d.end c)) e in
@@ -390,7 +397,8 @@ module _ (So : Part → PartEnd → Type 0) where
                   ∙ ap (λ (x : Bool). cond x (end_by nr (c + 1) ds) (op_end d.end c)) e
                   ∙ ap (op_end d.end) (let q : c ≡ c + carried (d ∷ ds) = omega arith in q);
               noted_is = (let z : noted (d ∷ ds) ≡ cond (stands_so op d.end) 1 0 =
-                  ap (λ (x : Bool). cond x (suc (noted ds)) (cond (stands_so d.part.op d.end) 1 0)) e
+                  ap (λ (x : Bool). cond x (suc (noted ds))
+                  (cond (stands_so d.part.op d.end) 1 0)) e
                   ∙ ap (λ (x : Part). cond (stands_so x.op d.end) 1 0) part in omega arith);
               fewer = omega arith;
             })

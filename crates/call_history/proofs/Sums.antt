@@ -1,5 +1,5 @@
 -- Counts by pieces are counts by ends.
-use Rattle.std.proofs.Common.{◌≡◌, ℕ, zero, suc, ◌+◌, Bool, true, false, cond, eqb, List, [], ◌∷◌, ◌++◌, length, Some, slice_get, refl, sym, ap, ◌∙◌, arith, zero-add, add-zero}
+use Rattle.std.proofs.Common.{◌≡◌, ℕ, suc, ◌+◌, Bool, true, false, cond, List, [], ◌∷◌, ◌++◌, length, Some, slice_get, refl, sym, ap, ◌∙◌, arith, zero-add, add-zero}
 use Rattle.std.specs.List.{AllByRecursion}
 use Rattle.std.proofs.lemmas.Bool.{eq-eqb}
 use Rattle.zr_base.specs.declared.op.Op.{Op}
@@ -11,7 +11,7 @@ use Rattle.call_history.specs.declared.part.Part.{Part}
 use Rattle.call_history.specs.declared.part.PartEnd.{PartEnd}
 use Rattle.call_history.specs.declared.part.PartEnd.TheVariants as over
 use Rattle.call_history.specs.declared.part.Done.{Done}
-use Rattle.call_history.specs.Parts.{parts, program, Follows, is_carried, op_end, end_by, end_of, ends_from, piece_gives, done_sum, dones_sum}
+use Rattle.call_history.specs.Parts.{parts, program, Follows, is_carried, op_end, end_by, ends_from, piece_gives, done_sum, dones_sum}
 use Rattle.call_history.specs.Histories.{ends_each}
 use Rattle.call_history.proofs.Told.{every_parts}
 use Rattle.call_history.proofs.Ends.{Mine, mine_on, none_left}

@@ -1,5 +1,5 @@
--- What a phase may print, and the rest that it leaves: its ends, for each page an order of the calls
--- on it, and for each read the bytes that the calls before it left.
+-- What a phase may print, and the rest that it leaves: its ends, for each page an order of the
+-- calls on it, and for each read the bytes that the calls before it left.
 use Rattle.std.specs.Prelude.{◌≡◌, ℕ, ◌+◌, ◌*◌, ◌/◌, ◌<◌, ◌≤◌, List, [], ◌∷◌, length, get_or, sum_by, count_by}
 use Rattle.std.specs.List.{range_with_len}
 use Rattle.zr_base.specs.declared.op.Tag.{Tag}
