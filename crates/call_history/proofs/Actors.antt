@@ -48,30 +48,30 @@ told_back nr k (op ∷ ops) front back all lt =
     ∙ ap (λ (xs : List (List ℕ)). xs ++ got_of k back) (got_none k front other)) i)
     ∷ told_back nr (k + 1) ops front back all (omega arith) i
 
-module _ (So : Part → PartEnd → Type 0) (t : Ground) where
+module _ (So : Part → PartEnd → Type 0) (pages : ℕ) where
   pub record Cut (nr : ℕ) (op : Op) (ops : List Op) (done : List Done) : Type 0 where
     pub front : List Done
     pub back : List Done
     pub is : done ≡ front ++ back
-    pub mine : Mine So (parts t nr op) front
-    pub later : Follows So (program t (nr + 1) ops) back []
+    pub mine : Mine So (parts pages nr op) front
+    pub later : Follows So (program pages (nr + 1) ops) back []
     pub of : AllByRecursion (λ (d : Done). d.part.nr ≡ nr) front
     pub above : AllByRecursion (λ (d : Done). nr + 1 ≤ d.part.nr) back
 
   pub cut : (nr : ℕ) (op : Op) (ops : List Op) (done : List Done)
-      → Follows So (program t nr (op ∷ ops)) done [] → Cut nr op ops done
+      → Follows So (program pages nr (op ∷ ops)) done [] → Cut nr op ops done
   cut nr op ops done f =
-      let s = split So nr (parts t nr op) (program t (nr + 1) ops) done
-      (every_parts_of t nr op) (program_above t (nr + 1) ops) f in
+      let s = split So nr (parts pages nr op) (program pages (nr + 1) ops) done
+      (every_parts_of pages nr op) (program_above pages (nr + 1) ops) f in
       record {
         front = s.front;
         back = s.back;
         is = s.is;
         mine = s.mine;
         later = s.later;
-        of = every_mine So (Of nr) (parts t nr op) s.front s.mine (every_parts_of t nr op);
-        above = every_done So (Above (nr + 1)) (program t (nr + 1) ops) s.back [] s.later
-            (program_above t (nr + 1) ops);
+        of = every_mine So (Of nr) (parts pages nr op) s.front s.mine (every_parts_of pages nr op);
+        above = every_done So (Above (nr + 1)) (program pages (nr + 1) ops) s.back [] s.later
+            (program_above pages (nr + 1) ops);
       }
 
   module _ (nr : ℕ) (op : Op) (ops : List Op) (done : List Done) (c : Cut nr op ops done) where
@@ -116,16 +116,16 @@ all_back P (x ∷ xs) ys all = all_back P xs ys all.1
 
 module _ (t : Ground) (b : Bounds) where
   pub actor_noted : (p nr : ℕ) (ops : List Op) (done : List Done) → SomeEach ops
-      → Follows (By t b) (program t nr ops) done []
+      → Follows (By t b) (program t.size nr ops) done []
       → noted_on p done ≡ stood p nr ops (ends_from nr ops done)
   actor_noted p nr [] [] some f = refl
   actor_noted p nr [] (d ∷ ds) some f = absurd f
   actor_noted p nr (op ∷ ops) done some f =
-      let c = cut (By t b) t nr op ops done f in
+      let c = cut (By t b) t.size nr op ops done f in
       let o = one_op t b p nr op c.front some.0 c.mine in
       let more = actor_noted p (nr + 1) ops c.back some.1 c.later in
-      let front = sym (front_end (By t b) t nr op ops done c) in
-      let back = sym (back_ends (By t b) t nr op ops done c) in
+      let front = sym (front_end (By t b) t.size nr op ops done c) in
+      let back = sym (back_ends (By t b) t.size nr op ops done c) in
       ap (noted_on p) c.is ∙ noted_append p c.front c.back
       ∙ (λ i. o.noted i ++ more i)
       ∙ push (stands_on op (end_of nr c.front) p)
@@ -137,35 +137,35 @@ module _ (t : Ground) (b : Bounds) where
         push false xs = refl
 
   pub actor_ends : (nr : ℕ) (ops : List Op) (done : List Done) → SomeEach ops
-      → Follows (By t b) (program t nr ops) done [] → MayEndAll t b ops (ends_from nr ops done)
+      → Follows (By t b) (program t.size nr ops) done [] → MayEndAll t b ops (ends_from nr ops done)
   actor_ends nr [] done some f = tt
   actor_ends nr (op ∷ ops) done some f =
-      let c = cut (By t b) t nr op ops done f in (
-        subst (MayEnd t b op) (sym (front_end (By t b) t nr op ops done c))
+      let c = cut (By t b) t.size nr op ops done f in (
+        subst (MayEnd t b op) (sym (front_end (By t b) t.size nr op ops done c))
             (one_op t b 0 nr op c.front some.0 c.mine).may,
-        subst (MayEndAll t b ops) (sym (back_ends (By t b) t nr op ops done c))
+        subst (MayEndAll t b ops) (sym (back_ends (By t b) t.size nr op ops done c))
             (actor_ends (nr + 1) ops c.back some.1 c.later),
       )
 
   -- what each operation tells is what it read
   pub actor_reads : (R : ℕ → ℕ → List ℕ) (nr : ℕ) (ops : List Op) (done : List Done)
-      → SomeEach ops → Follows (By t b) (program t nr ops) done []
+      → SomeEach ops → Follows (By t b) (program t.size nr ops) done []
       → AllByRecursion (Reads R) done
       → told_from nr ops done ≡ due_from nr ops (ends_from nr ops done) R
   actor_reads R nr [] done some f all = refl
   actor_reads R nr (op ∷ ops) done some f all =
-      let c = cut (By t b) t nr op ops done f in
+      let c = cut (By t b) t.size nr op ops done f in
       let both = subst (AllByRecursion (Reads R)) c.is all in
       let more = actor_reads R (nr + 1) ops c.back some.1 c.later
       (all_back (Reads R) c.front c.back both) in
-      let end = front_end (By t b) t nr op ops done c in
-      let got = front_got (By t b) t nr op ops done c in
-      let told = back_told (By t b) t nr op ops done c in
-      let back = sym (back_ends (By t b) t nr op ops done c) in
+      let end = front_end (By t b) t.size nr op ops done c in
+      let got = front_got (By t b) t.size nr op ops done c in
+      let told = back_told (By t b) t.size nr op ops done c in
+      let back = sym (back_ends (By t b) t.size nr op ops done c) in
       (λ i. shown op (end i) (got i) ∷ told i)
       ∙ (λ i. one op some.0 c.front c.mine (all_front (Reads R) c.front c.back both) i ∷ more i)
       ∙ (λ i. read_by op (sym end i) (R nr) ∷ due_from (nr + 1) ops (back i) R) where
-        one : (o : Op) → 1 ≤ count_of o → (front : List Done) → Mine (By t b) (parts t nr o) front
+        one : (o : Op) → 1 ≤ count_of o → (front : List Done) → Mine (By t b) (parts t.size nr o) front
             → AllByRecursion (Reads R) front
             → shown o (end_of nr front) (got_of nr front) ≡ read_by o (end_of nr front) (R nr)
         one (Read start count) some front m all = one_read t b R nr start count front some m all

@@ -11,7 +11,6 @@ use Rattle.call_history.specs.declared.part.PartEnd.{PartEnd}
 use Rattle.call_history.specs.declared.part.PartEnd.TheVariants as over
 use Rattle.call_history.specs.declared.part.Done.{Done}
 use Rattle.zr_base.specs.Plain.{has_event, is_among}
-use Rattle.plain_disk.specs.Ends.{Ground}
 use Rattle.call_history.specs.Parts.{parts_from, parts, program, without, left_by, Follows, is_carried, stands_so, op_end, is_on, noted_on, got_of, end_step, end_by}
 use Rattle.call_history.proofs.Told.{every_left, every_append, every_parts}
 
@@ -36,21 +35,21 @@ without_none nr [] all = refl
 without_none nr (p ∷ ps) all = rw (ne_eqb p.nr nr (λ s. let z = all.0 in
     omega arith)) (ap (λ (qs : List Part). p ∷ qs) (without_none nr ps all.1))
 
-pub every_parts_of : (t : Ground) (nr : ℕ) (op : Op) → AllByRecursion (Of nr) (parts t nr op)
-every_parts_of t nr op = every_parts (Of nr) t nr op (λ q. refl)
+pub every_parts_of : (pages : ℕ) (nr : ℕ) (op : Op) → AllByRecursion (Of nr) (parts pages nr op)
+every_parts_of pages nr op = every_parts (Of nr) pages nr op (λ q. refl)
 
 less_above : (a b : ℕ) (ps : List Part) → b ≤ a → AllByRecursion (Above a) ps
     → AllByRecursion (Above b) ps
 less_above a b [] le all = tt
 less_above a b (p ∷ ps) le all = ((let z = all.0 in omega arith), less_above a b ps le all.1)
 
-pub program_above : (t : Ground) (nr : ℕ) (ops : List Op)
-    → AllByRecursion (Above nr) (program t nr ops)
-program_above t nr [] = tt
-program_above t nr (op ∷ ops) =
-    every_append (Above nr) (parts t nr op) (program t (nr + 1) ops)
-    (every_parts (Above nr) t nr op (λ q. omega arith))
-    (less_above (nr + 1) nr _ (omega arith) (program_above t (nr + 1) ops))
+pub program_above : (pages : ℕ) (nr : ℕ) (ops : List Op)
+    → AllByRecursion (Above nr) (program pages nr ops)
+program_above pages nr [] = tt
+program_above pages nr (op ∷ ops) =
+    every_append (Above nr) (parts pages nr op) (program pages (nr + 1) ops)
+    (every_parts (Above nr) pages nr op (λ q. omega arith))
+    (less_above (nr + 1) nr _ (omega arith) (program_above pages (nr + 1) ops))
 
 -- ---- what lists of pieces say of an operation
 

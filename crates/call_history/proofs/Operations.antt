@@ -165,13 +165,13 @@ module _ (t : Ground) (b : Bounds) where
       }
 
   mine_single : (nr : ℕ) (op : Op) (front : List Done) → is_single t.size op ≡ true
-      → Mine By (parts t nr op) front → Mine By (piece_of nr op (first_page op) ∷ []) front
+      → Mine By (parts t.size nr op) front → Mine By (piece_of nr op (first_page op) ∷ []) front
   mine_single nr op front on m =
       subst (λ (x : Bool). Mine By (cond x (piece_of nr op (first_page op) ∷ [])
       (parts_from nr op (first_page op) (pages_of op))) front) on m
 
   mine_several : (nr : ℕ) (op : Op) (front : List Done) → is_single t.size op ≡ false
-      → Mine By (parts t nr op) front
+      → Mine By (parts t.size nr op) front
       → Mine By (parts_from nr op (first_page op) (pages_of op)) front
   mine_several nr op front off m =
       subst (λ (x : Bool). Mine By (cond x (piece_of nr op (first_page op) ∷ [])
@@ -256,7 +256,7 @@ module _ (t : Ground) (b : Bounds) where
       absurd (clash (is_single t.size (Discard start count)) so.0.0 inside)
 
   pub one_op : (p nr : ℕ) (op : Op) (front : List Done) → 1 ≤ count_of op
-      → Mine By (parts t nr op) front → IsOp p nr op (end_of nr front) front
+      → Mine By (parts t.size nr op) front → IsOp p nr op (end_of nr front) front
   one_op p nr op front some m = elim (cases_Bool (is_single t.size op)) [
     | inl on ↦ only_op p nr op front (only_is nr op front on (mine_single nr op front on m))
     | inr off ↦ by_kind op some off (mine_several nr op front off m)
@@ -332,7 +332,7 @@ module _ (t : Ground) (b : Bounds) where
 
   -- what a read tells is what its pieces have read
   pub one_read : (R : ℕ → ℕ → List ℕ) (nr start count : ℕ) (front : List Done) → 1 ≤ count
-      → Mine By (parts t nr (Read start count)) front → AllByRecursion (Reads R) front
+      → Mine By (parts t.size nr (Read start count)) front → AllByRecursion (Reads R) front
       → shown (Read start count) (end_of nr front) (got_of nr front)
       ≡ read_by (Read start count) (end_of nr front) (R nr)
   one_read R nr start count front some m all =

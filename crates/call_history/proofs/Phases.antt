@@ -85,18 +85,18 @@ parts_on nr op a (suc n) m le = elim (cases_Bool (has_event op a)) [
   | inr off ↦ rw off (parts_on nr op (a + 1) n m (omega arith))
 ]
 
-program_on : (t : Ground) (nr : ℕ) (ops : List Op) → SomeEach ops
-    → AllByRecursion (OnDisk t.size) (program t nr ops)
-program_on t nr [] some = tt
-program_on t nr (op ∷ ops) some =
-    every_append (OnDisk t.size) (parts t nr op) (program t (nr + 1) ops)
-    (elim (cases_Bool (is_single t.size op)) [
+program_on : (pages nr : ℕ) (ops : List Op) → SomeEach ops
+    → AllByRecursion (OnDisk pages) (program pages nr ops)
+program_on pages nr [] some = tt
+program_on pages nr (op ∷ ops) some =
+    every_append (OnDisk pages) (parts pages nr op) (program pages (nr + 1) ops)
+    (elim (cases_Bool (is_single pages op)) [
       | inl on ↦ rw on (inl on, tt)
       | inr off ↦ rw off
-          (parts_on nr op (first_page op) (pages_of op) t.size (let n = pages_some op some.0 in
-          let z = ltb-false (8 * t.size) (start_of op + count_of op) off in
+          (parts_on nr op (first_page op) (pages_of op) pages (let n = pages_some op some.0 in
+          let z = ltb-false (8 * pages) (start_of op + count_of op) off in
           let y = some.0 in omega arith))
-    ]) (program_on t (nr + 1) ops some.1)
+    ]) (program_on pages (nr + 1) ops some.1)
 
 -- each piece that is over ended as it may
 every_so : (So : Part → PartEnd → Type 0) (ps : List Part) (ds : List Done) (todo : List Part)
@@ -162,15 +162,15 @@ module _ (form : List ℕ → Weight) (r : Rest) (actors : List (List Op)) (done
       named : slice_get actors a ≡ Some ops
       there : slice_get dones a ≡ Some done
       has_some : SomeEach ops
-      follows : Follows (By t (b a)) (program t 0 ops) done []
+      follows : Follows (By t (b a)) (program t.size 0 ops) done []
 
     history_is : (a : ℕ) (done : List Done) → slice_get dones a ≡ Some done → history dones a ≡ done
     history_is a done e = get_or_from_slice_get dones a done [] e
 
     follows_by : (a : ℕ) (ops : List Op) (done : List Done) → slice_get actors a ≡ Some ops
-        → slice_get dones a ≡ Some done → Follows (By t (b a)) (program t 0 ops) done []
+        → slice_get dones a ≡ Some done → Follows (By t (b a)) (program t.size 0 ops) done []
     follows_by a ops done named there =
-        follows_with (EndsSo t) (KeepsTo t (b a)) (program t 0 ops) done []
+        follows_with (EndsSo t) (KeepsTo t (b a)) (program t.size 0 ops) done []
         (agree.follows a ops done named there)
         (all_from (λ (d : Done). KeepsTo t (b a) d.end) done (λ i d at. agree.keeps a i d
         (ap (λ (ds : List Done). slice_get ds i) (history_is a done there) ∙ at)))
@@ -241,10 +241,10 @@ module _ (form : List ℕ → Weight) (r : Rest) (actors : List (List Op)) (done
     one_reads : (a : ℕ) (x : Actor a) (i : ℕ) (d : Done) → slice_get x.done i ≡ Some d → Reads (R a) d
     one_reads a x i d at on =
         let so = all_get (λ (d : Done). By t (b a) d.part d.end) x.done i d
-        (every_so (By t (b a)) (program t 0 x.ops) x.done [] x.follows) at in
+        (every_so (By t (b a)) (program t.size 0 x.ops) x.done [] x.follows) at in
         let on_disk = all_get (λ (d : Done). OnDisk g.size d.part) x.done i d
-        (every_done (By t (b a)) (OnDisk g.size) (program t 0 x.ops) x.done [] x.follows
-        (program_on t 0 x.ops x.has_some)) at in
+        (every_done (By t (b a)) (OnDisk g.size) (program t.size 0 x.ops) x.done [] x.follows
+        (program_on t.size 0 x.ops x.has_some)) at in
         let below : d.part.page < g.size = ⊎_elim
         (λ out. absurd (let q : stands_so d.part.op d.end ≡ false =
         never_stands t (b a) d.part d.end out so in
@@ -322,7 +322,7 @@ module _ (form : List ℕ → Weight) (r : Rest) (actors : List (List Op)) (done
         → now ≡ at_most_end (old + dones_sum w dones)
         → now ≡ at_most_end (old + ends_sum w actors ends_now)
     counted w is old now e = e ∙ ap (λ (n : ℕ). at_most_end (old + n))
-        (all_sum (EndsSo t) w is t actors dones agree.count agree.follows)
+        (all_sum (EndsSo t) w is t.size actors dones agree.count agree.follows)
 
     module _ (c : Counters) (m : Rest) (told : Tallies form r actors dones orders c m) where
       leaves : Leaves form r actors ends_now orders m

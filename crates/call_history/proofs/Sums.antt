@@ -6,7 +6,7 @@ use Rattle.zr_base.specs.declared.op.Op.{Op}
 use Rattle.zr_base.specs.declared.op.Op.TheVariants.{Write}
 use Rattle.zr_base.specs.declared.op.OpEnd.{OpEnd}
 use Rattle.zr_base.specs.declared.op.OpEnd.TheVariants as ends
-use Rattle.plain_disk.specs.Ends.{Ground, ops_sum, ends_sum, failed_write, beyond}
+use Rattle.plain_disk.specs.Ends.{ops_sum, ends_sum, failed_write, beyond}
 use Rattle.call_history.specs.declared.part.Part.{Part}
 use Rattle.call_history.specs.declared.part.PartEnd.{PartEnd}
 use Rattle.call_history.specs.declared.part.PartEnd.TheVariants as over
@@ -89,31 +89,31 @@ module _ (So : Part → PartEnd → Type 0) (g : Op → OpEnd → ℕ) (w : IsSt
             ∙ sym (ap (g op) (here false e))
 
   -- of an actor
-  actor_sum : (t : Ground) (nr : ℕ) (ops : List Op) (done : List Done)
-      → Follows So (program t nr ops) done []
+  actor_sum : (pages : ℕ) (nr : ℕ) (ops : List Op) (done : List Done)
+      → Follows So (program pages nr ops) done []
       → done_sum g done ≡ ops_sum g ops (ends_from nr ops done)
-  actor_sum t nr [] [] f = refl
-  actor_sum t nr [] (d ∷ ds) f = absurd f
-  actor_sum t nr (op ∷ ops) done f =
-      let c = cut So t nr op ops done f in
-      let each = every_parts (OfOp nr op) t nr op (λ q. (refl, refl)) in
+  actor_sum pages nr [] [] f = refl
+  actor_sum pages nr [] (d ∷ ds) f = absurd f
+  actor_sum pages nr (op ∷ ops) done f =
+      let c = cut So pages nr op ops done f in
+      let each = every_parts (OfOp nr op) pages nr op (λ q. (refl, refl)) in
       ap (done_sum g) c.is ∙ sum_append g c.front c.back
-      ∙ (λ i. front_sum nr 0 op (parts t nr op) c.front each c.mine i
-      + actor_sum t (nr + 1) ops c.back c.later i)
-      ∙ sym (λ i. g op (front_end So t nr op ops done c i)
-      + ops_sum g ops (back_ends So t nr op ops done c i))
+      ∙ (λ i. front_sum nr 0 op (parts pages nr op) c.front each c.mine i
+      + actor_sum pages (nr + 1) ops c.back c.later i)
+      ∙ sym (λ i. g op (front_end So pages nr op ops done c i)
+      + ops_sum g ops (back_ends So pages nr op ops done c i))
 
   -- of all actors
-  pub all_sum : (t : Ground) (actors : List (List Op)) (dones : List (List Done))
+  pub all_sum : (pages : ℕ) (actors : List (List Op)) (dones : List (List Done))
       → length dones ≡ length actors
       → ((a : ℕ) (ops : List Op) (done : List Done) → slice_get actors a ≡ Some ops
-      → slice_get dones a ≡ Some done → Follows So (program t 0 ops) done [])
+      → slice_get dones a ≡ Some done → Follows So (program pages 0 ops) done [])
       → dones_sum g dones ≡ ends_sum g actors (ends_each actors dones)
-  all_sum t [] [] e h = refl
-  all_sum t [] (done ∷ ds) e h =
+  all_sum pages [] [] e h = refl
+  all_sum pages [] (done ∷ ds) e h =
       absurd (let q : suc (length ds) ≡ 0 = e in let none : ⊥ = omega arith in none)
-  all_sum t (ops ∷ more) [] e h =
+  all_sum pages (ops ∷ more) [] e h =
       absurd (let q : 0 ≡ suc (length more) = e in let none : ⊥ = omega arith in none)
-  all_sum t (ops ∷ more) (done ∷ ds) e h =
-      λ i. actor_sum t 0 ops done (h 0 ops done refl refl) i
-      + all_sum t more ds (omega arith) (λ j os d x y. h (suc j) os d x y) i
+  all_sum pages (ops ∷ more) (done ∷ ds) e h =
+      λ i. actor_sum pages 0 ops done (h 0 ops done refl refl) i
+      + all_sum pages more ds (omega arith) (λ j os d x y. h (suc j) os d x y) i

@@ -10,7 +10,7 @@ use Rattle.call_history.specs.declared.part.PartEnd.{PartEnd}
 use Rattle.call_history.specs.declared.part.Done.{Done}
 use Rattle.zr_base.specs.Plain.{named, sector_after_named, content, has_event}
 use Rattle.zr_base.specs.Pieces.{first_page, pages_of}
-use Rattle.plain_disk.specs.Ends.{Ground, is_single}
+use Rattle.plain_disk.specs.Ends.{is_single}
 use Rattle.call_history.specs.Parts.{parts_from, parts, program, without, left_by, is_carried, Follows, is_on, noted_on, ops_of, got_by}
 
 pub content-append : (actors : List (List Op)) (s : ℕ) (old : List ℕ) (xs ys : List Tag)
@@ -118,9 +118,9 @@ module _ (P : Part → Type 0) where
     | inr off ↦ rw off (every_parts_from nr op (page + 1) n all)
   ]
 
-  pub every_parts : (t : Ground) (nr : ℕ) (op : Op)
-      → ((q : ℕ) → P (record { nr = nr; op = op; page = q })) → Every (parts t nr op)
-  every_parts t nr op all = elim (cases_Bool (is_single t.size op)) [
+  pub every_parts : (pages : ℕ) (nr : ℕ) (op : Op)
+      → ((q : ℕ) → P (record { nr = nr; op = op; page = q })) → Every (parts pages nr op)
+  every_parts pages nr op all = elim (cases_Bool (is_single pages op)) [
     | inl on ↦ rw on (all (first_page op), tt)
     | inr off ↦ rw off (every_parts_from nr op (first_page op) (pages_of op) all)
   ]
@@ -129,25 +129,25 @@ module _ (P : Part → Type 0) where
 abbrev pub Named : List Op → Part → Type 0
 Named ops p = slice_get ops p.nr ≡ Some p.op
 
-pub every_named : (t : Ground) (nr : ℕ) (all ops : List Op)
+pub every_named : (pages : ℕ) (nr : ℕ) (all ops : List Op)
     → ((j : ℕ) → slice_get ops j ≡ slice_get all (nr + j))
-    → AllByRecursion (Named all) (program t nr ops)
-every_named t nr all [] same = tt
-every_named t nr all (op ∷ ops) same =
-    every_append (Named all) (parts t nr op) (program t (nr + 1) ops)
-    (every_parts (Named all) t nr op
+    → AllByRecursion (Named all) (program pages nr ops)
+every_named pages nr all [] same = tt
+every_named pages nr all (op ∷ ops) same =
+    every_append (Named all) (parts pages nr op) (program pages (nr + 1) ops)
+    (every_parts (Named all) pages nr op
     (λ q. ap (λ (k : ℕ). slice_get all k) (let e : nr ≡ nr + 0 = omega arith in e)
     ∙ sym (same 0)))
-    (every_named t (nr + 1) all ops (λ j. same (suc j)
+    (every_named pages (nr + 1) all ops (λ j. same (suc j)
     ∙ ap (λ (k : ℕ). slice_get all k) (let e : nr + suc j ≡ nr + 1 + j = omega arith in e)))
 
 -- the piece that is next is of the operation that it names
-pub next_named : (So : Part → PartEnd → Type 0) (t : Ground) (ops : List Op) (ds : List Done)
+pub next_named : (So : Part → PartEnd → Type 0) (pages : ℕ) (ops : List Op) (ds : List Done)
     (p : Part) (rest : List Part)
-    → Follows So (program t 0 ops) ds (p ∷ rest) → slice_get ops p.nr ≡ Some p.op
-next_named So t ops ds p rest f =
-    let all = every_todo (Named ops) So (program t 0 ops) ds (p ∷ rest) f
-    (every_named t 0 ops ops (λ j. ap (λ (k : ℕ). slice_get ops k) (sym (zero-add j)))) in
+    → Follows So (program pages 0 ops) ds (p ∷ rest) → slice_get ops p.nr ≡ Some p.op
+next_named So pages ops ds p rest f =
+    let all = every_todo (Named ops) So (program pages 0 ops) ds (p ∷ rest) f
+    (every_named pages 0 ops ops (λ j. ap (λ (k : ℕ). slice_get ops k) (sym (zero-add j)))) in
     all.0
 
 -- what a piece reads depends on the sectors of its page alone

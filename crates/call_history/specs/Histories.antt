@@ -43,7 +43,7 @@ pub record Agree (t : Ground) (b : ℕ → Bounds) (g : Given) (dones : List (Li
   pub count : length dones ≡ length g.actors
   pub follows : (a : ℕ) (ops : List Op) (done : List Done) → slice_get g.actors a ≡ Some ops
       → slice_get dones a ≡ Some done
-      → Follows (EndsSo t) (program t 0 ops) done []
+      → Follows (EndsSo t) (program t.size 0 ops) done []
   pub every_page : length orders ≡ g.size
   pub turns : (p a : ℕ) → p < g.size → ops_of a (nth_order orders p) ≡ noted_on p (history dones a)
   pub reads : (a i : ℕ) (d : Done) → slice_get (history dones a) i ≡ Some d → d.part.page < g.size

@@ -60,8 +60,9 @@ GoesOn = (t : Ground) (ps : List Part) (ds : List Done) (p : Part) (rest : List 
 
 -- the next piece is of the operation that it names
 abbrev pub NamesItsOp : Type 0
-NamesItsOp = (t : Ground) (ops : List Op) (ds : List Done) (p : Part) (rest : List Part)
-    → Follows (EndsSo t) (program t 0 ops) ds (p ∷ rest) → slice_get ops p.nr ≡ Some p.op
+NamesItsOp = (t : Ground) (pages : ℕ) (ops : List Op) (ds : List Done) (p : Part)
+    (rest : List Part) → Follows (EndsSo t) (program pages 0 ops) ds (p ∷ rest)
+    → slice_get ops p.nr ≡ Some p.op
 
 -- what an operation has read by more pieces is what it had read, and then what these have
 abbrev pub GotGrows : Type 0

@@ -21,16 +21,16 @@ parts_from nr op page (suc n) =
     (if has_event op page then record { nr = nr; op = op; page = page } ∷ [] else [])
     ++ parts_from nr op (page + 1) n
 
--- the pieces with events of an operation: one where it is over in one
-abbrev pub parts : Ground → ℕ → Op → List Part
-parts t nr op = if is_single t.size op
+-- the pieces with events of an operation on a disk of so many pages: one where it is over in one
+abbrev pub parts : ℕ → ℕ → Op → List Part
+parts pages nr op = if is_single pages op
     then record { nr = nr; op = op; page = first_page op } ∷ []
     else parts_from nr op (first_page op) (pages_of op)
 
 -- those of all operations of an actor from the nr-th on
-abbrev pub program : Ground → ℕ → List Op → List Part
-program t nr [] = []
-program t nr (op ∷ ops) = parts t nr op ++ program t (nr + 1) ops
+abbrev pub program : ℕ → ℕ → List Op → List Part
+program pages nr [] = []
+program pages nr (op ∷ ops) = parts pages nr op ++ program pages (nr + 1) ops
 
 -- without the pieces of an operation
 abbrev pub without : ℕ → List Part → List Part
