@@ -35,10 +35,10 @@ fn guess(count: usize, others: usize, lock: LockNo) -> usize {
     let classes = count.saturating_sub(others);
     match lock {
         LockNo::Slot(PageIx(page)) => page as usize,
-        LockNo::Class(class) => classes + class as usize,
-        LockNo::Account => classes + 255,
-        LockNo::Blocks => classes + 256,
-        LockNo::Device => classes + 257,
+        LockNo::Class(class) => classes.saturating_add(class as usize),
+        LockNo::Account => classes.saturating_add(255),
+        LockNo::Blocks => classes.saturating_add(256),
+        LockNo::Device => classes.saturating_add(257),
     }
 }
 
