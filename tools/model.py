@@ -232,7 +232,7 @@ def slot(local: Local, piece: Piece) -> Lock:
     return Lock("slot", piece.page)
 
 
-def account(local: Local, piece: Piece) -> Lock:
+def the_account(local: Local, piece: Piece) -> Lock:
     """The account."""
     return ACCOUNT
 
@@ -360,20 +360,20 @@ def put(local: Local, piece: Piece, entry: Entry) -> Entry:
 # The table of the steps of a piece, in docs/MACHINE.md.
 STAGES = {
     "Start": Stage(TAKE, first_lock, after_start),
-    "Refusing": Stage(GIVE, account, then(OVER), count_beyond),
+    "Refusing": Stage(GIVE, the_account, then(OVER), count_beyond),
     "Seen": Stage(TAKE, old_class, then("Pinning")),
     "Pinning": Stage(GIVE, old_class, after_pin, pin),
     "Pinned": Stage(TAKE, old_class, then("Unpinning")),
     "Unpinning": Stage(GIVE, old_class, then("Leaving"), unpin),
     "Leaving": Stage(GIVE, slot, then(OVER), leave),
     "Wanting": Stage(TAKE, new_class, then("Inside")),
-    "Inside": Stage(TAKE, account, then("Both")),
-    "Both": Stage(GIVE, account, then("Made"), charge),
+    "Inside": Stage(TAKE, the_account, then("Both")),
+    "Both": Stage(GIVE, the_account, then("Made"), charge),
     "Made": Stage(GIVE, new_class, after_made),
     "Old": Stage(TAKE, old_class, then("Freeing")),
     "Freeing": Stage(GIVE, old_class, then("Owing"), free),
-    "Owing": Stage(TAKE, account, then("Giving")),
-    "Giving": Stage(GIVE, account, then("Ready"), count),
+    "Owing": Stage(TAKE, the_account, then("Giving")),
+    "Giving": Stage(GIVE, the_account, then("Ready"), count),
     "Ready": Stage(GIVE, slot, then(OVER), put),
 }
 

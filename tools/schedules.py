@@ -266,7 +266,8 @@ def labelled(machine: Machine, prefix: str) -> Iterator[tuple[str, str]]:
 
 def differing(outputs: list[Output]) -> list[str]:
     """What the lines are of that the outputs don't share."""
-    labels = dict.fromkeys(label for output in outputs for label in output.lines)
+    labels = list(dict.fromkeys(label for output in outputs for label in output.lines))
+    labels.sort(key=lambda label: label.startswith(("phase ", "report ")))
     return [label for label in labels if len({output.lines.get(label) for output in outputs}) > 1]
 
 
