@@ -10,9 +10,9 @@ use std::alloc::Global;
 use std::marker::Model;
 use zr_base::PageIx;
 
-/// A row of locks with their values. A lock is found at once where the row has the slots first, from
-/// page 0 on, in rising order, and ends with the classes 0 to 254, the account, the blocks and the
-/// device, or without the last two, or has slots alone; else it is searched.
+/// A row of locks with their values. A lock is found at once where the row has the slots first, from page 0 on,
+/// in rising order, and ends with the classes 0 to 254, the account, the blocks and the device, or has slots
+/// alone; else it is searched.
 #[derive(Drop)]
 pub struct SimRow<V: Drop> {
     names: Vec<LockNo>,
@@ -29,30 +29,25 @@ impl<V: Drop> Model for SimRow<V> {
     ghost invariant = { λ r. IsWhole r.names.items r.cells.items };
 }
 
-// Where a lock stands in a row of so many that has the slots first, from page 0 on, then the classes
-// 0 to 254, the account, the blocks and the device: of these the first `others`.
-fn guess(count: usize, others: usize, lock: LockNo) -> usize {
-    let classes = count.saturating_sub(others);
+// Where a lock stands in a row of so many that has the slots first, from page 0 on, then the classes 0 to 254,
+// and then the account, the blocks and the device.
+fn guess(count: usize, lock: LockNo) -> usize {
+    let classes = count.saturating_sub(258);
     match lock {
         LockNo::Slot(PageIx(page)) => page as usize,
-        LockNo::Class(class) => classes.saturating_add(class as usize),
-        LockNo::Account => classes.saturating_add(255),
-        LockNo::Blocks => classes.saturating_add(256),
-        LockNo::Device => classes.saturating_add(257),
+        LockNo::Class(class) => classes + class as usize,
+        LockNo::Account => classes + 255,
+        LockNo::Blocks => classes + 256,
+        LockNo::Device => classes + 257,
     }
 }
 
-// A lock is looked for first where it stands in a row with all kinds of locks, or in one without
-// blocks and device.
+// A lock is looked for at its guess first.
 fn find(names: &[LockNo], lock: LockNo) -> Option<usize>
     ensures found { IfSome result (λ i. slice_get names.now i ≡ Some lock) }
     ensures none { IfNone result ((i : ℕ) → slice_get names.now i ≢ Some lock) }
 {
-    let at = guess(names.len(), 258, lock);
-    if names.get(at) == Some(&lock) {
-        return Some(at);
-    }
-    let at = guess(names.len(), 256, lock);
+    let at = guess(names.len(), lock);
     if names.get(at) == Some(&lock) {
         return Some(at);
     }

@@ -1,6 +1,5 @@
 -- What an actor does next on a page, and what a taking does to its local.
 use Rattle.std.specs.Prelude.{◌≡◌, ℕ, ◌+◌, ◌*◌, Bool, true, false, List, [], ◌∷◌, ◌++◌, length, Option, Some, None}
-use Rattle.std.specs.declared.convert.Infallible.{Infallible}
 use Rattle.zr_base.specs.declared.op.Op.{Op}
 use Rattle.zr_base.specs.declared.op.Op.TheVariants.{Write, Read, Discard}
 use Rattle.zr_base.specs.Plain.{is_beyond, has_whole}
@@ -33,9 +32,10 @@ pub record Terms : Type 0 where
   pub chain : ℕ
   pub clock : ℕ
 
--- what a lock guards
+-- what a lock guards: a slot has its page's entry, a class its pool, and the account its counters;
+-- the blocks and the device, which aren't there yet, have the value () and are taken by nobody
 abbrev pub DiskHeld : Type 0
-DiskHeld = Held EntryState PoolState Counters Infallible Infallible
+DiskHeld = Held EntryState PoolState Counters (Unit {0}) (Unit {0})
 
 abbrev pub Here : Type 0
 Here = Local DiskHeld
