@@ -1,7 +1,7 @@
 //! What follows of the definitions alone, for those who pack lines one after another.
 
 ghost use Rattle.std.specs.Prelude.{◌≡◌, ◌≤◌, ℕ, List, length};
-ghost use Rattle.bdi_line.specs.Coded.{code_number};
+ghost use Rattle.bdi_line.specs.Coded.{code_number, IsByteLine, IsCoded};
 ghost use Rattle.bdi_line.specs.Packed.{HasOneCoding};
 ghost use Rattle.bdi_line.specs.declared.codes.Code.{Code};
 
@@ -10,4 +10,12 @@ ghost use Rattle.bdi_line.specs.declared.codes.Code.{Code};
 pub fn lines_have_one_coding()
     ensures one { (line : List ℕ) → length line ≡ 64 → HasOneCoding line }
     ensures few { (code : Code) → code_number code ≤ 8 }
+{}
+
+/// A code and a payload are those of one line at most, and a number that of one code.
+#[inline]
+pub fn codings_have_one_line()
+    ensures line { (code : Code) → (payload one other : List ℕ) → IsByteLine one
+        → IsByteLine other → IsCoded one code payload → IsCoded other code payload → one ≡ other }
+    ensures code { (code other : Code) → code_number code ≡ code_number other → code ≡ other }
 {}

@@ -2,3 +2,4 @@ pub mod Here
 pub mod Lines
 pub mod Packed
 pub mod Reading
+pub mod Told
