@@ -1,3 +1,4 @@
+pub mod Bytes
 pub mod Here
 pub mod Lines
 pub mod Packed
