@@ -4,7 +4,7 @@ use Rattle.std.proofs.lemmas.Bool.{cases_Bool, cases_lt}
 use Rattle.bdi_page.specs.Packing.{packed, IsPage, IsPacking, HasOnePacking}
 use Rattle.slot_entry.specs.Forms.{PageForm, Blank, Word, Pooled, form_of, has_bytes, same_list, with_byte, first_there, found_below, find_bytes, or_nothing, page_kept_as}
 use Rattle.slot_entry.proofs.Words.{AreBytes}
-use Rattle.slot_entry.proofs.Forms.{same_lists, lists_same, Kind, kind, packed_is}
+use Rattle.slot_entry.proofs.Forms.{same_lists, lists_same, packed_by, huge_by}
 
 -- ---- what is found passes, and something is found where something passes
 
@@ -17,6 +17,9 @@ record Passes (test : List ℕ → Bool) (n : ℕ) (xs : List ℕ) : Type 0 wher
 byte_first : (b : ℕ) (bytes : List ℕ) → b < 256 → AreBytes bytes → AreBytes (b ∷ bytes)
 byte_first b bytes low rest zero d lt = low
 byte_first b bytes low rest (suc k) d lt = rest k d (omega arith)
+
+no_bytes : AreBytes []
+no_bytes k d lt = absurd (omega arith)
 
 -- what holds of each answer holds of the first that is there
 below_holds : (P : List ℕ → Type 0) (f : ℕ → Option (List ℕ)) (n : ℕ)
@@ -47,35 +50,40 @@ below_none f (suc n) e b lt = elim (cases_lt b n) [
     none_there None y e = (refl, e)
     none_there (Some z) y e = absurd (cc)
 
+-- what passes after a byte passes with it
+byte_passes : (n : ℕ) (test : List ℕ → Bool) (b : ℕ) → b < 256 → (o : Option (List ℕ))
+    → ((zs : List ℕ) → o ≡ Some zs → Passes (λ bytes. test (b ∷ bytes)) n zs)
+    → (ys : List ℕ) → with_byte b o ≡ Some ys → Passes test (suc n) ys
+byte_passes n test b lt None found ys e = absurd (cc)
+byte_passes n test b lt (Some zs) found ys e =
+    let r = found zs refl in
+    let same : b ∷ zs ≡ ys = cc in
+    let P : List ℕ → Type 0 = Passes test (suc n) in
+    subst P same record {
+      yes = r.yes;
+      long = ap suc r.long;
+      bytes = byte_first b zs lt r.bytes;
+    }
+
 found_passes : (n : ℕ) (test : List ℕ → Bool) (xs : List ℕ) → find_bytes test n ≡ Some xs
     → Passes test n xs
 unfolding find_bytes
 found_passes zero test xs e = elim (cases_Bool (test [])) [
   | inl on ↦
-      let same : [] ≡ xs = (let s : Some [] ≡ Some xs = rw on at e in cc) in
-      subst (Passes test 0) same record { yes = on; long = refl; bytes = λ k d lt. absurd (omega arith) }
-  | inr off ↦ absurd (let no : None ≡ Some xs = rw off at e in cc)
+      let some : Some [] ≡ Some xs = rw on at e in
+      let same : [] ≡ xs = cc in
+      let P : List ℕ → Type 0 = Passes test 0 in
+      subst P same record { yes = on; long = refl; bytes = no_bytes }
+  | inr off ↦ absurd (let none : None ≡ Some xs = rw off at e in cc)
 ]
 found_passes (suc n) test xs e =
-    below_holds (Passes test (suc n)) _ 256 (λ b lt ys. one b lt ys _ refl) xs e
-  where
-    one : (b : ℕ) → b < 256 → (ys : List ℕ) (o : Option (List ℕ))
-        → find_bytes (λ bytes. test (b ∷ bytes)) n ≡ o → with_byte b o ≡ Some ys
-        → Passes test (suc n) ys
-    one b lt ys None is e = absurd (cc)
-    one b lt ys (Some zs) is e =
-        let r = found_passes n (λ bytes. test (b ∷ bytes)) zs is in
-        let same : b ∷ zs ≡ ys = cc in
-        subst (Passes test (suc n)) same record {
-          yes = r.yes;
-          long = ap suc r.long;
-          bytes = byte_first b zs lt r.bytes;
-        }
+    below_holds (Passes test (suc n)) _ 256
+    (λ b lt. byte_passes n test b lt _ (found_passes n (λ bytes. test (b ∷ bytes)))) xs e
 
 none_passes : (n : ℕ) (test : List ℕ → Bool) (xs : List ℕ) → find_bytes test n ≡ None
     → Passes test n xs → ⊥
 unfolding find_bytes
-none_passes zero test [] e p = (let no : Some [] ≡ None = rw p.yes at e in cc)
+none_passes zero test [] e p = (let none : Some [] ≡ None = rw p.yes at e in cc)
 none_passes zero test (x ∷ xs) e p = (let l = p.long in omega arith)
 none_passes (suc n) test [] e p = (let l = p.long in omega arith)
 none_passes (suc n) test (x ∷ xs) e p =
@@ -119,13 +127,16 @@ module _ (packing : (page : List ℕ) → length page ≡ 4096 → HasOnePacking
     (page_of : (bytes page other : List ℕ) → IsPage page → IsPage other → IsPacking page bytes
     → IsPacking other bytes → page ≡ other) where
   -- two pages with the same object are one
-  pub forms_same : (page other bytes : List ℕ) (huge : Bool) → IsPage page → IsPage other
+  forms_same : (page other bytes : List ℕ) (huge : Bool) → IsPage page → IsPage other
       → form_of page ≡ Pooled bytes huge → form_of other ≡ Pooled bytes huge → page ≡ other
   forms_same page other bytes true is also e f =
-      huge_is page bytes e ∙ sym (huge_is other bytes f)
+      sym (huge_by page bytes is e).0 ∙ (huge_by other bytes also f).0
   forms_same page other bytes false is also e f =
-      page_of bytes page other is also (packed_is packing page bytes is e)
-      (packed_is packing other bytes also f)
+      let P : List ℕ → Type 0 = IsPacking page in
+      let Q : List ℕ → Type 0 = IsPacking other in
+      page_of bytes page other is also
+      (subst P (sym (packed_by page bytes is e).0) (packing page is.0).packing)
+      (subst Q (sym (packed_by other bytes also f).0) (packing other also.0).packing)
 
   pub kept_as : (page bytes : List ℕ) (huge : Bool) → IsPage page
       → form_of page ≡ Pooled bytes huge → page_kept_as bytes huge ≡ page

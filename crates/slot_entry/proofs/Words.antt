@@ -33,7 +33,7 @@ numbers_same (x ∷ xs) (y ∷ ys) long below low e =
     (omega arith) in
     λ i. first i ∷ rest i
 
-pub number_low : (n : ℕ) (xs : List ℕ) → length xs ≡ n → AreBytes xs → number_l 256 xs < 256 ^ n
+number_low : (n : ℕ) (xs : List ℕ) → length xs ≡ n → AreBytes xs → number_l 256 xs < 256 ^ n
 number_low zero [] e is = omega arith
 number_low zero (x ∷ xs) e is = absurd (omega arith)
 number_low (suc n) [] e is = absurd (omega arith)
@@ -116,12 +116,16 @@ zero_is = subst IsPage (sym zero_filled) (filled_is 0)
 
 -- ---- a page of one word is the one of that word
 
+pub first_low : (page : List ℕ) → IsPage page → word_at page 0 < 2 ^ 64
+first_low page is =
+    number_low 8 (take 8 page) (length-take-le 8 page (omega (arith, is.0)))
+    (All-take (λ b. b < 256) 8 page is.1)
+
 pub word_low : (page : List ℕ) (w : ℕ) → IsPage page → IsFilled page w → w < 2 ^ 64
 word_low page w is words =
     let e : word_at page 0 ≡ w = words 0 (omega arith) in
-    let low = number_low 8 (take 8 page) (length-take-le 8 page (omega (arith, is.0)))
-    (All-take (λ b. b < 256) 8 page is.1) in
-    subst (λ n. n < 2 ^ 64) e low
+    let low : word_at page 0 < 2 ^ 64 = first_low page is in
+    omega arith
 
 pub filled_one : (page : List ℕ) (w : ℕ) → IsPage page → IsFilled page w → page ≡ filled_page w
 filled_one page w is words =

@@ -25,18 +25,19 @@ pub fn kept_bytes_have_one_page()
 /// What the form of a page that was written says of the page.
 #[inline]
 pub fn forms_tell_pages()
-    ensures written { (page : List ℕ) → form_of page ≡ Blank → ⊥ }
+    ensures written { (page : List ℕ) → IsPage page → form_of page ≡ Blank → ⊥ }
     ensures word { (page : List ℕ) → (w : ℕ) → IsPage page → form_of page ≡ Word w
         → (filled_page w ≡ page) × (w < 2 ^ 64) }
     ensures filled { (page : List ℕ) → (w : ℕ) → IsPage page → IsFilled page w
         → form_of page ≡ Word w }
     ensures packed { (page bytes : List ℕ) → IsPage page → form_of page ≡ Pooled bytes false
-        → IsPacked page bytes }
+        → IsPacked page bytes × (IsSame page → ⊥) }
     ensures short { (page bytes : List ℕ) → IsPage page → (IsSame page → ⊥)
         → IsPacking page bytes → length bytes ≤ MOST_PACKED → form_of page ≡ Pooled bytes false }
     ensures long { (page bytes : List ℕ) → IsPage page → (IsSame page → ⊥)
         → IsPacking page bytes → MOST_PACKED < length bytes → form_of page ≡ Pooled page true }
-    ensures huge { (page bytes : List ℕ) → form_of page ≡ Pooled bytes true → bytes ≡ page }
+    ensures huge { (page bytes : List ℕ) → IsPage page → form_of page ≡ Pooled bytes true
+        → (bytes ≡ page) × (IsSame page → ⊥) }
 {
     pages_have_one_packing();
     packings_are_bytes();
