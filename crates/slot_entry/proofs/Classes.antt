@@ -1,6 +1,6 @@
 -- The classes of packed objects.
-use Rattle.std.proofs.Common.{◌≡◌, ℕ, ◌+◌, ◌-◌, ◌*◌, ◌/◌, ◌<◌, ◌≤◌, ap, sym, ◌∙◌, subst, arith}
-use Rattle.size_class.specs.Classes.{class_size, stands_of, IsLeastFitting}
+use Rattle.std.proofs.Common.{◌≡◌, ℕ, ◌+◌, ◌-◌, ◌*◌, ◌/◌, ◌<◌, ◌≤◌, ap, arith}
+use Rattle.size_class.specs.Classes.{stands_of, IsLeastFitting}
 use Rattle.slot_entry.specs.Forms.{class_for}
 
 least_class : (len k : ℕ) → 32 ≤ len → IsLeastFitting (len + 8) k → (len - 9) / 16 ≡ k

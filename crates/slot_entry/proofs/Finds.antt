@@ -1,8 +1,8 @@
 -- The page that is found for kept bytes.
-use Rattle.std.proofs.Common.{◌≡◌, ℕ, zero, suc, ◌+◌, ◌<◌, ◌≤◌, ◌⊎◌, inl, inr, List, [], ◌∷◌, ◌&&◌, Bool, true, false, cond, length, refl, sym, ap, ◌∙◌, subst, arith, Option, Some, None}
+use Rattle.std.proofs.Common.{◌≡◌, ℕ, zero, suc, ◌<◌, inl, inr, List, [], ◌∷◌, Bool, true, false, length, refl, sym, ap, ◌∙◌, subst, arith, Option, Some, None}
 use Rattle.std.proofs.lemmas.Bool.{cases_Bool, cases_lt}
-use Rattle.bdi_page.specs.Packing.{packed, IsPage, IsPacking, HasOnePacking}
-use Rattle.slot_entry.specs.Forms.{PageForm, Blank, Word, Pooled, form_of, has_bytes, same_list, with_byte, first_there, found_below, find_bytes, or_nothing, page_kept_as}
+use Rattle.bdi_page.specs.Packing.{IsPage, IsPacking, HasOnePacking}
+use Rattle.slot_entry.specs.Forms.{PageForm, Blank, Word, Pooled, form_of, has_bytes, with_byte, first_there, found_below, find_bytes, or_nothing, page_kept_as}
 use Rattle.slot_entry.proofs.Words.{AreBytes}
 use Rattle.slot_entry.proofs.Forms.{same_lists, lists_same, packed_by, huge_by}
 

@@ -1,12 +1,12 @@
 -- The three forms of a page that was written.
-use Rattle.std.proofs.Common.{◌≡◌, ℕ, ◌^◌, ◌<◌, ◌≤◌, ◌⊎◌, inl, inr, List, [], ◌∷◌, ◌&&◌, Bool, true, false, eqb, leb, length, refl, sym, ap, ◌∙◌, subst, arith}
+use Rattle.std.proofs.Common.{◌≡◌, ℕ, ◌<◌, ◌≤◌, inl, inr, List, [], ◌∷◌, Bool, true, false, eqb, leb, length, refl, sym, ap, ◌∙◌, subst, arith}
 use Rattle.std.specs.Prelude.{if◌then◌else◌}
 use Rattle.std.proofs.lemmas.Bool.{cases_Bool, eqb-true, eq-eqb, leb-true, leb-false}
 use Rattle.mem_account.specs.declared.weight.Weight.{Weight}
 use Rattle.mem_account.specs.declared.weight.Weight.TheVariants as weight
 use Rattle.same_fill.specs.Filled.{word_at, IsFilled}
 use Rattle.bdi_page.specs.Packing.{packed, IsPage, IsPacking, HasOnePacking}
-use Rattle.slot_entry.specs.Forms.{PageForm, Blank, Word, Pooled, same_list, is_same, filled_page, pooled_by, form_of, form_weight, page_weight, IsSame, PacksIn, HasForm, IsPacked}
+use Rattle.slot_entry.specs.Forms.{PageForm, Blank, Word, Pooled, same_list, is_same, filled_page, form_of, form_weight, page_weight, IsSame, PacksIn, HasForm, IsPacked}
 use Rattle.slot_entry.specs.declared.limits.TheConstants.{MOST_PACKED}
 use Rattle.slot_entry.proofs.Words.{AreBytes, filled_one, filled_words, first_low}
 
@@ -106,6 +106,13 @@ huge_by page bytes is e = elim (kind page is) [
       absurd (let no : Pooled bytes true ≡ Pooled (packed page) false = sym e ∙ f in cc)
   | of_huge f other lt ↦ (let same : bytes ≡ page = cc in (same, other, lt))
 ]
+
+-- no object is longer than a page
+pub kept_long : (page bytes : List ℕ) (huge : Bool) → IsPage page
+    → form_of page ≡ Pooled bytes huge → length bytes ≤ 4096
+kept_long page bytes true is e = omega (arith, ap length (huge_by page bytes is e).0, is.0)
+kept_long page bytes false is e =
+    let p = packed_by page bytes is e in omega (arith, ap length p.0, p.2)
 
 pub is_word : (page : List ℕ) (w : ℕ) → IsPage page → IsFilled page w → form_of page ≡ Word w
 is_word page w is words = elim (kind page is) [

@@ -4,8 +4,8 @@ ghost use Rattle.std.specs.Prelude.{◌≡◌, ◌+◌, ◌-◌, ◌<◌, ◌≤
 ghost use Rattle.slot_entry.specs.Entries.{letters_of};
 ghost use Rattle.slot_entry.specs.declared.kept.Kept.TheVariants.{Empty};
 
-use std::alloc::{AllocError, Global};
 use crate::kept::Kept;
+use std::alloc::{AllocError, Global};
 use std::marker::Model;
 use zr_base::Tag;
 

@@ -6,17 +6,17 @@
 //! | `thaw` | any | that some page is kept as these bytes: bytes of no page are refused |
 //! | `restore` | known to be a page's | nothing |
 
-ghost use Rattle.std.specs.Prelude.{◌≡◌, ◌≢◌, ℕ, ◌+◌, ◌<◌, ◌≤◌, List, [], ◌++◌, length, false, true, IsTrue, IfSome, IsNone};
+ghost use Rattle.std.specs.Prelude.{◌≡◌, ◌≢◌, ℕ, ◌+◌, ◌<◌, ◌≤◌, List, [], ◌++◌, length, false, true, IsTrue, IfSome, IsNone, All};
 ghost use Rattle.bdi_page.specs.Packing.{IsPage, IsPacking};
 ghost use Rattle.slot_entry.specs.Forms.{Pooled, form_of, page_kept_as, IsSame, IsKeptAs};
 ghost use Rattle.slot_entry.specs.Entries.{IsPlain, plain_page};
 ghost use Rattle.slot_entry.specs.Answers.{TellsForm, IsFormOf};
 
-use arrayvec::ArrayVec;
-use bdi_page::{decode, pack, unpack};
 use crate::kept::Kept;
 use crate::laws::{forms_tell_pages, kept_bytes_have_one_page};
 use crate::limits::MOST_PACKED;
+use arrayvec::ArrayVec;
+use bdi_page::{decode, pack, unpack};
 use same_fill::{fill, same_word};
 use zr_base::Page;
 
@@ -39,7 +39,7 @@ pub fn form_of(page: &Page, packed: &mut ArrayVec<u8, 4128>) -> Form
 {
     forms_tell_pages();
     packed.clear();
-    let _bytes = page.bytes();
+    is_page(page);
     if let Some(word) = same_word(page) {
         return Form::Same(word);
     }
@@ -110,6 +110,7 @@ fn thaw_huge(bytes: &[u8], page: &mut Page) -> bool
         return false;
     };
     page.put_bytes(all);
+    is_page(page);
     let mut packed = ArrayVec::<u8, 4128>::new();
     form_of(page, &mut packed) == Form::Huge
 }
@@ -123,6 +124,7 @@ fn thaw_packed(bytes: &[u8], page: &mut Page) -> bool
     if bytes.len() > MOST_PACKED as usize || !unpack(bytes, page) {
         return false;
     }
+    is_page(page);
     same_word(page).is_none()
 }
 
@@ -166,10 +168,25 @@ fn restore_whole(bytes: &[u8], huge: bool, page: &mut Page)
         decode(bytes, page);
         return;
     }
-    match bytes.first_chunk::<4096>() {
+    match whole(bytes) {
         Some(all) => page.put_bytes(all),
         None => unreachable!(),
     }
+}
+
+// A page has bytes.
+#[inline]
+fn is_page(page: &Page)
+    ensures { IsPage page.now }
+{
+    are_bytes(page.bytes());
+}
+
+#[inline]
+fn are_bytes(bytes: &[u8])
+    ensures { All (λ b. b < 256) bytes.now }
+{
+    let _count = bytes.len();
 }
 
 /// Sets the page for which a form without an object stands.
@@ -182,7 +199,7 @@ pub fn expand(kept: Kept, page: &mut Page)
         Kept::Empty => *page = Page::zero(),
         Kept::Same(word) => {
             fill(page, word);
-            let _bytes = page.bytes();
+            is_page(page);
         }
         Kept::Obj(_) => unreachable!(),
     }

@@ -11,5 +11,8 @@ mod limits;
 pub use entry::Entry;
 pub use form::{Form, expand, form_of, restore, thaw};
 pub use kept::{Kept, Stored};
-pub use laws::{forms_tell_pages, kept_bytes_have_one_page, packed_objects_have_classes, plain_pages_are_pages, weights_tell_forms};
+pub use laws::{
+    forms_tell_pages, kept_bytes_have_one_page, packed_objects_have_classes, plain_pages_are_pages,
+    weights_tell_forms,
+};
 pub use limits::{HUGE_CLASS, MOST_PACKED};
