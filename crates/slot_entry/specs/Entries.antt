@@ -1,5 +1,5 @@
 -- What is seen of an entry, and what a kept form stands for.
-use Rattle.std.specs.Prelude.{ℕ, List, length, cond, Bool}
+use Rattle.std.specs.Prelude.{ℕ, List, cond, codes}
 use Rattle.zr_base.specs.declared.op.Tag.{Tag}
 use Rattle.mem_account.specs.declared.weight.Weight.{Weight}
 use Rattle.mem_account.specs.declared.weight.Weight.TheVariants as weight
@@ -25,3 +25,15 @@ abbrev pub plain_page : Kept → List ℕ
 plain_page Empty = zero_page
 plain_page (Same w) = filled_page w
 plain_page (Obj o) = zero_page
+
+-- the form needs no object
+abbrev pub IsPlain : Kept → Type 0
+IsPlain Empty = Unit {0}
+IsPlain (Same w) = Unit {0}
+IsPlain (Obj o) = ⊥
+
+-- how a form is printed: one letter for a same-filled page, one for a huge one
+abbrev pub letters_of : Kept → List ℕ
+letters_of Empty = codes "...."
+letters_of (Same w) = codes "s..."
+letters_of (Obj o) = cond o.huge (codes "..h.") (codes "....")

@@ -1,11 +1,11 @@
 -- The form in which a page has to be kept, and the page that kept bytes stand for.
-use Rattle.std.specs.Prelude.{◌≡◌, ℕ, zero, suc, ◌+◌, ◌-◌, ◌/◌, ◌==◌, ◌&&◌, nat_le, Bool, true, false, cond, List, [], ◌∷◌, length, replicate, Option, Some, None, if◌then◌else◌}
+use Rattle.std.specs.Prelude.{◌≡◌, ◌<◌, ◌≤◌, ℕ, zero, suc, ◌-◌, ◌/◌, ◌==◌, ◌&&◌, nat_le, Bool, true, false, cond, List, [], ◌∷◌, length, replicate, All, Option, Some, None, if◌then◌else◌}
 use Rattle.zr_base.specs.Plain.{words_from}
 use Rattle.mem_account.specs.declared.weight.Weight.{Weight}
 use Rattle.mem_account.specs.declared.weight.Weight.TheVariants as weight
 use Rattle.size_class.specs.Classes.{stands_of}
-use Rattle.same_fill.specs.Filled.{word_at}
-use Rattle.bdi_page.specs.Packing.{packed}
+use Rattle.same_fill.specs.Filled.{word_at, IsFilled}
+use Rattle.bdi_page.specs.Packing.{packed, IsPage, IsPacking}
 use Rattle.slot_entry.specs.declared.limits.TheConstants.{MOST_PACKED, HUGE_CLASS}
 
 -- How a page has to be kept: as nothing, as its word, or in the pool, with the bytes of its object
@@ -98,12 +98,12 @@ with_byte b None = None
 with_byte b (Some bytes) = Some (b ∷ bytes)
 
 -- what is found with one of the numbers below n, the greatest first
-abbrev pub found_below : (ℕ → Option (List ℕ)) → ℕ → Option (List ℕ)
+unfoldable pub found_below : (ℕ → Option (List ℕ)) → ℕ → Option (List ℕ)
 found_below f zero = None
 found_below f (suc n) = first_there (f n) (found_below f n)
 
 -- so many bytes that pass a test, where there are any
-abbrev pub find_bytes : (List ℕ → Bool) → ℕ → Option (List ℕ)
+unfoldable pub find_bytes : (List ℕ → Bool) → ℕ → Option (List ℕ)
 find_bytes test zero = if test [] then Some [] else None
 find_bytes test (suc n) =
     found_below (λ b. with_byte b (find_bytes (λ bytes. test (b ∷ bytes)) n)) 256
@@ -116,3 +116,40 @@ or_nothing (Some bytes) = bytes
 -- The page that is kept as these bytes: there is no other.
 unfoldable pub page_kept_as : List ℕ → Bool → List ℕ
 page_kept_as bytes huge = or_nothing (find_bytes (λ page. has_bytes bytes huge (form_of page)) 4096)
+
+-- ---- forms by a page's words and its packing
+
+-- all words of the page are one
+abbrev pub IsSame : List ℕ → Type 0
+IsSame page = (word : ℕ) × IsFilled page word
+
+-- The words of the page aren't all one, and its packing has so many bytes.
+pub record PacksIn (page : List ℕ) (len : ℕ) : Type 0 where
+  pub other : IsSame page → ⊥
+  pub bytes : List ℕ
+  pub packing : IsPacking page bytes
+  pub len_is : length bytes ≡ len
+
+-- How a page that was written weighs: as one of one word, as so many bytes where its packing is
+-- short enough, or as a huge one.
+abbrev pub HasForm : Weight → List ℕ → Type 0
+HasForm weight.Empty page = ⊥
+HasForm weight.Same page = IsSame page
+HasForm (weight.Packed len) page = PacksIn page len × (len ≤ MOST_PACKED)
+HasForm weight.Huge page = (len : ℕ) × PacksIn page len × (MOST_PACKED < len)
+HasForm weight.Back page = ⊥
+
+-- how a page that was written weighs
+abbrev pub page_weight : List ℕ → Weight
+page_weight page = form_weight (form_of page)
+
+-- The page's packing is kept: it is short enough, and bytes.
+pub record IsPacked (page bytes : List ℕ) : Type 0 where
+  pub packing : IsPacking page bytes
+  pub some : 32 ≤ length bytes
+  pub short : length bytes ≤ MOST_PACKED
+  pub below : All (λ b. b < 256) bytes
+
+-- these are the bytes of the page's object
+abbrev pub IsKeptAs : List ℕ → List ℕ → Bool → Type 0
+IsKeptAs page bytes huge = IsPage page × (form_of page ≡ Pooled bytes huge)

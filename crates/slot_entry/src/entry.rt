@@ -1,10 +1,11 @@
 //! The entry of one page.
 
 ghost use Rattle.std.specs.Prelude.{◌≡◌, ◌+◌, ◌-◌, ◌<◌, ◌≤◌, [], ◌∷◌, ◌++◌, OnOk, OnErr};
+ghost use Rattle.slot_entry.specs.Entries.{letters_of};
 ghost use Rattle.slot_entry.specs.declared.kept.Kept.TheVariants.{Empty};
 
-use std::alloc::{AllocError, Global};
 use crate::kept::Kept;
+use std::alloc::{AllocError, Global};
 use std::marker::Model;
 use zr_base::Tag;
 
@@ -94,6 +95,18 @@ impl Entry {
         ensures { result ≡ self.now.touched }
     {
         self.touched
+    }
+
+    /// How the page is printed: one letter for each mark that holds, or a dot, in the order
+    /// same-filled, on the device, huge, idle.
+    pub fn letters(&self) -> [u8; 4]
+        ensures { result ≡ letters_of self.now.kept }
+    {
+        match self.kept {
+            Kept::Empty => *b"....",
+            Kept::Same(_) => *b"s...",
+            Kept::Obj(object) => if object.huge { *b"..h." } else { *b"...." },
+        }
     }
 
     /// The tags of the calls on the page, in their order.

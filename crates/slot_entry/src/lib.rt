@@ -3,9 +3,16 @@
 #![tactic(auto)]
 
 mod entry;
+mod form;
 mod kept;
+mod laws;
 mod limits;
 
 pub use entry::Entry;
+pub use form::{Form, expand, form_of, restore, thaw};
 pub use kept::{Kept, Stored};
+pub use laws::{
+    forms_tell_pages, kept_bytes_have_one_page, packed_objects_have_classes, plain_pages_are_pages,
+    weights_tell_forms,
+};
 pub use limits::{HUGE_CLASS, MOST_PACKED};
