@@ -176,7 +176,7 @@ fn restore_whole(bytes: &[u8], huge: bool, page: &mut Page)
 
 // A page has bytes.
 #[inline]
-fn is_page(page: &Page)
+pub(crate) fn is_page(page: &Page)
     ensures { IsPage page.now }
 {
     are_bytes(page.bytes());

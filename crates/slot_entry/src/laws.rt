@@ -18,7 +18,6 @@ pub fn kept_bytes_have_one_page()
         → form_of page ≡ Pooled bytes huge → page_kept_as bytes huge ≡ page }
 {
     pages_have_one_packing();
-    packings_are_bytes();
     packings_have_one_page();
 }
 

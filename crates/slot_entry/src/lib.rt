@@ -16,3 +16,6 @@ pub use laws::{
     weights_tell_forms,
 };
 pub use limits::{HUGE_CLASS, MOST_PACKED};
+
+#[cfg(test)]
+mod tests;
