@@ -1,0 +1,4 @@
+use Rattle.cell_arena.proofs.raw.Strip.bytes.Statement.{statement}
+
+pub bytes_spec : {M : Type 1} → statement M
+bytes_spec 𝓤 𝓛 𝓜 𝓡 w = ?
