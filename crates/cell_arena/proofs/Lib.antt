@@ -1,4 +1,5 @@
 pub mod Cuts
+pub mod Deeds
 pub mod Sorted
 pub mod Steps
 pub mod Strips

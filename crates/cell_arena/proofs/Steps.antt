@@ -1,5 +1,5 @@
 -- The names that the walks cite.
-pub use Rattle.std.proofs.Common.{◌≡◌, ℕ, ◌+◌, ◌<◌, ◌≤◌, ◌^◌, List, [], ◌∷◌, ◌++◌, length, take, drop, refl, sym, ap, subst, ◌∙◌, arith}
+pub use Rattle.std.proofs.Common.{◌≡◌, ℕ, ◌+◌, ◌*◌, ◌<◌, ◌≤◌, ◌^◌, List, [], ◌∷◌, ◌++◌, length, take, drop, refl, sym, ap, subst, ◌∙◌, arith}
 pub use Rattle.std.specs.Borrow.{u8}
 pub use seplogic.Ra.Ura.{Ura}
 pub use mir.Val.{Val, vint, vptr, vstruct, vcons, vnil}

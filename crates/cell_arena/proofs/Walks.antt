@@ -3,16 +3,21 @@
 --     strip_had, strip_made     a strip is taken apart into its bytes, and made of them
 --     cut, glue                 bytes side by side are two runs of them
 use Rattle.cell_arena.proofs.Steps.{◌≡◌, ℕ, ◌+◌, List, [], ◌∷◌, ◌++◌, length, refl, arith, u8, Ura, Val, ent, emp, ftrue, Logic, sem, cells, Item, Goal, Step, step, ‵, ◌⊛◌, ◌$◌, ◌∵◌, !, qed, done, move, skip, use0, use1, use2, split, fsplit, fjoin, rewrite, mem, nothing, word, Ptr}
-use base.Fml.{Fml}
+use base.Fml.{Lft, Fml, fhide}
+use types.Kit.{keep}
+use denote.Memory.{hidden_shr}
+use denote.Opens.{unhide}
+use denote.RawPtr.{RawPtr}
+use denote.Struct.Lending.{lent_out}
 use base.Logic.{sep}
 use denote.Laws.{Is}
 use denote.RattleType.{RattleType}
 use denote.Shadow.{makes_shadow}
 use denote.Struct.Struct.{Struct}
 use denote.Struct.Owning.{shape}
-use Rattle.cell_arena.specs.Ownership.{bytes_own}
+use Rattle.cell_arena.specs.Ownership.{bytes_own, bytes_lent}
 use Rattle.cell_arena.specs.declared.raw.Strip.{Strip}
-use Rattle.cell_arena.specs.contracts.raw.Strip.{the_row, the_type}
+use Rattle.cell_arena.specs.contracts.raw.Strip.{the_row, the_type, struct, the_codes, the_heap, the_lent}
 use Rattle.cell_arena.proofs.raw.Strip.TheLaws.{lowers}
 
 abbrev pub strip_vals : Strip → List Val
@@ -40,6 +45,15 @@ module _ {M : Type 1} {𝓤 : Ura M} {𝓛 : Logic 𝓤} {K : Type 0} {Γ : List
       (‵ (bytes_own s.ptr s.bytes) ∷ Γ) G
   strip_made t s = step (λ k.
       use0 𝓛 (‵ (Data.own_val (s.ptr, tt) (strip_vals s))) (data_made 𝓛 s.ptr) $ fjoin t $ k)
+
+-- a `&` to a strip shows its word, and its bytes
+pub shown : {M : Type 1} {𝓤 : Ura M} (𝓛 : Logic 𝓤) (κ : Lft) (s : Strip) (b o : ℕ)
+    → ent 𝓤 (sem 𝓛 (hidden_shr the_row κ s b o))
+    (sep 𝓤 (sem 𝓛 (hidden_shr RawPtr κ s.ptr b (o + 0))) (sem 𝓛 (bytes_lent s.ptr s.bytes κ)))
+shown 𝓛 κ s b o = qed 𝓛 (‵ (hidden_shr the_row κ s b o) ∷ []) ∵
+    use1 𝓛 (‵ (hidden_shr Data κ (s.ptr, tt) b o) ⊛ ‵ (fhide (bytes_lent s.ptr s.bytes κ)))
+    (lent_out 𝓛 struct the_codes the_heap the_lent κ s b o) $ split ! $
+    unhide ! $ fsplit ! $ fsplit ! $ keep ! (0 ∷ 3 ∷ []) $ done !
 
 module _ {M : Type 1} {𝓤 : Ura M} (𝓛 : Logic 𝓤) (b : ℕ) where
   abbrev Run : ℕ → List ℕ → Fml
