@@ -2,7 +2,7 @@
 --     lease_told              a lease is one machine value
 --     deed_had, deed_made     a deed is taken apart into its lease, and made of it
 --     of_slots, to_slots      a full row of slots is bytes side by side
-use Rattle.cell_arena.proofs.Steps.{◌≡◌, ℕ, ◌<◌, List, [], ◌∷◌, ◌++◌, length, refl, ap, ◌∙◌, u8, Ura, Val, vstruct, vcons, vnil, ent, Fml, fsep, Logic, sem, cells, Item, Goal, Seq, Step, step, ‵, ◌$◌, move, skip, fsplit, fjoin, rewrite, mem, nothing, owns, block_ptr}
+use Rattle.cell_arena.proofs.Steps.{◌≡◌, ℕ, ◌<◌, List, [], ◌∷◌, ◌++◌, length, refl, ap, ◌∙◌, u8, Ura, Val, vstruct, vcons, vnil, ent, fsep, Logic, sem, cells, Item, Goal, Seq, Step, step, ‵, ◌$◌, move, skip, fsplit, fjoin, rewrite, mem, nothing, owns}
 use mathlib.Core.Bool.{Bool, true, false}
 use lib.ListN.{get_or, replicate}
 use base.Fml.{feq}

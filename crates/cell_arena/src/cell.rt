@@ -57,7 +57,9 @@ impl Cell {
     {
         let start = self.number as usize * self.size as usize;
         let size = self.size as usize;
-        self.strip.bytes(size).split_at(size.min(FRAME - start % FRAME))
+        self.strip
+            .bytes(size)
+            .split_at(size.min(FRAME - start % FRAME))
     }
 
     /// Writes the bytes of `from` at `at`.

@@ -45,8 +45,12 @@ invariant_of-result c =
         few = h.few;
         least = c.requires.least;
         most = c.requires.most;
-        fewer = omega (arith, ap length v.1
-            ∙ length-cells_of c.loop-number.rest.chain s bs n, all c);
+        fewer = omega (
+          arith,
+          ap length v.1
+              ∙ length-cells_of c.loop-number.rest.chain s bs n,
+          all c,
+        );
         roomy = omega (arith, v.0, ap (λ k. per k s) (framed c));
         deed = ap lease_ptr lent ∙ h.deed ∙ sym v.4;
         deed_long = ap lease_len lent ∙ h.deed_long;

@@ -1,5 +1,5 @@
 -- `attach` makes a full row of slots of a strip.
-use Rattle.cell_arena.proofs.Steps.{◌≡◌, ℕ, ◌*◌, ◌<◌, ◌^◌, List, [], ◌∷◌, ◌++◌, length, refl, sym, ap, ◌∙◌, arith, u8, Val, vint, w64, full_share, emp, never, id⊢, fact, fact_i, flft, tables, cells, ‵, raw, ◌⊛◌, at_ret, ◌$◌, ◌∵◌, !, qed, by, move, keep, skip, use0, use1, use2, split, fsplit, fjoin, rewrite, whole, sub, agg, of_opd, and_then, no_more, fld, stop, first, blocks, exec, returns, enter, alloc_all, pass_all, free_all, look_at, get, get_in, sets, env, usize, yes, mem, owns, Ptr, block_ptr, in_a_block, plain, types_at, nothing, heard, alive, Stays, stay_dropped, walk_of, Goes-dropped, word, word-Good, after, leaves}
+use Rattle.cell_arena.proofs.Steps.{◌≡◌, ℕ, ◌<◌, ◌^◌, List, [], ◌∷◌, ◌++◌, length, refl, sym, ap, ◌∙◌, arith, u8, Val, full_share, emp, never, id⊢, fact, fact_i, flft, tables, ‵, raw, ◌⊛◌, at_ret, ◌$◌, ◌∵◌, !, qed, by, move, keep, skip, use0, use1, use2, split, fsplit, fjoin, rewrite, whole, sub, agg, of_opd, and_then, no_more, fld, stop, first, blocks, exec, returns, enter, alloc_all, pass_all, free_all, look_at, get, get_in, sets, env, usize, yes, owns, in_a_block, plain, types_at, nothing, heard, alive, Stays, stay_dropped, walk_of, Goes-dropped, word-Good, after, leaves}
 use mathlib.Core.Bool.{Bool, true}
 use lib.ListN.{replicate, length-replicate}
 use contract.BorrowLft.{⊑_static}
@@ -28,7 +28,7 @@ use Rattle.cell_arena.specs.contracts.raw.Strip.{the_row}
 use Rattle.cell_arena.specs.contracts.raw.Deed as deed
 use Rattle.cell_arena.specs.contracts.raw.attach as F
 use Rattle.cell_arena.proofs.Deeds.{E, Lr, u8_laws, deed_val, deed_had, to_slots}
-use Rattle.cell_arena.proofs.Walks.{strip_vals, strip_told, strip_had}
+use Rattle.cell_arena.proofs.Walks.{strip_told, strip_had}
 use Rattle.cell_arena.proofs.raw.attach.Statement.{statement}
 use Rattle.cell_arena.proofs.raw.attach.Code as code
 

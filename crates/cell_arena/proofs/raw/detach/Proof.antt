@@ -1,5 +1,5 @@
 -- `detach` makes a strip of a full row of slots.
-use Rattle.cell_arena.proofs.Steps.{◌≡◌, ℕ, ◌<◌, ◌^◌, List, [], ◌∷◌, ◌++◌, length, refl, sym, ap, ◌∙◌, arith, u8, Val, full_share, emp, fact, fact_i, flft, tables, cells, ‵, raw, ◌⊛◌, at_ret, ◌$◌, ◌∵◌, !, qed, by, move, keep, use0, use1, use2, split, fsplit, fjoin, rewrite, whole, sub, agg, of_opd, and_then, no_more, fld, stop, first, blocks, exec, returns, enter, alloc_all, pass_all, free_all, look_at, get, get_in, sets, env, yes, mem, owns, block_ptr, plain, types_at, nothing, heard, alive, Stays, stay_dropped, walk_of, Goes-dropped, word, after, leaves}
+use Rattle.cell_arena.proofs.Steps.{◌≡◌, ℕ, List, [], ◌∷◌, ◌++◌, refl, sym, ◌∙◌, arith, u8, Val, full_share, emp, fact, fact_i, flft, tables, cells, ‵, raw, ◌⊛◌, at_ret, ◌$◌, ◌∵◌, !, qed, by, move, keep, use0, use1, use2, split, fsplit, fjoin, rewrite, whole, sub, agg, of_opd, and_then, no_more, fld, stop, first, blocks, exec, returns, enter, alloc_all, pass_all, free_all, look_at, get, get_in, sets, env, yes, mem, owns, block_ptr, plain, types_at, nothing, heard, alive, Stays, stay_dropped, walk_of, Goes-dropped, word, after, leaves}
 use contract.BorrowLft.{⊑_static}
 use prog.Wp.{WpFn}
 use types.Kit.{later, given, prop, await, learn, regoal}

@@ -1,5 +1,5 @@
 -- `bytes` shows the bytes that the strip lends.
-use Rattle.cell_arena.proofs.Steps.{◌≡◌, ℕ, ◌+◌, ◌*◌, ◌<◌, ◌^◌, List, [], ◌∷◌, ◌++◌, length, refl, sym, ap, subst, ◌∙◌, arith, u8, Val, vptr, vint, w64, named, emp, never, id⊢, ftrue, flft, fact, fact_i, tables, cells, ‵, raw, ◌⊛◌, at_ret, ◌$◌, ◌∵◌, !, qed, by, move, keep, skip, use0, use1, use2, split, join, fsplit, fjoin, rewrite, whole, sub, agg, of_opd, and_then, no_more, fld, stop, first, blocks, exec, returns, enter, alloc_all, pass_all, free_all, look_at, get, sets, sets_last, env, usize, yes, mem, uint_vals, uint_Tells, owns, Ptr, block_ptr, in_a_block, plain, types_at, nothing, heard, Stays, stay_dropped, walk_of, Goes-dropped, after, proved, leaves}
+use Rattle.cell_arena.proofs.Steps.{◌≡◌, ℕ, ◌+◌, ◌*◌, ◌<◌, ◌^◌, List, [], ◌∷◌, length, refl, ap, arith, Val, w64, named, emp, never, id⊢, ftrue, flft, fact, fact_i, tables, ‵, raw, ◌⊛◌, at_ret, ◌$◌, ◌∵◌, !, qed, by, move, keep, skip, use0, use1, split, join, fsplit, fjoin, agg, of_opd, and_then, no_more, fld, stop, first, blocks, exec, returns, enter, alloc_all, pass_all, free_all, look_at, get, sets, sets_last, env, usize, yes, uint_vals, uint_Tells, owns, in_a_block, plain, types_at, nothing, heard, Stays, stay_dropped, walk_of, Goes-dropped, after, proved, leaves}
 use types.Kit.{feq_i, flt_i}
 use types.Run.{load, look}
 use types.ByLocal.{through}
@@ -8,7 +8,7 @@ use denote.Memory.{hidden_shr}
 use denote.Opens.{hide}
 use denote.RawPtr.{RawPtr}
 use denote.Ref.{Bor, shr_vals, shr_Tells}
-use denote.Slice.{ShrSlice, slice_val, elements_shared}
+use denote.Slice.{slice_val}
 use Rattle.core.proofs.slots.Lent.{pointer_in, pointer_out}
 use Rattle.cell_arena.specs.Ownership.{bytes_lent}
 use Rattle.cell_arena.specs.declared.raw.Strip.{Strip}

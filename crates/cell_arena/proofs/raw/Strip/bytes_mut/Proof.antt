@@ -1,11 +1,11 @@
 -- `bytes_mut` lends the bytes, and the strip follows them.
-use Rattle.cell_arena.proofs.Steps.{◌≡◌, ℕ, ◌+◌, ◌*◌, ◌<◌, ◌^◌, List, [], ◌∷◌, ◌++◌, length, refl, sym, ap, subst, ◌∙◌, arith, u8, Ura, Val, vptr, vint, w64, named, full_share, SProp, ent, emp, never, id⊢, Fml, ftrue, fsep, flft, fact, fact_i, tables, Logic, sem, cells, ‵, raw, ◌⊛◌, at_ret, ◌$◌, ◌∵◌, !, qed, done, by, move, keep, skip, use0, use1, use2, split, join, fsplit, fjoin, rewrite, whole, sub, agg, of_opd, and_then, no_more, fld, stop, first, blocks, exec, returns, enter, alloc_all, pass_all, free_all, look_at, get, sets, sets_last, env, usize, yes, mem, uint_vals, uint_Tells, owns, Ptr, block_ptr, in_a_block, plain, types_at, nothing, heard, Stays, stay_dropped, walk_of, Goes-dropped, word, after, proved, leaves}
+use Rattle.cell_arena.proofs.Steps.{◌≡◌, ℕ, ◌<◌, ◌^◌, List, [], ◌∷◌, length, refl, sym, ap, ◌∙◌, arith, u8, Ura, Val, w64, named, full_share, ent, emp, never, id⊢, Fml, ftrue, fsep, flft, fact, fact_i, tables, Logic, sem, cells, ‵, raw, ◌⊛◌, at_ret, ◌$◌, ◌∵◌, !, qed, done, by, move, keep, skip, use0, use1, split, join, fsplit, fjoin, rewrite, whole, sub, agg, of_opd, and_then, no_more, fld, stop, first, blocks, exec, returns, enter, alloc_all, pass_all, free_all, look_at, get, sets, sets_last, env, usize, yes, mem, uint_vals, uint_Tells, owns, Ptr, block_ptr, in_a_block, plain, types_at, nothing, heard, Stays, stay_dropped, walk_of, Goes-dropped, word, after, proved, leaves}
 use base.Fml.{GName}
 use base.Logic.{sep}
 use types.Kit.{later, some, await, pick, group, fsplit3, fpack, split3}
 use types.Part.{look_in}
 use types.Run.{load}
-use types.ByLocal.{is, through}
+use types.ByLocal.{through}
 use denote.Array.{Array}
 use denote.Builtin.{RefMutOf}
 use denote.Exit.{no}
@@ -18,7 +18,6 @@ use denote.Slice.{MutSlice, slice_val}
 use denote.Steps.{opens, peeks}
 use denote.Triple.Walked.{Goes-spent_ref}
 use Rattle.cell_arena.specs.Ownership.{bytes_own}
-use Rattle.cell_arena.specs.Lends.{lends_bytes}
 use Rattle.cell_arena.specs.declared.raw.Strip.{Strip}
 use Rattle.cell_arena.specs.contracts.raw.Strip.{the_row}
 use Rattle.cell_arena.specs.contracts.raw.Strip.bytes_mut as F

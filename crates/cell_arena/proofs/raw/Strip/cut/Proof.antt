@@ -1,5 +1,5 @@
 -- `cut` gives the bytes out in two runs.
-use Rattle.cell_arena.proofs.Steps.{◌≡◌, ℕ, ◌+◌, ◌≤◌, List, [], ◌∷◌, ◌++◌, length, take, drop, refl, sym, ap, ◌∙◌, arith, u8, Val, vptr, vint, w64, emp, never, id⊢, fact, fact_i, tables, cells, ‵, raw, ◌⊛◌, at_ret, ◌$◌, ◌∵◌, !, qed, by, move, keep, skip, use0, use1, use2, split, fsplit, fjoin, rewrite, whole, sub, agg, of_opd, bin, and_then, no_more, fld, stop, first, blocks, exec, returns, enter, alloc_all, pass_all, free_all, look_at, get, get_in, sets, sets_last, env, usize, yes, mem, uint_vals, uint_Tells, owns, Ptr, block_ptr, in_a_block, ◌+ₚ◌, plain, types_at, nothing, heard, alive, Stays, stay_dropped, walk_of, Goes-dropped, word, word-Good, Ptr-Good, after, proved, leaves}
+use Rattle.cell_arena.proofs.Steps.{◌≡◌, ℕ, ◌+◌, ◌≤◌, List, [], ◌∷◌, length, take, drop, refl, sym, ap, arith, u8, vptr, w64, emp, never, id⊢, fact, fact_i, tables, cells, ‵, raw, ◌⊛◌, at_ret, ◌$◌, ◌∵◌, !, qed, by, move, keep, use0, use1, use2, split, fsplit, fjoin, rewrite, whole, sub, agg, of_opd, bin, and_then, no_more, fld, stop, first, blocks, exec, returns, enter, alloc_all, pass_all, free_all, look_at, get, get_in, sets, sets_last, env, usize, yes, mem, uint_vals, uint_Tells, owns, block_ptr, in_a_block, ◌+ₚ◌, plain, types_at, nothing, heard, alive, Stays, stay_dropped, walk_of, Goes-dropped, word, word-Good, after, proved, leaves}
 use lib.ListN.{take-append-drop, length-take}
 use types.ByLocal.{is}
 use denote.RawPtr.{ptr_val}

@@ -1,5 +1,5 @@
 -- `glue` makes one run of two.
-use Rattle.cell_arena.proofs.Steps.{◌≡◌, ℕ, ◌+◌, [], ◌∷◌, ◌++◌, length, refl, sym, ap, ◌∙◌, u8, Ura, Val, SProp, emp, never, id⊢, fact, fact_i, tables, Logic, cells, ‵, raw, ◌⊛◌, ◌$◌, ◌∵◌, !, qed, by, move, keep, use0, use2, split, fsplit, fjoin, rewrite, whole, sub, agg, of_opd, and_then, no_more, fld, stop, returns, enter, alloc_all, pass_all, free_all, look_at, get, get_in, sets, yes, mem, owns, Ptr, block_ptr, in_a_block, ◌+ₚ◌, plain, types_at, nothing, heard, alive, Stays, stay_dropped, walk_of, Goes-dropped, word-Good, Ptr-Good, proved, leaves}
+use Rattle.cell_arena.proofs.Steps.{◌≡◌, ◌+◌, [], ◌∷◌, ◌++◌, length, refl, sym, ap, ◌∙◌, u8, emp, never, id⊢, fact, fact_i, cells, ‵, raw, ◌⊛◌, ◌$◌, ◌∵◌, !, qed, by, move, keep, use0, use2, split, fsplit, fjoin, rewrite, whole, sub, agg, of_opd, and_then, no_more, fld, stop, returns, enter, alloc_all, pass_all, free_all, look_at, get, get_in, sets, yes, mem, owns, Ptr, in_a_block, ◌+ₚ◌, plain, types_at, nothing, heard, alive, Stays, stay_dropped, walk_of, Goes-dropped, word-Good, Ptr-Good, proved, leaves}
 use Rattle.cell_arena.specs.Ownership.{bytes_own}
 use Rattle.cell_arena.specs.declared.raw.Strip.{Strip}
 use Rattle.cell_arena.specs.contracts.raw.Strip.{the_row}
