@@ -9,10 +9,6 @@ pub moved_on : (p : Ptr) (a b : ℕ) → p +ₚ a +ₚ b ≡ p +ₚ (a + b)
 moved_on (block_ptr x o) a b = ap (λ k. block_ptr x k) (omega arith)
 moved_on null_ptr a b = refl
 
-pub moved_none : (p : Ptr) → p +ₚ 0 ≡ p
-moved_none (block_ptr x o) = ap (λ k. block_ptr x k) (omega arith)
-moved_none null_ptr = refl
-
 -- a cell that is there lies within the chain
 pub cell_fits : (n a s : ℕ) → 0 < s → n < a / s → n * s + s ≤ a
 cell_fits n a s some lt =

@@ -3,9 +3,9 @@
 //! A chain is one block, which is cut into the cells and the rest after them:
 //!
 //! ```text
-//! |<------------- frame 0, 4096 bytes ------------->|<------------- frame 1 ------------- ...
-//! |  cell 0  |  cell 1  |  cell 2  |  cell 3  |  ...       ...  |  cell n - 1  |  rest  |
-//! |<- size ->|                                                  |<--- size --->|
+//! frames  [-------- 4096 bytes --------][-------- 4096 bytes --------] ... [-----------]
+//! cells   [ cell 0 ][ cell 1 ][ cell 2 ][ cell 3 ][ cell 4 ]  ...  [ cell n - 1 ][ rest ]
+//!         [- size -][- size -]
 //! ```
 //!
 //! A cell may lie over the border of two frames; the rest is shorter than a cell. Each of these parts
