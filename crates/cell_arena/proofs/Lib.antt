@@ -1,8 +1,7 @@
-pub mod Crosses
 pub mod Cuts
-pub mod Full
-pub mod Memory
-pub mod Sharing
+pub mod Deeds
 pub mod Sorted
+pub mod Steps
+pub mod Strips
+pub mod Walks
 pub mod Whole
-pub mod Zeros

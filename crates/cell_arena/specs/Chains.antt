@@ -1,8 +1,7 @@
 -- A chain of frames and its cells, as contracts see them.
-use Rattle.std.specs.Prelude.{ℕ, zero, suc, ◌≡◌, ◌+◌, ◌*◌, ◌/◌, ◌<◌, ◌≤◌, ◌++◌, List, [], ◌∷◌, length, take, drop, map, slice_index_or, Option, Some}
+use Rattle.std.specs.Prelude.{ℕ, zero, suc, ◌≡◌, ◌+◌, ◌*◌, ◌/◌, ◌<◌, ◌≤◌, ◌++◌, List, [], ◌∷◌, length, take, drop, slice_index_or}
 use Rattle.std.specs.List.Sorted.{IsPermutation}
-use denote.RawPtr.{Ptr, InBlock, ◌+ₚ◌}
-use Rattle.cell_arena.specs.Places.{somes}
+use denote.RawPtr.{Ptr, ◌+ₚ◌}
 
 -- a cell: its chain, by where that begins, its number in it, its size, and its bytes
 pub record CellState : Type 0 where
@@ -63,44 +62,34 @@ pub record AreInOrder (c : CellsState) (cells : List CellState) : Type 0 where
 abbrev pub HasAllCells : CellsState → Type 0
 HasAllCells c = (cells : List CellState) × IsPermutation c.cells cells × AreInOrder c cells
 
--- every place holds a value
-abbrev pub IsFull : List (Option ℕ) → Type 0
-IsFull cs = cs ≡ map Some (somes cs)
-
--- the run of bytes of a cell
-pub record IsCell (base : Ptr) (number size : ℕ) (at : Ptr) (cs : List (Option ℕ)) : Type 0 where
-  pub block : InBlock base
-  pub place : at ≡ base +ₚ number * size
-  pub full : IsFull cs
-  pub long : length cs ≡ size
+-- the strip of a cell: it lies where the cell does in its chain
+pub record IsCell (number size : ℕ) (chain at : Ptr) (bytes : List ℕ) : Type 0 where
+  pub place : at ≡ chain +ₚ number * size
+  pub long : length bytes ≡ size
   pub within : number * size + size ≤ 65536
   pub some : 32 ≤ size
   pub few : size ≤ 4096
 
--- the run of bytes of a chain, and the right to free it
-pub record IsChain (base : Ptr) (frames : ℕ) (at : Ptr) (cs : List (Option ℕ)) (deed_at : Ptr)
-    (deed_len : ℕ) : Type 0 where
-  pub block : InBlock base
-  pub place : at ≡ base
-  pub full : IsFull cs
-  pub long : length cs ≡ frames * 4096
+-- the strip of a whole chain, and the right to free a block
+pub record IsChain (frames : ℕ) (chain at : Ptr) (bytes : List ℕ) (block : Ptr) (len : ℕ)
+    : Type 0 where
+  pub place : at ≡ chain
+  pub long : length bytes ≡ frames * 4096
   pub some : 1 ≤ frames
   pub few : frames ≤ 16
-  pub deed : deed_at ≡ base
-  pub deed_long : deed_len ≡ frames * 4096
+  pub deed : block ≡ chain
+  pub deed_long : len ≡ frames * 4096
 
--- the run after the cells, and the right to free the chain
-pub record IsCells (base : Ptr) (frames size here space : ℕ) (at : Ptr) (cs : List (Option ℕ))
-    (deed_at : Ptr) (deed_len : ℕ) : Type 0 where
-  pub block : InBlock base
-  pub place : at ≡ base +ₚ per frames size * size
-  pub full : IsFull cs
-  pub long : per frames size * size + length cs ≡ frames * 4096
+-- the strip after the cells, and the right to free a block
+pub record IsCells (frames size here space : ℕ) (chain at : Ptr) (bytes : List ℕ) (block : Ptr)
+    (len : ℕ) : Type 0 where
+  pub place : at ≡ chain +ₚ per frames size * size
+  pub long : per frames size * size + length bytes ≡ frames * 4096
   pub some : 1 ≤ frames
   pub few : frames ≤ 16
   pub least : 32 ≤ size
   pub most : size ≤ 4096
   pub fewer : here ≤ per frames size
   pub roomy : per frames size ≤ space
-  pub deed : deed_at ≡ base
-  pub deed_long : deed_len ≡ frames * 4096
+  pub deed : block ≡ chain
+  pub deed_long : len ≡ frames * 4096

@@ -1,23 +1,9 @@
--- What the places end as, once a `&mut` to a run of them has ended.
-use Rattle.std.specs.Prelude.{ℕ, ◌+◌, List, ◌++◌, map, take, drop, Option, Some}
-use Rattle.std.specs.Borrow.{Fml, RattleType, MutBor, Array, Lends}
-use Rattle.std.specs.List.{refill}
-use Rattle.cell_arena.specs.Places.{somes}
+-- What a strip ends as, once a `&mut` to its bytes has ended.
+use Rattle.std.specs.Prelude.{ℕ, List}
+use Rattle.std.specs.Borrow.{Fml, MutBor, Array, Lends, u8}
 use Rattle.cell_arena.specs.declared.raw.Strip.{Strip}
 use Rattle.cell_arena.specs.contracts.raw.Strip.{the_row}
 
-module _ {X : Type 0} where
-  -- the strip with other places
-  abbrev pub with_slots : Strip X → List (Option X) → Strip X
-  with_slots c cs = record { mark = c.mark; at = c.at; slots = cs }
-
-  -- cs, with ws in the place of the len from the index from on
-  abbrev pub spliced : List (Option X) → ℕ → ℕ → List X → List (Option X)
-  spliced cs from len ws = take from cs ++ (map Some ws ++ drop (from + len) cs)
-
--- the run that is lent ends as it was written
-abbrev pub lends_run : (R : RattleType) → MutBor (Strip R.Denot) → ℕ → ℕ → MutBor (List R.Denot)
-    → Fml
-lends_run R c from len r = Lends (the_row R) (Array R 0) c r
-    (λ ws. with_slots c.now (spliced c.now.slots from len
-    (refill len (somes (take len (drop from c.now.slots))) ws)))
+-- the strip ends with the bytes that the slice has then
+abbrev pub lends_bytes : MutBor Strip → MutBor (List ℕ) → Fml
+lends_bytes s r = Lends the_row (Array u8 0) s r (λ ws. record s.now { bytes = ws })

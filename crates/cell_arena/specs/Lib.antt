@@ -1,4 +1,3 @@
 pub mod Chains
 pub mod Lends
 pub mod Ownership
-pub mod Places

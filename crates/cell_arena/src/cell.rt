@@ -3,7 +3,7 @@
 ghost use Rattle.std.specs.Prelude.{◌≡◌, ◌+◌, ◌-◌, ◌*◌, ◌%◌, ◌≤◌, ◌++◌, min, length, take, drop};
 ghost use Rattle.cell_arena.specs.Chains.{IsCell};
 
-use crate::raw::{Base, Strip};
+use crate::raw::Strip;
 use std::marker::Model;
 
 /// The bytes of a frame.
@@ -12,27 +12,24 @@ const FRAME: usize = 4096;
 /// A cell: some bytes of a chain, which no other cell has. Dropped, it frees nothing.
 #[derive(Drop)]
 pub struct Cell {
-    pub(crate) base: Base<u8>,
     pub(crate) number: u32,
     pub(crate) size: u32,
-    pub(crate) strip: Strip<u8>,
+    pub(crate) strip: Strip,
 }
 
 impl Model for Cell {
     ghost use Rattle.cell_arena.specs.Chains.{CellState, IsCell};
-    ghost use Rattle.cell_arena.specs.Places.{somes};
 
     ghost Value = { CellState };
 
     ghost view = { λ c. record {
-      chain = c.base.ptr;
+      chain = c.strip.chain;
       number = c.number;
       size = c.size;
-      bytes =
-          somes c.strip.slots;
+      bytes = c.strip.bytes;
     } };
 
-    ghost invariant = { λ c. IsCell c.base.ptr c.number c.size c.strip.at c.strip.slots };
+    ghost invariant = { λ c. IsCell c.number c.size c.strip.chain c.strip.ptr c.strip.bytes };
 }
 
 impl Cell {
@@ -60,8 +57,9 @@ impl Cell {
     {
         let start = self.number as usize * self.size as usize;
         let size = self.size as usize;
-        let bytes = self.strip.slice(self.base.after(start), 0, size);
-        bytes.split_at(size.min(FRAME - start % FRAME))
+        self.strip
+            .bytes(size)
+            .split_at(size.min(FRAME - start % FRAME))
     }
 
     /// Writes the bytes of `from` at `at`.
@@ -72,10 +70,8 @@ impl Cell {
               take at self.old.bytes ++ from.now ++ drop (at + length from.now) self.old.bytes;
         } }
     {
-        let start = self.number as usize * self.size as usize;
-        let here = self.base.after(start);
-        self.strip
-            .slice_mut(here, at as usize, from.len())
-            .copy_from_slice(from);
+        let at = at as usize;
+        let bytes = self.strip.bytes_mut(self.size as usize);
+        bytes[at..at + from.len()].copy_from_slice(from);
     }
 }

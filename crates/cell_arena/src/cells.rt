@@ -5,7 +5,7 @@ ghost use Rattle.cell_arena.specs.Chains.{cells_of, per, AreCellsOf, AreInOrder,
 
 use crate::cell::Cell;
 use crate::chain::{Chain, FRAME};
-use crate::raw::{Base, Deed, Strip};
+use crate::raw::{Deed, Strip};
 use std::alloc::Global;
 use std::marker::Model;
 use std::mem::ManuallyDrop;
@@ -15,35 +15,34 @@ use std::mem::ManuallyDrop;
 #[derive(Drop)]
 pub struct Cells {
     alloc: Global,
-    base: Base<u8>,
     frames: u32,
     size: u32,
     list: Vec<Cell>,
-    rest: Strip<u8>,
-    deed: ManuallyDrop<Deed<u8, Global>>,
+    rest: Strip,
+    deed: ManuallyDrop<Deed>,
 }
 
 impl Model for Cells {
-    ghost use Rattle.std.specs.Prelude.{List, ℕ, ◌≡◌, length};
+    ghost use Rattle.std.specs.Prelude.{◌≡◌, length};
     ghost use Rattle.std.specs.Vec.{vec_capacity};
     ghost use Rattle.std.specs.Mem.{manually_drop_value};
+    ghost use Rattle.core.specs.Mem.Slots.{lease_ptr, lease_len, lease_heap};
     ghost use Rattle.cell_arena.specs.Chains.{CellsState, IsCells};
-    ghost use Rattle.cell_arena.specs.Places.{somes};
 
     ghost Value = { CellsState };
 
     ghost view = { λ c. record {
-      chain = c.base.ptr;
+      chain = c.rest.chain;
       frames = c.frames;
       size = c.size;
-      cells =
-          c.list.items;
-      rest = somes c.rest.slots;
+      cells = c.list.items;
+      rest = c.rest.bytes;
     } };
 
-    ghost invariant = { λ c. IsCells c.base.ptr c.frames c.size (length c.list.items)
-        (vec_capacity c.list) c.rest.at c.rest.slots (manually_drop_value c.deed).at
-        (manually_drop_value c.deed).len × ((manually_drop_value c.deed).alloc ≡ c.alloc) };
+    ghost invariant = { λ c. IsCells c.frames c.size (length c.list.items) (vec_capacity c.list)
+        c.rest.chain c.rest.ptr c.rest.bytes (lease_ptr (manually_drop_value c.deed).lease)
+        (lease_len (manually_drop_value c.deed).lease)
+        × (lease_heap (manually_drop_value c.deed).lease ≡ c.alloc) };
 }
 
 /// Cuts a chain into cells of `size` bytes, as many as fit. It fails only for want of memory.
@@ -59,13 +58,12 @@ pub fn split(alloc: Global, chain: Chain, size: u32) -> Result<Cells, Chain>
     let Ok(mut list) = Vec::with_capacity(alloc, count as usize) else {
         return Err(chain);
     };
-    let (alloc, base, frames, strip, deed) = chain.into_parts();
+    let (alloc, frames, strip, deed) = chain.into_parts();
     let mut rest = strip;
     for number in 0..count {
         let (strip, after) = rest.cut(size as usize);
         rest = after;
         let cell = Cell {
-            base,
             number,
             size,
             strip,
@@ -77,7 +75,6 @@ pub fn split(alloc: Global, chain: Chain, size: u32) -> Result<Cells, Chain>
     }
     Ok(Cells {
         alloc,
-        base,
         frames,
         size,
         list,
@@ -115,7 +112,6 @@ pub fn join(cells: Cells) -> Chain
 {
     let Cells {
         alloc,
-        base,
         frames,
         size: _,
         list,
@@ -127,7 +123,6 @@ pub fn join(cells: Cells) -> Chain
     let mut strip = rest;
     while let Some(cell) = list.pop() {
         let Cell {
-            base: _,
             number: _,
             size: _,
             strip: own,
@@ -136,7 +131,6 @@ pub fn join(cells: Cells) -> Chain
     }
     Chain {
         alloc,
-        base,
         frames,
         strip,
         deed: ManuallyDrop::into_inner(deed),

@@ -1,36 +1,38 @@
 //! A chain of frames.
 
-ghost use Rattle.std.specs.Prelude.{◌≡◌, ◌*◌, ◌≤◌, Some, None, map, length, replicate, IfOk};
+ghost use Rattle.std.specs.Prelude.{◌≡◌, ◌*◌, ◌≤◌, length, replicate, IfOk};
+ghost use Rattle.core.specs.Mem.Slots.{lease_ptr, lease_len, lease_heap};
 ghost use Rattle.cell_arena.specs.Chains.{IsChain};
-ghost use Rattle.cell_arena.specs.Places.{somes};
 
-use crate::raw::{Base, Deed, Strip, allocate, deallocate};
+use crate::raw::{Deed, Strip, allocate, free};
 use std::alloc::{AllocError, Global};
 use std::marker::Model;
 
 /// The bytes of a frame.
 pub(crate) const FRAME: u32 = 4096;
 
+/// As many zeros as the longest chain has bytes.
+const ZEROS: [u8; 65536] = [0; 65536];
+
 /// Frames side by side, seen as their bytes. Dropped, it frees them.
 pub struct Chain {
     pub(crate) alloc: Global,
-    pub(crate) base: Base<u8>,
     pub(crate) frames: u32,
-    pub(crate) strip: Strip<u8>,
-    pub(crate) deed: Deed<u8, Global>,
+    pub(crate) strip: Strip,
+    pub(crate) deed: Deed,
 }
 
 impl Model for Chain {
     ghost use Rattle.std.specs.Prelude.{List, ℕ, ◌≡◌};
+    ghost use Rattle.core.specs.Mem.Slots.{lease_ptr, lease_len, lease_heap};
     ghost use Rattle.cell_arena.specs.Chains.{IsChain};
-    ghost use Rattle.cell_arena.specs.Places.{somes};
 
     ghost Value = { List ℕ };
 
-    ghost view = { λ c. somes c.strip.slots };
+    ghost view = { λ c. c.strip.bytes };
 
-    ghost invariant = { λ c. IsChain c.base.ptr c.frames c.strip.at c.strip.slots c.deed.at
-        c.deed.len × (c.deed.alloc ≡ c.alloc) };
+    ghost invariant = { λ c. IsChain c.frames c.strip.chain c.strip.ptr c.strip.bytes
+        (lease_ptr c.deed.lease) (lease_len c.deed.lease) × (lease_heap c.deed.lease ≡ c.alloc) };
 }
 
 impl Chain {
@@ -40,12 +42,10 @@ impl Chain {
         requires few { frames ≤ 16 }
         ensures { IfOk result (λ c. c ≡ replicate (frames * 4096) 0) }
     {
-        let len = (frames * FRAME) as usize;
-        let (base, strip, deed) = allocate(&alloc, len)?;
-        let strip = zeroed(strip, base, len);
+        let zeros = &ZEROS[..(frames * FRAME) as usize];
+        let (strip, deed) = allocate(&alloc, zeros)?;
         Ok(Chain {
             alloc,
-            base,
             frames,
             strip,
             deed,
@@ -62,43 +62,25 @@ impl Chain {
     }
 
     /// Takes the chain apart.
-    pub(crate) fn into_parts(self) -> (Global, Base<u8>, u32, Strip<u8>, Deed<u8, Global>)
-        ensures frames { IsChain result.1.ptr result.2 result.3.at result.3.slots result.4.at result.4.len }
-        ensures freed { result.4.alloc ≡ result.0 }
-        ensures bytes { somes result.3.slots ≡ self }
+    pub(crate) fn into_parts(self) -> (Global, u32, Strip, Deed)
+        ensures parts { IsChain result.1 result.2.chain result.2.ptr result.2.bytes
+            (lease_ptr result.3.lease) (lease_len result.3.lease) }
+        ensures freed { lease_heap result.3.lease ≡ result.0 }
+        ensures bytes { result.2.bytes ≡ self }
     {
         let Chain {
             alloc,
-            base,
             frames,
             strip,
             deed,
         } = self;
-        (alloc, base, frames, strip, deed)
+        (alloc, frames, strip, deed)
     }
 }
 
 impl Drop for Chain {
     fn drop(self) {
-        let Chain {
-            alloc,
-            base,
-            frames,
-            strip,
-            deed,
-        } = self;
-        deallocate(&alloc, base, (frames * FRAME) as usize, strip, deed);
+        let (alloc, frames, strip, deed) = self.into_parts();
+        free(&alloc, strip, (frames * FRAME) as usize, deed);
     }
-}
-
-/// Puts a zero into each place.
-fn zeroed(strip: Strip<u8>, base: Base<u8>, len: usize) -> Strip<u8>
-    requires { (strip.at ≡ base.ptr) × (strip.slots ≡ replicate len None) }
-    ensures { (result.at ≡ base.ptr) × (result.slots ≡ map Some (replicate len 0)) }
-{
-    let mut strip = strip;
-    for at in 0..len {
-        strip.write(base, at, 0);
-    }
-    strip
 }

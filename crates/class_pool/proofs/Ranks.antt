@@ -4,7 +4,7 @@ use Rattle.std.specs.Prelude.{is_some}
 use Rattle.std.proofs.lemmas.List.Sums.{count_by-le-length}
 use Rattle.std.proofs.Math.ListN.{set, length-set, get_or-eq_default, get_or-map}
 use Rattle.std.proofs.Math.Seq.{get_or-append_seam}
-use Rattle.std.proofs.lemmas.List.{map-set, length-map, length-append, get_or_append_left, length-replicate, get_or_default, set-set}
+use Rattle.std.proofs.lemmas.List.{map-set, length-map, length-append, get_or_append_left, length-replicate, get_or_default, set-set, set-get_or}
 use Rattle.std.proofs.lemmas.Bool.{cases_lt, cases_eq}
 use Rattle.std.proofs.lemmas.Bool.Decides.{nat_tests}
 use Rattle.std.proofs.lemmas.Nat.{div_below}
@@ -396,6 +396,25 @@ still_fits size chain per items id z new cells slot is long = (
   ap (λ x. length x.cells) is ∙ long ∙ slot.per_is,
   ap (λ x. x.id) is ∙ slot.id_is,
 )
+
+-- it keeps its rank with as many used cells, and gets a new one as a source
+pub updated_source : (size chain per : ℕ) (items : List (Option ZspageState))
+    (ranks sources : List ℕ) (id q : ℕ) (z new : ZspageState) (cells : Cells)
+    → AreZspages size chain per items ranks sources → IsSlot size chain per items id z
+    → new ≡ record z { cells = cells } → length cells ≡ length z.cells
+    → used_of new.cells ≡ used_of z.cells → q ≡ source_rank (Some new.cells)
+    → AreZspages size chain per (set items id (Some new)) ranks (set sources id q)
+updated_source size chain per items ranks sources id q z new cells are slot is long used q_is =
+    let rank : ℕ → ℕ → ℕ = λ u n. if u == n then 0 else u + 2 in
+    let same : rank_of (Some z.cells) ≡ rank_of (Some new.cells) =
+    λ i. rank (sym used i) (sym (ap (λ x. length x.cells) is ∙ long) i) in
+    let seen = sym (entry_of items id) ∙ slot.seen in
+    updated size chain per items ranks sources ranks (set sources id q) id (Some new) are slot.low
+    (still_fits size chain per items id z new cells slot is long)
+    (subst (λ l. AreRanked rank_of (set items id (Some new)) l) (set-get_or ranks id 0)
+    (ranked_set rank_of items ranks id (get_or ranks id 0) (Some new) are.by_room slot.low
+    (are.by_room.each id slot.low ∙ ap rank_of seen ∙ same)))
+    (ranked_set source_rank items sources id q (Some new) are.by_source slot.low q_is)
 
 -- a zspage without objects can give none
 home_free : (n : ℕ) → home_of (replicate n None) ≡ 0

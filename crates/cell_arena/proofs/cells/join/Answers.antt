@@ -1,13 +1,9 @@
-use Rattle.std.proofs.Common.{rules, ◌≡◌, ℕ, suc, ◌+◌, ◌*◌, [], ◌∷◌, Some, length, drop, sym, ap, subst, ◌∙◌, arith, length-append, length-drop}
-use mathlib.Core.List.{map}
-use native.Mathlib.Nat.{suc-mul, zero-mul}
+use Rattle.std.proofs.Common.{rules, ◌≡◌, ℕ, ◌*◌, ◌++◌, length, drop, sym, ap, subst, ◌∙◌, arith}
 use Rattle.std.specs.List.Sorted.{IsPermutation}
-use Rattle.std.proofs.lemmas.List.{length-map}
 use Rattle.std.proofs.lemmas.List.Sorted.{IsPermutation-trans, IsPermutation-sym, IsNonDecreasingBy-from_sort_by_key}
 use denote.RawPtr.{◌+ₚ◌}
-use Rattle.cell_arena.specs.Chains.{CellState, CellsState, cells_of, per, AreCellsOf}
-use Rattle.cell_arena.proofs.Full.{is_full, somes_of}
-use Rattle.cell_arena.proofs.Cuts.{moved_on, moved_none, length-cells_of, popped, regrown}
+use Rattle.cell_arena.specs.Chains.{CellState, CellsState, cells_of, per}
+use Rattle.cell_arena.proofs.Cuts.{moved_on, length-cells_of, popped, regrown}
 use Rattle.cell_arena.proofs.Sorted.{in_order}
 use Rattle.cell_arena.proofs.Whole.{whole}
 use Rattle.cell_arena.proofs.cells.join.Goals as goal
@@ -34,93 +30,35 @@ loop-cell-init c =
       omega (arith, long),
       h.place ∙ ap (λ (v : CellsState). v.chain +ₚ per v.frames v.size * v.size) is
           ∙ ap (λ k. p +ₚ k * s) (sym long),
-      h.full ∙ ap (λ l. map Some l) (ap (λ (v : CellsState). v.rest) is ∙ sym a.rest
-          ∙ ap (λ k. drop (k * s) bs) (sym long)),
+      ap (λ (v : CellsState). v.rest) is ∙ sym a.rest ∙ ap (λ k. drop (k * s) bs) (sym long),
+      ap (λ (v : CellsState). v.chain) is,
     )
 
 pub glue-strip-requires : goal.glue-strip-requires
 glue-strip-requires c =
-    let v = c.loop-cell.invariant in let bs = v.0 in let p = c.args.cells.chain in
-    let s : ℕ = c.args.cells.size in
-    let all = c.loop-cell.list.items in let rest = c.pop.new.self.items in
-    let m : ℕ = length rest in
-    let is = c.in-Some.ensures.items in let got = popped p s bs all rest c.in-Some.cell v.2 is in
-    let seen = c.cell.view_is ∙ got.1 in let h = c.cell.invariant in
-    let own : ℕ = length c.cell.inside.strip.slots in
-    let size : own ≡ s = h.long ∙ ap (λ (x : CellState). x.size) seen in
-    let up : length all ≡ suc m = ap length is
-    ∙ omega (arith, length-append rest (c.in-Some.cell ∷ [])) in
-    let further : length all * s ≡ m * s + own * 1 = ap (λ k. k * s) up ∙ suc-mul m s
-    ∙ ap (λ k. m * s + k) (omega (arith, size)) in
-    let frames = ap (λ (x : CellsState). x.frames) c.cells.view_is in (
-      v.4 ∙ ap (λ k. p +ₚ k) further ∙ sym (moved_on p (m * s) (own * 1))
-          ∙ ap (λ q. q +ₚ own * 1) (sym (h.place
-          ∙ ap (λ (x : CellState). x.chain +ₚ x.number * x.size) seen)),
-      omega (
-        arith,
-        size,
-        h.few,
-        h.long,
-        ap length v.5
-            ∙ length-map (drop (length all * s) bs) Some,
-        length-drop (length all * s) bs,
-        v.1.long,
-        c.cells.invariant.0.few,
-        frames,
-      ),
-    )
+    let v = c.loop-cell.invariant in let p = c.args.cells.chain in let s : ℕ = c.args.cells.size in
+    let rest = c.pop.new.self.items in
+    let got = popped p s v.0 c.loop-cell.list.items rest c.in-Some.cell v.2 c.in-Some.ensures.items
+    in let seen = c.cell.view_is ∙ got.1 in let h = c.cell.invariant in
+    let place = h.place ∙ ap (λ (x : CellState). x.chain +ₚ x.number * x.size) seen in
+    let long : length c.cell.inside.strip.bytes ≡ s = h.long ∙ ap (λ (x : CellState). x.size) seen in
+    v.4 ∙ ap (λ k. p +ₚ k) got.3 ∙ sym (moved_on p (length rest * s) s)
+    ∙ (λ i. sym place i +ₚ sym long i)
 
 pub loop-cell-preserved : goal.loop-cell-preserved
 loop-cell-preserved c =
-    let v = c.loop-cell.invariant in let bs = v.0 in let p = c.args.cells.chain in
-    let s : ℕ = c.args.cells.size in
-    let all = c.loop-cell.list.items in let rest = c.pop.new.self.items in
-    let m : ℕ = length rest in
-    let is = c.in-Some.ensures.items in let got = popped p s bs all rest c.in-Some.cell v.2 is in
-    let seen = c.cell.view_is ∙ got.1 in let h = c.cell.invariant in
-    let up : length all ≡ suc m = ap length is
-    ∙ omega (arith, length-append rest (c.in-Some.cell ∷ [])) in
-    let further : length all * s ≡ m * s + s = ap (λ k. k * s) up ∙ suc-mul m s in (
-      bs,
+    let v = c.loop-cell.invariant in let p = c.args.cells.chain in let s : ℕ = c.args.cells.size in
+    let rest = c.pop.new.self.items in
+    let got = popped p s v.0 c.loop-cell.list.items rest c.in-Some.cell v.2 c.in-Some.ensures.items
+    in let seen = c.cell.view_is ∙ got.1 in let glued = c.glue-strip.ensures in (
+      v.0,
       v.1,
       got.0,
-      omega (arith, up, v.3),
-      c.glue-strip.ensures.0 ∙ h.place ∙ ap (λ (x : CellState). x.chain +ₚ x.number * x.size) seen,
-      c.glue-strip.ensures.1 ∙ regrown bs (m * s)
-          s c.cell.inside.strip.slots c.loop-cell.strip.slots
-          (h.full ∙ ap (λ (x : CellState). map Some x.bytes) seen)
-          (v.5 ∙ ap (λ k. map Some (drop k bs)) further),
+      omega (arith, got.2, v.3),
+      ap (λ r. r.ptr) glued ∙ c.cell.invariant.place
+          ∙ ap (λ (x : CellState). x.chain +ₚ x.number * x.size) seen,
+      ap (λ r. r.bytes) glued
+          ∙ (λ i. (seen i).bytes ++ (v.5 ∙ ap (λ k. drop k v.0) got.3) i)
+          ∙ regrown v.0 (length rest * s) s,
+      ap (λ r. r.chain) glued ∙ ap (λ (x : CellState). x.chain) seen,
     )
-
-pub invariant_of-result : goal.invariant_of-result
-invariant_of-result c =
-    let v = c.loop-cell.invariant in let bs = v.0 in let p = c.args.cells.chain in
-    let s : ℕ = c.args.cells.size in
-    let is = c.cells.view_is in let h = c.cells.invariant.0 in let all = c.loop-cell.list.items in
-    let empty : length all ≡ 0 = omega (arith, c.in_default.ensures.cases.0, c.loop-cell.list.ok) in
-    let none : length all * s ≡ 0 = ap (λ k. k * s) empty ∙ zero-mul s in
-    let full : c.loop-cell.strip.slots ≡ map Some bs = v.5
-    ∙ ap (λ k. map Some (drop k bs)) none in (
-      record {
-        block = h.block;
-        place = v.4 ∙ ap (λ k. p +ₚ k) none ∙ moved_none p
-            ∙ sym (ap (λ (x : CellsState). x.chain) is);
-        full = is_full _ _ full;
-        long = ap length full ∙ length-map bs Some ∙ v.1.long
-            ∙ ap (λ (x : CellsState). x.frames * 4096) (sym is);
-        some = h.some;
-        few = h.few;
-        deed = ap (λ d. d.at) c.into_inner.ensures ∙ h.deed;
-        deed_long = ap (λ d. d.len) c.into_inner.ensures ∙ h.deed_long;
-      },
-      ap (λ d. d.alloc) c.into_inner.ensures ∙ c.cells.invariant.1,
-    )
-
-pub returns : goal.returns
-returns c =
-    let v = c.loop-cell.invariant in let bs = v.0 in let s : ℕ = c.args.cells.size in
-    let all = c.loop-cell.list.items in
-    let empty : length all ≡ 0 = omega (arith, c.in_default.ensures.cases.0, c.loop-cell.list.ok) in
-    let none : length all * s ≡ 0 = ap (λ k. k * s) empty ∙ zero-mul s in
-    let full : c.loop-cell.strip.slots ≡ map Some bs = v.5 ∙ ap (λ k. map Some (drop k bs)) none in
-    subst (λ l. AreCellsOf c.args.cells l) (sym (somes_of _ _ full)) v.1

@@ -1,5 +1,4 @@
-use Rattle.std.proofs.Common.{◌≡◌, ◌*◌, ◌≤◌, Some, drop}
-use mathlib.Core.List.{map}
+use Rattle.std.proofs.Common.{◌≡◌, ◌*◌, ◌≤◌, drop}
 use denote.RawPtr.{◌+ₚ◌}
 use Rattle.std.specs.Vec.{vec_capacity}
 use Rattle.cell_arena.specs.Chains.{cells_of}
@@ -8,6 +7,7 @@ use Rattle.cell_arena.proofs.cells.split.Given as goal
 abbrev pub invariant-loop-number : goal.invariant-loop-number
 invariant-loop-number l =
     (l.count ≤ vec_capacity l.list)
-    × (l.list.items ≡ cells_of l.base.ptr l.size l.fn.chain l.number)
-    × (l.rest.at ≡ l.base.ptr +ₚ l.number * l.size)
-    × (l.rest.slots ≡ map Some (drop (l.number * l.size) l.fn.chain))
+    × (l.list.items ≡ cells_of l.rest.chain l.size l.fn.chain l.number)
+    × (l.rest.ptr ≡ l.rest.chain +ₚ l.number * l.size)
+    × (l.rest.bytes ≡ drop (l.number * l.size) l.fn.chain)
+    × (l.rest.chain ≡ l.initial.rest.chain)

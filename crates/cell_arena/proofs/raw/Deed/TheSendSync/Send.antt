@@ -1,9 +1,12 @@
-use denote.RattleType.{RattleType}
-use denote.Param.Send.{IsSend, Frees}
-use Rattle.core.specs.declared.alloc.Allocator.{Ghosts}
-use Rattle.cell_arena.proofs.Crosses.{Deed-send}
+use denote.Param.Send.{IsSend}
+use Rattle.libc.specs.Heap.{chunk-Keyless}
 use Rattle.cell_arena.specs.contracts.raw.Deed.{the_row}
 
-pub send : (R A : RattleType) (g : Ghosts A.Denot) → IsSend A → Frees g g.dealloc_token
-    → IsSend (the_row R A g)
-send R A g s = Deed-send R A g
+pub send : IsSend the_row
+send = record {
+  owned = λ d vs. (
+    (λ vss. (tt, (((λ us. (tt, (tt, ((tt, tt), ((λ ws. (tt, tt)), tt))))), chunk-Keyless _ _), tt))),
+    tt,
+  );
+  leaving = λ k x vs. (tt, tt);
+}

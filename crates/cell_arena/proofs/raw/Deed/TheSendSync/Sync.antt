@@ -1,8 +1,6 @@
-use denote.RattleType.{RattleType}
-use denote.Param.Send.{IsSync}
-use Rattle.core.specs.declared.alloc.Allocator.{Ghosts}
-use Rattle.cell_arena.proofs.Crosses.{Deed-sync}
+use denote.Param.Send.{IsSync, part_keyless}
 use Rattle.cell_arena.specs.contracts.raw.Deed.{the_row}
+use Rattle.cell_arena.proofs.raw.Deed.TheSendSync.Send.{send}
 
-pub sync : (R A : RattleType) (g : Ghosts A.Denot) → IsSync (the_row R A g)
-sync = Deed-sync
+pub sync : IsSync the_row
+sync = record { shared = λ d b o κ q. part_keyless the_row send q d b o }

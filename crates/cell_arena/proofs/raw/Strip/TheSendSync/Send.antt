@@ -1,7 +1,12 @@
-use denote.RattleType.{RattleType}
-use denote.Param.Send.{IsSend}
-use Rattle.cell_arena.proofs.Crosses.{Strip-send}
-use Rattle.cell_arena.specs.contracts.raw.Strip.{the_row}
+use denote.Param.Send.{IsSend, AllSend, owning_send, struct_send, sendable}
+use denote.Struct.Struct.{exits_of}
+use denote.Struct.Owning.{shape, fields, to}
+use Rattle.std_alloc.proofs.SendSync.{quiet}
+use Rattle.cell_arena.proofs.Strips.{bytes-Keyless}
+use Rattle.cell_arena.specs.contracts.raw.Strip.{the_row, the_type}
 
-pub send : (R : RattleType) → IsSend R → IsSend (the_row R)
-send = Strip-send
+pub send : IsSend the_row
+send = let all : AllSend (fields the_type) = (search sendable, tt) in
+    owning_send the_type all (λ s. bytes-Keyless s.ptr s.bytes)
+    (λ k. quiet (to the_type) (exits_of k (fields the_type))
+    ((struct_send (shape the_type) all).leaving k))

@@ -1,168 +1,69 @@
--- `cut` gives the places out in two runs. Assumes `Logic`.
-use mathlib.Core.Path.{◌≡◌, refl, sym, ap, subst}
-use Prim.Native.Nat.{ℕ, ◌+◌, ◌*◌, ◌<◌, ◌≤◌, ◌^◌}
-use native.Mathlib.Omega.{arith}
-use mathlib.Core.List.{List, [], ◌∷◌, ◌++◌}
-use lib.ListN.{length, take, length-take, length-drop, take-append-drop}
-use lib.ListN.{drop as drop_l}
-use seplogic.Ra.Ura.{Ura}
-use mir.Syntax.{Fn, w64}
-use mir.MapTy.{inst_fn}
-use mir.Val.{Val, vint}
-use base.Logic.{SProp, ent, never, id⊢, via, mono_r, snd∗}
-use base.Fml.{Lft, Share, ftrue, flft}
-use prog.Memory.{Memory}
-use prog.Routine.{Routine}
-use prog.Wp.{Env, Calls, Loops, WpFn, Tables}
-use types.Logic.{Logic}
-use contract.Monad.{Fun, fact}
-use contract.BorrowLft.{◌⊑◌}
-use contract.Running.{tables, tables_of}
-use sound.WpLaws.{WpFn-mono}
-use types.Kit.{Item, ⋆, ‵, ◌⊛◌, ◌$◌, ◌∵◌, !, qed, by, move, keep, use0, use1, use2, split, join, rewrite, fsplit, fjoin, feq_l, flt_l, flt_i, suffices, frame, done}
-use types.Part.{agg}
-use types.Run.{and_then, no_more, returns, enter}
-use types.ByLocal.{alloc_all, pass_all, free_all, look_at, get, sets, env}
-use denote.Exit.{yes, no}
-use denote.RattleType.{RattleType, owns}
-use denote.RawPtr.{block_ptr, in_a_block, ◌+ₚ◌}
-use denote.Builtin.{usize}
-use denote.Signature.{plain}
-use denote.Steps.{nothing}
+-- `cut` gives the bytes out in two runs.
+use Rattle.cell_arena.proofs.Steps.{◌≡◌, ℕ, ◌+◌, ◌≤◌, List, [], ◌∷◌, length, take, drop, refl, sym, ap, arith, u8, vptr, w64, emp, never, id⊢, fact, fact_i, tables, cells, ‵, raw, ◌⊛◌, at_ret, ◌$◌, ◌∵◌, !, qed, by, move, keep, use0, use1, use2, split, fsplit, fjoin, rewrite, whole, sub, agg, of_opd, bin, and_then, no_more, fld, stop, first, blocks, exec, returns, enter, alloc_all, pass_all, free_all, look_at, get, get_in, sets, sets_last, env, usize, yes, mem, uint_vals, uint_Tells, owns, block_ptr, in_a_block, ◌+ₚ◌, plain, types_at, nothing, heard, alive, Stays, stay_dropped, walk_of, Goes-dropped, word, word-Good, after, proved, leaves}
+use lib.ListN.{take-append-drop, length-take}
+use types.ByLocal.{is}
+use denote.RawPtr.{ptr_val}
 use denote.Struct.Tuple.{Tuple}
-use denote.Triple.Clauses.{Clauses, Ended, closing}
-use denote.Triple.Entry.{on_entry}
-use denote.Triple.Spec.{Meets, triple_of}
-use denote.Triple.Table.{entered}
-use denote.Triple.Walked.{says, needs, Stays, stay_dropped, walk_of, ends_at, Goes-dropped, walk_Meets}
-use Rattle.core.proofs.alloc.Calls.{Goes-blank}
-use Rattle.core.proofs.mem.Param.{El, R, args}
-use Rattle.core.proofs.ptr.Rows.{times_below}
 use Rattle.std_alloc.proofs.Pairs.{pair_val, pair_of}
-use Rattle.cell_arena.specs.Ownership.{cells_own, slots}
-use Rattle.cell_arena.proofs.Memory.{Cr, Mark, sz, Place, mark, mark_had, mark_made, cut}
+use Rattle.cell_arena.specs.Ownership.{bytes_own}
+use Rattle.cell_arena.specs.declared.raw.Strip.{Strip}
+use Rattle.cell_arena.specs.contracts.raw.Strip.{the_row}
 use Rattle.cell_arena.specs.contracts.raw.Strip.cut as F
-use Rattle.cell_arena.specs.contracts.raw.Strip.cut.Key.{name as #self}
-use Rattle.cell_arena.proofs.raw.Strip.cut.Statement as stated
+use Rattle.cell_arena.proofs.Walks.{strip_vals, strip_told, strip_had, strip_made, cut}
+use Rattle.cell_arena.proofs.raw.Strip.cut.Statement.{statement}
 use Rattle.cell_arena.proofs.raw.Strip.cut.Code as code
 
-module _ (E : El) where
-  abbrev function : Fn
-  function = inst_fn (args E) code.function
+abbrev hs : Stays F.ended.signature.params F.ended.kept
+hs = (stay_dropped (plain (λ _. the_row)) yes, (stay_dropped (plain (λ _. usize)) yes, tt))
 
-  abbrev ended : Ended
-  ended = F.ended E.row
-
-  abbrev clauses : {M : Type 1} {𝓤 : Ura M} (𝓛 : Logic 𝓤) → (Memory → SProp 𝓤) → (Routine → Fun 𝓤)
-      → Clauses 𝓤 ended
-  clauses 𝓛 = F.clauses E.row 𝓛
-
-  abbrev stayed : Stays ended.signature.params ended.kept
-  stayed = (stay_dropped (plain (λ _. Cr E)) no, (stay_dropped (plain (λ _. usize)) yes, tt))
-
-  abbrev Two : RattleType
-  Two = Tuple (Cr E ∷ Cr E ∷ [])
-
-  abbrev Gives : (Cr E).Denot → ℕ → Two.Denot → Type 0
-  Gives d n r = (r.0.at ≡ d.at) × (r.0.slots ≡ take n d.slots) × (r.1.at ≡ d.at +ₚ n * sz E)
-      × (r.1.slots ≡ drop_l n d.slots)
-
-module _ (E : El) {M : Type 1} {𝓤 : Ura M} (𝓛 : Logic 𝓤) (at_mem : Memory → SProp 𝓤)
-    (run : Routine → Fun 𝓤) (C : Calls 𝓤 𝓛.H) (Λ : Loops 𝓤 𝓛.H) (κ : Lft) (q : Share)
-    (d : (Cr E).Denot) (n : ℕ) (us0 us1 : List Val) where
-  open 𝓛 use {H, A}
-
-  abbrev bound : (walk_of 𝓛 (ended E) (stayed E) (clauses E 𝓛 at_mem run)).Ghost
-  bound = (((κ, tt), (q, tt), tt, (d, (n, tt)), (us0, (us1, tt))), tt)
-
-  abbrev Post : Val → SProp 𝓤
-  Post = (walk_of 𝓛 (ended E) (stayed E) (clauses E 𝓛 at_mem run)).post bound
-
-  exits : (r : (Two E).Denot) (v : Val) → Gives E d n r
-      → ent 𝓤 (⋆ 𝓛 (‵ (flft κ q) ∷ ‵ ((Two E).own_val r (v ∷ [])) ∷ [])) (Post v)
-  exits r v g =
-      qed 𝓛 (‵ (flft κ q) ∷ ‵ ((Two E).own_val r (v ∷ [])) ∷ []) ∵
-      suffices ! _ (ends_at 𝓛 (ended E) (stayed E) (clauses E 𝓛 at_mem run) bound v r
-      (tt, (tt, tt)) (tt, (tt, tt))) $ says ! g $
-      nothing ! $ move ! (1 ∷ 0 ∷ []) $ join ! $ frame ! $ nothing ! $ nothing ! $ fjoin ! $
-      nothing ! $ fjoin ! $ done !
-
-  abbrev Had : List (Item 𝓤)
-  Had = ‵ (cells_own (R E) d.at d.slots) ∷ ‵ (flft κ q) ∷ []
-
-  walk : n ≤ length d.slots → n < 2 ^ 64
-      → ent 𝓤 (⋆ 𝓛 Had) (WpFn 𝓤 H C Λ (function E) (mark ∷ vint w64 n ∷ []) Post)
-  walk asked fits =
-      let s = sz E in let xs : List (Place E) = take n d.slots in
-      let ys : List (Place E) = drop_l n d.slots in
-      let long : n ≡ length xs = omega (arith, length-take n d.slots) in
-      let rest : length ys ≤ length d.slots = omega (arith, length-drop n d.slots) in
-      qed 𝓛 Had ∵ enter ! C Λ (function E) (mark ∷ vint w64 n ∷ []) _ $
-      alloc_all ! (λ l. pass_all ! refl ((tt, (tt, tt)), ((tt, record { fits = fits }), tt)) $
-      let En : Env 𝓤 H = env (function E).locals l in
-      in_a_block ! d.at (λ p. cells_own (R E) p d.slots) (id⊢ 𝓤 (never 𝓤))
-      (λ b o e. fsplit ! $ flt_l ! (λ small.
-      let mid : ℕ = o + n * s in
-      let left : (Cr E).Denot = record { mark = record {}; at = block_ptr b o; slots = xs } in
-      let right : (Cr E).Denot = record { mark = record {}; at = block_ptr b mid; slots = ys } in
-      rewrite ! 0 (λ (l : List (Place E)). ‵ (slots (R E) b o l))
-      (sym (take-append-drop n d.slots)) refl $
-      use1 𝓛 (‵ (slots (R E) b o xs) ⊛ ‵ (slots (R E) b mid ys))
-      (cut E 𝓛 b xs ys o mid (subst (λ k. mid ≡ k * s + o) long (omega arith))) $ split ! $
-      flt_i ! (length xs * s) (2 ^ 63) (times_below (length xs) (length d.slots) s (2 ^ 63)
-      (omega arith) small) $ fjoin ! $
-      use0 𝓛 (‵ ((Mark E).own_val (tt, tt) (mark ∷ []))) (mark_made E 𝓛) $ fjoin ! $
-      move ! (1 ∷ []) $
-      flt_i ! (length ys * s) (2 ^ 63) (times_below (length ys) (length d.slots) s (2 ^ 63)
-      (omega arith) small) $ fjoin ! $
-      use0 𝓛 (‵ ((Mark E).own_val (tt, tt) (mark ∷ []))) (mark_made E 𝓛) $ fjoin ! $
-      move ! (1 ∷ 0 ∷ []) $
-      use2 𝓛 (‵ ((Two E).own_val (left, right) (pair_val mark mark ∷ [])))
-      (pair_of 𝓛 (Cr E) (Cr E) left right mark mark) $
-      sets ! (agg ! (no_more !)) refl (tt, tt) $
-      sets ! (agg ! (and_then ! (get ! refl) (no_more !))) refl (tt, (tt, tt)) $
-      sets ! (agg ! (no_more !)) refl (tt, tt) $
-      sets ! (agg ! (and_then ! (get ! refl) (no_more !))) refl (tt, (tt, tt)) $
-      sets ! (agg ! (and_then ! (get ! refl) (and_then ! (get ! refl) (no_more !)))) refl
-      (tt, ((tt, tt), ((tt, tt), tt))) $
-      returns ! (look_at ! 0 refl) $ free_all ! refl $ keep ! (1 ∷ 0 ∷ []) $
-      by ! (exits (left, right) (pair_val mark mark)
-      (sym e, refl, ap (λ p. p +ₚ n * s) (sym e), refl)))))
-
-  entry : n ≤ length d.slots → ent 𝓤 (on_entry 𝓛 (ended E).signature (κ, tt) (q, tt) (d, (n, tt))
-      (us0, (us1, tt))) (WpFn 𝓤 H C Λ (function E) (us0 ++ (us1 ++ [])) Post)
-  entry asked =
-      qed 𝓛 ((‵ (flft κ q) ⊛ ‵ ftrue) ∷ ‵ (owns (Cr E ∷ usize ∷ []) (d, (n, tt)) (us0, (us1, tt)))
-      ∷ []) ∵
-      split ! $ move ! (2 ∷ []) $ fsplit ! $ fsplit ! $
-      mark_had ! E us0 (λ e0. move ! (1 ∷ []) $ fsplit ! $ fsplit ! $
-      feq_l ! (λ e1. flt_l ! (λ fits. keep ! (1 ∷ 2 ∷ []) $
-      by ! (subst (λ (ws : List Val × List Val). ent 𝓤 (⋆ 𝓛 Had)
-      (WpFn 𝓤 H C Λ (function E) (ws.0 ++ (ws.1 ++ [])) Post)) (λ j. (sym e0 j, sym e1 j))
-      (walk asked fits)))))
-
-meets : (E : El) {M : Type 1} {𝓤 : Ura M} (𝓛 : Logic 𝓤) (at_mem : Memory → SProp 𝓤)
-    (run : Routine → Fun 𝓤) (𝓣 : Tables 𝓤 𝓛.H)
-    → Meets 𝓛 (ended E).signature (WpFn 𝓤 𝓛.H 𝓣.C 𝓣.Λ (function E))
-    (closing 𝓛 (ended E) (clauses E 𝓛 at_mem run))
-meets E {𝓤 = 𝓤} 𝓛 at_mem run 𝓣 =
-    walk_Meets 𝓛 (ended E) (stayed E) (
-      Goes-blank 𝓛 1 (plain (λ _. Cr E)) no (λ κs x f. tt),
-      (Goes-dropped 𝓛 1 (plain (λ _. usize)) yes (λ κs x f. refl), tt),
-    )
-    (clauses E 𝓛 at_mem run) (WpFn 𝓤 𝓛.H 𝓣.C 𝓣.Λ (function E))
-    (WpFn-mono 𝓤 𝓛.H 𝓛.laws 𝓣 (function E))
-    (λ z. let κs = z.0.0 in let qs = z.0.1 in let a = z.0.3 in let vss = z.0.4 in
-    let On : SProp 𝓤 = on_entry 𝓛 (ended E).signature κs qs a vss in
-    let asks : Type 0 = a.1.0 ≤ length a.0.slots in
-    via 𝓤 _ (mono_r 𝓤 On (snd∗ 𝓤 (fact 𝓤 (κs.0 ⊑ E.row.lives)) (fact 𝓤 asks)))
-    (needs 𝓤 asks On (entry E 𝓛 at_mem run 𝓣.C 𝓣.Λ κs.0 qs.0 a.0 a.1.0 vss.0 vss.1.0)))
-
-pub cut_spec : {M : Type 1} → stated.statement M
-unfolding tables_of
-cut_spec 𝓤 𝓛 𝓜 𝓡 wired X LX =
-    let E : El = record { row = X; laws = LX } in
-    let 𝓣 : Tables 𝓤 𝓛.H = tables_of 𝓤 𝓛.H 𝓜 (tables 𝓤 𝓛.H 𝓜 𝓡 𝓡.env) in
-    entered 𝓤 𝓛.H (triple_of 𝓛 (ended E).signature (F.spec X 𝓛 𝓜.mem 𝓡.returns)) 𝓣.C 𝓣.Λ
-    (#self (args E)) (function E) (code.unfolded 𝓤 𝓛.H 𝓜 𝓡 wired (X, tt))
-    (meets E 𝓛 𝓜.mem 𝓡.returns 𝓣)
+pub cut_spec : {M : Type 1} → statement M
+cut_spec 𝓤 𝓛 𝓜 𝓡 wired =
+    let c = F.clauses 𝓛 𝓜.mem 𝓡.returns in let 𝓣 = tables 𝓤 𝓛.H 𝓜 𝓡 𝓡.env in
+    let goes = Goes-dropped 𝓛 0 (plain (λ _. the_row)) yes (λ κs x w. refl) in
+    let goes' = Goes-dropped 𝓛 0 (plain (λ _. usize)) yes (λ κs x w. refl) in
+    proved 𝓛 F.ended hs c 𝓜 𝓡 (goes, (goes', tt)) F.Key.name code.function
+    (code.unfolded 𝓤 𝓛.H 𝓜 𝓡 wired) (λ κs. (strip_vals, (uint_vals w64, tt)))
+    (λ κs. (strip_told, (uint_Tells w64, tt))) (λ κs qs bounds a g are.
+    let s = a.0 in let n : ℕ = a.1.0 in
+    let y : (walk_of 𝓛 F.ended hs c).Ghost =
+    ((κs, qs, bounds, a, (strip_vals s, (uint_vals w64 n, tt))), g) in
+    let Post = (walk_of 𝓛 F.ended hs c).post y in
+    let xs : List ℕ = take n s.bytes in let ys : List ℕ = drop n s.bytes in
+    qed 𝓛 ((raw (alive 𝓛 F.signature κs qs) ⊛ ‵ (owns (types_at F.signature.params κs) a y.0.4))
+    ∷ raw (fact 𝓤 (n ≤ length s.bytes)) ∷ []) ∵
+    move ! (1 ∷ []) $ heard ! _ (λ le. split ! $ move ! (1 ∷ []) $ fsplit ! $ strip_had ! s $
+    in_a_block ! s.ptr (λ p. bytes_own p s.bytes) (id⊢ 𝓤 (never 𝓤)) (λ b o e.
+    let left : Strip = record s { ptr = block_ptr b o; bytes = xs } in
+    let right : Strip = record s { ptr = block_ptr b (o + n); bytes = ys } in
+    rewrite ! 0 (λ (l : List ℕ). ‵ (cells (mem u8) l b o)) (sym (take-append-drop n s.bytes)) refl $
+    use1 𝓛 (‵ (cells (mem u8) xs b o) ⊛ ‵ (cells (mem u8) ys b (o + n)))
+    (cut 𝓛 b xs ys o (o + n) (omega (arith, length-take n s.bytes))) $ split ! $
+    strip_made ! left $ move ! (1 ∷ []) $ strip_made ! right $ move ! (1 ∷ 0 ∷ []) $
+    use2 𝓛 (‵ ((Tuple (the_row ∷ the_row ∷ [])).own_val (left, right)
+    (pair_val (word left.ptr) (word right.ptr) ∷ [])))
+    (pair_of 𝓛 the_row the_row left right (word left.ptr) (word right.ptr)) $
+    keep ! (0 ∷ 2 ∷ []) $
+    enter ! _ _ _ _ _ $ alloc_all ! (λ l.
+    pass_all ! refl (word-Good [] s.ptr, ((tt, record { fits = are.1.0.1 }), tt)) $
+    sets ! (is ! (of_opd ! (get_in ! (fld ! refl (stop !)) (sub ! 0 refl (whole !)))) (ap ptr_val e))
+    refl (tt, tt) $
+    sets ! (of_opd ! (get ! refl)) refl (tt, tt) $
+    sets ! (agg ! (and_then ! (get ! refl) (no_more !))) refl (tt, (tt, tt)) $
+    first ! $ blocks ! $
+    sets ! (of_opd ! (get ! refl)) refl (tt, tt) $
+    sets ! (of_opd ! (get ! refl)) refl (tt, record { fits = are.1.0.1 }) $
+    sets_last ! (is ! (bin ! (get ! refl) (get ! refl) tt) (ap (λ k. vptr b k) (omega arith))) refl
+    (tt, tt) $
+    exec ! 𝓣.C 𝓣.Λ (env code.function.locals l) (after 4 code.function.body) (at_ret _ Post) $
+    sets ! (of_opd ! (get ! refl)) refl (tt, tt) $
+    sets ! (agg ! (and_then ! (get ! refl) (no_more !))) refl (tt, (tt, tt)) $
+    sets ! (agg ! (and_then ! (get ! refl) (and_then ! (get ! refl) (no_more !)))) refl
+    (tt, ((tt, tt), ((tt, tt), tt))) $
+    returns ! (look_at ! 0 refl) $ free_all ! refl $
+    let Told : Type 0 = (left ≡ record s { bytes = xs })
+    × (right ≡ record s { ptr = s.ptr +ₚ n; bytes = ys }) in
+    use0 𝓛 (raw (fact 𝓤 Told)) (fact_i 𝓤 Told (emp 𝓤)
+    ((λ i. record s { ptr = sym e i; bytes = xs }), (λ i. record s { ptr = sym e i +ₚ n; bytes = ys }))) $
+    nothing ! $ nothing ! $ fjoin ! $ nothing ! $ fjoin ! $ keep ! (3 ∷ 0 ∷ 2 ∷ 1 ∷ []) $
+    by ! (leaves 𝓛 F.ended hs c y (pair_val (word left.ptr) (word right.ptr)) (left, right)
+    (tt, (tt, tt)) (tt, (tt, tt)))))))

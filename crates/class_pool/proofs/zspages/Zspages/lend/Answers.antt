@@ -1,10 +1,21 @@
 -- The zspage in the slot lends the cell.
 use Rattle.std.proofs.Common.{◌≡◌, Some, true, ap, sym, subst, ◌∙◌}
-use Rattle.std.proofs.Math.ListN.{set}
+use Rattle.std.proofs.Math.ListN.{set, length-set}
 use Rattle.zspage.specs.Cells.{UsedCell, IsStored, IsCellAt, entry}
 use Rattle.class_pool.specs.Zspages.{Cells}
-use Rattle.class_pool.proofs.Ranks.{IsSlot, slot_is, slot_cells, slot_changes, id_within, zspages_made}
+use Rattle.class_pool.proofs.Ranks.{IsSlot, slot_is, slot_cells, slot_changes, id_within, updated_source, zspages_made}
 use Rattle.class_pool.proofs.zspages.Zspages.lend.Goals as goal
+
+pub invariant_of-self : goal.invariant_of-self
+invariant_of-self c =
+    let low = id_within _ _ c.requires.0 (subst (λ z. entry z.zspages c.args.id
+    ≡ Some c.requires.0) (sym c.self.view_is) c.requires.1) in
+    let slot : IsSlot c.self.inside.size c.self.inside.chain c.self.inside.per
+    c.self.inside.items.items c.args.id c.in-Some.zspage =
+    slot_is _ _ _ _ _ _ _ _ _ c.self.invariant low c.index_mut-slot.ensures.value c.in-Some.is in
+    rw c.set.ensures
+    (updated_source _ _ _ _ _ _ _ _ c.in-Some.zspage c.lend-cell.new.self _ c.self.invariant slot
+    c.lend-cell.ensures.after.5 (length-set _ _ _) c.lend-cell.ensures.used c.source-source.ensures)
 
 pub returns : goal.returns
 returns c cells u at here =
