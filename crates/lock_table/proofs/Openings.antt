@@ -15,13 +15,11 @@ use Rattle.lock_table.specs.declared.view.View.TheVariants.{Blank, Closed, Open}
 use Rattle.lock_table.specs.declared.view.Seated.{Seated}
 use Rattle.lock_table.specs.Phases.{IsReached}
 use Rattle.lock_table.specs.Tables.{free, AllStand, NotAmong, Knows, IsTable}
-use Rattle.lock_table.specs.Plays.{Mine, alone}
-use Rattle.lock_table.specs.Sittings.{Sitting, emptied}
+use Rattle.lock_table.specs.Sittings.{Sitting}
 use Rattle.lock_table.specs.Grounds.{IsGround}
 use Rattle.lock_table.specs.Starts.{all_home, MayBegin, CanOpen, fresh, fresh_from, newly, seats_from, first_of, others_of}
 use Rattle.lock_table.proofs.Lists.{at_set, at_end}
 use Rattle.lock_table.proofs.Kept.{opened}
-use Rattle.lock_table.proofs.Steps.{Sits}
 
 zero_at : (n k : ℕ) → slice_index (replicate n 0) k ≡ 0
 zero_at zero k = refl

@@ -82,7 +82,7 @@ pub fn shut<V: RowValue<R>, R>(row: TableRow<V, R>, hands: TableHands<V, R>) -> 
     let TableHands {
         hands: mut list,
         most: _,
-        values,
+        back,
         locks: _,
     } = hands;
     let Some(hand) = list.pop() else {
@@ -102,5 +102,5 @@ pub fn shut<V: RowValue<R>, R>(row: TableRow<V, R>, hands: TableHands<V, R>) -> 
         first: _,
     } = row;
     let closed = table.close_with(seat);
-    take_all(closed, &names, values)
+    take_all(closed, &names, back)
 }

@@ -12,7 +12,7 @@ pub struct TableHands<V: RowValue<R>, R> {
     pub(crate) hands: Vec<TableHand<V, R>>,
     pub(crate) most: usize,
     // where the row's values come back when it is shut, which takes no memory
-    pub(crate) values: Vec<(LockNo, V)>,
+    pub(crate) back: Vec<(LockNo, V)>,
     pub(crate) locks: usize,
 }
 
@@ -26,7 +26,7 @@ impl<V: RowValue<R>, R> Model for TableHands<V, R> {
 
     ghost view = { λ h. record { list = h.hands.items; most = h.most; locks = h.locks } };
 
-    ghost invariant = { λ h. HasRoom h.most (vec_capacity h.hands) h.locks h.values.items (vec_capacity h.values) };
+    ghost invariant = { λ h. HasRoom h.most (vec_capacity h.hands) h.locks h.back.items (vec_capacity h.back) };
 }
 
 impl<V: RowValue<R>, R> TableHands<V, R> {

@@ -1,6 +1,6 @@
 //! The making of a row.
 
-ghost use Rattle.std.specs.Prelude.{◌≡◌, ◌<◌, ◌≤◌, ℕ, [], ◌∷◌, map, length, replicate, IfOk, IfErr, OnErr, Some, slice_get, vec_len, vec_capacity};
+ghost use Rattle.std.specs.Prelude.{◌≡◌, ◌<◌, ◌≤◌, ℕ, [], ◌∷◌, map, length, replicate, IfOk, IfErr, Some, slice_get, vec_len, vec_capacity};
 ghost use Rattle.lock_row.specs.declared.names.LockNo.{LockNo};
 ghost use Rattle.lock_row.specs.declared.names.State.{State};
 ghost use Rattle.lock_row.specs.declared.names.Local.{Local};
@@ -43,11 +43,12 @@ impl<V> Split<View<V>> for Deals {
     ghost right = { first_of };
 }
 
-// What a table is made of.
+// What a table is made of, and the empty list in which the row's values come back.
 struct Parts<V> {
     names: Vec<LockNo>,
     words: Vec<u64>,
     slots: Vec<Option<V>>,
+    back: Vec<(LockNo, V)>,
 }
 
 fn names_of<V>(alloc: Global, values: &[(LockNo, V)]) -> Result<Vec<LockNo>, AllocError>
@@ -59,18 +60,17 @@ fn names_of<V>(alloc: Global, values: &[(LockNo, V)]) -> Result<Vec<LockNo>, All
         .collect(alloc)
 }
 
-// The values go to the slots in their order; their room stays.
-fn move_out<V>(values: &mut Vec<(LockNo, V)>, slots: &mut Vec<Option<V>>)
+// The values go to the slots in their order, and the memory of their list is given up.
+fn move_out<V>(mut values: Vec<(LockNo, V)>, slots: &mut Vec<Option<V>>)
     requires empty { slots.old.items ≡ [] }
-    requires room { vec_len values.old ≤ vec_capacity slots.old }
-    ensures values { values.new.items ≡ [] }
-    ensures room { vec_capacity values.new ≡ vec_capacity values.old }
-    ensures slots { slots.new.items ≡ all_home values.old.items }
+    requires room { vec_len values ≤ vec_capacity slots.old }
+    ensures { slots.new.items ≡ all_home values.items }
 {
     values.reverse();
     while let Some((_, value)) = values.pop() {
         slots.push_reserved(Some(value));
     }
+    values.destroy_empty();
 }
 
 // The values come back.
@@ -89,47 +89,63 @@ fn move_back<V>(names: &[LockNo], mut slots: Vec<Option<V>>, values: &mut Vec<(L
     values.reverse();
 }
 
-// A row, a seat that stands for all actors, and the emptied list of the row's values.
+// A row, a seat that stands for all actors, and the empty list in which the row's values come back.
 struct Opened<V: RowValue<R>, R> {
     row: TableRow<V, R>,
     seat: Seat<Option<V>, View<V>>,
-    values: Vec<(LockNo, V)>,
+    back: Vec<(LockNo, V)>,
 }
 
-// The parts of a row's table. On Err the values are as they were.
-fn part<V>(alloc: Global, values: &mut Vec<(LockNo, V)>) -> Result<Parts<V>, AllocError>
-    ensures names { IfOk result (λ p. p.names.items ≡ map (λ (x : LockNo × _). x.0) values.old.items) }
-    ensures words { IfOk result (λ p. p.words.items ≡ replicate (length values.old.items) 0) }
-    ensures slots { IfOk result (λ p. p.slots.items ≡ all_home values.old.items) }
-    ensures values { IfOk result (λ p. values.new.items ≡ []) }
-    ensures err { OnErr result (values.new.items ≡ values.old.items) }
-    ensures room { vec_capacity values.new ≡ vec_capacity values.old }
+// The parts of a row's table, still without the values.
+fn reserve<V>(alloc: Global, values: &[(LockNo, V)]) -> Result<Parts<V>, AllocError>
+    ensures names { IfOk result (λ p. p.names.items ≡ map (λ (x : LockNo × _). x.0) values.now) }
+    ensures words { IfOk result (λ p. p.words.items ≡ replicate (length values.now) 0) }
+    ensures slots { IfOk result (λ p. (p.slots.items ≡ []) × (length values.now ≤ vec_capacity p.slots)) }
+    ensures back { IfOk result (λ p. (p.back.items ≡ []) × (length values.now ≤ vec_capacity p.back)) }
 {
     let names = names_of(alloc, values)?;
     let words = vec![in alloc; 0u64; values.len()]?;
-    let mut slots = Vec::with_capacity(alloc, values.len())?;
-    move_out(values, &mut slots);
+    let slots = Vec::with_capacity(alloc, values.len())?;
+    let Ok(back) = Vec::with_capacity(alloc, values.len()) else {
+        slots.destroy_empty();
+        return Err(AllocError);
+    };
     Ok(Parts {
         names,
         words,
         slots,
+        back,
     })
 }
 
+// The parts of a row's table. On Err the values are as they were.
+fn part<V>(alloc: Global, values: Vec<(LockNo, V)>) -> Result<Parts<V>, Vec<(LockNo, V)>>
+    ensures names { IfOk result (λ p. p.names.items ≡ map (λ (x : LockNo × _). x.0) values.items) }
+    ensures words { IfOk result (λ p. p.words.items ≡ replicate (length values.items) 0) }
+    ensures slots { IfOk result (λ p. p.slots.items ≡ all_home values.items) }
+    ensures back { IfOk result (λ p. (p.back.items ≡ []) × (length values.items ≤ vec_capacity p.back)) }
+    ensures err { IfErr result (λ v. v.items ≡ values.items) }
+{
+    let Ok(mut parts) = reserve(alloc, &values) else {
+        return Err(values);
+    };
+    move_out(values, &mut parts.slots);
+    Ok(parts)
+}
+
 impl<V: RowValue<R>, R> TableRow<V, R> {
-    // The row of these parts. The list of values is empty, and keeps its room.
+    // The row of these parts.
     fn open<P: PhaseStart<V>>(
         alloc: Global,
         parts: Parts<V>,
-        mut values: Vec<(LockNo, V)>,
     ) -> Result<Opened<V, R>, Vec<(LockNo, V)>>
         requires can { CanOpen V.rule P.start parts.names.items parts.words.items parts.slots.items }
-        requires empty { values.items ≡ [] }
-        requires room { vec_len parts.names ≤ vec_capacity values }
+        requires empty { parts.back.items ≡ [] }
+        requires room { vec_len parts.names ≤ vec_capacity parts.back }
         ensures names { IfOk result (λ t. t.row.names ≡ parts.names.items) }
         ensures own { IfOk result (λ t. t.seat.table_id ≡ t.row.id) }
         ensures all { IfOk result (λ t. t.seat.me ≡ (Open P.start (seats_from 0 P.start.locals), [])) }
-        ensures values { IfOk result (λ t. t.values ≡ values) }
+        ensures back { IfOk result (λ t. t.back ≡ parts.back) }
         ensures err { IfErr result
             (λ v. (was : _) → parts.names.items ≡ map (λ (x : LockNo × _). x.0) was
             → parts.slots.items ≡ all_home was → v.items ≡ was) }
@@ -138,6 +154,7 @@ impl<V: RowValue<R>, R> TableRow<V, R> {
             names,
             words,
             slots,
+            mut back,
         } = parts;
         let first = find(&names, 0, LockNo::Slot(PageIx(0))).unwrap_or(0);
         let key = Snapshot::of(&slots);
@@ -149,11 +166,11 @@ impl<V: RowValue<R>, R> TableRow<V, R> {
                     names,
                     first,
                 };
-                Ok(Opened { row, seat, values })
+                Ok(Opened { row, seat, back })
             }
             Err(Refused { slots }) => {
-                move_back(&names, slots, &mut values);
-                Err(values)
+                move_back(&names, slots, &mut back);
+                Err(back)
             }
         }
     }
@@ -175,11 +192,10 @@ impl<V: RowValue<R>, R> TableRow<V, R> {
     }
 
     /// The row of these values, and a hand for each actor of the phase, whose start `P` names. Err
-    /// is want of
-    /// memory, and hands the values back.
+    /// is want of memory, and hands the values back.
     pub fn make<P: PhaseStart<V>>(
         alloc: Global,
-        mut values: Vec<(LockNo, V)>,
+        values: Vec<(LockNo, V)>,
         actors: u32,
     ) -> Result<(TableRow<V, R>, TableHands<V, R>), Vec<(LockNo, V)>>
         requires some { 0 < length values.items }
@@ -195,15 +211,13 @@ impl<V: RowValue<R>, R> TableRow<V, R> {
         let Ok(mut hands) = Vec::with_capacity(alloc, actors as usize) else {
             return Err(values);
         };
-        let Ok(parts) = part(alloc, &mut values) else {
-            return Err(values);
-        };
+        let parts = part(alloc, values)?;
         let locks = parts.names.len();
         let Opened {
             row,
             mut seat,
-            values,
-        } = Self::open::<P>(alloc, parts, values)?;
+            back,
+        } = Self::open::<P>(alloc, parts)?;
         for actor in 0..actors {
             hands.push_reserved(row.deal(&mut seat, actor));
         }
@@ -211,7 +225,7 @@ impl<V: RowValue<R>, R> TableRow<V, R> {
         let hands = TableHands {
             hands,
             most,
-            values,
+            back,
             locks,
         };
         Ok((row, hands))

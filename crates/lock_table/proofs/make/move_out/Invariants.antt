@@ -6,7 +6,6 @@ abbrev pub invariant-loop-value : goal.invariant-loop-value
 invariant-loop-value g l = record {
   whole : l.slots.items ++ all_home (reverse l.values.items) ≡ all_home l.fn.values.items;
   room : vec_len l.slots + vec_len l.values ≤ vec_capacity l.slots;
-  same : vec_capacity l.values ≡ vec_capacity l.fn.values;
 }
 
 abbrev pub decreases-loop-value : goal.decreases-loop-value
