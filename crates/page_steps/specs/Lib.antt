@@ -4,3 +4,6 @@ pub mod Steps
 pub mod Nexts
 pub mod Givings
 pub mod Fits
+pub mod Calls
+pub mod Turns
+pub mod Refusals

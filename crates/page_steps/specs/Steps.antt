@@ -37,9 +37,11 @@ pub record Terms : Type 0 where
 abbrev pub DiskHeld : Type 0
 DiskHeld = Held EntryState PoolState Counters (Unit {0}) (Unit {0})
 
+-- the local of an actor of a disk
 abbrev pub Here : Type 0
 Here = Local DiskHeld
 
+-- the lock of a page
 abbrev pub slot : ℕ → LockNo
 slot page = lock.Slot (record { 0 = page })
 
@@ -59,6 +61,7 @@ class_by (kept.Obj o) = o.class
 
 -- ---- plans
 
+-- the first event of a piece: a request beyond the disk takes the account
 abbrev pub start_plan : Bool → Part → Plan
 start_plan true p = Take lock.Account
 start_plan false p = Take (slot p.page)
@@ -82,10 +85,12 @@ plan_at size Owing p c d = Take lock.Account
 plan_at size Giving p c d = Give lock.Account
 plan_at size Ready p c d = Give (slot p.page)
 
+-- the next event of an actor with these pieces to do
 abbrev pub plan_by : ℕ → List Part → At → ℕ → ℕ → Plan
 plan_by size [] at c d = Finished
 plan_by size (p ∷ ps) at c d = plan_at size at p c d
 
+-- the entry that is the value, or else another
 abbrev pub entry_or : DiskHeld → EntryState → EntryState
 entry_or (holds.Slot e) d = e
 entry_or (holds.Class x) d = d
@@ -98,6 +103,7 @@ abbrev pub entry_in : List (LockNo × DiskHeld) → EntryState
 entry_in [] = record { kept = kept.Empty; order = []; room = 0; touched = 0 }
 entry_in (x ∷ xs) = entry_or x.1 (entry_in xs)
 
+-- the next event of an actor
 abbrev pub plan : Terms → Here → Plan
 plan t l = plan_by t.size l.todo l.at (class_by (entry_in l.held).kept) (new_class t.chain l.todo l.page (entry_in l.held).kept)
 
@@ -109,25 +115,30 @@ settle_at kept.Empty = Owing
 settle_at (kept.Same w) = Owing
 settle_at (kept.Obj o) = Old
 
+-- a new form needs an object, or what stands is given up
 abbrev pub made_at : PageForm → Kept → At
 made_at Blank k = settle_at k
 made_at (Word w) k = settle_at k
 made_at (Pooled bytes huge) k = Wanting
 
+-- a page with an object is read from its cell
 abbrev pub seen_at : Kept → At
 seen_at kept.Empty = Leaving
 seen_at (kept.Same w) = Leaving
 seen_at (kept.Obj o) = Seen
 
+-- a page of which a part is written is read before where it has an object
 abbrev pub part_at : PageForm → Kept → At
 part_at f kept.Empty = made_at f kept.Empty
 part_at f (kept.Same w) = made_at f (kept.Same w)
 part_at f (kept.Obj o) = Seen
 
+-- a write of a whole page doesn't read it
 abbrev pub write_at : Bool → PageForm → Kept → At
 write_at true f k = made_at f k
 write_at false f k = part_at f k
 
+-- a discard gives up what stands
 abbrev pub discard_at : Kept → At
 discard_at kept.Empty = Ready
 discard_at (kept.Same w) = Owing
@@ -139,10 +150,12 @@ entered_at (Write start count stuff) page f k = write_at (has_whole start count 
 entered_at (Read start count) page f k = seen_at k
 entered_at (Discard start count) page f k = discard_at k
 
+-- a piece has its first lock
 abbrev pub begun_at : Bool → Part → PageForm → Kept → At
 begun_at true p f k = Refusing
 begun_at false p f k = entered_at p.op p.page f k
 
+-- a piece has the lock that it takes next
 abbrev pub after_take : ℕ → At → Part → PageForm → Kept → At
 after_take size Start p f k = begun_at (is_beyond size p.op) p f k
 after_take size Refusing p f k = Refusing
@@ -161,6 +174,7 @@ after_take size Owing p f k = Giving
 after_take size Giving p f k = Giving
 after_take size Ready p f k = Ready
 
+-- an actor with these pieces to do has the lock that it takes next
 abbrev pub taken_at : ℕ → List Part → At → Option (List ℕ) → Kept → At
 taken_at size [] at page k = at
 taken_at size (p ∷ ps) at page k = after_take size at p (next_form p page k) k
@@ -176,6 +190,7 @@ abbrev pub quit_at : Option Pin → At
 quit_at None = Leaving
 quit_at (Some x) = Pinned
 
+-- the lock of an event
 abbrev pub lock_of : Plan → LockNo
 lock_of (Take k) = k
 lock_of (Give k) = k
@@ -200,6 +215,7 @@ with_lock l at k v = record {
   fail = l.fail;
 }
 
+-- the local after a taking
 abbrev pub took : Terms → Here → DiskHeld → Here
 took t l v = with_lock l (taken_at t.size l.todo l.at l.page (entry_or v (entry_in l.held)).kept) (lock_of (plan t l)) v
 
@@ -236,4 +252,3 @@ piece_over l p end got rest = record {
   page = None;
   fail = None;
 }
-

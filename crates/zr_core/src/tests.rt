@@ -44,7 +44,7 @@ fn runs_two_actors(rt: HostRuntime) -> Result<(), Fail> {
     let mut ops = Vec::new(rt.alloc());
     ops.push(operations(rt.alloc(), write)?)?;
     ops.push(operations(rt.alloc(), read)?)?;
-    let mut phase = world.prepare(&ops)?;
+    let mut phase = world.prepare(&ops, 0)?;
     assert_eq!(rt; world.step(&mut phase, &ops, 0), Turn::Went);
     assert_eq!(rt;
         world.step(&mut phase, &ops, 1),
