@@ -33,7 +33,7 @@ use Rattle.actor_steps.specs.Replies.{HasRoomFor, HasMore}
 use Rattle.actor_steps.specs.Workers.{stage_of, here, with_call, over_of, AllCarried, Keeps, ReplyFits, HasCall, IsFit, CanFinish, Finishes, turned, Advanced}
 use Rattle.actor_steps.proofs.Histories.{over_here, over_else, carried_more, none_carried, end_here, end_else}
 use Rattle.actor_steps.proofs.Turns.{gone_on, rest, x, here_is}
-use Rattle.actor_steps.proofs.Singles.{EndsAs}
+use Rattle.actor_steps.proofs.Singles.{EndsAs, reads_nothing}
 
 -- ---- what a piece reads
 
@@ -143,6 +143,22 @@ more_at {nr} {n} {end} {got} {old} {new} m k r e = dite (ℕ_discrete k nr)
     (λ ne. inr (ne, sym (m.others k ne) ∙ e))
 
 -- ---- the worker
+
+-- the last turn of a call that counts a request reads nothing
+pub ends_as : (t : Terms) (ops : List Op) (v : Worker) (c : PageCall)
+    (fit : IsFit t ops (with_call v (Some c))) (op : Op) (at : slice_get ops v.place.nr ≡ Some op)
+    {X : Type 0} (takes : X → LockNo → Next → DiskHeld → X → Type 0)
+    (misses : X → LockNo → X → Type 0) (gives : X → LockNo → Next → DiskHeld → X → Type 0)
+    (h g : X) (r : Scratch) (end : PieceEnd)
+    → ((y : Frame) → IsWork c.head v.scratch y
+    → CallTurned takes misses gives y.terms (call_here y v.scratch c.stage) h
+    (ending_by (call_here y v.scratch c.stage) (ending end) (got_of_piece end r.page)
+    (call_here y v.scratch c.stage).todo) g (progress.Done end)) → EndsAs c.head.work end
+ends_as t ops v c fit op at takes misses gives h g r end turns on =
+    reads_nothing c.head v.scratch (x t ops v c fit op at []) refl end r.page on
+    (fit.call.work op (rest t ops v c fit op at) [] at) takes misses gives h g c.stage
+    fit.call.going fit.call.fit
+    (turns (x t ops v c fit op at []) (fit.call.work op (rest t ops v c fit op at) [] at))
 
 -- the worker whose call is over, before its piece is finished
 abbrev pub ended : Worker → Scratch → Worker

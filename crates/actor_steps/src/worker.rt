@@ -40,14 +40,7 @@ pub struct Worker {
 }
 
 // The call of the next piece before its first event. The sectors of a write are put into `fresh`.
-fn begun(
-    size: u32,
-    now: u64,
-    actor: u32,
-    place: Place,
-    ops: &[Op],
-    fresh: &mut Page,
-) -> PageCall
+fn begun(size: u32, now: u64, actor: u32, place: Place, ops: &[Op], fresh: &mut Page) -> PageCall
     requires requests { AreRequests ops.now }
     requires few { length ops.now < 2 ^ 32 }
     requires more { place.nr < length ops.now }
@@ -57,7 +50,10 @@ fn begun(
         → IsBegun size now (record { actor = actor; op = place.nr }) op place.page fresh.new result }
 {
     let Place { nr, page, .. } = place;
-    let tag = Tag { actor, op: nr as u32 };
+    let tag = Tag {
+        actor,
+        op: nr as u32,
+    };
     let op = &ops[nr];
     if op.is_beyond(size) {
         return PageCall::out_of_range();

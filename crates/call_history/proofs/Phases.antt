@@ -15,7 +15,7 @@ use Rattle.mem_account.specs.Counters.{Counters, at_most_end}
 use Rattle.plain_disk.specs.Ends.{Ground, Bounds, is_single, MayEndAll, MayEndEach, due_from, ends_sum, failed_write, beyond}
 use Rattle.plain_disk.specs.Output.{phase_lines}
 use Rattle.plain_disk.specs.Rests.{SoFar, Rest, stats}
-use Rattle.plain_disk.specs.Phases.{Given, held_after, nth_order, sector_read, due, begun, ground, bounds, Leaves, IsPhase}
+use Rattle.plain_disk.specs.Phases.{Given, held_after, nth_order, sector_read, due, begun, phase_ground, bounds, Leaves, IsPhase}
 use Rattle.call_history.specs.declared.part.Part.{Part}
 use Rattle.call_history.specs.declared.part.PartEnd.{PartEnd}
 use Rattle.call_history.specs.declared.part.Done.{Done}
@@ -145,13 +145,13 @@ stats_are form r actors dones orders c m told = λ i. record {
 
 module _ (form : List ℕ → Weight) (r : Rest) (actors : List (List Op)) (dones : List (List Done))
     (orders : List (List Tag)) (some : HasSomeEach actors)
-    (agree : Agree (ground form r) (bounds form r actors orders) (begun r actors) dones orders)
+    (agree : Agree (phase_ground form r) (bounds form r actors orders) (begun r actors) dones orders)
   where
     abbrev g : Given
     g = begun r actors
 
     abbrev t : Ground
-    t = ground form r
+    t = phase_ground form r
 
     abbrev b : ℕ → Bounds
     b = bounds form r actors orders

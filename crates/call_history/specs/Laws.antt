@@ -9,7 +9,7 @@ use Rattle.mem_account.specs.Counters.{Counters}
 use Rattle.plain_disk.specs.Ends.{Ground}
 use Rattle.plain_disk.specs.Output.{phase_lines}
 use Rattle.plain_disk.specs.Rests.{Rest, stats}
-use Rattle.plain_disk.specs.Phases.{Given, IsPhase, begun, ground, bounds}
+use Rattle.plain_disk.specs.Phases.{Given, IsPhase, begun, phase_ground, bounds}
 use Rattle.call_history.specs.declared.part.Part.{Part}
 use Rattle.call_history.specs.declared.part.Done.{Done}
 use Rattle.call_history.specs.Parts.{program, EndsSo, Follows, left_by, is_on, is_carried, stands_so, got_of, done_sum}
@@ -40,7 +40,7 @@ abbrev pub TellsPhase : Type 0
 TellsPhase =
     (form : List ℕ → Weight) (r : Rest) (actors : List (List Op)) (dones : List (List Done))
     (orders : List (List Tag)) (c : Counters) (m : Rest) → HasSomeEach actors
-    → Agree (ground form r) (bounds form r actors orders) (begun r actors) dones orders
+    → Agree (phase_ground form r) (bounds form r actors orders) (begun r actors) dones orders
     → Tallies form r actors dones orders c m
     → IsPhase form r actors
     (phase_lines (ends_each actors dones) (told_each actors dones) orders) m

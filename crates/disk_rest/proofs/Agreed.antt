@@ -7,7 +7,7 @@ use Rattle.zr_base.specs.declared.op.Tag.{Tag}
 use Rattle.zr_base.specs.declared.op.Op.{Op}
 use Rattle.plain_disk.specs.Ends.{Ground, Bounds}
 use Rattle.plain_disk.specs.Rests.{Rest}
-use Rattle.plain_disk.specs.Phases.{nth_order, begun, ground, bounds, reach}
+use Rattle.plain_disk.specs.Phases.{nth_order, begun, phase_ground, bounds, reach}
 use Rattle.call_history.specs.declared.part.Part.{Part}
 use Rattle.call_history.specs.declared.part.PartEnd.{PartEnd}
 use Rattle.call_history.specs.declared.part.PartEnd.TheVariants as over
@@ -75,13 +75,13 @@ module _ (r : Rest) (actors : List (List Op)) (w : State DiskHeld)
 
   follows : (a : ℕ) (ops : List Op) (done : List Done) → slice_get actors a ≡ Some ops
       → slice_get (histories w.locals) a ≡ Some done
-      → Follows (EndsSo (ground page_weight r)) (program r.size 0 ops) done []
+      → Follows (EndsSo (phase_ground page_weight r)) (program r.size 0 ops) done []
   follows a ops done named at =
       let h = history_of w.locals a done at in
       let i = rule.joint.each.in_local a h.local h.at in
       let same : i.ops ≡ ops = (let q = i.named in cc) in
       subst (λ (x : List Op × List Done × List Part).
-      Follows (EndsSo (ground page_weight r)) (program r.size 0 x.0) x.1 x.2)
+      Follows (EndsSo (phase_ground page_weight r)) (program r.size 0 x.0) x.1 x.2)
       (λ k. (same k, h.is k, over a h.local h.at k))
       i.follows
 
@@ -99,16 +99,16 @@ module _ (r : Rest) (actors : List (List Op)) (w : State DiskHeld)
       ∙ stands)
 
   keeps : (a i : ℕ) (d : Done) → slice_get (history (histories w.locals) a) i ≡ Some d
-      → KeepsTo (ground page_weight r) (bounds page_weight r actors orders a) d.end
+      → KeepsTo (phase_ground page_weight r) (bounds page_weight r actors orders a) d.end
   keeps a i d at =
       let h = some_history w.locals a i d at in
-      keeps_at (ground page_weight r) (reach_at (begin_of r actors) w)
+      keeps_at (phase_ground page_weight r) (reach_at (begin_of r actors) w)
       (bounds page_weight r actors orders a) d.end
       (reach_is r actors w rule rest over orders are)
       ((rule.limits a h.local h.at).over i d
       (ap (λ (ds : List Done). slice_get ds i) h.is ∙ at))
 
-  pub agree : Agree (ground page_weight r) (bounds page_weight r actors orders) (begun r actors)
+  pub agree : Agree (phase_ground page_weight r) (bounds page_weight r actors orders) (begun r actors)
       (histories w.locals) orders
   agree = record {
     count = length-map w.locals (λ (l : Here). l.done) ∙ rule.joint.actors;

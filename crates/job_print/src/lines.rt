@@ -70,7 +70,7 @@ fn sector(alloc: Global, digits: &[u8]) -> Result<Option<OutLine>, AllocError>
         return Ok(None);
     }
     let mut sector = [0; 512];
-    if !bytes(digits, &mut sector) || (is_filled(&sector) && sector[0] > 0) {
+    if !bytes(digits, &mut sector) || is_filled(&sector) {
         return Ok(None);
     }
     Ok(Some(OutLine::Hex(list(alloc, &sector)?)))
@@ -259,7 +259,7 @@ fn usage_line(words: &[&[u8]]) -> Option<OutLine>
     match words {
         [program, word] => {
             if *program == b"zramsim".as_slice() && *word == b"run".as_slice() {
-                Some(OutLine::Op { actor: 0, op: 0, end: zr_base::OpEnd::Ok })
+                Some(OutLine::Usage)
             } else {
                 None
             }

@@ -42,7 +42,7 @@ fn digits(word: &[u8]) -> Option<u64>
 pub(crate) fn number(word: &[u8]) -> Option<u64>
     ensures { result ≡ number_in word.now }
 {
-    if word.is_empty() || (word.len() > 2 && word[0] == b'0') {
+    if word.is_empty() || (word.len() > 1 && word[0] == b'0') {
         return None;
     }
     digits(word)

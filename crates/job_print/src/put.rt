@@ -50,7 +50,7 @@ fn put_next(out: &mut Vec<u8>, n: u64) -> Result<(), AllocError>
     ensures { OnOk result (out.new.items ≡ out.old.items ++ 32 ∷ decimal n) }
 {
     out.push(b' ')?;
-    put_number(out, n / 10)
+    put_number(out, n)
 }
 
 // Numbers, each after a space.
@@ -202,7 +202,7 @@ pub(crate) fn put_ordered(out: &mut Vec<u8>, page: u32, order: &[Tag]) -> Result
 {
     out.extend_from_slice(b"order")?;
     put_next(out, u64::from(page))?;
-    put_tags(out, &order[..order.len().min(64)])?;
+    put_tags(out, order)?;
     out.push(b'\n')?;
     Ok(())
 }

@@ -1,8 +1,9 @@
 -- What a lawful job asks of its phases.
-use Rattle.std.proofs.Common.{◌≡◌, ◌⊎◌, ℕ, false, zero, suc, ◌+◌, ◌<◌, ◌≤◌, ◌^◌, List, [], ◌∷◌, ◌++◌, length, Some, slice_get, unwrap_or, refl, sym, ◌∙◌, subst, inl, inr, arith}
+use Rattle.std.proofs.Common.{◌≡◌, ◌⊎◌, ℕ, false, zero, suc, ◌+◌, ◌<◌, ◌≤◌, ◌^◌, List, [], ◌∷◌, ◌++◌, length, Some, slice_get, unwrap_or, refl, sym, ap, ◌∙◌, subst, inl, inr, arith}
 use Rattle.std.specs.List.{sum_by}
 use Rattle.std.proofs.lemmas.Bool.{true≢false}
 use Rattle.std.proofs.lemmas.Bool.Decides.{nat_tests}
+use Rattle.std.proofs.lemmas.List.Sums.{sum_by-cons}
 use Rattle.std.proofs.lemmas.Option.{slice_get_within}
 use Rattle.zr_base.specs.declared.op.Op.{Op}
 use Rattle.zr_base.specs.declared.op.Turns.{Turns}
@@ -92,7 +93,8 @@ few_operations actors work = omega (arith, summed actors, work.most)
     summed : (actors : List (List Op)) → sum_by (λ (ops : List Op). length ops) actors
         ≡ operations actors
     summed [] = refl
-    summed (ops ∷ more) = let rest = summed more in omega (arith, rest)
+    summed (ops ∷ more) = sum_by-cons (λ (xs : List Op). length xs) ops more
+        ∙ ap (λ (n : ℕ). length ops + n) (summed more)
 
 pub named : (actors : ℕ) (schedule : List Turns) → MayTurn actors schedule → (k : ℕ) (t : Turns)
     → slice_get schedule k ≡ Some t → t.actor < actors

@@ -6,7 +6,7 @@ use Rattle.joint_rule.proofs.Events.{BackBy}
 use Rattle.joint_rule.proofs.Pools.{Alike, Allocates, GivesUp, Swaps, fits_swap}
 use Rattle.joint_rule.specs.Joint.{PoolFits}
 use Rattle.joint_rule.specs.Stages.{Bears, IsForm, NoneOf}
-use Rattle.joint_rule.specs.Weights.{Backs, Compactions, Count, FailedReads, FailedWrites, Fixed, Huges, Limit, OutOfRange, PackedBytes, Packs, PinWeigh, Refusal, Sames, Weigh, cell_weight, claim_by, counter, fixed_count, measure, object_weight, out_weight, pages, pin_in, refusal_count}
+use Rattle.joint_rule.specs.Weights.{Backs, Compactions, Count, FailedReads, FailedWrites, Fixed, Huges, Limit, OutOfRange, PackedBytes, Packs, PinWeigh, Refusal, Sames, Weigh, cell_weight, claim_by, counter, fixed_count, measure, object_weight, out_weight, pin_in, refusal_count}
 use Rattle.lock_row.specs.Totals.{by_option}
 use Rattle.lock_row.specs.declared.names.Object.{Object}
 use Rattle.lock_row.specs.declared.names.Pin.{Pin}
@@ -15,7 +15,6 @@ use Rattle.mem_account.specs.declared.weight.Weight.{Weight}
 use Rattle.page_steps.specs.Givings.{kept_by, repaid, settled, tells}
 use Rattle.slot_entry.specs.Entries.{weight_of}
 use Rattle.slot_entry.specs.Forms.{Blank, PageForm, Pooled, Word, bytes_in, form_weight}
-use Rattle.slot_entry.specs.declared.kept.Kept.{Kept}
 use Rattle.zr_base.specs.declared.op.Op.{Op}
 use Rattle.zr_base.specs.declared.op.Op.TheVariants.{Discard, Read, Write}
 use Rattle.zspage.specs.Cells.{UsedCell}

@@ -1,13 +1,13 @@
 -- The account is within what pages and actors can have made, and so is its maximum.
-use Rattle.std.proofs.Common.{◌≡◌, ◌+◌, ◌*◌, ◌≤◌, ◌∷◌, ℕ, zero, suc, cond, max, List, [], take, sum_by, Option, Some, None, slice_get, refl, ap, arith, ⊎_elim}
+use Rattle.std.proofs.Common.{◌≡◌, ◌+◌, ◌*◌, ◌≤◌, ◌∷◌, ℕ, zero, suc, cond, max, List, [], sum_by, Option, Some, None, slice_get, refl, ap, arith, ⊎_elim}
 use Rattle.call_history.specs.declared.part.Part.{Part}
 use Rattle.call_history.specs.declared.part.PartEnd.{PartEnd}
 use Rattle.class_pool.specs.Pool.{used_cells, used_cells_in}
 use Rattle.class_pool.specs.Zspages.{Cells}
 use Rattle.joint_rule.proofs.Facts.{Known}
-use Rattle.joint_rule.proofs.Gifts.{Gift, IsCharge, all, stage}
+use Rattle.joint_rule.proofs.Gifts.{Gift, IsCharge}
 use Rattle.joint_rule.proofs.Keeps.{give_keeps}
-use Rattle.joint_rule.proofs.Lookups.{lone, mine, mine_account, sound, under_account}
+use Rattle.joint_rule.proofs.Lookups.{lone, mine_account, under_account}
 use Rattle.joint_rule.proofs.Pools.{chain_low}
 use Rattle.joint_rule.proofs.Sums.{gone, locals_add, total_mono, total_split, total_up, total_up_over}
 use Rattle.joint_rule.proofs.Takes.{home_lean}
@@ -15,7 +15,7 @@ use Rattle.joint_rule.specs.Begins.{Begin, terms}
 use Rattle.joint_rule.specs.Joint.{AtHome, Joint, Sound}
 use Rattle.joint_rule.specs.Rule.{Most, owed}
 use Rattle.joint_rule.specs.Stages.{OweAt, StageBy}
-use Rattle.joint_rule.specs.Weights.{Limit, ahead, behind, cell_weight, chains, claims, each_one, ever_at, fixed, fixed_count, fresh_claim, leaning, mosts, none, one, owing, pages, same, some_of, stored}
+use Rattle.joint_rule.specs.Weights.{Limit, cell_weight, chains, claims, each_one, ever_at, fixed, fixed_count, fresh_claim, leaning, mosts, none, one, owing, pages, some_of, stored}
 use Rattle.lock_row.specs.Totals.{held_sum, locals_sum, mass, row_sum, total}
 use Rattle.lock_row.specs.declared.names.At.{At}
 use Rattle.lock_row.specs.declared.names.At.TheVariants.{Both, Freeing, Giving, Inside, Leaving, Made, Old, Owing, Pinned, Pinning, Ready, Refusing, Seen, Start, Unpinning, Wanting}

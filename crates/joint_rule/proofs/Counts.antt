@@ -1,5 +1,5 @@
 -- The account's counters of refusals: each giving raises them by what its actor tells then.
-use Rattle.std.proofs.Common.{◌≡◌, ◌+◌, ◌≤◌, ◌∷◌, ◌∙◌, ℕ, zero, suc, List, [], take, Option, Some, None, slice_get, slice_set, refl, sym, ap, subst, arith}
+use Rattle.std.proofs.Common.{◌≡◌, ◌+◌, ◌≤◌, ◌∷◌, ◌∙◌, ℕ, zero, suc, List, [], Option, Some, None, slice_get, slice_set, refl, sym, ap, subst, arith}
 use Rattle.call_history.specs.Parts.{done_sum, left_by, piece_gives}
 use Rattle.call_history.specs.declared.part.Part.{Part}
 use Rattle.call_history.specs.declared.part.PartEnd.{PartEnd}
@@ -8,19 +8,19 @@ use Rattle.joint_rule.proofs.Balances.{settled_refusals}
 use Rattle.joint_rule.proofs.Events.{Event}
 use Rattle.joint_rule.proofs.Facts.{Known}
 use Rattle.joint_rule.proofs.Gifts.{stage}
-use Rattle.joint_rule.proofs.Lookups.{lone, mine, mine_account, under_account}
+use Rattle.joint_rule.proofs.Lookups.{lone, mine_account, under_account}
 use Rattle.joint_rule.proofs.Sums.{gone}
 use Rattle.joint_rule.specs.Begins.{Begin, terms}
 use Rattle.joint_rule.specs.Joint.{Joint}
-use Rattle.joint_rule.specs.Rule.{CountsRefusals, owed}
+use Rattle.joint_rule.specs.Rule.{CountsRefusals}
 use Rattle.joint_rule.specs.Stages.{IsWrite, NoneOf}
-use Rattle.joint_rule.specs.Weights.{FailedWrites, OutOfRange, Refusal, ahead, behind, none, on_account, pages, refusal_count, refusal_counter, refusal_of, refusals, refused_by, same}
+use Rattle.joint_rule.specs.Weights.{FailedWrites, OutOfRange, Refusal, none, on_account, refusal_count, refusal_counter, refusal_of, refusals, refused_by, same}
 use Rattle.lock_row.specs.Totals.{by_option, held_sum, locals_sum, mass, total}
 use Rattle.lock_row.specs.declared.names.At.TheVariants.{Both, Made, Ready, Refusing}
 use Rattle.lock_row.specs.declared.names.LockNo.{LockNo}
 use Rattle.lock_row.specs.declared.names.Plan.TheVariants.{Take}
 use Rattle.lock_row.specs.declared.names.State.{State}
-use Rattle.mem_account.specs.Counters.{Counters, at_most_end, charged, counted}
+use Rattle.mem_account.specs.Counters.{Counters, at_most_end, charged}
 use Rattle.page_steps.specs.Givings.{old_weight}
 use Rattle.page_steps.specs.Pages.{next_form}
 use Rattle.page_steps.specs.Steps.{DiskHeld, Here, lock_of, on, piece_over, plan, slot, spot, took}

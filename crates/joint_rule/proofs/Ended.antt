@@ -1,20 +1,16 @@
 -- What a finished phase tells: its histories agree with its orders, and the account with the rest.
 use Rattle.std.proofs.Common.{◌≡◌, ◌+◌, ◌*◌, ◌-◌, ◌/◌, ◌≤◌, ◌<◌, ◌∷◌, ◌++◌, ◌∙◌, ℕ, zero, suc, Bool, true, false, cond, eqb, List, [], length, sum_by, Option, Some, None, slice_get, refl, sym, ap, subst, arith, inl, inr, zero-add}
-use Rattle.bdi_page.specs.Packing.{packed}
 use Rattle.call_history.specs.Histories.{Agree, history}
 use Rattle.call_history.specs.Parts.{EndsSo, Follows, KeepsTo, done_sum, dones_sum, noted_on, ops_of, program, stands_so}
 use Rattle.call_history.specs.Shows.{IsTold}
 use Rattle.call_history.specs.Tallies.{Tallies}
 use Rattle.call_history.specs.declared.part.Done.{Done}
 use Rattle.call_history.specs.declared.part.Part.{Part}
-use Rattle.call_history.specs.declared.part.PartEnd.{PartEnd}
 use Rattle.class_pool.specs.Pool.{PoolState, used_cells, used_cells_in}
 use Rattle.class_pool.specs.Zspages.{Cells}
 use Rattle.joint_rule.proofs.Bounds.{one_of}
 use Rattle.joint_rule.proofs.Facts.{Known}
 use Rattle.joint_rule.proofs.Gets.{count_locals}
-use Rattle.joint_rule.proofs.Gifts.{all}
-use Rattle.joint_rule.proofs.Lookups.{sound}
 use Rattle.joint_rule.proofs.Pages.{holds_after, kept_is}
 use Rattle.joint_rule.proofs.Pools.{sum_zero}
 use Rattle.joint_rule.proofs.Ranges.{range_by, range_lone, range_map, range_sum, row_part, weight_at}
@@ -28,7 +24,7 @@ use Rattle.joint_rule.specs.Joint.{AtHome}
 use Rattle.joint_rule.specs.Rule.{OfOrder, Rule, ShowsOrder, done_by, dones, reach_at}
 use Rattle.joint_rule.specs.Stages.{IsForm}
 use Rattle.joint_rule.specs.Starts.{AtRest}
-use Rattle.joint_rule.specs.Weights.{Backs, Compactions, Count, FailedReads, FailedWrites, Fixed, FreedPages, HugeWrites, Huges, Limit, News, OutOfRange, PackedBytes, Packs, Refusal, Sames, Weigh, ahead, cell_weight, claim_by, counter, ever_at, fixed, fixed_count, measure, mosts, news_count, news_counter, news_of, none, noted, on_account, on_entry, on_pool, one, order_news, pages, refusal_count, refusal_counter, refusal_of, refusals, refused_by, same, stored, told_ahead, told_at}
+use Rattle.joint_rule.specs.Weights.{Backs, Compactions, Count, FailedReads, FailedWrites, Fixed, FreedPages, HugeWrites, Huges, Limit, News, OutOfRange, PackedBytes, Packs, Refusal, Sames, Weigh, cell_weight, claim_by, counter, ever_at, fixed, fixed_count, measure, mosts, news_count, news_counter, news_of, none, noted, on_account, on_entry, on_pool, one, order_news, pages, refusal_count, refusal_counter, refusal_of, refusals, refused_by, stored, told_ahead, told_at}
 use Rattle.lock_row.specs.Totals.{by_option, locals_sum, row_sum, total}
 use Rattle.lock_row.specs.declared.names.At.{At}
 use Rattle.lock_row.specs.declared.names.At.TheVariants.{Both, Freeing, Giving, Inside, Leaving, Made, Old, Owing, Pinned, Pinning, Ready, Refusing, Seen, Start, Unpinning, Wanting}
@@ -51,7 +47,6 @@ use Rattle.std.proofs.lemmas.List.Sums.{count_by-le-length, sum_by-append, sum_b
 use Rattle.std.proofs.lemmas.Option.{get_or_from_slice_get}
 use Rattle.std.specs.List.{AllByRecursion, flat_map, range_with_len}
 use Rattle.std.specs.Prelude.{is_some}
-use Rattle.zr_base.specs.Plain.{named}
 use Rattle.zr_base.specs.declared.op.Op.{Op}
 use Rattle.zr_base.specs.declared.op.OpEnd.{OpEnd}
 use Rattle.zr_base.specs.declared.op.Tag.{Tag}
@@ -188,9 +183,6 @@ bytes_same f h a zero e = refl
 bytes_same f h a (suc n) e =
     let x = e a (omega arith) (omega arith) in
     let y = bytes_same f h (a + 1) n (λ s le lt. e s (omega arith) (omega arith)) in λ i. x i ++ y i
-
-no_refusal : (q : Refusal) (x : Option PartEnd) → refused_by q [] x ≡ 0
-no_refusal q x = refl
 
 -- ---- a finished phase
 

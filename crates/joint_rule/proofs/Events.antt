@@ -6,13 +6,11 @@ use Rattle.call_history.specs.declared.part.PartEnd.{PartEnd}
 use Rattle.call_history.specs.declared.part.PartEnd.TheVariants.{AtLimit, Carried, NoMemory, Whole}
 use Rattle.class_pool.specs.Pool.{PoolState}
 use Rattle.joint_rule.proofs.Facts.{Known}
-use Rattle.joint_rule.proofs.Lookups.{sound}
 use Rattle.joint_rule.proofs.Pools.{Allocates, GivesUp, Swaps, adds_weigh, drops_weigh, lends_weigh, returns_weigh, some_cell}
 use Rattle.joint_rule.specs.Begins.{Begin, terms}
 use Rattle.joint_rule.specs.Facts.{Facts}
 use Rattle.joint_rule.specs.Joint.{Sound}
-use Rattle.joint_rule.specs.Rule.{owed}
-use Rattle.joint_rule.specs.Weights.{HeldAll, ahead, behind, pages, stored}
+use Rattle.joint_rule.specs.Weights.{HeldAll}
 use Rattle.lock_row.specs.declared.names.At.TheVariants.{Both, Freeing, Giving, Leaving, Made, Owing, Pinning, Ready, Refusing, Unpinning}
 use Rattle.lock_row.specs.declared.names.Pin.{Pin}
 use Rattle.mem_account.specs.Counters.{Counters, IsPastLimit, IsWithinLimit, charged, counted}

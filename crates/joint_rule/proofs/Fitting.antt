@@ -9,9 +9,9 @@ use Rattle.joint_rule.proofs.Balances.{counted_count, same_repaid}
 use Rattle.joint_rule.proofs.Bounds.{bounded, scaled, times_both, times_le, total_scaled}
 use Rattle.joint_rule.proofs.Facts.{Known}
 use Rattle.joint_rule.proofs.Gets.{at_home, count_locals, few_objects, is_lower, low_at, some_use, total_low}
-use Rattle.joint_rule.proofs.Gifts.{all, is_named, locks, next_small, old_is, stage}
+use Rattle.joint_rule.proofs.Gifts.{all, is_named, next_small, old_is, stage}
 use Rattle.joint_rule.proofs.Keeps.{take_keeps}
-use Rattle.joint_rule.proofs.Lookups.{can_repay, has_counted, mine, none_weight, object_is, pin_out, sound}
+use Rattle.joint_rule.proofs.Lookups.{can_repay, has_counted, none_weight, object_is, pin_out}
 use Rattle.joint_rule.proofs.Pages.{content_page, ever_one, form_low, form_next, image_form, image_len}
 use Rattle.joint_rule.proofs.Pools.{bit, chain_low, same_pin_is}
 use Rattle.joint_rule.proofs.Stages.{OnDisk, old_low, on_disk, write_changes}
@@ -37,7 +37,6 @@ use Rattle.page_steps.specs.Fits.{AsAccount, AsPool, AsSlot, CanCharge, CanPay, 
 use Rattle.page_steps.specs.Givings.{old_weight, repaid}
 use Rattle.page_steps.specs.Pages.{new_class, next_form, page_in}
 use Rattle.page_steps.specs.Steps.{DiskHeld, Here, class_by, entry_in, lock_of, on, plan, plan_at, plan_by, slot, spot, start_plan, took}
-use Rattle.plain_disk.specs.Phases.{begun}
 use Rattle.size_class.specs.Classes.{class_size, shares_next, stands_below}
 use Rattle.slot_entry.specs.Entries.{EntryState, weight_of}
 use Rattle.slot_entry.specs.Forms.{Blank, PageForm, Pooled, Word, class_for, class_in, form_of, form_weight, object_class}

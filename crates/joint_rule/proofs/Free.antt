@@ -3,20 +3,18 @@ use Rattle.std.proofs.Common.{◌≡◌, ◌+◌, ◌≤◌, ◌<◌, ◌∷◌,
 use Rattle.call_history.specs.Parts.{EndsSo, Follows, program}
 use Rattle.call_history.specs.declared.part.Part.{Part}
 use Rattle.joint_rule.proofs.Facts.{Known}
-use Rattle.joint_rule.proofs.Gifts.{all, locks, stage}
-use Rattle.joint_rule.proofs.Lookups.{mine, sound}
+use Rattle.joint_rule.proofs.Gifts.{all, stage}
 use Rattle.joint_rule.proofs.Pages.{form_low}
 use Rattle.joint_rule.proofs.Pools.{same_is, same_self}
 use Rattle.joint_rule.proofs.Rests.{no_todo}
 use Rattle.joint_rule.proofs.Stages.{OnDisk, old_low, on_disk}
 use Rattle.joint_rule.proofs.Starts.{none_first}
 use Rattle.joint_rule.proofs.Sums.{locals_le, row_le, some_local}
-use Rattle.joint_rule.specs.Begins.{Begin, found, ground_of, terms}
+use Rattle.joint_rule.specs.Begins.{Begin, ground_of, terms}
 use Rattle.joint_rule.specs.Joint.{IsActor, Joint, Sound}
 use Rattle.joint_rule.specs.Laws.{CanMove, gives, takes}
-use Rattle.joint_rule.specs.Rule.{owed}
 use Rattle.joint_rule.specs.Stages.{Stage, locks_at, locks_by}
-use Rattle.joint_rule.specs.Weights.{HeldAll, ahead, at_place, behind, names, none, same}
+use Rattle.joint_rule.specs.Weights.{HeldAll, at_place, none, same}
 use Rattle.lock_row.specs.Totals.{held_sum, locals_sum, mass, row_sum}
 use Rattle.lock_row.specs.declared.names.At.{At}
 use Rattle.lock_row.specs.declared.names.At.TheVariants.{Both, Freeing, Giving, Inside, Leaving, Made, Old, Owing, Pinned, Pinning, Ready, Refusing, Seen, Start, Unpinning, Wanting}
@@ -26,7 +24,6 @@ use Rattle.lock_row.specs.declared.names.Plan.TheVariants.{Finished, Give, Take}
 use Rattle.lock_row.specs.declared.names.State.{State}
 use Rattle.page_steps.specs.Pages.{new_class, next_form}
 use Rattle.page_steps.specs.Steps.{DiskHeld, Here, class_by, entry_in, plan, plan_at, plan_by, slot, spot, start_plan}
-use Rattle.plain_disk.specs.Phases.{begun}
 use Rattle.slot_entry.specs.Forms.{class_in}
 use Rattle.zr_base.specs.Plain.{is_beyond}
 use Rattle.lock_row.specs.declared.names.LockNo.TheVariants as lock

@@ -3,16 +3,14 @@ use Rattle.std.proofs.Common.{◌≡◌, ◌+◌, ◌≤◌, ◌<◌, ◌∷◌,
 use Rattle.call_history.specs.declared.part.Part.{Part}
 use Rattle.call_history.specs.declared.part.PartEnd.{PartEnd}
 use Rattle.class_pool.specs.Pool.{IsAtHome, PoolState, used_cells}
-use Rattle.joint_rule.proofs.Gifts.{stage}
 use Rattle.joint_rule.proofs.Lookups.{cell_at, class_is, lone, mine, name_at, pick_none, pick_self, sound, under_outs, under_stored}
 use Rattle.joint_rule.proofs.Pools.{pick, same_is, same_self, sum_same}
 use Rattle.joint_rule.proofs.Sums.{held_nothing, locals_le, locals_mono, locals_over, row_nothing, total_mono, total_split}
-use Rattle.joint_rule.proofs.Tells.{once}
 use Rattle.joint_rule.specs.Begins.{Begin, image}
 use Rattle.joint_rule.specs.Joint.{IsActor, Joint, Sound}
 use Rattle.joint_rule.specs.Rule.{owed}
 use Rattle.joint_rule.specs.Stages.{IsPinned, MayPin, Names, NoneOf, PinAt, StageBy}
-use Rattle.joint_rule.specs.Weights.{PinWeigh, ahead, at_place, behind, cell_weight, claim_by, claims, each_one, fresh_claim, none, nothing, object_weight, one, out_weight, outs, pinned, same, stored}
+use Rattle.joint_rule.specs.Weights.{PinWeigh, at_place, cell_weight, claim_by, claims, each_one, fresh_claim, none, nothing, object_weight, one, out_weight, outs, pinned, same, stored}
 use Rattle.lock_row.specs.Totals.{by_option, held_sum, locals_sum, mass, row_sum, total}
 use Rattle.lock_row.specs.declared.names.At.{At}
 use Rattle.lock_row.specs.declared.names.At.TheVariants.{Both, Freeing, Giving, Inside, Leaving, Made, Old, Owing, Pinned, Pinning, Ready, Refusing, Seen, Start, Unpinning, Wanting}

@@ -8,7 +8,6 @@ use Rattle.joint_rule.proofs.Gifts.{Gift, give_fails, give_puts, give_reads, giv
 use Rattle.joint_rule.proofs.Objects.{give_charges, give_frees, give_pins, give_quits, give_refused, give_repays, give_stows, give_unpins, limit_refusal, memory_refusal}
 use Rattle.joint_rule.specs.Begins.{Begin, terms}
 use Rattle.joint_rule.specs.Joint.{Joint}
-use Rattle.joint_rule.specs.Weights.{pages}
 use Rattle.lock_row.specs.declared.names.At.{At}
 use Rattle.lock_row.specs.declared.names.At.TheVariants.{Both, Freeing, Giving, Leaving, Made, Pinning, Ready, Refusing, Unpinning}
 use Rattle.lock_row.specs.declared.names.LockNo.{LockNo}

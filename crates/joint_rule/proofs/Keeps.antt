@@ -1,16 +1,13 @@
 -- Each turn keeps the joint rule.
-use Rattle.std.proofs.Common.{◌≡◌, ◌+◌, ◌∷◌, ◌∙◌, ℕ, take, Some, None, slice_get, refl, sym, ap, subst, arith, length-set}
+use Rattle.std.proofs.Common.{◌≡◌, ◌+◌, ◌∷◌, ◌∙◌, ℕ, Some, None, slice_get, refl, sym, ap, arith, length-set}
 use Rattle.joint_rule.proofs.Events.{Event, event_of}
 use Rattle.joint_rule.proofs.Facts.{Known}
 use Rattle.joint_rule.proofs.Gifts.{Gift}
-use Rattle.joint_rule.proofs.Givings.{gift}
-use Rattle.joint_rule.proofs.Lookups.{sound}
 use Rattle.joint_rule.proofs.Sums.{each_give, each_take, gone}
 use Rattle.joint_rule.proofs.Takes.{fits_take}
-use Rattle.joint_rule.specs.Begins.{Begin, found, terms}
+use Rattle.joint_rule.specs.Begins.{Begin, terms}
 use Rattle.joint_rule.specs.Joint.{AtHome, IsActor, Joint}
-use Rattle.joint_rule.specs.Laws.{gives}
-use Rattle.joint_rule.specs.Weights.{ahead, at_place, behind, chains, claims, counters, fixed, fresh_claim, none, nothing, outs, owing, pages, pinned, same, shown, stored}
+use Rattle.joint_rule.specs.Weights.{ahead, at_place, behind, chains, claims, counters, fixed, fresh_claim, none, nothing, outs, owing, pages, pinned, shown, stored}
 use Rattle.lock_row.specs.Machine.{Turn}
 use Rattle.lock_row.specs.Totals.{mass, total}
 use Rattle.lock_row.specs.declared.names.LockNo.{LockNo}
@@ -18,8 +15,6 @@ use Rattle.lock_row.specs.declared.names.Plan.TheVariants.{Take}
 use Rattle.lock_row.specs.declared.names.State.{State}
 use Rattle.page_steps.specs.Givings.{Works}
 use Rattle.page_steps.specs.Steps.{DiskHeld, Here, lock_of, plan, spot, took}
-use Rattle.plain_disk.specs.Calls.{after}
-use Rattle.lock_row.specs.Machine as turn
 
 module _ (g : Begin) (ok : Known g) (w : State DiskHeld) (j : Joint g w) (a : ℕ) (l : Here)
     (who : slice_get w.locals a ≡ Some l) (k : LockNo) (v : DiskHeld) where
@@ -91,12 +86,3 @@ module _ (g : Begin) (ok : Known g) where
       → slice_get w.locals a ≡ Some l
       → (v : DiskHeld) (m : Here) → Works (terms g) l v m → Event g l v m
   event_at w j a l who v m work = event_of g ok l (j.each.in_local a l who).sound v m work
-
-  pub turn_keeps : (a : ℕ) (w n : State DiskHeld) → Joint g w → OneTurn g a w n → Joint g n
-  turn_keeps a w n j (turn.finished l who what e) = subst (Joint g) (sym e) j
-  turn_keeps a w n j (turn.missed l k who what there e) = subst (Joint g) (sym e) j
-  turn_keeps a w n j (turn.taken l k v t) = subst (Joint g) (sym t.after)
-      (take_keeps g ok w j a l t.who k v t.what t.there)
-  turn_keeps a w n j (turn.given l k v m t) = subst (Joint g) (sym t.after)
-      (give_keeps g ok w j a l t.who k v m t.there (gift g ok w j a l t.who k v m t.what
-      (event_at w j a l t.who v m t.work)))

@@ -2,14 +2,13 @@
 use Rattle.std.proofs.Common.{◌≡◌, ◌+◌, ◌*◌, ◌<◌, ◌∙◌, ℕ, Bool, true, List, [], length, sum_by, Option, Some, slice_get, refl, sym, ap, subst, arith}
 use Rattle.class_pool.specs.Pool.{IsPool, PoolState, used_cells}
 use Rattle.class_pool.specs.Zspages.{Cells, use_at}
-use Rattle.joint_rule.proofs.Lookups.{nothing_shown, sound}
+use Rattle.joint_rule.proofs.Lookups.{nothing_shown}
 use Rattle.joint_rule.proofs.Starts.{row_none}
-use Rattle.joint_rule.proofs.Tells.{once}
 use Rattle.joint_rule.specs.Begins.{AreCarried, Begin, content, form_at, form_by, found_after, image}
 use Rattle.joint_rule.specs.Joint.{AtHome}
 use Rattle.joint_rule.specs.Stages.{IsForm, IsSmall}
 use Rattle.joint_rule.specs.Starts.{AtRest, IsNew}
-use Rattle.joint_rule.specs.Weights.{Backs, Count, FailedWrites, FreedPages, HugeWrites, Huges, News, OutOfRange, PackedBytes, Packs, PinWeigh, Refusal, Sames, Weigh, cell_weight, chains, claim_by, claims, counter, counters, measure, names, news_count, news_counter, on_account, out_weight, outs, pages, refusal_count, refusal_counter, refusals, same, shown, stored}
+use Rattle.joint_rule.specs.Weights.{Backs, Count, FailedWrites, FreedPages, HugeWrites, Huges, News, OutOfRange, PackedBytes, Packs, PinWeigh, Refusal, Sames, Weigh, cell_weight, chains, claim_by, claims, counter, counters, measure, names, news_count, news_counter, on_account, out_weight, outs, pages, refusal_count, refusal_counter, shown, stored}
 use Rattle.lock_row.specs.Totals.{row_sum}
 use Rattle.mem_account.specs.Counters.{Counters, no_counts}
 use Rattle.page_steps.specs.Steps.{DiskHeld}

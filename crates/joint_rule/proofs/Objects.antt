@@ -12,13 +12,11 @@ use Rattle.joint_rule.proofs.Lookups.{can_repay, class_is, has_counted, lone, mi
 use Rattle.joint_rule.proofs.Pages.{class_weight, content_page, ever_now, image_form, image_len, kept_small, pooled_weight, put_page}
 use Rattle.joint_rule.proofs.Pools.{Allocates, Swaps, chain_low, fits_less, fits_more, fits_swap}
 use Rattle.joint_rule.proofs.Stages.{made_locks, made_stage, settle_locks, settle_stage, write_blank}
-use Rattle.joint_rule.proofs.Sums.{gone}
 use Rattle.joint_rule.proofs.Takes.{form_claim}
 use Rattle.joint_rule.specs.Begins.{Begin, content, form_at, ground_of, image}
 use Rattle.joint_rule.specs.Joint.{AtHome, EntryFits, Joint, PoolFits, Sound}
-use Rattle.joint_rule.specs.Rule.{owed}
 use Rattle.joint_rule.specs.Stages.{Bears, Changes, FailBy, IsForm, IsObj, IsPinned, IsRefusal, IsRight, IsSmall, IsWrite, Looks, MadeBy, MayFail, MayPin, Names, NoneOf, Stage, locks_at}
-use Rattle.joint_rule.specs.Weights.{Count, HeldAll, Limit, PinWeigh, ahead, at_place, behind, cell_weight, chains, claim_by, claims, counter, counters, each_one, ever_at, fixed, fixed_count, measure, mosts, nothing, outs, pages, pin_in, shown, some_of, stored}
+use Rattle.joint_rule.specs.Weights.{Count, HeldAll, Limit, PinWeigh, at_place, cell_weight, chains, claim_by, claims, counter, counters, each_one, ever_at, fixed, fixed_count, measure, mosts, nothing, outs, pages, pin_in, shown, some_of, stored}
 use Rattle.lock_row.specs.Totals.{by_option, held_sum}
 use Rattle.lock_row.specs.declared.names.At.TheVariants.{Both, Freeing, Giving, Leaving, Made, Owing, Pinning, Ready, Unpinning}
 use Rattle.lock_row.specs.declared.names.LockNo.{LockNo}
@@ -31,15 +29,13 @@ use Rattle.page_steps.specs.Nexts.{emptied, pin_of}
 use Rattle.page_steps.specs.Pages.{next_by, next_form, page_in, page_in_cell}
 use Rattle.page_steps.specs.Pools.{IsNeed}
 use Rattle.page_steps.specs.Steps.{DiskHeld, Here, on, pinned_at, quit_at, settle_at, slot, spot}
-use Rattle.plain_disk.specs.Calls.{kept_as}
 use Rattle.plain_disk.specs.Ends.{IsOfClass, MayWant, page_put}
 use Rattle.plain_disk.specs.Forms.{in_class, is_pooled}
-use Rattle.plain_disk.specs.Phases.{begun}
 use Rattle.slot_entry.specs.Entries.{EntryState, weight_of}
 use Rattle.slot_entry.specs.Forms.{PageForm, Pooled, class_in, form_of, form_weight, object_class, page_kept_as, page_weight}
 use Rattle.slot_entry.specs.declared.kept.Kept.{Kept}
 use Rattle.slot_entry.specs.declared.kept.Stored.{Stored}
-use Rattle.zr_base.specs.Plain.{has_whole, named}
+use Rattle.zr_base.specs.Plain.{has_whole}
 use Rattle.zr_base.specs.declared.op.Op.{Op}
 use Rattle.zr_base.specs.declared.op.Op.TheVariants.{Discard, Read, Write}
 use Rattle.zr_base.specs.declared.op.Stuff.{Stuff}

@@ -6,7 +6,6 @@ use Rattle.call_history.specs.declared.part.Part.{Part}
 use Rattle.joint_rule.proofs.Facts.{Known}
 use Rattle.joint_rule.specs.Begins.{AreCarried, Begin, HasEvent, content, ever, form_at, form_by, found, found_after, image}
 use Rattle.joint_rule.specs.Stages.{Changes, IsForm, IsNothing, IsPooled, IsRight, IsSmall, NoObj}
-use Rattle.joint_rule.specs.Weights.{none}
 use Rattle.mem_account.specs.declared.weight.Weight.{Weight}
 use Rattle.page_steps.specs.Pages.{join, next_by, page_after}
 use Rattle.page_steps.specs.Steps.{on}

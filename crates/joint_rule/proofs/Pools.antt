@@ -5,11 +5,11 @@ use Rattle.class_pool.specs.Pool.{Frees, HasOneMore, IsFresh, IsPlace, IsPool, P
 use Rattle.class_pool.specs.Zspages.{Cells}
 use Rattle.joint_rule.specs.Facts.{Facts}
 use Rattle.joint_rule.specs.Joint.{PoolFits}
-use Rattle.joint_rule.specs.Weights.{cell_weight, names, same, same_pin, same_ptr, stored}
+use Rattle.joint_rule.specs.Weights.{cell_weight, names, same, same_pin, same_ptr}
 use Rattle.lock_row.specs.declared.names.Pin.{Pin}
 use Rattle.page_steps.specs.Pools.{Adds, Drops, IsNeed, Lends, Returns}
 use Rattle.page_steps.specs.Steps.{on}
-use Rattle.plain_disk.specs.Calls.{after, freed}
+use Rattle.plain_disk.specs.Calls.{after}
 use Rattle.size_class.specs.Classes.{chain_of, class_size, per_of, waste}
 use Rattle.slot_entry.specs.Forms.{same_list}
 use Rattle.std.proofs.lemmas.Bool.{and_from, and_parts, cases_Bool, eq-eqb, eqb-true}

@@ -1,9 +1,7 @@
 -- Sectors keep their 512 bytes, whatever the calls, and blank pages their zeros.
 use Rattle.std.proofs.Common.{◌≡◌, ◌+◌, ◌*◌, ◌-◌, ◌/◌, ◌≤◌, ◌<◌, ◌∷◌, ◌∙◌, ◌^◌, ◌%◌, ℕ, zero, suc, true, leb, ltb, List, [], length, drop, sum_by, Option, Some, None, get_or, slice_get, refl, sym, ap, subst, arith, inl, inr, ⊎_elim, length-append}
-use Rattle.bdi_page.specs.Packing.{packed}
 use Rattle.joint_rule.proofs.Ended.{entries, order_is}
 use Rattle.joint_rule.proofs.Facts.{Known}
-use Rattle.joint_rule.proofs.Lookups.{sound}
 use Rattle.joint_rule.proofs.Pages.{blank_zero, holds_after}
 use Rattle.joint_rule.proofs.Ranges.{range_by, range_map, range_none}
 use Rattle.joint_rule.proofs.Rests.{at_rest}
@@ -11,7 +9,6 @@ use Rattle.joint_rule.specs.Begins.{AreCarried, AreRequests, Begin, IsRoomy, IsS
 use Rattle.joint_rule.specs.Ends.{AllFinished, begin_at, new_rest, order_in, orders_of, rest_after, value_at}
 use Rattle.joint_rule.specs.Rule.{Rule}
 use Rattle.joint_rule.specs.Starts.{IsRenewed}
-use Rattle.joint_rule.specs.Weights.{pages, same}
 use Rattle.lock_row.specs.declared.names.State.{State}
 use Rattle.mem_account.specs.Counters.{no_counts}
 use Rattle.mem_account.specs.Tally.{back_of, huge_of, packed_bytes_of, packed_of, same_of}

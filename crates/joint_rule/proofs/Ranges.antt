@@ -1,6 +1,6 @@
 -- Sums over ranges of numbers and over rows.
 use Rattle.std.proofs.Common.{◌≡◌, ◌≢◌, ◌+◌, ◌≤◌, ◌<◌, ◌∷◌, ◌∙◌, ℕ, zero, suc, List, [], map, length, sum_by, Option, None, get_or, refl, sym, ap, arith, inl, inr, zero-add}
-use Rattle.joint_rule.specs.Weights.{behind, none}
+use Rattle.joint_rule.specs.Weights.{behind}
 use Rattle.lock_row.specs.Totals.{by_option, row_sum}
 use Rattle.std.proofs.lemmas.Bool.{cases_eq}
 use Rattle.std.proofs.lemmas.List.Sums.{sum_by-cons}

@@ -1,12 +1,11 @@
 -- The rest that a phase leaves is the one with which the next begins.
 use Rattle.std.proofs.Common.{◌≡◌, ◌+◌, ◌*◌, ◌<◌, ◌∷◌, ◌∙◌, ℕ, zero, suc, List, [], length, Option, Some, None, slice_get, refl, sym, ap, subst, arith}
-use Rattle.joint_rule.proofs.Lookups.{sound}
 use Rattle.joint_rule.proofs.Pages.{content_join, join_same}
 use Rattle.joint_rule.specs.Begins.{AreCarried, Begin, content, form_at, form_by, found_after}
 use Rattle.joint_rule.specs.Joint.{AtHome, PoolFits}
 use Rattle.joint_rule.specs.Stages.{IsForm, IsSmall}
 use Rattle.joint_rule.specs.Starts.{AtRest, IsNextDisk, IsOther, IsRenewed, Matched, Renewed}
-use Rattle.joint_rule.specs.Weights.{Backs, Count, FailedWrites, FreedPages, HugeWrites, Huges, News, OutOfRange, PackedBytes, Packs, Refusal, Sames, Weigh, chains, claim_by, claims, counter, counters, measure, mosts, news_count, news_counter, outs, pages, refusal_count, refusal_counter, refusals, same, shown, stored}
+use Rattle.joint_rule.specs.Weights.{Backs, Count, FailedWrites, FreedPages, HugeWrites, Huges, News, OutOfRange, PackedBytes, Packs, Refusal, Sames, Weigh, chains, claim_by, claims, counter, counters, measure, mosts, news_count, news_counter, outs, pages, refusal_count, refusal_counter, shown, stored}
 use Rattle.lock_row.specs.Totals.{row_sum}
 use Rattle.mem_account.specs.Counters.{Counters}
 use Rattle.page_steps.specs.Steps.{DiskHeld}

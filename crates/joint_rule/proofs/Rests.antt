@@ -1,16 +1,15 @@
 -- What a finished phase leaves is at rest.
 use Rattle.std.proofs.Common.{◌≡◌, ◌≤◌, ◌<◌, ◌∷◌, ◌∙◌, ◌^◌, ℕ, zero, suc, Bool, true, false, List, [], map, length, Option, Some, None, slice_get, refl, ap, subst, arith}
 use Rattle.call_history.specs.declared.part.Part.{Part}
-use Rattle.joint_rule.proofs.Gifts.{locks, stage}
 use Rattle.joint_rule.proofs.Starts.{no_locals, none_first}
 use Rattle.joint_rule.proofs.Sums.{row_nothing}
-use Rattle.joint_rule.specs.Begins.{Begin, found}
+use Rattle.joint_rule.specs.Begins.{Begin}
 use Rattle.joint_rule.specs.Ends.{AllFinished}
 use Rattle.joint_rule.specs.Joint.{IsActor, Joint}
-use Rattle.joint_rule.specs.Rule.{Rule, owed}
+use Rattle.joint_rule.specs.Rule.{Rule}
 use Rattle.joint_rule.specs.Stages.{NoneOf, StageBy, locks_by}
 use Rattle.joint_rule.specs.Starts.{AtRest}
-use Rattle.joint_rule.specs.Weights.{ahead, at_place, behind, chains, claims, counters, fresh_claim, measure, mosts, news_counter, none, nothing, object_weight, outs, owing, pages, pinned, refusal_counter, refusals, shown, stored}
+use Rattle.joint_rule.specs.Weights.{ahead, at_place, behind, chains, claims, counters, fresh_claim, measure, mosts, news_counter, none, nothing, object_weight, outs, owing, pages, pinned, refusal_counter, shown, stored}
 use Rattle.lock_row.specs.Totals.{by_option, row_sum, total}
 use Rattle.lock_row.specs.declared.names.At.{At}
 use Rattle.lock_row.specs.declared.names.At.TheVariants.{Both, Freeing, Giving, Inside, Leaving, Made, Old, Owing, Pinned, Pinning, Ready, Refusing, Seen, Start, Unpinning, Wanting}

@@ -5,12 +5,11 @@ use Rattle.call_history.specs.declared.part.Done.{Done}
 use Rattle.call_history.specs.declared.part.Part.{Part}
 use Rattle.call_history.specs.declared.part.PartEnd.{PartEnd}
 use Rattle.joint_rule.proofs.Facts.{Known}
-use Rattle.joint_rule.proofs.Gifts.{locks, stage, start_locks, start_stage}
-use Rattle.joint_rule.proofs.Lookups.{sound}
+use Rattle.joint_rule.proofs.Gifts.{start_locks, start_stage}
 use Rattle.joint_rule.proofs.Pages.{content_sector}
 use Rattle.joint_rule.proofs.Sums.{row_nothing}
 use Rattle.joint_rule.proofs.Takes.{IsAccount, account_kind}
-use Rattle.joint_rule.specs.Begins.{Begin, found, ground_of, pieces_each, pieces_on}
+use Rattle.joint_rule.specs.Begins.{Begin, ground_of, pieces_each, pieces_on}
 use Rattle.joint_rule.specs.Joint.{AtHome, IsActor, Joint, Sound}
 use Rattle.joint_rule.specs.Rule.{FailKeeps, OfOrder, Rule, ShowsOrder, done_by, dones, owed, owed_by, reach_at}
 use Rattle.joint_rule.specs.Stages.{StageBy, locks_by}
@@ -26,8 +25,7 @@ use Rattle.lock_row.specs.declared.names.State.{State}
 use Rattle.mem_account.specs.Counters.{Counters, at_most_end}
 use Rattle.mem_account.specs.declared.weight.Weight.{Weight}
 use Rattle.page_steps.specs.Pages.{new_class}
-use Rattle.page_steps.specs.Steps.{DiskHeld, Here, class_by, entry_in, on, spot}
-use Rattle.zr_base.specs.Plain.{named}
+use Rattle.page_steps.specs.Steps.{DiskHeld, Here, class_by, entry_in, spot}
 use Rattle.zr_base.specs.declared.op.Op.{Op}
 use Rattle.zr_base.specs.declared.op.Tag.{Tag}
 use Rattle.lock_row.specs.declared.names.Held.TheVariants as holds

@@ -1,6 +1,6 @@
 -- Totals over a row and its actors, and what they tell of a value that one actor holds.
 use Rattle.std.proofs.Common.{◌≡◌, ◌≢◌, ◌+◌, ◌≤◌, ◌<◌, ◌∷◌, ◌∙◌, ◌⊎◌, ℕ, zero, suc, List, [], Option, Some, None, slice_get, slice_set, refl, sym, ap, subst, arith, inl, inr, ⊎_elim}
-use Rattle.joint_rule.specs.Weights.{Each, HeldAll, none, nothing, same}
+use Rattle.joint_rule.specs.Weights.{Each, HeldAll, none, nothing}
 use Rattle.lock_row.specs.Totals.{by_option, held_sum, locals_sum, mass, row_sum, total}
 use Rattle.lock_row.specs.declared.names.LockNo.{LockNo}
 use Rattle.lock_row.specs.declared.names.State.{State}
@@ -131,13 +131,6 @@ module _ (size : ℕ) where
       (λ b m e h. let y = held_zero P p f u m.held (all b m e) (omega arith) in
       omega arith) (omega arith) in omega arith
 
-  -- what an actor holds alone isn't at home
-  pub not_home : (p : ℕ → DiskHeld → ℕ) (w : State DiskHeld) (a : ℕ) (l : Here)
-      → slice_get w.locals a ≡ Some l → total (spot size) p none w ≤ held_sum (spot size) p l.held
-      → (j : ℕ) (v : DiskHeld) → slice_get w.row j ≡ Some (Some v) → p j v ≡ 0
-  not_home p w a l who z j v e = let g = locals_le (mass (spot size) p none) w.locals a l who in
-      let h = row_le p w.row j (Some v) e in omega arith
-
   -- a total (spot size) above zero has a cause
   by_head : (g : Here → ℕ) (x : Here) (xs : List (Here)) (n : ℕ) → g x ≡ n
       → 0 < g x + locals_sum g xs → (0 < locals_sum g xs
@@ -194,22 +187,6 @@ module _ (size : ℕ) where
   held_mono P p f u [] all = omega arith
   held_mono P p f u (x ∷ xs) all = let h = u (spot size x.0) x.1 all.0 in
       let r = held_mono P p f u xs all.1 in omega arith
-
-  -- an order of weights of each value and of each actor is one of the totals; where an actor is
-  -- under it, so are the totals
-  pub total_over : (P : ℕ → DiskHeld → Type 0) (p f : ℕ → DiskHeld → ℕ) (g h : Here → ℕ)
-      → ((j : ℕ) (v : DiskHeld) → P j v → p j v ≤ f j v) → (w : State DiskHeld)
-      → ((j : ℕ) (v : DiskHeld) → slice_get w.row j ≡ Some (Some v) → P j v)
-      → ((b : ℕ) (m : Here) → slice_get w.locals b ≡ Some m → HeldAll size P m.held)
-      → ((b : ℕ) (m : Here) → slice_get w.locals b ≡ Some m → g m ≤ h m)
-      → (a : ℕ) (l : Here) → slice_get w.locals a ≡ Some l
-      → total (spot size) p g w + mass (spot size) f h l
-      ≤ total (spot size) f h w + mass (spot size) p g l
-  total_over P p f g h u w at all each a l who =
-      let r = row_mono P p f u w.row at in
-      let s = locals_over (mass (spot size) p g) (mass (spot size) f h) w.locals
-      (λ b m e. let x = held_mono P p f u m.held (all b m e) in let y = each b m e in
-      omega arith) a l who in omega arith
 
   pub total_mono : (P : ℕ → DiskHeld → Type 0) (p f : ℕ → DiskHeld → ℕ)
       → ((j : ℕ) (v : DiskHeld) → P j v → p j v ≤ f j v) → (w : State DiskHeld)

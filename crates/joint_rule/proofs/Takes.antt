@@ -4,14 +4,13 @@ use Rattle.call_history.specs.Parts.{EndsSo, Follows, program}
 use Rattle.call_history.specs.declared.part.Part.{Part}
 use Rattle.call_history.specs.declared.part.PartEnd.{PartEnd}
 use Rattle.joint_rule.proofs.Facts.{Known}
-use Rattle.joint_rule.proofs.Lookups.{none_weight, nothing_shown, sound}
+use Rattle.joint_rule.proofs.Lookups.{none_weight, nothing_shown}
 use Rattle.joint_rule.proofs.Pages.{blank_empty, blank_some, ever_now, form_low, plain_right}
 use Rattle.joint_rule.proofs.Stages.{OnDisk, made_locks, made_stage, may_none, old_low, on_disk, settle_locks, settle_stage}
 use Rattle.joint_rule.specs.Begins.{Begin, content, form_at, found_after, ground_of, image, terms}
 use Rattle.joint_rule.specs.Joint.{AtHome, EntryFits, IsActor, Sound, Stands}
-use Rattle.joint_rule.specs.Rule.{owed}
 use Rattle.joint_rule.specs.Stages.{Bears, BlankAt, BlankBy, Changes, FailBy, IsForm, IsNothing, IsObj, IsRight, IsSmall, IsWrite, Looks, NoObj, NoneOf, Stage, StageBy, WasBlank, locks_at, locks_by}
-use Rattle.joint_rule.specs.Weights.{ahead, behind, claim_by, claims, each_one, ever_at, measure}
+use Rattle.joint_rule.specs.Weights.{claim_by, claims, each_one, ever_at, measure}
 use Rattle.lock_row.specs.declared.names.At.{At}
 use Rattle.lock_row.specs.declared.names.At.TheVariants.{Both, Freeing, Giving, Inside, Leaving, Made, Old, Owing, Pinned, Pinning, Ready, Refusing, Seen, Start, Unpinning, Wanting}
 use Rattle.lock_row.specs.declared.names.LockNo.{LockNo}
@@ -21,12 +20,11 @@ use Rattle.lock_row.specs.declared.names.Plan.TheVariants.{Take}
 use Rattle.mem_account.specs.declared.weight.Weight.{Weight}
 use Rattle.page_steps.specs.Pages.{new_class, next_by, next_form, page_in}
 use Rattle.page_steps.specs.Steps.{DiskHeld, Here, after_take, begun_at, class_by, discard_at, entered_at, entry_in, entry_or, lock_of, made_at, part_at, plan, plan_at, plan_by, seen_at, settle_at, slot, spot, start_plan, taken_at, took, write_at}
-use Rattle.plain_disk.specs.Phases.{begun}
 use Rattle.slot_entry.specs.Entries.{EntryState, weight_of}
 use Rattle.slot_entry.specs.Forms.{Blank, PageForm, Pooled, Word, class_in, form_weight, pooled}
 use Rattle.slot_entry.specs.declared.kept.Kept.{Kept}
 use Rattle.std.specs.Prelude.{⊤}
-use Rattle.zr_base.specs.Plain.{has_whole, is_beyond, named}
+use Rattle.zr_base.specs.Plain.{has_whole, is_beyond}
 use Rattle.zr_base.specs.declared.op.Op.{Op}
 use Rattle.zr_base.specs.declared.op.Op.TheVariants.{Discard, Read, Write}
 use Rattle.zr_base.specs.declared.op.Stuff.{Stuff}

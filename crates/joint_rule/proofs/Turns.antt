@@ -1,5 +1,5 @@
 -- Each turn keeps the rule.
-use Rattle.std.proofs.Common.{◌≡◌, ◌*◌, ◌≤◌, ◌<◌, ◌∷◌, ◌++◌, ◌⊎◌, ℕ, zero, suc, List, [], take, Option, Some, None, slice_get, slice_set, refl, sym, ap, subst, arith, inl, inr, ⊎_elim}
+use Rattle.std.proofs.Common.{◌≡◌, ◌*◌, ◌≤◌, ◌<◌, ◌∷◌, ◌++◌, ◌⊎◌, ℕ, zero, suc, List, [], Option, Some, None, slice_get, slice_set, refl, sym, ap, subst, arith, inl, inr, ⊎_elim}
 use Rattle.call_history.specs.Parts.{KeepsTo}
 use Rattle.call_history.specs.declared.part.Done.{Done}
 use Rattle.call_history.specs.declared.part.Part.{Part}
@@ -14,7 +14,7 @@ use Rattle.joint_rule.proofs.Facts.{Known}
 use Rattle.joint_rule.proofs.Gifts.{stage}
 use Rattle.joint_rule.proofs.Givings.{gift}
 use Rattle.joint_rule.proofs.Keeps.{OneTurn, event_at, give_keeps, take_keeps}
-use Rattle.joint_rule.proofs.Lookups.{lone, mine_account, sound, under_account}
+use Rattle.joint_rule.proofs.Lookups.{lone, mine_account, under_account}
 use Rattle.joint_rule.proofs.News.{news_give, news_gives, news_take}
 use Rattle.joint_rule.proofs.Pages.{ever_now}
 use Rattle.joint_rule.proofs.Pools.{chain_low}
@@ -24,7 +24,7 @@ use Rattle.joint_rule.proofs.Tells.{tells_of, told_give, told_take}
 use Rattle.joint_rule.specs.Begins.{Begin, form_at, ground_of, image, terms}
 use Rattle.joint_rule.specs.Joint.{Joint, PoolFits, Sound}
 use Rattle.joint_rule.specs.Rule.{FailKeeps, KeepsLimits, Rule, ShowsOrder, reach_at}
-use Rattle.joint_rule.specs.Weights.{HeldAll, claims, each_one, ever_at, one, pages, refusals, same, some_of}
+use Rattle.joint_rule.specs.Weights.{HeldAll, claims, each_one, ever_at, one, pages, some_of}
 use Rattle.lock_row.specs.Machine.{Run}
 use Rattle.lock_row.specs.Totals.{held_sum}
 use Rattle.lock_row.specs.declared.names.At.TheVariants.{Both}
@@ -35,9 +35,7 @@ use Rattle.mem_account.specs.Counters.{Counters, IsPastLimit}
 use Rattle.page_steps.specs.Givings.{Works}
 use Rattle.page_steps.specs.Pools.{IsNeed}
 use Rattle.page_steps.specs.Steps.{DiskHeld, Here, lock_of, piece_over, plan, slot, spot, took}
-use Rattle.plain_disk.specs.Calls.{after}
 use Rattle.plain_disk.specs.Ends.{Bounds}
-use Rattle.plain_disk.specs.Phases.{reach}
 use Rattle.slot_entry.specs.Entries.{EntryState}
 use Rattle.joint_rule.proofs.Events as event
 use Rattle.lock_row.specs.declared.names.LockNo.TheVariants as lock

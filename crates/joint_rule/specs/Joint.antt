@@ -1,6 +1,6 @@
 -- The joint rule of pages, pools and the account: what each value and each actor is, and the sums
 -- over them all.
-use Rattle.std.specs.Prelude.{◌≡◌, ℕ, ◌+◌, ◌<◌, ◌≤◌, List, [], ◌∷◌, map, length, sum_by, Some, slice_get, ⊤}
+use Rattle.std.specs.Prelude.{◌≡◌, ℕ, ◌+◌, ◌<◌, ◌≤◌, List, map, length, sum_by, Some, slice_get, ⊤}
 use Rattle.zr_base.specs.declared.op.Op.{Op}
 use Rattle.size_class.specs.Classes.{class_size, chain_of, per_of}
 use Rattle.class_pool.specs.Pool.{PoolState, used_cells, IsPool}

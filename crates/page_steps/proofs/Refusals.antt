@@ -304,7 +304,7 @@ never_late t [] l late refused = refused
 never_late t (Takes v ∷ es) l late (k, what, refused) =
     never_late t es (took t l v)
     (late_take t.size l.todo l.at l.page (entry_or v (entry_in l.held)).kept l.fail late) refused
-never_late t (Gives v m ∷ []) l late (k, what, works, d, done, refused) =
+never_late t (Gives v m ∷ []) l late (k, what, works, (d, done, refused)) =
     elim (late_step t l v m works late) [
       | inl goes ↦ one_more l.done m.done d goes.1 done
       | inr other ↦ other.2 (subst (λ (y : Done). IsRefusedEnd y.end)
@@ -324,7 +324,7 @@ gives_back t (Takes v ∷ es) l early (k, what, refused) =
       | inl soon ↦ gives_back t es (took t l v) soon refused
       | inr late ↦ absurd (never_late t es (took t l v) late refused)
     ]
-gives_back t (Gives v m ∷ []) l early (k, what, works, d, done, refused) =
+gives_back t (Gives v m ∷ []) l early (k, what, works, (d, done, refused)) =
     elim (early_step t l v m works early) [
       | stays last held soon ↦ (last, held, tt)
       | passes late same ↦ absurd (one_more l.done m.done d same done)

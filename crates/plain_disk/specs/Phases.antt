@@ -51,8 +51,8 @@ abbrev pub begun : Rest → List (List Op) → Given
 begun r actors = record { size = r.size; actors = actors; before = r.holds }
 
 -- what its ends are measured by from its start on
-abbrev pub ground : (List ℕ → Weight) → Rest → Ground
-ground form r =
+abbrev pub phase_ground : (List ℕ → Weight) → Rest → Ground
+phase_ground form r =
     record { form = form; size = r.size; chain = r.set.chain; limit = r.set.limit }
 
 -- the pages that are in the pool before the phase or after some first calls of their orders
@@ -127,7 +127,7 @@ pub record IsPhase (form : List ℕ → Weight) (r : Rest) (actors : List (List 
     (lines : List OutLine) (m : Rest) : Type 0 where
   pub ends : List (List OpEnd)
   pub orders : List (List Tag)
-  pub may : MayEndEach (ground form r) (bounds form r actors orders) 0 actors ends
+  pub may : MayEndEach (phase_ground form r) (bounds form r actors orders) 0 actors ends
   pub every_page : length orders ≡ r.size
   pub each : (p : ℕ) → p < r.size → IsOrder actors ends p (nth_order orders p)
   pub lines_are : lines ≡ phase_lines ends (due (begun r actors) orders 0 actors ends) orders

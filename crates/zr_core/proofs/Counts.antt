@@ -13,7 +13,7 @@ use Rattle.joint_rule.specs.Begins.{piece_on, pieces_on, pieces_each}
 module _ (size page : ℕ) where
   on_append : (xs ys : List Part)
       → pieces_on size page (xs ++ ys) ≡ pieces_on size page xs + pieces_on size page ys
-  on_append [] ys = refl
+  on_append [] ys = omega arith
   on_append (x ∷ xs) ys = let q = on_append xs ys in omega arith
 
   at_most_one : (p : Part) → piece_on size page p ≤ 1

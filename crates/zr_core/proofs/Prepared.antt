@@ -14,7 +14,7 @@ use Rattle.slot_entry.specs.Entries.{EntryState}
 use Rattle.page_steps.specs.Steps.{Terms, DiskHeld, Here}
 use Rattle.actor_steps.specs.declared.worker.Worker.{Worker}
 use Rattle.actor_steps.specs.Counts.{count_at, pieces_each as counted_each}
-use Rattle.actor_steps.specs.New.{AreNewWorkers}
+use Rattle.actor_steps.specs.Preparing.{AreNewWorkers}
 use Rattle.actor_steps.specs.Places.{IsWork, todo_at}
 use Rattle.actor_steps.specs.Workers.{here, stage_of, Keeps}
 use Rattle.page_steps.specs.Calls.{at_of, held_of, fresh_of, cell_in, owed_of, ahead_of, behind_of, page_of, fail_of}
@@ -324,7 +324,7 @@ module _ (t : Terms) (actors : List (List Op)) (cells cells' : Row) (ws : List W
     each = λ a w done e f. subst (Keeps w) (sym (none_over ws a done f))
         (let ops = there_is actors a
         (let q = slice_get_within ws a w e in let n = new.count in omega arith) in
-        (new.each t.clock a ops.0 w ops.1 e).keeps);
+        (new.each a ops.0 w ops.1 e).keeps);
   }
 
   orders : (k : ℕ) (e : EntryState) → slice_get cells' k ≡ Some (Some (holds.Slot e))
@@ -336,7 +336,7 @@ module _ (t : Terms) (actors : List (List Op)) (cells cells' : Row) (ws : List W
         subst (λ (x : EntryState). (x.order ≡ []) × (owed t.size locals k ≤ x.room)) q (
           p.order refl,
           (let o = owed_is t k actors ws new.count
-              (λ a ops w named there. (new.each t.clock a ops w named there).todo) in
+              (λ a ops w named there. (new.each a ops w named there).todo) in
               let m = counted k lt in
               let s = each_same t.size actors k in let room = p.room refl in omega arith),
         ))
@@ -346,7 +346,7 @@ module _ (t : Terms) (actors : List (List Op)) (cells cells' : Row) (ws : List W
   begin : (a : ℕ) (l : Here) → slice_get locals a ≡ Some l → Begins t.size actors a l
   begin a l e =
       let h = here_at t actors ws a l e in
-      let w = new.each t.clock a h.ops h.worker h.named h.there in
+      let w = new.each a h.ops h.worker h.named h.there in
       subst (Begins t.size actors a) (sym h.is) record {
         who = w.who;
         ops = h.ops;
@@ -416,7 +416,7 @@ module _ (t : Terms) (actors : List (List Op)) (cells cells' : Row) (ws : List W
     fit = record {
       count = new.count;
       each =
-          λ a ops w named there. (new.each t.clock a ops w named there).fit;
+          λ a ops w named there. (new.each a ops w named there).fit t.clock;
     };
     pieces = record {
       listed = c.listed;

@@ -22,7 +22,7 @@ use Rattle.joint_rule.specs.Starts.{AtRest, Renewed, slots, accounts, stays, IsS
 use Rattle.zr_core.specs.Machines.{AllFinished, order_in, order_at, without_calls, without_orders, IsKept, KeepsValues, IsSetUp}
 use Rattle.zr_core.specs.declared.limits.TheConstants.{MOST_CHAIN}
 use Rattle.zr_core.specs.Noted.{HasAllOrders}
-use Rattle.zr_core.specs.Rests.{HasEntries, RestsAs, IsAtRest, begun, with_limit, left, touched_in, account_in}
+use Rattle.zr_core.specs.Rests.{HasEntries, RestsAs, IsAtRest, begun, with_limit, left, touched_in, account_in, account_of}
 use Rattle.zr_core.proofs.Lists.{get_here, get_else}
 use Rattle.zr_core.proofs.Blanks.{leaves_proper}
 use Rattle.zr_core.proofs.Matches.{Row, IsWhole, matched, emptied_long, emptied_at, was_at, was_whole, rows_same, order_is}
@@ -308,6 +308,13 @@ module _ (g : Begin) (pages : ℕ) (cells : Row) (rests : RestsAs g pages cells)
       account = limited_at;
     }
 
+-- the account of a disk with pages
+pub account_some : (limit pages : ℕ) (cells : Row) → 1 ≤ pages
+    → account_of limit pages cells
+    ≡ account_in (record no_counts { limit = limit }) (get_or cells (pages + 255) None)
+account_some limit zero cells some = absurd (omega arith)
+account_some limit (suc n) cells some = refl
+
 -- ---- a phase ends
 
 module _ (g : Begin) (w : State DiskHeld) (proper : Proper g) (rule : Rule g w)
@@ -319,12 +326,12 @@ module _ (g : Begin) (w : State DiskHeld) (proper : Proper g) (rule : Rule g w)
       (class_by (entry_in l.held).kept) (new_class g.chain ps l.page (entry_in l.held).kept))
       (finished a l who))
 
-  abbrev new : Begin
-  new = left g w.row
+  abbrev gone : Begin
+  gone = left g w.row
 
-  renewed : (j : ℕ) (v : DiskHeld) → slice_get w.row j ≡ Some (Some v)
-      → Renewed g new j v (without_calls v)
-  renewed j (holds.Slot e) at =
+  gone_at : (j : ℕ) (v : DiskHeld) → slice_get w.row j ≡ Some (Some v)
+      → Renewed g gone j v (without_calls v)
+  gone_at j (holds.Slot e) at =
       let order = order_is w.row j e at in
       slots e (record { kept = e.kept; order = []; room = 0; touched = e.touched }) refl refl record {
         kept = refl;
@@ -335,10 +342,10 @@ module _ (g : Begin) (w : State DiskHeld) (proper : Proper g) (rule : Rule g w)
         before = λ k lt. ap (λ (o : List Tag). held_after g.given o (8 * j + k))
             (ap (order_at w.row) (let q : (8 * j + k) / 8 ≡ j = omega arith in q) ∙ order);
       }
-  renewed j (holds.Class q) at = stays tt refl
-  renewed j (holds.Account c) at = accounts c c refl refl refl
-  renewed j (holds.Blocks x) at = stays tt refl
-  renewed j (holds.Device x) at = stays tt refl
+  gone_at j (holds.Class q) at = stays tt refl
+  gone_at j (holds.Account c) at = accounts c c refl refl refl
+  gone_at j (holds.Blocks x) at = stays tt refl
+  gone_at j (holds.Device x) at = stays tt refl
 
   carried : (p : ℕ) → AreCarried g p (order_at w.row p)
   carried p = by (slice_get w.row p) refl where
@@ -360,7 +367,7 @@ module _ (g : Begin) (w : State DiskHeld) (proper : Proper g) (rule : Rule g w)
     by (Some c) is = subst (λ (d : Option DiskHeld). AreCarried g p (order_in d))
         (sym (get_or_from_slice_get w.row p c None is)) (by_cell c is)
 
-  pub left_rests : RestsAs new g.given.size w.row
+  pub left_rests : RestsAs gone g.given.size w.row
   left_rests =
       let a = account_there g w.row ends in record {
         size = refl;
@@ -368,14 +375,15 @@ module _ (g : Begin) (w : State DiskHeld) (proper : Proper g) (rule : Rule g w)
         most = most;
         none = refl;
         chain = chain;
-        proper = leaves_proper law g proper new (order_at w.row) refl refl refl carried
+        proper = leaves_proper law g proper gone (order_at w.row) refl refl refl carried
             (λ p. refl) (λ s. refl);
-        row = next g new w.row (without_orders w.row) record { size = refl; chain = refl }
-            (matched (Renewed g new) w.row (without_orders w.row) (emptied_long w.row) ends.whole
-            (λ k v at. (without_calls v, emptied_at w.row k (Some v) at, renewed k v at)))
+        row = next g gone w.row (without_orders w.row) record { size = refl; chain = refl }
+            (matched (Renewed g gone) w.row (without_orders w.row) (emptied_long w.row) ends.whole
+            (λ k v at. (without_calls v, emptied_at w.row k (Some v) at, gone_at k v at)))
             ends;
         account = a.1 ∙ ap (λ (c : Counters). Some (Some (holds.Account c)))
-            (sym (ap (account_in (record no_counts { limit = g.was.limit }))
+            (sym (account_some g.was.limit g.given.size w.row some
+            ∙ ap (account_in (record no_counts { limit = g.was.limit }))
             (get_or_from_slice_get w.row (g.given.size + 255) (Some (holds.Account a.0)) None a.1)));
       }
 

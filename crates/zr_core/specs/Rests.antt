@@ -52,8 +52,9 @@ account_in c (Some (holds.Device x)) = c
 
 -- the account of a disk with this limit; before the disk's size is given all but the limit is 0
 abbrev pub account_of : ℕ → ℕ → List (Option DiskHeld) → Counters
-account_of limit pages cells =
-    account_in (record no_counts { limit = limit }) (get_or cells (pages + 255) None)
+account_of limit zero cells = record no_counts { limit = limit }
+account_of limit (suc n) cells =
+    account_in (record no_counts { limit = limit }) (get_or cells (suc n + 255) None)
 
 -- the pool in a place of the row, if it has one
 abbrev pub pool_in : Option DiskHeld → Option PoolState
@@ -66,8 +67,9 @@ pool_in (Some (holds.Device x)) = None
 
 -- the pool of a class, if the disk has one
 abbrev pub pool_of : ℕ → List (Option DiskHeld) → ℕ → Option PoolState
-pool_of pages cells class =
-    if nat_lt class 255 then pool_in (get_or cells (pages + class) None) else None
+pool_of zero cells class = None
+pool_of (suc n) cells class =
+    if nat_lt class 255 then pool_in (get_or cells (suc n + class) None) else None
 
 -- ---- between two phases
 

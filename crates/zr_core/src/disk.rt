@@ -8,9 +8,9 @@ ghost use Rattle.joint_rule.specs.Begins.{Begin};
 ghost use Rattle.zr_core.specs.Rests.{names_by, IsAtRest, RestsAs, new_disk, with_limit};
 ghost use Rattle.zr_core.specs.Rows.{AreNew};
 
-use crate::row::{account_of, entry_in, new_row};
+use crate::row::{entry_in, limit_account, new_row};
 use joint_rule::{disks_begin, phases_go_on};
-use lock_row::{Hand, Held, LockNo, SimRow, Still, names_have_places};
+use lock_row::{LockNo, SimRow, names_have_places};
 use page_steps::DiskHeld;
 use slot_entry::Entry;
 use std::alloc::{AllocError, Global};
@@ -63,7 +63,8 @@ impl World {
             × (self.new.noted.items ≡ self.old.noted.items)) }
     {
         disks_begin();
-        self.row = new_row(self.alloc, pages, self.limit)?;
+        let row = new_row(self.alloc, pages, self.limit)?;
+        self.row = row;
         self.pages = pages;
         self.noted.clear();
         Ok(())
@@ -92,16 +93,11 @@ impl World {
             → RestsAs (with_limit g pages) self.new.pages self.new.row.cells }
     {
         phases_go_on();
-        names_have_places();
-        if self.pages > 0 {
-            let mut hand = self.row.hand(0);
-            let Some(value) = hand.try_take::<Still>(LockNo::Account) else {
-                unreachable!()
-            };
-            let mut account = account_of(value);
-            account.set_limit(pages);
-            hand.give::<Still>(LockNo::Account, Held::Account(account));
+        if self.pages == 0 {
+            self.limit = pages;
+            return;
         }
+        limit_account(&mut self.row, self.pages, pages);
         self.limit = pages;
     }
 

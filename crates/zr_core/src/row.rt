@@ -1,16 +1,16 @@
 //! The row of a new disk, and the values of a row.
 
-ghost use Rattle.std.specs.Prelude.{◌≡◌, ℕ, ◌+◌, ◌<◌, ◌≤◌, ◌^◌, [], ◌++◌, OnOk, IfOk, Some, slice_get};
+ghost use Rattle.std.specs.Prelude.{◌≡◌, ℕ, ◌+◌, ◌<◌, ◌≤◌, ◌^◌, [], ◌++◌, OnOk, IfOk, Some, slice_get, slice_set};
 ghost use Rattle.zr_base.specs.declared.limits.TheConstants.{MOST_PAGES};
 ghost use Rattle.mem_account.specs.Counters.{Counters, no_counts};
 ghost use Rattle.lock_row.specs.declared.names.Held.TheVariants as holds;
 ghost use Rattle.slot_entry.specs.Entries.{EntryState};
-ghost use Rattle.zr_core.specs.Rests.{slots_of, classes_of, names_of, new_disk};
+ghost use Rattle.zr_core.specs.Rests.{slots_of, classes_of, names_of, names_by, new_disk};
 ghost use Rattle.zr_core.specs.Rows.{AreNew};
 
 use crate::limits::MOST_CHAIN;
 use class_pool::ClassPool;
-use lock_row::{Held, LockNo, SimRow};
+use lock_row::{Hand, Held, LockNo, SimRow, Still, names_have_places};
 use mem_account::Account;
 use page_steps::DiskHeld;
 use size_class::{CLASSES, ClassTable, size};
@@ -121,4 +121,25 @@ pub(crate) fn account_of(value: DiskHeld) -> Account
         Held::Account(account) => account,
         _ => unreachable!(),
     }
+}
+
+/// Sets the limit of a disk's account, which is at home.
+pub(crate) fn limit_account(row: &mut SimRow<DiskHeld>, size: u32, limit: u64)
+    requires names { row.old.names ≡ names_by size }
+    requires some { 1 ≤ size }
+    requires small { limit < 2 ^ 52 }
+    requires home { (c : Counters) × (slice_get row.old.cells (size + 255) ≡ Some (Some (holds.Account c))) }
+    ensures names { row.new.names ≡ row.old.names }
+    ensures cells { (c : Counters) → slice_get row.old.cells (size + 255) ≡ Some (Some (holds.Account c))
+        → row.new.cells ≡ slice_set row.old.cells (size + 255)
+        (Some (holds.Account (record c { limit = limit }))) }
+{
+    names_have_places();
+    let mut hand = row.hand(0);
+    let Some(value) = hand.try_take::<Still>(LockNo::Account) else {
+        unreachable!()
+    };
+    let mut account = account_of(value);
+    account.set_limit(limit);
+    hand.give::<Still>(LockNo::Account, Held::Account(account));
 }

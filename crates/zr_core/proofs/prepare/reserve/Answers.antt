@@ -36,9 +36,9 @@ unreachable-requires c =
     ∙ c.in_default.ensures.outcome.2.out)
 
 -- the slot's value was at home
-pub entry_of-requires : goal.entry_of-requires
-entry_of-requires c =
-    let a = (goal.at.entry_of-requires c).After-hand-hand in
+pub entry_of-entry-requires : goal.entry_of-entry-requires
+entry_of-entry-requires c =
+    let a = (goal.at.entry_of-entry-requires c).After-hand-hand in
     let e = entry_at a in (
       e.0,
       (let q : Some (Some c.in-Some.value) ≡ Some (Some (holds.Slot e.0)) =

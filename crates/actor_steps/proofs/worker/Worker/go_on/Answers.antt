@@ -5,7 +5,7 @@ use Rattle.actor_steps.specs.Workers.{terms_of, with_call, IsFit, Advanced}
 use Rattle.actor_steps.specs.declared.worker.Turn.TheVariants as turn
 use Rattle.actor_steps.proofs.Places.{there_is}
 use Rattle.actor_steps.proofs.Turns.{gone_on, call_allows, goes_on, still_fit}
-use Rattle.actor_steps.proofs.Overs.{can_finish, ends_fit, ends_turn}
+use Rattle.actor_steps.proofs.Overs.{ends_as, can_finish, ends_fit, ends_turn}
 use Rattle.actor_steps.proofs.worker.Worker.go_on.Goals as goal
 
 pub calls_are_events-requires : goal.calls_are_events-requires
@@ -32,7 +32,9 @@ finish-requires g c =
     let op = there_is c.args.ops.now c.args.self.now.place.nr c.requires.more in
     can_finish (terms_of c.args.size c.args.now c.args.self.now) c.args.ops.now c.args.self.now
     c.args.call c.requires.fit op.0 op.1 c.requires.more c.advance.new.scratch c.in-Done.end
-    c.in-Done.ensures.ends
+    (ends_as (terms_of c.args.size c.args.now c.args.self.now) c.args.ops.now c.args.self.now
+    c.args.call c.requires.fit op.0 op.1 g.H.Hand.takes g.H.Hand.misses g.H.Hand.gives
+    c.args.hand.now c.advance.new.hand c.advance.new.scratch c.in-Done.end c.in-Done.ensures.turn)
 
 pub returns-in-Moved-clause-fit : goal.returns-in-Moved-clause-fit
 returns-in-Moved-clause-fit g c =
@@ -86,7 +88,9 @@ returns-in-Done-clause-fit g c =
     let op = there_is c.args.ops.now c.args.self.now.place.nr c.requires.more in
     ends_fit (terms_of c.args.size c.args.now c.args.self.now) c.args.ops.now c.args.self.now
     c.args.call c.requires.fit op.0 op.1 c.requires.more c.advance.new.scratch c.in-Done.end
-    c.in-Done.ensures.ends c.requires.none c.finish.new.self c.finish.ensures
+    (ends_as (terms_of c.args.size c.args.now c.args.self.now) c.args.ops.now c.args.self.now
+    c.args.call c.requires.fit op.0 op.1 g.H.Hand.takes g.H.Hand.misses g.H.Hand.gives
+    c.args.hand.now c.advance.new.hand c.advance.new.scratch c.in-Done.end c.in-Done.ensures.turn) c.requires.none c.finish.new.self c.finish.ensures
     c.in-Done.ensures.table
 
 pub returns-in-Done-clause-turn : goal.returns-in-Done-clause-turn
@@ -94,6 +98,8 @@ returns-in-Done-clause-turn g c done keeps =
     let op = there_is c.args.ops.now c.args.self.now.place.nr c.requires.more in
     ends_turn (terms_of c.args.size c.args.now c.args.self.now) c.args.ops.now c.args.self.now
     c.args.call c.requires.fit op.0 op.1 c.requires.more c.advance.new.scratch c.in-Done.end
-    c.in-Done.ensures.ends c.requires.none c.finish.new.self c.finish.ensures
+    (ends_as (terms_of c.args.size c.args.now c.args.self.now) c.args.ops.now c.args.self.now
+    c.args.call c.requires.fit op.0 op.1 g.H.Hand.takes g.H.Hand.misses g.H.Hand.gives
+    c.args.hand.now c.advance.new.hand c.advance.new.scratch c.in-Done.end c.in-Done.ensures.turn) c.requires.none c.finish.new.self c.finish.ensures
     c.histories_go_on.ensures.got done keeps g.H.Hand.takes g.H.Hand.misses g.H.Hand.gives
     c.args.hand.now c.advance.new.hand c.in-Done.ensures.turn

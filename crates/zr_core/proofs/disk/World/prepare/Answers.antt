@@ -9,19 +9,10 @@ use Rattle.zr_core.proofs.Rests.{rests_on}
 use Rattle.zr_core.proofs.disk.World.prepare.Goals as goal
 use Rattle.zr_core.proofs.disk.World.prepare.Goals.{After-reserve_all}
 
-pub rule_keeps-requires : goal.rule_keeps-requires
-rule_keeps-requires c = ?
-
-pub phases_go_on-requires : goal.phases_go_on-requires
-phases_go_on-requires c = ?
-
-pub disks_begin-requires : goal.disks_begin-requires
-disks_begin-requires c = ?
-
 -- ---- want of memory
 
 pub returns-in_err-counts-clause-same : goal.returns-in_err-counts-clause-same
-returns-in_err-counts-clause-same c = on_err_any c.from_residual-in_err-counts.result
+returns-in_err-counts-clause-same c = on_err_any c.from_residual.result
     (keeps_same c.args.self.now.row.cells)
 
 pub returns-in_err-workers-clause-same : goal.returns-in_err-workers-clause-same
@@ -55,18 +46,14 @@ returns-in_err-reserve_all-clause-rests_as c = on_err_any c.from_residual-in_err
 abbrev terms : After-reserve_all → Terms
 terms c = record { size = c.args.self.now.pages; chain = MOST_CHAIN; clock = c.args.now }
 
-reserved : (c : After-reserve_all) → AreReserved (λ p. true) c.in_ok-counts.counts.items
-    c.args.self.now.pages c.args.self.now.row.cells c.reserve_all.new.row.cells
-reserved c = subst (λ (cs : List ℕ). AreReserved (λ p. true) cs c.args.self.now.pages
-    c.args.self.now.row.cells c.reserve_all.new.row.cells)
-    c.deref-2.ensures.value c.in_ok-reserve_all.ensures.reserved
-
 pub returns-clause-set_up : goal.returns-clause-set_up
 returns-clause-set_up c =
     let a = (goal.at.returns-clause-set_up c).After-reserve_all in
     set_up_on (terms a) c.args.actors.now c.args.self.now.row.cells c.reserve_all.new.row.cells
     c.in_ok-workers.workers.items c.in_ok-counts.counts.items c.in_ok-noted.noted.items
-    c.in_ok-workers.ensures c.in_ok-counts.ensures.counted (reserved a)
+    c.in_ok-workers.ensures c.in_ok-counts.ensures.counted (subst (λ (cs : List ℕ). AreReserved (λ p. true) cs c.args.self.now.pages
+    c.args.self.now.row.cells c.reserve_all.new.row.cells)
+    c.deref-2.ensures.value c.in_ok-reserve_all.ensures.reserved)
     (no_entry c.args.self.now.pages c.args.self.now.noted.items c.args.self.now.row.cells
     c.requires.rest)
 
@@ -75,7 +62,9 @@ returns-clause-start c g rests =
     let a = (goal.at.returns-clause-start c).After-reserve_all in
     prepared (terms a) c.args.actors.now c.args.self.now.row.cells c.reserve_all.new.row.cells
     c.in_ok-workers.workers.items c.in_ok-counts.counts.items c.in_ok-noted.noted.items
-    c.in_ok-workers.ensures c.in_ok-counts.ensures.counted (reserved a)
+    c.in_ok-workers.ensures c.in_ok-counts.ensures.counted (subst (λ (cs : List ℕ). AreReserved (λ p. true) cs c.args.self.now.pages
+    c.args.self.now.row.cells c.reserve_all.new.row.cells)
+    c.deref-2.ensures.value c.in_ok-reserve_all.ensures.reserved)
     (no_entry c.args.self.now.pages c.args.self.now.noted.items c.args.self.now.row.cells
     c.requires.rest)
     g rests c.requires.work refl c.phases_go_on.ensures.next c.disks_begin.ensures.proper
@@ -85,7 +74,9 @@ returns-clause-can c =
     let a = (goal.at.returns-clause-can c).After-reserve_all in
     may_go_on (terms a) c.args.actors.now c.args.self.now.row.cells c.reserve_all.new.row.cells
     c.in_ok-workers.workers.items c.in_ok-counts.counts.items c.in_ok-noted.noted.items
-    c.in_ok-workers.ensures c.in_ok-counts.ensures.counted (reserved a)
+    c.in_ok-workers.ensures c.in_ok-counts.ensures.counted (subst (λ (cs : List ℕ). AreReserved (λ p. true) cs c.args.self.now.pages
+    c.args.self.now.row.cells c.reserve_all.new.row.cells)
+    c.deref-2.ensures.value c.in_ok-reserve_all.ensures.reserved)
     (no_entry c.args.self.now.pages c.args.self.now.noted.items c.args.self.now.row.cells
     c.requires.rest)
     c.args.self.now.noted.items c.requires.rest c.requires.none c.requires.work refl

@@ -12,15 +12,6 @@ use Rattle.zr_core.proofs.Runs.{plays_on, plays_rule, plays_reached, runs_out, a
 use Rattle.zr_core.proofs.disk.World.run.Goals as goal
 use Rattle.zr_core.proofs.disk.World.run.Goals.{After-finish}
 
-pub rule_keeps-requires : goal.rule_keeps-requires
-rule_keeps-requires c = ?
-
-pub phases_go_on-requires : goal.phases_go_on-requires
-phases_go_on-requires c = ?
-
-pub disks_begin-requires : goal.disks_begin-requires
-disks_begin-requires c = ?
-
 -- the phase before and after
 abbrev first : After-finish → Playing
 first c = playing c.args.self.now c.args.phase.now c.args.actors.now

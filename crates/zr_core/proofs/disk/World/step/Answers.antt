@@ -74,18 +74,6 @@ seat c = record {
   rule = (ruled c).1;
 }
 
-pub rule_keeps-requires : goal.rule_keeps-requires
-rule_keeps-requires c = ?
-
-pub values_fit-requires : goal.values_fit-requires
-values_fit-requires c = ?
-
-pub locks_are_of_the_disk-requires : goal.locks_are_of_the_disk-requires
-locks_are_of_the_disk-requires c = ?
-
-pub advance-requires-clause-never : goal.advance-requires-clause-never
-advance-requires-clause-never c = ?
-
 pub advance-requires-clause-fit : goal.advance-requires-clause-fit
 advance-requires-clause-fit c = let a = (goal.at.advance-requires-clause-fit c).After-as_slice in
     subst (λ (t : Terms). IsFit t c.as_slice.result.now c.index_mut-worker.result.now)
