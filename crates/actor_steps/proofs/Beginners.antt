@@ -8,7 +8,7 @@ use Rattle.zr_base.specs.declared.op.Op.TheVariants.{Write, Read, Discard}
 use Rattle.call_history.specs.Parts.{program}
 use Rattle.page_steps.specs.Steps.{Terms}
 use Rattle.actor_steps.specs.declared.place.Place.{Place}
-use Rattle.actor_steps.specs.declared.worker.Reply.{Reply}
+use Rattle.actor_steps.specs.declared.reply.Reply.{Reply}
 use Rattle.actor_steps.specs.declared.worker.Worker.{Worker}
 use Rattle.actor_steps.specs.Places.{AreRequests, operations, todo_at, IsPlace, IsSettled}
 use Rattle.actor_steps.specs.Workers.{HasCall, ReplyFits}

@@ -1,20 +1,14 @@
 -- A disk without pages: nothing is printed, and nothing changes but the limit.
-use Rattle.std.proofs.Common.{◌≡◌, ℕ, ◌+◌, ◌<◌, ◌≤◌, List, [], ◌∷◌, length, Option, Some, slice_get, refl, sym, ap, ◌∙◌, subst, arith}
-use Rattle.std.specs.List.{sum_by, AllByRecursion}
+use Rattle.std.proofs.Common.{◌≡◌, ℕ, ◌<◌, ◌≤◌, List, [], ◌∷◌, length, Option, Some, slice_get, refl, sym, ap, ◌∙◌, subst, arith}
 use Rattle.std.proofs.lemmas.Option.{slice_get_within}
-use Rattle.zr_base.specs.declared.op.Op.{Op}
-use Rattle.mem_account.specs.declared.weight.Weight.{Weight}
-use Rattle.plain_disk.specs.Forms.{of_class}
 use Rattle.plain_disk.specs.Output.{OutLine}
 use Rattle.plain_disk.specs.Rests.{Rest, nothing_yet, frames_of, IsUsed}
 use Rattle.plain_disk.specs.Phases.{IsPhase}
 use Rattle.plain_disk.specs.Legal.{IsUnused}
-use Rattle.lock_row.specs.Machine.{Turn}
 use Rattle.lock_row.specs.Machine.Turn.{finished, missed, taken, given}
 use Rattle.lock_row.specs.declared.names.State.{State}
-use Rattle.page_steps.specs.Steps.{DiskHeld, Here, Terms}
+use Rattle.page_steps.specs.Steps.{DiskHeld, Terms}
 use Rattle.slot_entry.specs.Forms.{page_weight}
-use Rattle.disk_rest.specs.Laws.{PrintsNothing}
 use Rattle.zr_core.specs.Machines.{OneTurn, Turns, PhaseSteps, printed}
 
 pub nothing_in : {A : Type 0} (xs : List A) → length xs ≡ 0 → xs ≡ []

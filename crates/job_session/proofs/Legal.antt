@@ -1,5 +1,5 @@
 -- A job item by item: where the disk stands for a rest, each item's lines are legal.
-use Rattle.std.proofs.Common.{◌≡◌, ◌⊎◌, ℕ, ◌+◌, ◌<◌, ◌≤◌, ◌^◌, Bool, true, false, zero, suc, List, [], ◌∷◌, ◌++◌, length, Option, Some, None, slice_get, slice_set, unwrap_or, refl, sym, ap, ◌∙◌, subst, inl, inr, arith}
+use Rattle.std.proofs.Common.{◌≡◌, ◌⊎◌, ℕ, ◌+◌, ◌≤◌, true, false, zero, suc, List, [], ◌∷◌, length, Option, Some, None, slice_get, slice_set, unwrap_or, refl, sym, ap, ◌∙◌, subst, inl, inr, arith}
 use Rattle.std.proofs.lemmas.Option.{get_or_from_slice_get}
 use Rattle.zr_base.specs.declared.limits.TheConstants.{MOST_PAGES, MOST_ACTORS}
 use Rattle.zr_base.specs.declared.op.Op.{Op}
@@ -10,7 +10,7 @@ use Rattle.mem_account.specs.Stat.{mm_stat_of, io_stat_of}
 use Rattle.plain_disk.specs.Output.{OutLine, memory, calls}
 use Rattle.plain_disk.specs.Rests.{Rest, nothing_yet, stats, report, states, classes}
 use Rattle.plain_disk.specs.Phases.{IsPhase}
-use Rattle.plain_disk.specs.Legal.{IsUnused, IsFirst, IsNew, first_settings, sets}
+use Rattle.plain_disk.specs.Legal.{IsNew, first_settings, sets}
 use Rattle.call_history.specs.Histories.{SomeEach, HasSomeEach}
 use Rattle.lock_row.specs.declared.names.Held.TheVariants as holds
 use Rattle.page_steps.specs.Steps.{DiskHeld, Terms}
@@ -28,9 +28,9 @@ use Rattle.job_text.specs.declared.job.Report.{Report}
 use Rattle.job_text.specs.declared.job.Report.TheVariants as reports
 use Rattle.job_text.specs.declared.job.Item.{Item}
 use Rattle.job_text.specs.declared.job.Item.TheVariants as items
-use Rattle.job_text.specs.Jobs.{Used, with_attr, with_phase, with_op, with_ops, with_text, MayOperate, MayAct, MayRun, MayFollow}
+use Rattle.job_text.specs.Jobs.{Used, with_attr, with_phase, with_op, with_ops, with_text, MayOperate, MayAct, MayFollow}
 use Rattle.job_session.specs.Legal.{Legal, plain_report}
-use Rattle.job_session.specs.Stands.{IsBare, Stands}
+use Rattle.job_session.specs.Stands.{IsBare, HasRow, Stands}
 use Rattle.job_session.specs.Stepped.{Disk, terms_of, report_of, IsNewDisk, IsLimited, Stepped}
 use Rattle.job_session.proofs.Bare.{phase_nowhere, phase_without}
 use Rattle.job_session.proofs.Lawful.{no_item, requests_each, work_by, few_operations, none_without, disk_by}
@@ -56,6 +56,14 @@ has_some_each u (mine ∷ more) may (suc a) ops is = has_some_each
 
 -- ---- the laws
 
+-- the account of a disk with pages is the one in its place
+account_some : (limit size : ℕ) (row : List (Option DiskHeld)) (c : Counters) → 1 ≤ size
+    → slice_get row (size + 255) ≡ Some (Some (holds.Account c)) → account_of limit size row ≡ c
+account_some limit zero row c some is = absurd (omega (arith, some))
+account_some limit (suc n) row c some is =
+    ap (account_in (record no_counts { limit = limit }))
+    (get_or_from_slice_get row (suc n + 255) (Some (holds.Account c)) None is)
+
 -- What is known of phases, of new disks, of limits and of reports.
 pub record Laws : Type 0 where
   pub starts : StartHasRule
@@ -74,9 +82,10 @@ module _ (laws : Laws) where
   -- ---- the disk's size
 
   -- a new disk stands for a new rest
-  new_stands : (r : Rest) (d m : Disk) (n : ℕ) → n ≤ MOST_PAGES → Stands r d → IsNewDisk d n m
+  new_stands : (r : Rest) (d m : Disk) (n : ℕ) → 1 ≤ n → n ≤ MOST_PAGES → Stands r d
+      → IsNewDisk d n m
       → IsNew r n (new_rest r n) × Stands (new_rest r n) m
-  new_stands r d m n most s new =
+  new_stands r d m n some most s new =
       let both = disk_on laws.new r n d.limit m.row s.chain s.limit new.row new.account in (
         both.0,
         record {
@@ -85,16 +94,16 @@ module _ (laws : Laws) where
           limit = s.limit ∙ sym new.limit;
           clock = s.clock;
           chain = s.chain;
-          row = inr both.1;
+          row = inr (record { some = omega (arith, some, new.size); stands = both.1 });
         },
       )
 
   -- ---- the limit
 
   limited_row : (r : Rest) (d m : Disk) (n : ℕ) → Stands r d → IsLimited d n m
-      → IsBare r d ⊎ StandsFor r d.row
+      → IsBare r d ⊎ HasRow r d
       → IsBare (sets r (record r.set { limit = n })) m
-      ⊎ StandsFor (sets r (record r.set { limit = n })) m.row
+      ⊎ HasRow (sets r (record r.set { limit = n })) m
   limited_row r d m n s is (inl bare) = inl (record {
     none = is.size ∙ bare.none;
     empty = is.none bare.none ∙ bare.empty;
@@ -104,15 +113,18 @@ module _ (laws : Laws) where
       so_far = bare.unused.so_far;
     };
   })
-  limited_row r d m n s is (inr stands) =
+  limited_row r d m n s is (inr has) =
       let c : Counters = stats page_weight r in
-      let there = laws.account r d.row stands in
+      let there = laws.account r d.row has.stands in
       let there_too = ap (λ (k : ℕ). slice_get d.row (k + 255)) (sym s.size) ∙ there in
       let row = is.account c there_too
       ∙ ap (λ (k : ℕ). slice_set d.row (k + 255) (Some (holds.Account (record c { limit = n }))))
       (sym s.size) in
-      inr (subst (StandsFor (sets r (record r.set { limit = n }))) (sym row)
-      (laws.limits r d.row n c stands there))
+      inr (record {
+        some = omega (arith, has.some, is.size);
+        stands = subst (StandsFor (sets r (record r.set { limit = n }))) (sym row)
+            (laws.limits r d.row n c has.stands there);
+      })
 
   limit_stands : (r : Rest) (d m : Disk) (n : ℕ) → Stands r d → IsLimited d n m
       → Stands (sets r (record r.set { limit = n })) m
@@ -128,43 +140,41 @@ module _ (laws : Laws) where
   -- ---- reports
 
   -- the account of a rest's row
-  account_on : (r : Rest) (d : Disk) → r.size ≡ d.size → StandsFor r d.row
+  account_on : (r : Rest) (d : Disk) → r.size ≡ d.size → HasRow r d
       → account_of d.limit d.size d.row ≡ stats page_weight r
-  account_on r d size stands =
-      ap (account_in (record no_counts { limit = d.limit }))
-      (get_or_from_slice_get d.row (d.size + 255) (Some (holds.Account (stats page_weight r))) None
-      (ap (λ (k : ℕ). slice_get d.row (k + 255)) (sym size) ∙ laws.account r d.row stands))
+  account_on r d size has =
+      account_some d.limit d.size d.row (stats page_weight r) has.some
+      (ap (λ (k : ℕ). slice_get d.row (k + 255)) (sym size) ∙ laws.account r d.row has.stands)
 
   account_without : (r : Rest) (d : Disk) → Stands r d → IsBare r d
       → account_of d.limit d.size d.row ≡ stats page_weight r
   account_without r d s bare =
-      ap (λ (x : List (Option DiskHeld)). account_of d.limit d.size x) bare.empty
-      ∙ ap (λ (n : ℕ). account_of n d.size []) (sym s.limit)
+      (λ i. account_of (sym s.limit i) (bare.none i) (bare.empty i))
       ∙ sym (laws.nothing r (s.size ∙ bare.none) bare.unused).0
 
   -- the account and the row print what the rest does
-  account_is : (r : Rest) (d : Disk) → Stands r d → IsBare r d ⊎ StandsFor r d.row
+  account_is : (r : Rest) (d : Disk) → Stands r d → IsBare r d ⊎ HasRow r d
       → account_of d.limit d.size d.row ≡ stats page_weight r
   account_is r d s (inl bare) = account_without r d s bare
-  account_is r d s (inr stands) = account_on r d s.size stands
+  account_is r d s (inr has) = account_on r d s.size has
 
-  states_are : (r : Rest) (d : Disk) → Stands r d → IsBare r d ⊎ StandsFor r d.row
+  states_are : (r : Rest) (d : Disk) → Stands r d → IsBare r d ⊎ HasRow r d
       → row_report d.size MOST_CHAIN d.row states ≡ report page_weight r states
   states_are r d s (inl bare) =
       ap (λ (n : ℕ). row_report n MOST_CHAIN d.row states) bare.none
       ∙ sym (laws.nothing r (s.size ∙ bare.none) bare.unused).1
-  states_are r d s (inr stands) =
+  states_are r d s (inr has) =
       (λ i. row_report (sym s.size i) (sym s.chain i) d.row states)
-      ∙ laws.reports r d.row states stands
+      ∙ laws.reports r d.row states has.stands
 
-  classes_are : (r : Rest) (d : Disk) → Stands r d → IsBare r d ⊎ StandsFor r d.row
+  classes_are : (r : Rest) (d : Disk) → Stands r d → IsBare r d ⊎ HasRow r d
       → row_report d.size MOST_CHAIN d.row classes ≡ report page_weight r classes
   classes_are r d s (inl bare) =
       (λ i. row_report (bare.none i) MOST_CHAIN (bare.empty i) classes)
       ∙ sym (laws.nothing r (s.size ∙ bare.none) bare.unused).2
-  classes_are r d s (inr stands) =
+  classes_are r d s (inr has) =
       (λ i. row_report (sym s.size i) (sym s.chain i) d.row classes)
-      ∙ laws.reports r d.row classes stands
+      ∙ laws.reports r d.row classes has.stands
 
   report_is : (r : Rest) (d : Disk) (q : Report) → Stands r d
       → report_of d q ≡ report page_weight r (plain_report q)
@@ -190,14 +200,14 @@ module _ (laws : Laws) where
     terms_are : terms_of d ≡ terms (begin_of r actors)
     terms_are = λ i. record { size = sym s.size i; chain = sym s.chain i; clock = sym s.clock i }
 
-    phase_stands : StandsFor r d.row → After
-    phase_stands stands =
+    phase_stands : HasRow r d → After
+    phase_stands has =
         let both = phase_on r actors d.row laws.starts laws.reached laws.begin laws.prints laws.leaves
-        (laws.proper r actors d.row stands
+        (laws.proper r actors d.row has.stands
         (λ a ops k op is. requests_each u actors may a ops is k op)
         (omega (arith, s.size, s.most, few))
         (few_operations actors (work_by u actors few may)))
-        turns lines m.row stands (has_some_each u actors may)
+        turns lines m.row has.stands (has_some_each u actors may)
         (subst (λ (t : Terms). PhaseSteps t actors d.row turns lines m.row) terms_are steps) in (
           rest_after r actors m.row,
           both.0,
@@ -207,7 +217,7 @@ module _ (laws : Laws) where
             limit = s.limit ∙ sym limit;
             clock = s.clock;
             chain = s.chain;
-            row = inr both.1;
+            row = inr (record { some = omega (arith, has.some, size); stands = both.1 });
           },
         )
 
@@ -232,9 +242,9 @@ module _ (laws : Laws) where
           },
         )
 
-    phase_after : IsBare r d ⊎ StandsFor r d.row → (d.size ≡ 0 → actors ≡ []) → After
+    phase_after : IsBare r d ⊎ HasRow r d → (d.size ≡ 0 → actors ≡ []) → After
     phase_after (inl bare) none = phase_bare bare (none bare.none)
-    phase_after (inr stands) none = phase_stands stands
+    phase_after (inr has) none = phase_stands has
 
   -- ---- whole jobs
 
@@ -244,7 +254,7 @@ module _ (laws : Laws) where
   legal_by u [] r d turns lines last may bare s steps =
       (r, (steps.1, refl), subst (Stands r) (sym steps.2) s)
   legal_by u (items.Attr (DiskPages n) ∷ more) r d turns lines last may bare s steps =
-      let new = new_stands r d steps.0 n may.1.1 s steps.1 in
+      let new = new_stands r d steps.0 n may.1.0 may.1.1 s steps.1 in
       let some : 1 ≤ n = may.1.0 in
       let is : steps.0.size ≡ n = steps.1.size in
       let rest = legal_by (with_attr u (DiskPages n)) more (new_rest r n) steps.0 turns lines last

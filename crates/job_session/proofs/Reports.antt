@@ -1,15 +1,14 @@
 -- The lines of reports: a page's by its entry, a class's by its pool.
-use Rattle.std.proofs.Common.{◌≡◌, ◌⊎◌, ℕ, zero, suc, ◌+◌, ◌<◌, ◌≤◌, Bool, true, cond, List, [], ◌∷◌, length, get_or, map, Option, Some, None, slice_get, refl, sym, ap, ◌∙◌, subst, inl, inr, arith}
-use Rattle.std.specs.Prelude.{◌==◌, nat_lt, sum, count_by}
+use Rattle.std.proofs.Common.{◌≡◌, ◌⊎◌, ℕ, zero, suc, ◌+◌, ◌<◌, ◌≤◌, Bool, true, cond, List, [], ◌∷◌, length, get_or, Option, Some, None, slice_get, refl, sym, ap, ◌∙◌, subst, inl, inr, arith}
+use Rattle.std.specs.Prelude.{nat_lt, sum}
 use Rattle.std.specs.Option.{option_map}
 use Rattle.std.proofs.lemmas.Bool.Decides.{nat_tests}
 use Rattle.std.proofs.lemmas.Option.{get_or_from_slice_get, slice_get-map}
 use Rattle.mem_account.specs.declared.weight.Weight.{Weight}
 use Rattle.size_class.specs.declared.stat.ClassStat.{ClassStat}
 use Rattle.size_class.specs.Classes.{class_size, chain_of, per_of}
-use Rattle.size_class.specs.Groups.{group_of}
 use Rattle.class_pool.specs.Pool.{PoolState}
-use Rattle.plain_disk.specs.Output.{OutLine, ClassLine, class_of}
+use Rattle.plain_disk.specs.Output.{OutLine, class_of}
 use Rattle.plain_disk.specs.Rests.{state_line, class_line}
 use Rattle.lock_row.specs.declared.names.Held.TheVariants as holds
 use Rattle.slot_entry.specs.Entries.{EntryState, weight_of}
@@ -22,7 +21,7 @@ use Rattle.disk_rest.specs.Laws.{CountsTell}
 use Rattle.zr_core.specs.declared.limits.TheConstants.{MOST_CHAIN}
 use Rattle.zr_core.specs.Machines.{cell_without_calls}
 use Rattle.zr_core.specs.Rests.{pool_in, pool_of, IsBare, RestsAs}
-use Rattle.zr_core.specs.Stats.{zspages_of, IsStatOf, HasStat}
+use Rattle.zr_core.specs.Stats.{zspages_of, HasStat}
 use Rattle.job_print.specs.Texts.{in_group, IsSummary}
 use Rattle.job_session.proofs.Bare.{nothing_in}
 
@@ -61,12 +60,21 @@ there_of [] k v is = absurd (let no : ⊥ = cc is in no)
 there_of (x ∷ row) zero v is = ap (λ (y : Option DiskHeld). Some y) is
 there_of (x ∷ row) (suc k) v is = there_of row k v is
 
+-- a disk without pages has no row
+place_there : (pages : ℕ) (row : List (Option DiskHeld))
+    → IsBare pages row ⊎ ((g : Begin) × RestsAs g pages row) → (1 ≤ pages) ⊎ (row ≡ [])
+place_there pages row (inl bare) = inr bare.1
+place_there pages row (inr there) = inl there.1.some
+
 -- the value of a class's place
 class_place : (pages : ℕ) (row : List (Option DiskHeld)) (k : ℕ) → k < 255
-    → pool_of pages row k ≡ pool_in (get_or row (pages + k) None)
-class_place pages row k lt =
+    → (1 ≤ pages) ⊎ (row ≡ []) → pool_of pages row k ≡ pool_in (get_or row (pages + k) None)
+class_place zero row k lt (inl some) = absurd (omega (arith, some))
+class_place zero row k lt (inr none) =
+    ap (λ (xs : List (Option DiskHeld)). pool_in (get_or xs (0 + k) None)) (sym none)
+class_place (suc n) row k lt there =
     let test : nat_lt k 255 ≡ true = grind (arith, nat_tests, lt) in
-    ap (λ (b : Bool). cond b (pool_in (get_or row (pages + k) None)) None) test
+    ap (λ (b : Bool). cond b (pool_in (get_or row (suc n + k) None)) None) test
 
 pool_used : (x : Option DiskHeld) → CountsTell → zspages_of (pool_in x) ≡ 0 → used_in x ≡ []
 pool_used None counts none = refl
@@ -79,11 +87,12 @@ pool_used (Some (holds.Device y)) counts none = refl
 
 -- a class without zspages has no line
 pub class_without : (pages : ℕ) (row : List (Option DiskHeld)) (k : ℕ) → k < 255 → CountsTell
+    → IsBare pages row ⊎ ((g : Begin) × RestsAs g pages row)
     → zspages_of (pool_of pages row k) ≡ 0 → class_line MOST_CHAIN k (used_at pages row k) ≡ []
-class_without pages row k lt counts none =
+class_without pages row k lt counts rest none =
     ap (class_line MOST_CHAIN k)
     (pool_used (value_at row (pages + k)) counts
-    (ap zspages_of (sym (class_place pages row k lt)) ∙ none))
+    (ap zspages_of (sym (class_place pages row k lt (place_there pages row rest))) ∙ none))
 
 line_by : (chain k : ℕ) (used : List ℕ) → 1 ≤ length used
     → class_of (record { class = k; chain = chain; used = used }) ∷ [] ≡ class_line chain k used
@@ -92,10 +101,11 @@ line_by chain k (u ∷ us) some = refl
 
 -- a class with its pool, on a disk that rests
 module _ (pages : ℕ) (row : List (Option DiskHeld)) (k : ℕ) (lt : k < 255) (s : ClassStat)
-    (has : HasStat (pool_of pages row k) s) (counts : CountsTell) where
+    (has : HasStat (pool_of pages row k) s) (counts : CountsTell)
+    (rest : IsBare pages row ⊎ ((g : Begin) × RestsAs g pages row)) where
   value : value_at row (pages + k) ≡ Some (holds.Class has.pool)
   value = pool_value (value_at row (pages + k)) has.pool
-      (sym (class_place pages row k lt) ∙ has.there)
+      (sym (class_place pages row k lt (place_there pages row rest)) ∙ has.there)
 
   used_is : used_at pages row k ≡ used_counts has.pool.zspages
   used_is = ap used_in value
@@ -126,9 +136,9 @@ module _ (pages : ℕ) (row : List (Option DiskHeld)) (k : ℕ) (lt : k < 255) (
       absurd (let no : ⊥ = cc none in no)
   rests (inr there) = fits there.0 there.1
 
-  pub summary : IsBare pages row ⊎ ((g : Begin) × RestsAs g pages row)
-      → IsSummary (record { class = k; chain = MOST_CHAIN; used = used_at pages row k }) s
-  summary rest =
+  pub summary : IsSummary
+      (record { class = k; chain = MOST_CHAIN; used = used_at pages row k }) s
+  summary =
       let of = rests rest in
       let per : has.pool.per ≡ per_of MOST_CHAIN k = of.1.per ∙ ap (per_of MOST_CHAIN) of.0 in
       let told = counts has.pool in

@@ -1,5 +1,5 @@
 -- What each item does to a row that stands for a rest.
-use Rattle.std.proofs.Common.{◌≡◌, ℕ, ◌+◌, ◌<◌, ◌≤◌, ◌^◌, List, [], ◌∷◌, length, Option, Some, slice_get, refl, sym, ap, ◌∙◌, subst, arith}
+use Rattle.std.proofs.Common.{◌≡◌, ℕ, ◌+◌, ◌<◌, List, [], Option, Some, slice_get, sym, ap, ◌∙◌, subst, arith}
 use Rattle.std.proofs.lemmas.List.FromFn.{length-map-range_with_len, get_or-map-range_with_len}
 use Rattle.std.proofs.lemmas.Option.{slice_get_within}
 use Rattle.zr_base.specs.declared.op.Op.{Op}
@@ -18,7 +18,7 @@ use Rattle.joint_rule.specs.Starts.{Starts, IsNew}
 use Rattle.joint_rule.specs.Laws.{StartHasRule, ReachedHasRule}
 use Rattle.disk_rest.specs.Rows.{AreOrders}
 use Rattle.disk_rest.specs.Resting.{begin_of, rest_after, new_rest, StandsFor, IsSetUp}
-use Rattle.disk_rest.specs.Laws.{PrintsPhase, LeavesRest, BeginsPhase, BeginsProper, BeginsDisk}
+use Rattle.disk_rest.specs.Laws.{PrintsPhase, LeavesRest, BeginsPhase, BeginsDisk}
 use Rattle.zr_core.specs.declared.limits.TheConstants.{MOST_CHAIN}
 use Rattle.zr_core.specs.Machines.{Begins, PhaseSteps, orders_of}
 use Rattle.zr_core.specs.Machines.{IsSetUp as IsSetUpOn}

@@ -1,5 +1,5 @@
 -- The rest of the plain disk that a disk stands for.
-use Rattle.std.specs.Prelude.{◌≡◌, ◌⊎◌, ◌≤◌, List, []}
+use Rattle.std.specs.Prelude.{◌≡◌, ◌⊎◌, ◌≤◌, []}
 use Rattle.zr_base.specs.declared.limits.TheConstants.{MOST_PAGES}
 use Rattle.plain_disk.specs.Rests.{Rest}
 use Rattle.plain_disk.specs.Legal.{IsUnused}
@@ -13,6 +13,11 @@ pub record IsBare (r : Rest) (d : Disk) : Type 0 where
   pub empty : d.row ≡ []
   pub unused : IsUnused r
 
+-- The disk has pages, and its row stands for the rest.
+pub record HasRow (r : Rest) (d : Disk) : Type 0 where
+  pub some : 1 ≤ d.size
+  pub stands : StandsFor r d.row
+
 -- The disk has the pages and the settings of the rest, and its row stands for it, if there is one.
 pub record Stands (r : Rest) (d : Disk) : Type 0 where
   pub size : r.size ≡ d.size
@@ -20,4 +25,4 @@ pub record Stands (r : Rest) (d : Disk) : Type 0 where
   pub limit : r.set.limit ≡ d.limit
   pub clock : r.set.clock ≡ 0
   pub chain : r.set.chain ≡ MOST_CHAIN
-  pub row : IsBare r d ⊎ StandsFor r d.row
+  pub row : IsBare r d ⊎ HasRow r d

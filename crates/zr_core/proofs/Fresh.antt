@@ -93,46 +93,46 @@ without_new g k (holds.Blocks x) is = is
 without_new g k (holds.Device x) is = is
 
 module _ (pages limit : ℕ) (cells : Row) (are : AreNew (new_disk pages limit) (pages + 258) cells)
-    where
-  abbrev g : Begin
-  g = new_disk pages limit
+  where
+    abbrev g : Begin
+    g = new_disk pages limit
 
-  new_each : (k : ℕ) (v : DiskHeld) → slice_get (without_orders cells) k ≡ Some (Some v)
-      → IsNew g k v
-  new_each k v at =
-      let x = was_at cells k v at in
-      let n = are.each k (let lt = slice_get_within cells k (Some x.0) x.1 in let s = are.size in
-      omega arith) in
-      let q : n.0 ≡ x.0 = (let h : Some (Some n.0) ≡ Some (Some x.0) = sym n.1 ∙ x.1 in cc) in
-      subst (IsNew g k) x.2 (without_new g k x.0 (subst (IsNew g k) q n.2))
+    new_each : (k : ℕ) (v : DiskHeld) → slice_get (without_orders cells) k ≡ Some (Some v)
+        → IsNew g k v
+    new_each k v at =
+        let x = was_at cells k v at in
+        let n = are.each k (let lt = slice_get_within cells k (Some x.0) x.1 in let s = are.size in
+        omega arith) in
+        let q : n.0 ≡ x.0 = (let h : Some (Some n.0) ≡ Some (Some x.0) = sym n.1 ∙ x.1 in cc) in
+        subst (IsNew g k) x.2 (without_new g k x.0 (subst (IsNew g k) q n.2))
 
-  pub new_rests : 1 ≤ pages → pages ≤ MOST_PAGES
-      → slice_get cells (pages + 255) ≡ Some (Some (holds.Account g.was))
-      → NewIsAtRest → RequestsAreProper → RestsAs g pages cells
-  new_rests some most account rest law = record {
-    size = refl;
-    some = some;
-    most = most;
-    none = refl;
-    chain = refl;
-    proper = new_proper law pages limit most;
-    row = rest g (without_orders cells) (let a = emptied_long cells in let s = are.size in omega arith)
-        (λ k lt.
-        let x = are.each k (let a = emptied_long cells in let s = are.size in omega arith) in
-        (without_calls x.0, emptied_at cells k (Some x.0) x.1)) new_each;
-    account = account;
-  }
+    pub new_rests : 1 ≤ pages → pages ≤ MOST_PAGES
+        → slice_get cells (pages + 255) ≡ Some (Some (holds.Account g.was))
+        → NewIsAtRest → RequestsAreProper → RestsAs g pages cells
+    new_rests some most account rest law = record {
+      size = refl;
+      some = some;
+      most = most;
+      none = refl;
+      chain = refl;
+      proper = new_proper law pages limit most;
+      row = rest g (without_orders cells) (let a = emptied_long cells in let s = are.size in omega arith)
+          (λ k lt.
+          let x = are.each k (let a = emptied_long cells in let s = are.size in omega arith) in
+          (without_calls x.0, emptied_at cells k (Some x.0) x.1)) new_each;
+      account = account;
+    }
 
-  order_none : (k : ℕ) (v : DiskHeld) → IsNew g k v → order_in (Some v) ≡ []
-  order_none k (holds.Slot e) is = is.2
-  order_none k (holds.Class q) is = refl
-  order_none k (holds.Account c) is = refl
-  order_none k (holds.Blocks x) is = refl
-  order_none k (holds.Device x) is = refl
+    order_none : (k : ℕ) (v : DiskHeld) → IsNew g k v → order_in (Some v) ≡ []
+    order_none k (holds.Slot e) is = is.2
+    order_none k (holds.Class q) is = refl
+    order_none k (holds.Account c) is = refl
+    order_none k (holds.Blocks x) is = refl
+    order_none k (holds.Device x) is = refl
 
-  pub new_at_rest : RestsAs g pages cells → IsAtRest pages [] cells
-  new_at_rest rests = at_rest g pages cells rests [] record {
-    listed = record { rising = tt; within = tt };
-    others = λ p lt off. let x = are.each p (omega arith) in
-        ap order_in (get_or_from_slice_get cells p (Some x.0) None x.1) ∙ order_none p x.0 x.2;
-  }
+    pub new_at_rest : RestsAs g pages cells → IsAtRest pages [] cells
+    new_at_rest rests = at_rest g pages cells rests [] record {
+      listed = record { rising = tt; within = tt };
+      others = λ p lt off. let x = are.each p (omega arith) in
+          ap order_in (get_or_from_slice_get cells p (Some x.0) None x.1) ∙ order_none p x.0 x.2;
+    }

@@ -16,4 +16,4 @@ pub mod Noted
 pub mod Preparing
 pub mod Prepared
 pub mod Fresh
-pub mod Stats
+pub mod Telling

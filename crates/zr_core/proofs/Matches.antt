@@ -52,8 +52,12 @@ pub was_at : (row : Row) (k : ℕ) (v : DiskHeld) → slice_get (without_orders 
     → (u : DiskHeld) × (slice_get row k ≡ Some (Some u)) × (without_calls u ≡ v)
 was_at [] k v e = absurd (cc)
 was_at (None ∷ row) zero v e = absurd (cc)
-was_at (Some u ∷ row) zero v e = (u, refl, let q : Some (Some (without_calls u)) ≡ Some (Some v) = e
-    in cc)
+was_at (Some u ∷ row) zero v e = (
+  u,
+  refl,
+  let q : Some (Some (without_calls u)) ≡ Some (Some v) = e
+      in cc,
+)
 was_at (x ∷ row) (suc k) v e = was_at row k v e
 
 pub was_whole : (row : Row) → IsWhole (without_orders row) → IsWhole row

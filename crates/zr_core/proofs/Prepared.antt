@@ -10,6 +10,7 @@ use Rattle.zr_base.specs.declared.op.Op.{Op}
 use Rattle.call_history.specs.declared.part.Done.{Done}
 use Rattle.call_history.specs.Parts.{program}
 use Rattle.lock_row.specs.declared.names.Held.TheVariants as holds
+use Rattle.lock_row.specs.declared.names.State.{State}
 use Rattle.slot_entry.specs.Entries.{EntryState}
 use Rattle.page_steps.specs.Steps.{Terms, DiskHeld, Here}
 use Rattle.actor_steps.specs.declared.worker.Worker.{Worker}
@@ -21,6 +22,7 @@ use Rattle.page_steps.specs.Calls.{at_of, held_of, fresh_of, cell_in, owed_of, a
 use Rattle.joint_rule.specs.Begins.{Begin, pieces_on, pieces_each}
 use Rattle.joint_rule.specs.Laws.{StartHasRule, RestGoesOn, RequestsAreProper}
 use Rattle.joint_rule.specs.Rule.{owed}
+use Rattle.joint_rule.specs.Starts.{IsStart}
 use Rattle.zr_core.specs.declared.limits.TheConstants.{MOST_CHAIN}
 use Rattle.zr_core.specs.Machines.{order_at, without_calls, IsKept, KeepsValues, Begins, IsSetUp}
 use Rattle.zr_core.specs.Noted.{is_in, AreCounted, HasAllOrders, HasAllPieces}
@@ -222,12 +224,12 @@ keeps_values size d counts old new r = record { size = r.size; each = each } whe
       → (u : DiskHeld) × (slice_get new k ≡ Some (Some u)) × IsKept v u
   each k v at = elim (cases_lt k size) [
     | inl lt ↦ (let p = r.each k lt in (
-        holds.Slot p.is,
-        p.after,
-        subst (λ (x : DiskHeld). IsKept x (holds.Slot p.is))
-            (let q : Some (Some (holds.Slot p.was)) ≡ Some (Some v) = sym p.before ∙ at in
-            let s : holds.Slot p.was ≡ v = cc in s) (p.is, refl, p.kept, p.touched),
-      ))
+      holds.Slot p.is,
+      p.after,
+      subst (λ (x : DiskHeld). IsKept x (holds.Slot p.is))
+          (let q : Some (Some (holds.Slot p.was)) ≡ Some (Some v) = sym p.before ∙ at in
+          let s : holds.Slot p.was ≡ v = cc in s) (p.is, refl, p.kept, p.touched),
+    ))
     | inr ge ↦ (v, r.others k ge ∙ at, kept_refl v)
   ]
 
@@ -364,48 +366,54 @@ module _ (t : Terms) (actors : List (List Op)) (cells cells' : Row) (ws : List W
         fail = ap (λ c. fail_of (stage_of c)) w.at;
       }
 
-  pub set_up_on : IsSetUpOn cells now
-  set_up_on = record {
-    dones = nothing_over ws;
-    kept = kept;
-    set_up = record {
-      row = keeps_values t.size (λ p. true) counts cells cells' r;
-      orders = orders;
-      count = as_many t actors ws new.count;
-      begin = begin;
-    };
+  abbrev first : State DiskHeld
+  first = state_of now (nothing_over ws)
+
+  is_set_up : IsSetUp t.size actors cells first
+  is_set_up = record {
+    row = keeps_values t.size (λ p. true) counts cells cells' r;
+    orders = orders;
+    count = as_many t actors ws new.count;
+    begin = begin;
   }
+
+  pub set_up_on : IsSetUpOn cells now
+  set_up_on = record { dones = nothing_over ws; kept = kept; set_up = is_set_up }
 
   module _ (g : Begin) (rests : RestsAs g t.size cells) (work : IsWork actors)
       (chain : t.chain ≡ MOST_CHAIN) (next : RestGoesOn) (law : RequestsAreProper) where
+    begins_so : IsOf (begun g actors t.clock) now
+    begins_so = record {
+      goes_by = λ i. record {
+        size = rests.size i;
+        chain = (rests.chain ∙ sym chain) i;
+        clock = t.clock;
+      };
+      actors = refl;
+      some = rests.some;
+      most = rests.most;
+      proper = begins_proper law g rests.proper (begun g actors t.clock) work refl refl refl
+          (let a = rests.size in let b = rests.most in let c = work.few in omega arith)
+          (λ p lt. pieces_few g.given.size p actors work);
+    }
+
+    is_start : IsStart (begun g actors t.clock) first
+    is_start = begins g t.size cells rests actors t.clock first is_set_up next
+
     pub prepared : IsPrepared (begun g actors t.clock) now
     prepared = record {
-      of = record {
-        goes_by = λ i. record {
-          size = rests.size i;
-          chain = (rests.chain ∙ sym chain) i;
-          clock = t.clock;
-        };
-        actors = refl;
-        some = rests.some;
-        most = rests.most;
-        proper = begins_proper law g rests.proper (begun g actors t.clock) work refl refl refl
-            (let a = rests.size in let b = rests.most in let c = work.few in omega arith)
-            (λ p lt. pieces_few g.given.size p actors work);
-      };
+      of = begins_so;
       dones = nothing_over ws;
       kept = kept;
-      start = begins g t.size cells rests actors t.clock (state_of now (nothing_over ws))
-          set_up_on.set_up next;
+      start = is_start;
     }
 
     pub ruled : StartHasRule → HasRule (begun g actors t.clock) now
     ruled start = record {
-      of = prepared.of;
+      of = begins_so;
       dones = nothing_over ws;
       kept = kept;
-      rule = start (begun g actors t.clock) (state_of now (nothing_over ws)) prepared.of.proper
-          prepared.start;
+      rule = start (begun g actors t.clock) first begins_so.proper is_start;
     }
 
   -- the phase can go on, also on a disk without pages

@@ -212,8 +212,8 @@ module _ (g : Begin) (pages : ℕ) (cells : Row) (rests : RestsAs g pages cells)
         let u = up.row.each (pages + 255) (holds.Account g.was) rests.account in
         let e : k ≡ pages + 255 = (let s = rests.size in omega arith) in
         let q : Some (Some (holds.Account c)) ≡ Some (Some (holds.Account g.was)) = sym at
-            ∙ ap (slice_get w.row) e
-            ∙ u.1 ∙ ap (λ (x : DiskHeld). Some (Some x)) u.2 in cc
+        ∙ ap (slice_get w.row) e
+        ∙ u.1 ∙ ap (λ (x : DiskHeld). Some (Some x)) u.2 in cc
 
     pub begins : IsStart new w
     begins = record {
@@ -275,7 +275,7 @@ module _ (g : Begin) (pages : ℕ) (cells : Row) (rests : RestsAs g pages cells)
           emptied_at after k (Some now) (ap (slice_get after) here ∙ limited_at),
           subst (λ (x : DiskHeld). IsNext x now)
               (let q : Some (Some (holds.Account g.was)) ≡ Some (Some v) = sym rests.account
-                  ∙ ap (slice_get cells) (sym here) ∙ at in
+              ∙ ap (slice_get cells) (sym here) ∙ at in
               let r : holds.Account g.was ≡ v = cc in r)
               (record g.was { limit = limit }, refl, refl),
         ))

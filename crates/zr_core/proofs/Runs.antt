@@ -91,41 +91,41 @@ heres_length t (ops ∷ more) (w ∷ ws) (d ∷ ds) = let q = heres_length t mor
     omega arith
 
 module _ (free : SomeFree) (x : Playing) (can : CanGoOn x) (busy : IsBusy x.actors x.workers)
-    where
-  -- the rule, since there is an actor
-  pub rule : (g : Begin) × HasRule g x
-  rule = ruled_by x busy.actor busy.ops can.ruled busy.named
+  where
+    -- the rule, since there is an actor
+    pub rule : (g : Begin) × HasRule g x
+    rule = ruled_by x busy.actor busy.ops can.ruled busy.named
 
-  -- the busy actor isn't finished, so some actor is free
-  pub busy_free : (f : ℕ) × IsFree x.terms (state_of x rule.1.dones) f
-  busy_free =
-      let g = rule.0 in
-      let j = rule.1 in
-      let s = state_of x j.dones in
-      let done = there_is j.dones busy.actor (let n = j.kept.count in
-      let q = slice_get_within x.workers busy.actor busy.worker busy.there in omega arith) in
-      let is_fit = can.fit.each busy.actor busy.ops busy.worker busy.named busy.there in
-      let who = heres_get x.terms x.actors x.workers j.dones busy.actor busy.ops busy.worker done.0
-      busy.named busy.there done.1 in
-      let f = free g s busy.actor (here x.terms.size busy.ops busy.worker done.0) j.of.proper j.rule
-      who (some_todo x.terms.size busy.ops busy.worker.place is_fit.settled busy.more) in (
-        f.0,
-        subst (λ (t : Terms). IsFree t s f.0) j.of.goes_by (f.1, f.2, f.3, f.4),
-      )
+    -- the busy actor isn't finished, so some actor is free
+    pub busy_free : (f : ℕ) × IsFree x.terms (state_of x rule.1.dones) f
+    busy_free =
+        let g = rule.0 in
+        let j = rule.1 in
+        let s = state_of x j.dones in
+        let done = there_is j.dones busy.actor (let n = j.kept.count in
+        let q = slice_get_within x.workers busy.actor busy.worker busy.there in omega arith) in
+        let is_fit = can.fit.each busy.actor busy.ops busy.worker busy.named busy.there in
+        let who = heres_get x.terms x.actors x.workers j.dones busy.actor busy.ops busy.worker done.0
+        busy.named busy.there done.1 in
+        let f = free g s busy.actor (here x.terms.size busy.ops busy.worker done.0) j.of.proper j.rule
+        who (some_todo x.terms.size busy.ops busy.worker.place is_fit.settled busy.more) in (
+          f.0,
+          subst (λ (t : Terms). IsFree t s f.0) j.of.goes_by (f.1, f.2, f.3, f.4),
+        )
 
-  -- a whole round leaves fewer events
-  pub round_left : SumMoves DiskHeld → (y : Playing) → y.terms ≡ x.terms → y.actors ≡ x.actors
-      → (n : ℕ)
-      → length x.actors ≤ n → RoundTo (state_of x rule.1.dones) y n
-      → left_of y < left_of x
-  round_left sums y same ops n many r =
-      let f = busy_free in
-      let j = rule.1 in
-      let less = round_falls sums x.terms (state_of x j.dones) (state_of y r.0) n
-      (let q = heres_length x.terms x.actors x.workers j.dones in omega arith) f.0 f.1
-      (subst (λ (t : Terms). Round t (state_of x j.dones) (state_of y r.0) n) same r.3) in
-      let a = left_same x.terms x.actors x.workers j.dones j.kept.count in
-      let b = left_same y.terms y.actors y.workers r.0 r.1.count in omega arith
+    -- a whole round leaves fewer events
+    pub round_left : SumMoves DiskHeld → (y : Playing) → y.terms ≡ x.terms → y.actors ≡ x.actors
+        → (n : ℕ)
+        → length x.actors ≤ n → RoundTo (state_of x rule.1.dones) y n
+        → left_of y < left_of x
+    round_left sums y same ops n many r =
+        let f = busy_free in
+        let j = rule.1 in
+        let less = round_falls sums x.terms (state_of x j.dones) (state_of y r.0) n
+        (let q = heres_length x.terms x.actors x.workers j.dones in omega arith) f.0 f.1
+        (subst (λ (t : Terms). Round t (state_of x j.dones) (state_of y r.0) n) same r.3) in
+        let a = left_same x.terms x.actors x.workers j.dones j.kept.count in
+        let b = left_same y.terms y.actors y.workers r.0 r.1.count in omega arith
 
 -- where all workers are past their operations, all actors are finished
 pub all_finished : (t : Terms) (actors : List (List Op)) (cells : List (Option DiskHeld))
@@ -202,9 +202,12 @@ plays_on xs ys x y z first then = record {
   can = then.can;
   goes = λ dones kept.
       let f = first.goes dones kept in
-      let t = then.goes f.0 f.1 in
-      (t.0, t.1, run_both x.terms xs ys (state_of x dones) (state_of y f.0) (state_of z t.0) f.2
-      (subst (λ (u : Terms). Turns u ys (state_of y f.0) (state_of z t.0)) first.same t.2));
+      let t = then.goes f.0 f.1 in (
+        t.0,
+        t.1,
+        run_both x.terms xs ys (state_of x dones) (state_of y f.0) (state_of z t.0) f.2
+            (subst (λ (u : Terms). Turns u ys (state_of y f.0) (state_of z t.0)) first.same t.2),
+      );
 }
 
 -- one turn

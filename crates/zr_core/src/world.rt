@@ -23,7 +23,9 @@ use crate::limits::MOST_CHAIN;
 use crate::phase::Phase;
 use crate::prepare::{noted_pages, reserve_all};
 use actor_steps::{Turn, count_pieces, new_workers};
-use joint_rule::{disks_begin, locks_are_of_the_disk, phases_go_on, rule_keeps, turns_go_on, values_fit};
+use joint_rule::{
+    disks_begin, locks_are_of_the_disk, phases_go_on, rule_keeps, turns_go_on, values_fit,
+};
 use lock_row::{names_have_places, sums_move};
 use page_steps::DiskHeld;
 use std::alloc::AllocError;

@@ -4,7 +4,7 @@ use Rattle.actor_steps.proofs.prepare.new_workers.Given as goal
 
 abbrev pub invariant-loop-actor : goal.invariant-loop-actor
 invariant-loop-actor l = record {
-  len : vec_len l.workers ≡ l.actor;
+  len : vec_len l.workers ≡ l.actor-index;
   room : length l.ops ≤ vec_capacity l.workers;
-  workers : AreNewWorkers l.size l.chain (take l.actor l.ops) l.workers.items;
+  workers : AreNewWorkers l.size l.chain (take l.actor-index l.ops) l.workers.items;
 }

@@ -1,13 +1,10 @@
-use Rattle.std.proofs.Common.{◌≡◌, ℕ, Some, slice_get, sym, ap, ◌∙◌, refl, subst, arith}
+use Rattle.std.proofs.Common.{◌≡◌, ℕ, Some, slice_get, sym, ◌∙◌, refl, subst}
 use Rattle.zr_base.specs.declared.op.Op.{Op}
-use Rattle.zr_base.specs.declared.op.Tag.{Tag}
-use Rattle.zr_base.specs.Plain.{start_of, count_of}
+use Rattle.zr_base.specs.Plain.{start_of, count_of, IsRequest}
 use Rattle.zr_base.specs.Pieces.{IsPieceOf}
-use Rattle.page_steps.specs.declared.call.PageCall.{PageCall}
 use Rattle.page_steps.specs.declared.stage.Work.TheVariants as work
 use Rattle.page_steps.specs.Calls.{Asks}
 use Rattle.actor_steps.specs.Work.{Touches}
-use Rattle.actor_steps.specs.Workers.{IsBegun}
 use Rattle.actor_steps.proofs.Places.{at_index, touches_here}
 use Rattle.actor_steps.proofs.Begun.{begun_count, begun_as, begun_for}
 use Rattle.actor_steps.proofs.worker.begun.Goals as goal
@@ -32,6 +29,16 @@ returns-then-is_beyond c =
     (sym c.out_of_range.ensures)
     (begun_count c.args.size c.args.now _ c.index-ops-nr.result c.args.place.page c.args.fresh.now
     (sym c.is_beyond.ensures ∙ c.if-is_beyond.true))
+
+pub bring-requires-clause-bounds : goal.bring-requires-clause-bounds
+bring-requires-clause-bounds c =
+    (subst IsRequest c.in-Write.is
+    (touched (goal.at.bring-requires-clause-bounds c).After-index-ops-nr).request).0
+
+pub bring-requires-clause-there : goal.bring-requires-clause-there
+bring-requires-clause-there c =
+    (subst IsRequest c.in-Write.is
+    (touched (goal.at.bring-requires-clause-there c).After-index-ops-nr).request).1
 
 pub returns-in-Write : goal.returns-in-Write
 returns-in-Write c =

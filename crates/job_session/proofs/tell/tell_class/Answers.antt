@@ -9,7 +9,7 @@ returns-in-Some g c =
     let pages : ℕ = c.args.world.now.pages in
     subst (Tells _ _ _)
     (class_with pages c.args.world.now.row.cells c.args.class c.requires.class c.in-Some.stat
-    c.in-Some.ensures.some c.pools_count.ensures)
+    c.in-Some.ensures.some c.pools_count.ensures c.requires.rest.rests)
     (c.tell_class.ensures _ (summary pages c.args.world.now.row.cells c.args.class c.requires.class
     c.in-Some.stat c.in-Some.ensures.some c.pools_count.ensures c.requires.rest.rests))
 
@@ -17,7 +17,7 @@ pub returns-in-None : goal.returns-in-None
 returns-in-None g c =
     subst (Tells _ _ _)
     (sym (class_without c.args.world.now.pages c.args.world.now.row.cells c.args.class
-    c.requires.class c.pools_count.ensures c.in-None.ensures.none))
+    c.requires.class c.pools_count.ensures c.requires.rest.rests c.in-None.ensures.none))
     (Tells-none c.args.out.now)
 
 -- STANDIN
