@@ -22,7 +22,7 @@ fn pages_to_do(size: u32, op: &Op) -> u32
     requires { IsRequest op.now }
     ensures { result ≡ pages_to_do size op.now }
 {
-    if op.is_beyond(size) { 0 } else { op.pages() }
+    if op.is_beyond(size) { 1 } else { op.pages() }
 }
 
 // Whether an operation has a piece with events on a page.

@@ -1,5 +1,4 @@
-use Rattle.std.proofs.Common.{◌+◌, ◌∙◌, sym, ap, cond, Bool, List, arith}
-use Rattle.call_history.specs.declared.part.Part.{Part}
+use Rattle.std.proofs.Common.{◌+◌, ◌∙◌, sym, ap, cond, Bool, arith}
 use Rattle.call_history.specs.Parts.{without}
 use Rattle.actor_steps.specs.Places.{todo_at, behind}
 use Rattle.actor_steps.proofs.Places.{there_is, low_page, few_pages, on_here, has_settled, without_rest}

@@ -1,6 +1,6 @@
 use Rattle.std.proofs.Common.{ℕ, sym, ap, ◌∙◌, arith}
 use Rattle.actor_steps.specs.Places.{todo_at}
-use Rattle.actor_steps.proofs.Places.{there_is, low_page, few_pages, on_here, last_todo, pass_todo, pass_place}
+use Rattle.actor_steps.proofs.Places.{there_is, low_page, few_pages, on_here, last_todo, pass_todo}
 use Rattle.actor_steps.proofs.place.passed.Goals as goal
 
 pub returns-then-place-eq0-clause-same : goal.returns-then-place-eq0-clause-same

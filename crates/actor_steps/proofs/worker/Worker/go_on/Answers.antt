@@ -8,12 +8,6 @@ use Rattle.actor_steps.proofs.Turns.{gone_on, call_allows, goes_on, still_fit}
 use Rattle.actor_steps.proofs.Overs.{ends_as, can_finish, ends_fit, ends_turn}
 use Rattle.actor_steps.proofs.worker.Worker.go_on.Goals as goal
 
-pub calls_are_events-requires : goal.calls_are_events-requires
-calls_are_events-requires g c = ?
-
-pub advance-requires-clause-never : goal.advance-requires-clause-never
-advance-requires-clause-never g c = ?
-
 pub advance-requires-clause-going : goal.advance-requires-clause-going
 advance-requires-clause-going g c = c.requires.fit.call.going
 
