@@ -46,8 +46,8 @@ fn is_refused(end: OpEnd) -> bool
     ensures { (tag : Tag) → result ≡ is_refusal (ended tag end) }
 {
     match end {
-        OpEnd::Ok => false, OpEnd::AtLimit { .. } => false,
-        OpEnd::Range | OpEnd::NoMemory { .. } => true,
+        OpEnd::Ok => false,
+        OpEnd::Range | OpEnd::AtLimit { .. } | OpEnd::NoMemory { .. } => true,
     }
 }
 

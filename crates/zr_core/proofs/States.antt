@@ -16,7 +16,10 @@ use Rattle.page_steps.specs.Nexts.{Next}
 use Rattle.actor_steps.specs.declared.worker.Worker.{Worker}
 use Rattle.actor_steps.specs.declared.worker.Turn.{Turn}
 use Rattle.actor_steps.specs.declared.worker.Turn.TheVariants as turn
-use Rattle.actor_steps.specs.Workers.{here, Keeps, IsFit, Turned, finished, waited, took_it, gave_it}
+use Rattle.page_steps.specs.declared.stage.Progress.{Progress}
+use Rattle.page_steps.specs.declared.stage.Progress.TheVariants as progress
+use Rattle.page_steps.specs.Turns.{HasWaited, HasMoved, waited, took_it, gave_it}
+use Rattle.actor_steps.specs.Workers.{here, Keeps, IsFit, turn_of, Turned, finished, turned}
 use Rattle.zr_core.specs.States.{heres, AreFit, AreKept, taken, given, TurnIs}
 use Rattle.zr_core.proofs.Lists.{get_set, set_same}
 
@@ -118,6 +121,16 @@ no_plan t l e = todo l.todo refl where
 
 -- ---- a turn by a hand over the row
 
+waited_is : (p : Progress) (k : LockNo) → HasWaited p k → turn_of p ≡ turn.Waited k
+waited_is progress.Moved k is = absurd is
+waited_is (progress.Waits j) k is = ap turn.Waited is
+waited_is (progress.Done end) k is = absurd is
+
+moved_is : (p : Progress) (l : Here) → HasMoved p l → turn_of p ≡ turn.Went
+moved_is progress.Moved l is = refl
+moved_is (progress.Waits k) l is = absurd is
+moved_is (progress.Done end) l is = refl
+
 module _ {X : Type 0} {takes : X → LockNo → Next → DiskHeld → X → Type 0} {misses : X → LockNo → X
     → Type 0} {gives : X → LockNo → Next → DiskHeld → X → Type 0} {t : Terms} {l : Here} {h : X}
     {m : Here} {g : X} where
@@ -128,9 +141,9 @@ module _ {X : Type 0} {takes : X → LockNo → Next → DiskHeld → X → Type
       → ((k : LockNo) (f : Next) (v : DiskHeld) → gives h k f v g → name g ≡ name h)
       → {r : Turn} → Turned takes misses gives t l h m g r → name g ≡ name h
   turn_keeps name x y z (finished what same still is) = ap name still
-  turn_keeps name x y z (waited k what miss same is) = y k miss
-  turn_keeps name x y z (took_it k f v what take by same is) = x k f v take
-  turn_keeps name x y z (gave_it k f v what give by work is) = z k f v give
+  turn_keeps name x y z (turned p (waited k what miss same told) is) = y k miss
+  turn_keeps name x y z (turned p (took_it k f v what take by same told) is) = x k f v take
+  turn_keeps name x y z (turned p (gave_it k f v what give by work told) is) = z k f v give
 
   pub turn_is : (row_of : X → Row DiskHeld) (cells : List (Option DiskHeld)) (ls : List Here)
       (a : ℕ)
@@ -157,10 +170,11 @@ module _ {X : Type 0} {takes : X → LockNo → Next → DiskHeld → X → Type
           locals = (ap (λ x. slice_set ls a x) same ∙ set_same ls a l who) i;
         },
       )
-  turn_is row_of cells ls a who is tp gp x y z {r} (waited k what miss same now) =
+  turn_is row_of cells ls a who is tp gp x y z {r} (turned p (waited k what miss same told) now) =
       let n = y k miss in
       subst (TurnIs t a (record { row = cells; locals = ls })
-      (record { row = (row_of g).cells; locals = slice_set ls a m })) (sym now) (
+      (record { row = (row_of g).cells; locals = slice_set ls a m }))
+      (sym (now ∙ waited_is p k told)) (
         l,
         who,
         what,
@@ -172,10 +186,12 @@ module _ {X : Type 0} {takes : X → LockNo → Next → DiskHeld → X → Type
           locals = (ap (λ x. slice_set ls a x) same ∙ set_same ls a l who) i;
         },
       )
-  turn_is row_of cells ls a who is tp gp x y z {r} (took_it k f v what take by same now) =
+  turn_is row_of cells ls a who is tp gp x y z {r}
+      (turned p (took_it k f v what take by same told) now) =
       let n = x k f v take in
       subst (TurnIs t a (record { row = cells; locals = ls })
-      (record { row = (row_of g).cells; locals = slice_set ls a m })) (sym now)
+      (record { row = (row_of g).cells; locals = slice_set ls a m }))
+      (sym (now ∙ ap turn_of told))
       (taken l k v record {
         who = who;
         what = what;
@@ -186,10 +202,12 @@ module _ {X : Type 0} {takes : X → LockNo → Next → DiskHeld → X → Type
           locals = slice_set ls a (same i);
         };
       })
-  turn_is row_of cells ls a who is tp gp x y z {r} (gave_it k f v what give by work now) =
+  turn_is row_of cells ls a who is tp gp x y z {r}
+      (turned p (gave_it k f v what give by work told) now) =
       let n = z k f v give in
       subst (TurnIs t a (record { row = cells; locals = ls })
-      (record { row = (row_of g).cells; locals = slice_set ls a m })) (sym now)
+      (record { row = (row_of g).cells; locals = slice_set ls a m }))
+      (sym (now ∙ moved_is p l told))
       (given l k v m record {
         who = who;
         what = what;

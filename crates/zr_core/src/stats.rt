@@ -74,8 +74,13 @@ impl World {
         if self.pages == 0 || class == CLASSES {
             return None;
         }
-        let value = self.row.value(LockNo::Class(class))?;
-        let stat = pool_in(value)?.stat();
+        let Some(value) = self.row.value(LockNo::Class(class)) else {
+            return None;
+        };
+        let Some(pool) = pool_in(value) else {
+            return None;
+        };
+        let stat = pool.stat();
         if stat.zspages == 0 {
             return None;
         }

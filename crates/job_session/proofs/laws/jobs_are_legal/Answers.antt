@@ -20,22 +20,3 @@ returns c =
       legal = λ u r d job turns lines last may bare s steps. legal_by laws u job r d turns lines last
           may bare s steps;
     }
-
--- STANDIN
-pub rule_keeps-requires : goal.rule_keeps-requires
-rule_keeps-requires c = ?
-
-pub phases_begin-requires : goal.phases_begin-requires
-phases_begin-requires c = ?
-
-pub phases_end-requires : goal.phases_end-requires
-phases_end-requires c = ?
-
-pub disks_begin-requires : goal.disks_begin-requires
-disks_begin-requires c = ?
-
-pub rows_stand-requires : goal.rows_stand-requires
-rows_stand-requires c = ?
-
-pub rows_print-requires : goal.rows_print-requires
-rows_print-requires c = ?

@@ -86,7 +86,3 @@ loop-item-preserved g c =
           (subst (MayStand c.loop-item.world.pages) left c.loop-item.invariant.may);
       rest = c.in_ok-run_item.ensures.rest;
     }
-
--- STANDIN
-pub new-world-requires : goal.new-world-requires
-new-world-requires g c = ?

@@ -49,10 +49,3 @@ returns-clause-item g c =
     (steps.0, refl)
     (steps_on d _ _ _ _ _ _ ready.pages ready.clock steps.1)
     c.tell_phase.ensures
-
--- STANDIN
-pub prepare-requires-clause-never : goal.prepare-requires-clause-never
-prepare-requires-clause-never g c = ?
-
-pub run-requires-clause-never : goal.run-requires-clause-never
-run-requires-clause-never g c = ?

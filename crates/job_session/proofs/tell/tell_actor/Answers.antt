@@ -41,10 +41,3 @@ loop-op-preserved g c = SoFar-more _ _ _ _ _ c.loop-op.invariant _ _
 pub returns : goal.returns
 returns g c = SoFar-all _ _ _ _ c.loop-op.invariant
     (no_op c.args.actor c.loop-op.op _ _ (omega (arith, c.loop-op-test.false, c.requires.ends)))
-
--- STANDIN
-pub end-end-requires-clause-never : goal.end-end-requires-clause-never
-end-end-requires-clause-never g c = ?
-
-pub sectors-requires-clause-never : goal.sectors-requires-clause-never
-sectors-requires-clause-never g c = ?

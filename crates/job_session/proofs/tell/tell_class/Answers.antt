@@ -19,10 +19,3 @@ returns-in-None g c =
     (sym (class_without c.args.world.now.pages c.args.world.now.row.cells c.args.class
     c.requires.class c.pools_count.ensures c.requires.rest.rests c.in-None.ensures.none))
     (Tells-none c.args.out.now)
-
--- STANDIN
-pub pools_count-requires : goal.pools_count-requires
-pools_count-requires g c = ?
-
-pub class_stat-requires : goal.class_stat-requires
-class_stat-requires g c = ?

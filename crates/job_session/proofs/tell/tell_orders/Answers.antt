@@ -90,10 +90,3 @@ returns g c =
     (noted_none _ orders
     (subst (λ (ps : List ℕ). NotedFrom c.loop-page.invariant.0 ps orders)
     (drop_of_length-le c.noted-noted.result.now c.loop-page-test.false) c.loop-page.invariant.1))
-
--- STANDIN
-pub noted-noted-requires : goal.noted-noted-requires
-noted-noted-requires g c = ?
-
-pub entry-requires-clause-never : goal.entry-requires-clause-never
-entry-requires-clause-never g c = ?

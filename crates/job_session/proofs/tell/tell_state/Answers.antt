@@ -14,7 +14,3 @@ returns g c =
     c.touched.result c.entry-entry.ensures (c.weight.ensures ∙ ap weight_of c.kept.ensures)
     c.touched.ensures)
     c.tell_state.ensures
-
--- STANDIN
-pub entry-entry-requires-clause-never : goal.entry-entry-requires-clause-never
-entry-entry-requires-clause-never g c = ?

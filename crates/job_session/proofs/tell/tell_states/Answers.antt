@@ -26,7 +26,3 @@ pub returns : goal.returns
 returns g c =
     SoFar-all _ _ _ _ c.loop-page.invariant
     (none_on (state_lines c.args.world.now.row.cells) c.loop-page.page c.args.world.now.pages (omega (arith, c.loop-page-test.false, c.pages-page-end.ensures)))
-
--- STANDIN
-pub pages-page-end-requires : goal.pages-page-end-requires
-pages-page-end-requires g c = ?

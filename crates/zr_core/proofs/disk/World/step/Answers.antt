@@ -96,7 +96,7 @@ advance-requires-clause-allows c =
       fits = λ k f v h what told takes.
           subst (λ (t : Terms). StageFits t (here t.size c.as_slice.result.now w []) v)
           (sym (terms_are a))
-          (may_fit x c.args.actor _ _ _ (seat a) c.values_fit.ensures k v (planned a what)
+          (may_fit x c.args.actor _ _ _ (seat a) c.values_fit.ensures.fits k v (planned a what)
           takes.2.home);
       give = λ k f v what told. may_give x c.args.actor _ _ _ (seat a) k (planned a what);
     }
