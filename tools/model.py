@@ -1,339 +1,35 @@
 #!/usr/bin/env python3
-"""A reference model of `zramsim run`, written from docs/JOBS.md, docs/MACHINE.md and docs/OUTPUT.md alone.
+"""A reference model of `zramsim run`, written from docs/JOBS.md, docs/PAGES.md, docs/MACHINE.md and docs/OUTPUT.md alone.
 
     tools/model.py [JOB]
 
 prints what `zramsim run < JOB` prints, and ends with its status. It is a second reading of those pages, to be read
 beside them, and nothing in it is proved. Words on the command line, streams that fail and lack of memory are left out.
-Its parts stand in the order of the pages:
+The text of a job stands in tools/language.py, how pages are kept in tools/memory.py. Here stand:
 
-  1. the text of a job: values, forms of lines, limits, faults
-  2. requests: sectors, pieces
-  3. the machine: locks, stages, turns, runs
-  4. the plain disk: what an output promises, judged without the machine
-  5. the output and the status
+  1. pieces of requests
+  2. the machine: locks, stages, turns, runs
+  3. the plain disk: what an output promises, judged without the machine
+  4. the output and the status
 
-To grow it: a line of the language is a row of FORMS, its values are rows of VALUES, and what it says is a method of
-Reader; a limit is a row of LIMITS; a kind of lock is a value of the row; an event is a row of a table of stages.
+To grow it: a kind of lock is a value of the row; an event is a row of the table of stages.
 """
 from __future__ import annotations
 
 import argparse
-import re
 import sys
+from collections import Counter
 from dataclasses import dataclass, field
-from functools import lru_cache
 from itertools import groupby
-from typing import Any, Callable, Dict, Iterable, Iterator, NamedTuple, Optional, Tuple, Union
+from typing import Callable, Dict, Iterable, Iterator, NamedTuple, Optional, Tuple, Type, Union
 
-SECTOR = 512
-SECTORS = 8  # of a page
-WORDS = SECTOR // 8
-MOST_BYTES = 16_777_216
-MOST_ACTORS = 64
-LIMITS = {
-    "phases": 1_000,
-    "operations": 1_000_000,
-    "pieces": 1_048_576,
-    "sectors to read": 262_144,
-    "turns": 16_777_216,
-}
+from language import MOST_BYTES, SECTORS, WORDS, Fault, Item, Limit, Op, Phase, Report, Size, fill_sector, read_job
+from memory import ZERO_PAGE, Account, Form, Kept, Page, Pool, Pooled, Same, Stored, chain_of, form_of, per, size_of
+
 REFUSED, NO_JOB = 1, 3  # statuses
 
 
-# ---- 1. the text of a job
-
-class Fault(Exception):
-    """The first faulty line of a text, the first of the causes that it has, and what is wrong in words."""
-
-    def __init__(self, line: int, cause: str, why: str) -> None:
-        super().__init__(f"{line}: {cause}: {why}")
-        self.line, self.cause, self.why = line, cause, why
-
-
-class Turns(NamedTuple):
-    """What one word of a schedule gives: so many turns to an actor."""
-    actor: int
-    times: int
-
-
-def number(word: str) -> int:
-    """One or more decimal digits. More than 20 of them are above every value that is allowed, whatever they are."""
-    if not re.fullmatch("[0-9]+", word):
-        raise ValueError(f"{word[:40]!r} is no number")
-    digits = word.lstrip("0") or "0"
-    return int(digits) if len(digits) <= 20 else 10 ** 20
-
-
-def size(word: str) -> int:
-    """A number of bytes, perhaps with a letter for a factor; in pages, rounded up."""
-    factor = {"k": 2 ** 10, "m": 2 ** 20, "g": 2 ** 30}.get(word[-1].lower())
-    total = number(word[:-1]) * factor if factor else number(word)
-    return (total + SECTOR * SECTORS - 1) // (SECTOR * SECTORS)
-
-
-def word64(word: str) -> int:
-    """One to sixteen hexadecimal digits."""
-    if not re.fullmatch("[0-9a-fA-F]{1,16}", word):
-        raise ValueError(f"{word[:40]!r} isn't 1 to 16 hexadecimal digits")
-    return int(word, 16)
-
-
-def digits(word: str) -> str:
-    """Hexadecimal digits, as they are."""
-    if not re.fullmatch("[0-9a-fA-F]+", word):
-        raise ValueError(f"{word[:40]!r} has more than hexadecimal digits")
-    return word
-
-
-def turns(word: str) -> Turns:
-    """`N` or `N*K`."""
-    actor, star, times = word.partition("*")
-    return Turns(number(actor), number(times) if star else 1)
-
-
-def any_value(value: Any) -> bool:
-    """Said of values that are all allowed."""
-    return True
-
-
-class Value(NamedTuple):
-    """A word of a line: how it is read, which values are allowed, and those in words."""
-    read: Callable[[str], Any]
-    is_allowed: Callable[[Any], bool]
-    allowed: str
-
-
-VALUES = {
-    "SIZE": Value(size, lambda pages: 1 <= pages <= 262_144, "1 to 262,144 pages"),
-    "START": Value(number, lambda sector: sector < 2 ** 32, "a sector below 2^32"),
-    "COUNT": Value(number, lambda count: 1 <= count <= 2_048, "1 to 2,048 sectors"),
-    "WORD64": Value(word64, any_value, ""),
-    "BASE": Value(word64, any_value, ""),
-    "STEP": Value(word64, any_value, ""),
-    "DIGITS": Value(digits, any_value, ""),
-    "TURN": Value(turns, lambda turn: 1 <= turn.times <= 16_777_216, "1 to 16,777,216 turns"),
-}
-
-# The lines of the language: fixed words in lower case, values in upper case, `..` after a value that may be repeated.
-FORMS = [form.split() for form in (
-    "disksize SIZE",
-    "actor",
-    "write START COUNT fill WORD64",
-    "write START COUNT seq BASE STEP",
-    "write START COUNT hex DIGITS..",
-    "read START COUNT",
-    "discard START COUNT",
-    "schedule TURN..",
-    "run",
-)]
-OPERATIONS = ("write", "read", "discard")
-
-
-def words_of(line: str) -> list[str]:
-    """The words of a line: one 0d at its end is dropped, then a comment, and blanks are space and tab."""
-    if line.endswith("\r"):
-        line = line[:-1]
-    return [word for word in re.split("[ \t]", line.partition("#")[0]) if word]
-
-
-def has_form(words: list[str], form: list[str]) -> bool:
-    """Whether words are as many as a form wants, with its fixed words."""
-    if form[-1].endswith("..") and len(words) > len(form):
-        form = form + form[-1:] * (len(words) - len(form))
-    return len(words) == len(form) and all(name == word for name, word in zip(form, words) if name.islower())
-
-
-def form_of(words: list[str]) -> list[str]:
-    """The form that words have."""
-    forms = [form for form in FORMS if form[0] == words[0]]
-    if not forms:
-        raise ValueError(f"no line begins with {words[0][:40]!r}")
-    for form in forms:
-        if has_form(words, form):
-            return form
-    raise ValueError("the line is " + ", or ".join(f"`{' '.join(form)}`" for form in forms))
-
-
-def values_of(words: list[str], form: list[str]) -> dict[str, list[Any]]:
-    """What the words of a form stand for, by their names there. A value that is not allowed is one all the same."""
-    values: dict[str, list[Any]] = {}
-    for place, word in enumerate(words):
-        name = form[min(place, len(form) - 1)].rstrip(".")
-        if name in VALUES:
-            values.setdefault(name, []).append(VALUES[name].read(word))
-    if "DIGITS" in values:
-        count = values["COUNT"][0]
-        values["DIGITS"] = ["".join(values["DIGITS"])]
-        if VALUES["COUNT"].is_allowed(count) and len(values["DIGITS"][0]) != 2 * SECTOR * count:
-            raise ValueError(f"COUNT {count} needs {2 * SECTOR * count:,} digits, not {len(values['DIGITS'][0]):,}")
-    return values
-
-
-# ---- 2. requests
-
-@lru_cache(maxsize=4096)
-def fill_sector(word: int) -> bytes:
-    """A sector of one word."""
-    return word.to_bytes(8, "little") * WORDS
-
-
-ZEROS = fill_sector(0)
-
-
-def seq_sector(base: int, step: int, index: int) -> bytes:
-    """Sector `index` of a request whose word `k` is `base + k * step`."""
-    words = range(index * WORDS, (index + 1) * WORDS)
-    return b"".join(((base + k * step) % 2 ** 64).to_bytes(8, "little") for k in words)
-
-
-@dataclass(frozen=True)
-class Op:
-    """An operation: its word, its request, the bytes that it puts into each sector of the request, and its line."""
-    word: str
-    start: int
-    count: int
-    sector: Callable[[int], bytes]
-    text: str
-
-    def pages(self) -> range:
-        """The pages on which the request has sectors."""
-        return range(self.start // SECTORS, (self.start + self.count - 1) // SECTORS + 1)
-
-
-def stuff_of(values: dict[str, list[Any]]) -> Callable[[int], bytes]:
-    """The bytes that a write puts into each sector of its request; zeros for other operations."""
-    if "WORD64" in values:
-        word = values["WORD64"][0]
-        return lambda index: fill_sector(word)
-    if "BASE" in values:
-        base, step = values["BASE"][0], values["STEP"][0]
-        return lambda index: seq_sector(base, step, index)
-    if "DIGITS" in values:
-        data = bytes.fromhex(values["DIGITS"][0])
-        return lambda index: data[index * SECTOR:(index + 1) * SECTOR]
-    return lambda index: ZEROS
-
-
-class Size(NamedTuple):
-    """An item of a job: the disk has so many pages."""
-    pages: int
-
-
-@dataclass
-class Phase:
-    """An item of a job: the operations of each actor, and the schedule. It begins at line `first`."""
-    first: int
-    actors: list[list[Op]] = field(default_factory=list)
-    schedule: list[Turns] = field(default_factory=list)
-
-
-Item = Union[Size, Phase]
-AFTER_SCHEDULE = "after a `schedule` come only more of it and `run`"
-
-
-class Reader:
-    """A job as far as its lines have been read, with what of its limits is used."""
-
-    def __init__(self) -> None:
-        self.items: list[Item] = []
-        self.phase: Optional[Phase] = None
-        self.has_disk = False
-        self.used = dict.fromkeys(LIMITS, 0)
-        self.line = 0
-
-    def read(self, line: int, words: list[str]) -> None:
-        """Reads a line with words. Its causes stand in their order: word, number, range, order, nodisk, toomany."""
-        self.line = line
-        cause = "word"
-        try:
-            form = form_of(words)
-            cause = "number"
-            values = values_of(words, form)
-        except ValueError as error:
-            raise Fault(line, cause, str(error)) from None
-        for name, those in values.items():
-            self.want(all(map(VALUES[name].is_allowed, those)), "range", f"{name} must be {VALUES[name].allowed}")
-        name = "operation" if form[0] in OPERATIONS else form[0]
-        getattr(self, "says_" + name)(values, words)
-
-    def want(self, condition: bool, cause: str, why: str) -> None:
-        """Refuses the line for a cause where the condition doesn't hold."""
-        if not condition:
-            raise Fault(self.line, cause, why)
-
-    def use(self, what: str, amount: int) -> None:
-        """Uses so much of a limit."""
-        self.used[what] += amount
-        self.want(self.used[what] <= LIMITS[what], "toomany", f"a job has at most {LIMITS[what]:,} {what}")
-
-    def begin(self) -> Phase:
-        """The phase begins at this line."""
-        self.use("phases", 1)
-        return Phase(self.line)
-
-    def says_disksize(self, values: dict[str, list[Any]], words: list[str]) -> None:
-        """`disksize SIZE`: once, outside a phase."""
-        self.want(self.phase is None, "order", "`disksize` stands outside a phase")
-        self.want(not self.has_disk, "order", "the disk has a size already")
-        self.has_disk = True
-        self.items.append(Size(values["SIZE"][0]))
-
-    def says_actor(self, values: dict[str, list[Any]], words: list[str]) -> None:
-        """`actor`: the first one begins the phase."""
-        self.want(self.phase is None or not self.phase.schedule, "order", AFTER_SCHEDULE)
-        self.want(self.has_disk, "nodisk", "`disksize` comes first")
-        if self.phase is None:
-            self.phase = self.begin()
-        self.want(len(self.phase.actors) < MOST_ACTORS, "toomany", f"a phase has at most {MOST_ACTORS} actors")
-        self.phase.actors.append([])
-
-    def says_operation(self, values: dict[str, list[Any]], words: list[str]) -> None:
-        """`write`, `read`, `discard`: of the last actor."""
-        self.want(self.phase is not None, "order", "an operation stands after an `actor`")
-        assert self.phase is not None
-        self.want(not self.phase.schedule, "order", AFTER_SCHEDULE)
-        text = " ".join(words[:4] + [".."] if words[3:4] == ["hex"] else words)
-        op = Op(words[0], values["START"][0], values["COUNT"][0], stuff_of(values), text)
-        self.use("operations", 1)
-        self.use("pieces", len(op.pages()))
-        self.use("sectors to read", op.count if op.word == "read" else 0)
-        self.phase.actors[-1].append(op)
-
-    def says_schedule(self, values: dict[str, list[Any]], words: list[str]) -> None:
-        """`schedule TURN..`: turns of actors that have begun."""
-        actors = len(self.phase.actors) if self.phase else 0
-        given = values["TURN"]
-        self.want(all(turn.actor < actors for turn in given), "range", f"the phase has {actors} actors, counted from 0")
-        assert self.phase is not None
-        self.use("turns", sum(turn.times for turn in given))
-        self.phase.schedule += given
-
-    def says_run(self, values: dict[str, list[Any]], words: list[str]) -> None:
-        """`run`: ends the phase; one with no actor is empty."""
-        self.items.append(self.phase or self.begin())
-        self.phase = None
-
-    def end(self) -> list[Item]:
-        """The items of the job, at the text's end."""
-        if self.phase is not None:
-            raise Fault(self.phase.first, "order", "the phase that begins here has no `run`")
-        return self.items
-
-
-def read_job(text: bytes) -> list[Item]:
-    """The items of the job that a text is; else its first fault is raised."""
-    if len(text) > MOST_BYTES:
-        raise Fault(0, "toomany", f"a text has at most {MOST_BYTES:,} bytes")
-    reader = Reader()
-    for line, content in enumerate(text.decode("latin-1").split("\n"), 1):
-        words = words_of(content)
-        if words:
-            reader.read(line, words)
-    return reader.end()
-
-
-# ---- 3. the machine
+# ---- 1. pieces of requests
 
 class Tag(NamedTuple):
     """An operation by its actor and its number there."""
@@ -344,40 +40,23 @@ class Tag(NamedTuple):
         return f"{self.actor}:{self.op}"
 
 
-class Lock(NamedTuple):
-    """A lock of the row."""
-    kind: str
-    number: int
-
-    def __str__(self) -> str:
-        return f"{self.kind} {self.number}"
-
-
-Page = Tuple[bytes, ...]
-ZERO_PAGE: Page = (ZEROS,) * SECTORS
-
-
-@dataclass
-class Entry:
-    """What a slot guards: a page, as its eight sectors, and the page's order in this phase."""
-    page: Page = ZERO_PAGE
-    order: list[Tag] = field(default_factory=list)
-
-
-Row = Dict[Lock, Entry]  # what each lock guards; one that isn't there guards a page of zeros
-
-
 class Piece(NamedTuple):
-    """What an operation has on one page: sectors `first` to `first + count - 1` of it."""
+    """What an operation has on one page: sectors `first` to `first + count - 1` of it. Of a request beyond the disk
+    there is one piece, of which no page is used."""
     tag: Tag
     op: Op
     page: int
     first: int
     count: int
+    is_beyond: bool = False
 
     def is_whole(self) -> bool:
         """Whether it has all sectors of its page."""
         return self.count == SECTORS
+
+    def before(self) -> int:
+        """How many pieces of its request come before it."""
+        return self.page - self.op.pages()[0]
 
     def copied_from(self, page: Page) -> list[bytes]:
         """Its sectors of a page."""
@@ -390,8 +69,11 @@ class Piece(NamedTuple):
         return page[:self.first] + put + page[self.first + self.count:]
 
 
-def pieces_of(tag: Tag, op: Op) -> Iterator[Piece]:
-    """The pieces of an operation, of a request on the disk. A discard has one on each page that it has whole."""
+def pieces_of(tag: Tag, op: Op, pages: int) -> Iterator[Piece]:
+    """The pieces of an operation on a disk of so many pages. A discard has one on each page that it has whole."""
+    if op.start + op.count > pages * SECTORS:
+        yield Piece(tag, op, op.pages()[0], 0, 0, True)
+        return
     for page in op.pages():
         first = max(op.start - page * SECTORS, 0)
         piece = Piece(tag, op, page, first, min(op.start + op.count - page * SECTORS, SECTORS) - first)
@@ -399,39 +81,135 @@ def pieces_of(tag: Tag, op: Op) -> Iterator[Piece]:
             yield piece
 
 
+# ---- 2. the machine
+
+class Lock(NamedTuple):
+    """A lock of the row: a page's slot, a class, or the account."""
+    kind: str
+    number: int = 0
+
+    def __str__(self) -> str:
+        return "the account" if self.kind == "account" else f"{self.kind} {self.number}"
+
+
+class Entry(NamedTuple):
+    """What a slot guards: the kept form of a page, the page's order in this phase, and when a call last came to it."""
+    kept: Kept = None
+    order: Tuple[Tag, ...] = ()
+    touched: int = 0
+
+    def noted(self, tag: Tag, kept: Kept) -> Entry:
+        """The entry after a call. The clock of all phases is 0."""
+        return Entry(kept, self.order + (tag,), 0)
+
+
+Value = Union[Entry, Pool, Account]
+Row = Dict[Lock, Value]  # what each lock guards; one that isn't there guards what it did at first
+ACCOUNT = Lock("account")
+
+
+def value_at(row: Row, lock: Lock) -> Value:
+    """What a lock guards."""
+    if lock not in row:
+        return Entry() if lock.kind == "slot" else Pool(lock.number) if lock.kind == "class" else Account()
+    return row[lock]
+
+
+def entry_at(row: Row, page: int) -> Entry:
+    """The entry of a page."""
+    entry = value_at(row, Lock("slot", page))
+    assert isinstance(entry, Entry)
+    return entry
+
+
+def account_at(row: Row) -> Account:
+    """The account."""
+    account = value_at(row, ACCOUNT)
+    assert isinstance(account, Account)
+    return account
+
+
+def plain_page(kept: Kept) -> Page:
+    """The page of an entry without an object. That of an object is read from its cell, and is taken as zeros here: a
+    write of a whole page doesn't look at it."""
+    return (fill_sector(kept.word),) * SECTORS if isinstance(kept, Same) else ZERO_PAGE
+
+
+class Carried(NamedTuple):
+    """What an actor carries from stage to stage of a piece: the page that it has read from a cell, its new object, the
+    frames that it has freed and not yet given back, and the refusal that ends the piece."""
+    page: Optional[Page] = None
+    made: Optional[Stored] = None
+    owed: int = 0
+    refusal: str = ""
+
+
 @dataclass
 class Local:
     """An actor: its operations and pieces, how each operation has ended and which sectors it has read; which piece it
-    is at, in which stage, and what that piece carries from stage to stage (nothing, in the stages below)."""
+    is at, in which stage, the values that it holds by the kind of their lock, and what it carries."""
     ops: list[Op]
     todo: list[Piece]
     ends: list[str]
     reads: list[list[bytes]]
     at: int = 0
     stage: str = "Start"
-    carries: Optional[Page] = None
+    held: Dict[str, Value] = field(default_factory=dict)
+    carried: Carried = Carried()
 
     def piece(self) -> Optional[Piece]:
         """The piece that it is at; none where the actor is finished."""
         return self.todo[self.at] if self.at < len(self.todo) else None
 
+    def entry(self) -> Entry:
+        """The entry that it holds."""
+        entry = self.held["slot"]
+        assert isinstance(entry, Entry)
+        return entry
+
+    def old(self) -> Stored:
+        """The object that the entry in its hand names."""
+        kept = self.entry().kept
+        assert isinstance(kept, Stored)
+        return kept
+
+    def seen(self) -> Page:
+        """The page as it was, as far as the piece has to know it."""
+        return plain_page(self.entry().kept) if self.carried.page is None else self.carried.page
+
+    def form(self, piece: Piece) -> Form:
+        """The form in which the page has to be kept after the piece, a write or a discard."""
+        return None if piece.op.word == "discard" else form_of(piece.put_on(self.seen()))
+
+    def pooled(self, piece: Piece) -> Pooled:
+        """The same, where that is an object."""
+        form = self.form(piece)
+        assert isinstance(form, Pooled)
+        return form
+
+    def next_kept(self, piece: Piece) -> Kept:
+        """What the piece will put into its entry."""
+        form = self.form(piece)
+        return self.carried.made if isinstance(form, Pooled) else form
+
+    def carry(self, **what: object) -> None:
+        """Carries something on."""
+        self.carried = self.carried._replace(**what)
+
     def enter(self, stage: str) -> None:
-        """Its next stage; where that is OVER, the start of the next piece."""
+        """Its next stage; where that is OVER, the start of the next piece. An operation that was refused is over."""
         if stage == OVER:
-            self.at, stage = self.at + 1, "Start"
+            tag = self.todo[self.at].tag
+            self.at, stage, self.carried = self.at + 1, "Start", Carried()
+            while self.ends[tag.op] != "ok" and self.at < len(self.todo) and self.todo[self.at].tag == tag:
+                self.at += 1
         self.stage = stage
 
 
 def new_local(actor: int, ops: list[Op], pages: int) -> Local:
-    """An actor before its first turn. A request beyond the disk has no pieces, and ends `range`."""
-    todo: list[Piece] = []
-    ends: list[str] = []
-    for nr, op in enumerate(ops):
-        fits = op.start + op.count <= pages * SECTORS
-        ends.append("ok" if fits else "range")
-        if fits:
-            todo.extend(pieces_of(Tag(actor, nr), op))
-    return Local(ops, todo, ends, [[] for _ in ops])
+    """An actor before its first turn."""
+    todo = [piece for nr, op in enumerate(ops) for piece in pieces_of(Tag(actor, nr), op, pages)]
+    return Local(ops, todo, ["ok"] * len(ops), [[] for _ in ops])
 
 
 TAKE, GIVE = "takes", "gives"
@@ -439,67 +217,198 @@ OVER = "over"
 
 
 class Stage(NamedTuple):
-    """A row of a table of steps: the event of an actor in a stage, its lock, its work, and the stage after it."""
+    """A row of the table of steps: the event of an actor in a stage, its lock, the stage after it, and the work of a
+    giving: what is given, by what was taken."""
     event: str
     lock: Callable[[Local, Piece], Lock]
-    work: Callable[[Local, Piece, Entry], None]
-    after: Callable[[Local, Piece, Entry], str]
+    after: Callable[[Local, Piece], str]
+    work: Callable[[Local, Piece, Value], Value] = lambda local, piece, value: value
 
+
+# The locks.
 
 def slot(local: Local, piece: Piece) -> Lock:
     """The slot of a piece's page."""
     return Lock("slot", piece.page)
 
 
-def no_work(local: Local, piece: Piece, entry: Entry) -> None:
-    """The entry stays as it is."""
+def the_account(local: Local, piece: Piece) -> Lock:
+    """The account."""
+    return ACCOUNT
 
 
-def carry_out(local: Local, piece: Piece, entry: Entry) -> None:
-    """A read copies its sectors, a write puts them, a discard leaves zeros; the tag is put last in the order."""
-    if piece.op.word == "read":
-        local.reads[piece.tag.op] += piece.copied_from(entry.page)
-    else:
-        entry.page = piece.put_on(entry.page)
-    entry.order.append(piece.tag)
+def first_lock(local: Local, piece: Piece) -> Lock:
+    """The slot, or the account for a request beyond the disk."""
+    return ACCOUNT if piece.is_beyond else slot(local, piece)
+
+
+def old_class(local: Local, piece: Piece) -> Lock:
+    """The class of the object that the entry in hand names."""
+    return Lock("class", local.old().number)
+
+
+def new_class(local: Local, piece: Piece) -> Lock:
+    """The class of the object that is to be made."""
+    return Lock("class", local.pooled(piece).number)
+
+
+# The stages after an event that have more than one.
+
+def then(stage: str) -> Callable[[Local, Piece], str]:
+    """One stage, always."""
+    return lambda local, piece: stage
+
+
+def settle(local: Local, piece: Piece) -> str:
+    """What the entry names has to be given up, if it is an object."""
+    return "Old" if isinstance(local.entry().kept, Stored) else "Owing"
+
+
+def make(local: Local, piece: Piece) -> str:
+    """The page to be put is known: an object for it has to be made, if it is to be one."""
+    return "Wanting" if isinstance(local.form(piece), Pooled) else settle(local, piece)
+
+
+def after_start(local: Local, piece: Piece) -> str:
+    """The piece has its first lock."""
+    if piece.is_beyond:
+        return "Refusing"
+    kept = local.entry().kept
+    if piece.op.word == "discard":
+        return "Ready" if kept is None else settle(local, piece)
+    if isinstance(kept, Stored) and (piece.op.word == "read" or not piece.is_whole()):
+        return "Seen"
+    return "Leaving" if piece.op.word == "read" else make(local, piece)
+
+
+def after_pin(local: Local, piece: Piece) -> str:
+    """The page was read from its cell."""
+    return "Pinned" if piece.op.word == "read" else make(local, piece)
+
+
+def after_made(local: Local, piece: Piece) -> str:
+    """The new object was made, or the piece is refused."""
+    if local.carried.refusal:
+        return "Leaving" if local.carried.page is None else "Pinned"
+    return settle(local, piece)
+
+
+# The work of givings.
+
+def count_beyond(local: Local, piece: Piece, account: Account) -> Account:
+    """A request beyond the disk ends."""
+    local.ends[piece.tag.op] = "range"
+    return account.counted("invalid_io")
+
+
+def pin(local: Local, piece: Piece, pool: Pool) -> Pool:
+    """The object's cell is out, and the page is read from it."""
+    local.carry(page=pool.page(local.old()))
+    return pool.lent(local.old().handle, True)
+
+
+def unpin(local: Local, piece: Piece, pool: Pool) -> Pool:
+    """The object's cell is at home again."""
+    return pool.lent(local.old().handle, False)
+
+
+def leave(local: Local, piece: Piece, entry: Entry) -> Entry:
+    """A read is carried out, and noted; a refused write leaves all as it was."""
+    if local.carried.refusal:
+        local.ends[piece.tag.op] = local.carried.refusal
+        return entry
+    local.reads[piece.tag.op] += piece.copied_from(local.seen())
+    return entry.noted(piece.tag, entry.kept)
+
+
+def charge(local: Local, piece: Piece, account: Account) -> Account:
+    """The frames that the new object needs are charged and the object is made, in the pool in hand; or the piece is
+    refused, and the account counts that alone."""
+    pool, form = local.held["class"], local.pooled(piece)
+    assert isinstance(pool, Pool)
+    need = pool.need()
+    if account.is_past_limit(need):
+        local.carry(refusal=f"limit {account.frames} {need} {account.limit} done {piece.before()}")
+        return account.counted("failed_writes")
+    local.held["class"], handle = pool.stored(form.data)
+    local.carry(made=Stored(form.number, handle, len(form.data), form.is_huge))
+    return account.charged(need)
+
+
+def free(local: Local, piece: Piece, pool: Pool) -> Pool:
+    """The old object is unpinned where it was pinned, and freed."""
+    pool, frames = pool.freed(local.old().handle)
+    local.carry(owed=frames)
+    return pool
+
+
+def count(local: Local, piece: Piece, account: Account) -> Account:
+    """The freed frames are given back, and the page is counted by its new form in place of its old one."""
+    kept = local.next_kept(piece)
+    account = account._replace(frames=account.frames - local.carried.owed)
+    account = account.with_page(local.entry().kept, -1).with_page(kept)
+    if isinstance(kept, Stored) and kept.is_huge:
+        account = account.counted("huge_since")
+    return account.counted("notify_free") if piece.op.word == "discard" else account
+
+
+def put(local: Local, piece: Piece, entry: Entry) -> Entry:
+    """A write or a discard is carried out, and noted."""
+    return entry.noted(piece.tag, local.next_kept(piece))
 
 
 # The table of the steps of a piece, in docs/MACHINE.md.
 STAGES = {
-    "Start": Stage(TAKE, slot, no_work, lambda local, piece, entry: "Entered"),
-    "Entered": Stage(GIVE, slot, carry_out, lambda local, piece, entry: OVER),
+    "Start": Stage(TAKE, first_lock, after_start),
+    "Refusing": Stage(GIVE, the_account, then(OVER), count_beyond),
+    "Seen": Stage(TAKE, old_class, then("Pinning")),
+    "Pinning": Stage(GIVE, old_class, after_pin, pin),
+    "Pinned": Stage(TAKE, old_class, then("Unpinning")),
+    "Unpinning": Stage(GIVE, old_class, then("Leaving"), unpin),
+    "Leaving": Stage(GIVE, slot, then(OVER), leave),
+    "Wanting": Stage(TAKE, new_class, then("Inside")),
+    "Inside": Stage(TAKE, the_account, then("Both")),
+    "Both": Stage(GIVE, the_account, then("Made"), charge),
+    "Made": Stage(GIVE, new_class, after_made),
+    "Old": Stage(TAKE, old_class, then("Freeing")),
+    "Freeing": Stage(GIVE, old_class, then("Owing"), free),
+    "Owing": Stage(TAKE, the_account, then("Giving")),
+    "Giving": Stage(GIVE, the_account, then("Ready"), count),
+    "Ready": Stage(GIVE, slot, then(OVER), put),
 }
 
 EVENT, MISS, NOTHING = "event", "miss", "nothing"
 
 
 class Turn(NamedTuple):
-    """What a turn of an actor was. `stage` is the one it began in; a miss tells which actor has the lock."""
+    """What a turn of an actor was: the stage that it began in, the lock that it took or missed or gave, which actor
+    has the lock that it missed, and the value that it gave with the one that it had taken."""
     actor: int
     kind: str
     piece: Optional[Piece] = None
-    stage: Optional[Stage] = None
-    lock: Optional[Lock] = None
+    stage: str = ""
+    lock: Lock = ACCOUNT
     holder: Optional[int] = None
+    taken: Optional[Value] = None
+    given: Optional[Value] = None
 
 
 class Machine:
     """The row of locks with the locals of a phase's actors. The row outlives the phase."""
+    takes, gives = "takes", "gives"
 
-    def __init__(self, row: Row, pages: int, phase: Phase, stages: dict[str, Stage] = STAGES) -> None:
-        self.row, self.pages, self.phase, self.stages = row, pages, phase, stages
+    def __init__(self, row: Row, pages: int, phase: Phase) -> None:
+        self.row, self.pages, self.phase = row, pages, phase
         self.locals = [new_local(actor, ops, pages) for actor, ops in enumerate(phase.actors)]
         self.holder: dict[Lock, int] = {}  # who has a lock that is out
-        self.touched = sorted({piece.page for local in self.locals for piece in local.todo})
-        self.before: dict[int, Page] = {}  # the touched pages before the phase
-        for page in self.touched:
-            entry = row.setdefault(Lock("slot", page), Entry())
-            entry.order = []
-            self.before[page] = entry.page
+        self.called = sorted({piece.page for local in self.locals for piece in local.todo if not piece.is_beyond})
+        for page in self.called:
+            row[Lock("slot", page)] = entry_at(row, page)._replace(order=())
+        self.before: Row = dict(row)
 
     def entry(self, page: int) -> Entry:
-        """The entry of a touched page, wherever it is."""
-        return self.row[Lock("slot", page)]
+        """The entry of a page; where it is out, as it was when it was taken."""
+        return entry_at(self.row, page)
 
     def next_turn(self, actor: int) -> Turn:
         """What the next turn of an actor is: its next event, a miss, or nothing."""
@@ -507,25 +416,39 @@ class Machine:
         piece = local.piece()
         if piece is None:
             return Turn(actor, NOTHING)
-        stage = self.stages[local.stage]
-        lock = stage.lock(local, piece)
-        if stage.event == TAKE and lock in self.holder:
-            return Turn(actor, MISS, piece, stage, lock, self.holder[lock])
-        return Turn(actor, EVENT, piece, stage, lock)
+        lock = STAGES[local.stage].lock(local, piece)
+        if STAGES[local.stage].event == TAKE and lock in self.holder:
+            return Turn(actor, MISS, piece, local.stage, lock, self.holder[lock])
+        return Turn(actor, EVENT, piece, local.stage, lock)
 
     def turn(self, actor: int) -> Turn:
         """Makes one turn of an actor. An event changes its lock and its actor's local, and nothing else."""
         turn = self.next_turn(actor)
         if turn.kind == EVENT:
-            assert turn.piece and turn.stage and turn.lock
-            local, entry = self.locals[actor], self.row[turn.lock]
-            turn.stage.work(local, turn.piece, entry)
-            local.enter(turn.stage.after(local, turn.piece, entry))
-            if turn.stage.event == TAKE:
-                self.holder[turn.lock] = actor
-            elif turn.stage.event == GIVE:
-                del self.holder[turn.lock]
+            assert turn.piece
+            local, stage, kind = self.locals[actor], STAGES[turn.stage], turn.lock.kind
+            if stage.event == TAKE:
+                self.take(actor, turn.lock)
+                local.held[kind] = value_at(self.row, turn.lock)
+            else:
+                turn = turn._replace(taken=local.held[kind])
+                turn = turn._replace(given=stage.work(local, turn.piece, local.held[kind]))
+            after = stage.after(local, turn.piece)
+            if stage.event == GIVE:
+                self.give(turn)
+                del local.held[kind]
+            local.enter(after)
         return turn
+
+    def take(self, actor: int, lock: Lock) -> None:
+        """An actor has a lock."""
+        self.holder[lock] = actor
+
+    def give(self, turn: Turn) -> None:
+        """A lock is at home, with the value that was given."""
+        assert turn.given is not None
+        self.row[turn.lock] = turn.given
+        del self.holder[turn.lock]
 
     def unfinished(self) -> list[int]:
         """The actors that have an event to come, rising."""
@@ -555,9 +478,18 @@ class Machine:
             left = [actor for actor in left if self.locals[actor].piece() is not None]
 
 
-# ---- 4. the plain disk
+# ---- 3. the plain disk
 
-def replayed(order: list[Tag], page: Page, pieces: dict[Tag, Piece]) -> tuple[Page, dict[Tag, list[bytes]]]:
+def page_in(row: Row, kept: Kept) -> Page:
+    """The page that is kept in a form."""
+    if not isinstance(kept, Stored):
+        return plain_page(kept)
+    pool = value_at(row, Lock("class", kept.number))
+    assert isinstance(pool, Pool)
+    return pool.page(kept)
+
+
+def replayed(order: Iterable[Tag], page: Page, pieces: dict[Tag, Piece]) -> tuple[Page, dict[Tag, list[bytes]]]:
     """What the calls of an order leave on a page, and what each read among them has to print."""
     prints = {}
     for tag in order:
@@ -582,25 +514,45 @@ def printed_by(machine: Machine) -> dict[tuple[int, Tag], list[bytes]]:
     return prints
 
 
+def carried_out(local: Local) -> Iterator[Piece]:
+    """The pieces of an actor that were carried out: all of an operation that ended `ok`, the first ones of a write
+    that ended at the limit, none of a request beyond the disk."""
+    for piece in local.todo:
+        end = local.ends[piece.tag.op].split()
+        if end[0] == "ok" or end[-2:-1] == ["done"] and piece.before() < int(end[-1]):
+            yield piece
+
+
 def breaches(machine: Machine) -> Iterator[str]:
-    """Where a phase that has been run breaks what an output promises: each order lists the page's calls, each actor's
-    in turn; each read prints what the calls before it left; and the page holds what all of them leave."""
-    pieces: dict[int, dict[Tag, Piece]] = {page: {} for page in machine.touched}
+    """Where a phase that has been run breaks what an output promises: of its pages, and of its reports."""
+    yield from page_breaches(machine)
+    yield from report_breaches(machine)
+
+
+def page_breaches(machine: Machine) -> Iterator[str]:
+    """Where an order doesn't list its page's calls, each actor's in turn; a read doesn't print what the calls before it
+    left; a page doesn't hold what all of them leave, or isn't in its form."""
+    pieces: dict[int, dict[Tag, Piece]] = {page: {} for page in machine.called}
     for local in machine.locals:
-        for piece in local.todo:
+        for piece in carried_out(local):
             pieces[piece.page][piece.tag] = piece
     prints = printed_by(machine)
-    for page in machine.touched:
-        entry = machine.entry(page)
+    for page in machine.called:
+        entry, before = machine.entry(page), entry_at(machine.before, page)
         yield from order_breaches(page, entry.order, list(pieces[page]))
-        left, wanted = replayed(entry.order, machine.before[page], pieces[page])
+        left, wanted = replayed(entry.order, page_in(machine.before, before.kept), pieces[page])
         for tag, sectors in wanted.items():
             what = f"the read {tag} of page {page}"
             yield from differences(what, pieces[page][tag].first, prints[page, tag], sectors)
-        yield from differences(f"page {page} at the end", 0, list(entry.page), list(left))
+        there = page_in(machine.row, entry.kept)
+        yield from differences(f"page {page} at the end", 0, list(there), list(left))
+        changes = [pieces[page][tag].op.word for tag in entry.order if pieces[page][tag].op.word != "read"]
+        is_blank = changes[-1] == "discard" if changes else before.kept is None
+        if not has_form(entry.kept, None if is_blank else form_of(there)):
+            yield f"page {page} at the end: it is kept in another form than its bytes ask for"
 
 
-def order_breaches(page: int, order: list[Tag], calls: list[Tag]) -> Iterator[str]:
+def order_breaches(page: int, order: Tuple[Tag, ...], calls: list[Tag]) -> Iterator[str]:
     """Where an order doesn't list the calls on its page, each once and each actor's in turn."""
     if sorted(order) != sorted(calls):
         yield f"page {page}: the order doesn't list its calls, each once"
@@ -627,7 +579,43 @@ def short(sector: bytes) -> str:
     return f"{kind} {text.lstrip('0') or '0'}" if kind == "fill" else f"{kind} {text[:16]}.."
 
 
-# ---- 5. the output and the status
+def has_form(kept: Kept, form: Form) -> bool:
+    """Whether what is kept has a form."""
+    if isinstance(form, Pooled):
+        return isinstance(kept, Stored) and kept[0] == form.number and kept[2:] == (len(form.data), form.is_huge)
+    return kept == form
+
+
+def report_breaches(machine: Machine) -> Iterator[str]:
+    """Where the account and the pools aren't those of the pages, and of what the phase's calls and ends say."""
+    account, before = account_at(machine.row), account_at(machine.before)
+    kept = [value.kept for value in machine.row.values() if isinstance(value, Entry)]
+    pools = [value for value in machine.row.values() if isinstance(value, Pool)]
+    wanted = Account()
+    for each in kept:
+        wanted = wanted.with_page(each)
+    for name in ("pages", "bytes", "same", "huge"):
+        yield from unequal(f"the account's {name}", getattr(account, name), getattr(wanted, name))
+    yield from unequal("the account's frames", account.frames, sum(pool.frames() for pool in pools))
+    owned = Counter((each.number, each.handle) for each in kept if isinstance(each, Stored))
+    objects = Counter((pool.number, handle) for pool in pools for handle in pool.objects())
+    yield from unequal("the objects that no page has", len(objects - owned), 0)
+    yield from unequal("the pages whose object isn't their own", sum((owned - objects).values()), 0)
+    yield from unequal("the cells that are out", sum(one.is_out for pool in pools for one in pool.objects().values()), 0)
+    ends = [end.split()[0] for local in machine.locals for end in local.ends]
+    yield from unequal("the failed writes", account.failed_writes, before.failed_writes + ends.count("limit"))
+    yield from unequal("the requests beyond the disk", account.invalid_io, before.invalid_io + ends.count("range"))
+    if account.most < account.frames or 0 < account.limit < account.most != before.most:
+        yield f"the account's greatest number of frames is {account.most}, at {account.frames} frames and its limit"
+
+
+def unequal(what: str, got: int, wanted: int) -> Iterator[str]:
+    """A number that isn't as it should be."""
+    if got != wanted:
+        yield f"{what}: {got}, and not {wanted}"
+
+
+# ---- 4. the output and the status
 
 def sector_text(sector: bytes) -> str:
     """A sector as one word where all its words are equal, else as its bytes."""
@@ -642,20 +630,57 @@ def lines_of(machine: Machine) -> Iterator[str]:
         for nr, end in enumerate(local.ends):
             yield f"op {actor} {nr} {end}"
             yield from map(sector_text, local.reads[nr])
-    for page in machine.touched:
+    for page in machine.called:
         if machine.entry(page).order:
             yield f"order {page} " + " ".join(map(str, machine.entry(page).order))
 
 
-def phases_of(items: Iterable[Item], stages: dict[str, Stage] = STAGES) -> Iterator[Machine]:
-    """The machine of each phase of a job, at its start. The caller runs it before asking for the next."""
-    row: Row = {}
-    pages = 0
+def numbers(name: str, those: Iterable[int]) -> str:
+    """A line of a name and numbers."""
+    return " ".join([name, *map(str, those)])
+
+
+def report_of(name: str, row: Row) -> Iterator[str]:
+    """The lines of a report."""
+    if name == "mm_stat":
+        yield numbers(name, account_at(row).mm_stat())
+    elif name == "io_stat":
+        yield numbers(name, account_at(row).io_stat())
+    elif name == "states":
+        for lock, entry in sorted(row.items()):
+            if isinstance(entry, Entry) and entry.kept is not None:
+                is_huge = isinstance(entry.kept, Stored) and entry.kept.is_huge
+                letters = ("s" if isinstance(entry.kept, Same) else ".") + "." + ("h" if is_huge else ".") + "."
+                yield f"state {lock.number} {letters} {entry.touched}"
+    else:
+        yield from (class_line(pool) for _, pool in sorted(row.items()) if isinstance(pool, Pool) and pool.zspages)
+
+
+def class_line(pool: Pool) -> str:
+    """The line of a class that has zspages."""
+    used = sum(zspage.used() for zspage in pool.zspages)
+    cells = f"class {pool.number} {size_of(pool.number)} pages {chain_of(pool.number)} per {per(pool.number)}"
+    return numbers(f"{cells} used {used} zspages {len(pool.zspages)} groups", pool.groups())
+
+
+def results_of(items: Iterable[Item], row: Row, pages: int = 0,
+               kind: Type[Machine] = Machine) -> Iterator[Union[Machine, list[str]]]:
+    """What the items of a job come to on a disk: for a phase its machine, at its start; for a report its lines. The
+    caller runs a machine before asking for the next."""
     for item in items:
         if isinstance(item, Size):
             pages = item.pages
+        elif isinstance(item, Limit):
+            row[ACCOUNT] = account_at(row)._replace(limit=item.frames)
+        elif isinstance(item, Report):
+            yield list(report_of(item.name, row))
         else:
-            yield Machine(row, pages, item, stages)
+            yield kind(row, pages, item)
+
+
+def phases_of(items: Iterable[Item], kind: Type[Machine] = Machine) -> Iterator[Machine]:
+    """The machine of each phase of a job, at its start. The caller runs it before asking for the next."""
+    return (result for result in results_of(items, {}, kind=kind) if isinstance(result, Machine))
 
 
 def outcome(text: bytes) -> tuple[int, str]:
@@ -666,11 +691,13 @@ def outcome(text: bytes) -> tuple[int, str]:
         return NO_JOB, f"job {fault.line} {fault.cause}\n"
     lines: list[str] = []
     status = 0
-    for machine in phases_of(items):
-        machine.run()
-        lines.extend(lines_of(machine))
-        if any(end != "ok" for local in machine.locals for end in local.ends):
-            status = REFUSED
+    for result in results_of(items, {}):
+        if isinstance(result, Machine):
+            result.run()
+            if any(end != "ok" for local in result.locals for end in local.ends):
+                status = REFUSED
+            result = list(lines_of(result))
+        lines += result
     return status, "".join(line + "\n" for line in lines)
 
 

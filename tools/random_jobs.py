@@ -11,6 +11,13 @@ from typing import Callable
 
 EDGES = (0, 1, 7, 8, 9, 15, 16)
 COUNTS = (1, 1, 2, 3, 4, 7, 8, 8, 8, 9, 16, 16, 24)
+LIMITS = ("0", "1", "4K", "4k", "8K", "8K", "12K", "16K", "20K", "24K", "1M", "1G", "1099511627776", "0G")
+REPORTS = ("mm_stat", "io_stat", "states", "classes")
+# What writes put so that pages are huge or packed in many sizes, beside the words and steps below.
+KEPT = (
+    "seq 0 9e3779b97f4a7c15", "seq 0 9e3779b97f4a7c15", "seq f4240 1", "seq f4240 1000000", "seq f4240 100",
+    "seq 0 15000000", "seq 000f4240000f4240 0000000100000001", "fill 0",
+)
 WORDS = ("0", "1", "ab", "FF", "1a2b3c4d", "ffffffffffffffff", "0000000000000001", "DeadBeef")
 STEPS = ("0", "1", "ff", "100000000", "ffffffffffffffff", "9e3779b97f4a7c15")
 
@@ -19,14 +26,15 @@ STRANGE = (
     "", "x", "-1", "+1", "1.5", "0x1", "0", "00", "007", "2048", "2049", "4294967295", "4294967296",
     "18446744073709551616", "123456789012345678901234567890", "1K", "1k", "K", "4M", "1G", "1T", "262145", "0*1", "1*0",
     "*", "0*", "*1", "0*1*1", "0*16777217", "0*16777216", "63", "64", "99999999999999999", "00000000000000001", "fill",
-    "seq", "hex", "FILL", "read", "write", "discard", "run", "RUN", "actor", "disksize", "schedule", "idle", "all",
+    "seq", "hex", "mem_limit", "mm_stat", "classes", "1048576M", "1048577M", "FILL", "read", "write", "discard", "run", "RUN", "actor", "disksize", "schedule", "idle", "all",
     "\x0b", "\x0c", "\xa0", "\r", "\0", "\xff", "#", "run#", "a" * 60,
 )
 # Whole lines that are wrong in most places.
 STRANGE_LINES = (
     "run", "actor", "disksize 8K", "disksize 0", "disksize 1G1", "schedule 0", "schedule 3", "schedule", "read 0 1",
     "write 0 1 fill 1", "write 0 1 hex 00", "write 4294967296 1 hex 00", "write 0 2049 hex 00", "discard 0 8", "idle 5",
-    "compact", "writeback idle", "read 4294967295 2048", "read 0 0", "write 0 1 seq 1", "write 0 1 fill 1 2", "run run",
+    "mem_limit 4K", "mem_limit", "mem_limit 1T", "mem_limit 1048577M", "mem_limit 18446744073709551616", "mm_stat",
+    "io_stat", "states", "classes", "mm_stat 1", "io_stat mm_stat", "classes all", "compact", "writeback idle", "read 4294967295 2048", "read 0 0", "write 0 1 seq 1", "write 0 1 fill 1 2", "run run",
 )
 
 
@@ -67,10 +75,12 @@ class Maker:
 
     def stuff(self, count: int) -> str:
         """What a write puts."""
-        kind = self.chance.randrange(8)
+        kind = self.chance.randrange(12)
         if kind == 0 and count <= 4:
             return "hex " + self.digits(count)
-        if kind <= 2:
+        if kind <= 5:
+            return self.chance.choice(KEPT)
+        if kind <= 7:
             return f"seq {self.chance.choice(WORDS)} {self.chance.choice(STEPS)}"
         return f"fill {self.chance.choice(WORDS)}"
 
@@ -87,7 +97,7 @@ class Maker:
         for _ in range(2 if self.one_in(6) else 1):
             turns = []
             for _ in range(self.chance.randrange(1, 9)):
-                times = self.chance.randrange(1, 5)
+                times = self.chance.randrange(1, 5) if not self.one_in(3) else self.chance.randrange(5, 13)
                 turns.append(f"{self.chance.randrange(actors)}" + (f"*{times}" if times > 1 or self.one_in(9) else ""))
             if self.one_in(20):
                 turns.append(f"{self.chance.randrange(actors)}*{10 ** self.chance.randrange(7)}")
@@ -107,16 +117,29 @@ class Maker:
             lines.extend(self.schedule(actors))
         return lines + ["run"]
 
+    def threshold(self) -> list[str]:
+        """A phase that packs the first page in 3,256 bytes, or makes it huge by a byte more."""
+        last = ["write 5 1 seq f4240 1000000", "write 6 1 seq f4240 1", "write 7 1 seq f4240 100"]
+        if self.one_in(2):
+            last = ["write 5 1 seq 0 15000000", "write 6 1 seq 000f4240000f4240 0000000100000001"]
+        return ["actor", "write 0 5 seq 0 9e3779b97f4a7c15"] + last + ["run"]
+
+    def between(self) -> list[str]:
+        """What stands between phases: limits, mostly small ones, and reports."""
+        lines = [f"mem_limit {self.chance.choice(LIMITS)}"] if self.one_in(3) else []
+        return lines + [self.chance.choice(REPORTS) for _ in range(self.chance.randrange(4) if self.one_in(2) else 0)]
+
     def read_back(self) -> list[str]:
         """A phase that reads the whole of a small disk."""
         return ["actor", f"read 0 {min(self.sectors, 64)}", "run"]
 
     def valid(self) -> list[str]:
         """The lines of a job."""
-        lines = [self.disk()]
+        lines = self.between() + [self.disk()]
         for _ in range(self.chance.randrange(1, 4)):
-            lines.extend(self.phase())
-        return lines + (self.read_back() if not self.one_in(3) else [])
+            lines += self.between() + (self.threshold() if self.one_in(12) else self.phase())
+        lines += self.read_back() if not self.one_in(3) else []
+        return lines + (list(REPORTS) if not self.one_in(3) else [])
 
     def dressed(self, line: str) -> str:
         """A line that says the same, with blanks, comments and the byte 0d."""

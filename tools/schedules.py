@@ -15,12 +15,16 @@ from collections import defaultdict
 from copy import copy
 from dataclasses import dataclass, field, replace
 from itertools import groupby
-from typing import Hashable, Iterable, Iterator, Optional
+from typing import Hashable, Iterable, Iterator, Optional, Type, Union
 
-from model import EVENT, STAGES, Entry, Item, Lock, Machine, Phase, Row, Stage, breaches, lines_of, phases_of
+from language import Item, Phase
+from model import EVENT, Machine, lines_of, page_breaches, report_breaches, results_of
 from trace import count, joined, schedule_text
 
 TURNS_LEFT = 10  # times as many states as --limit may be visited with the turns that are left in them
+
+
+Results = Iterator[Union[Machine, list[str]]]
 
 
 class TooMany(Exception):
@@ -29,27 +33,24 @@ class TooMany(Exception):
 
 def after_event(machine: Machine, actor: int) -> Optional[Machine]:
     """The machine after the next turn of an actor; none where that turn is no event. The machine itself stays as it is.
-    An event changes one lock and one local, so all else is shared."""
-    turn = machine.next_turn(actor)
-    lock = turn.lock
-    if turn.kind != EVENT or lock is None:
+    An event changes one lock and one local, so all else is shared; what locks guard is never changed in its place."""
+    if machine.next_turn(actor).kind != EVENT:
         return None
-    twin = copy(machine)
-    entry, local = machine.row[lock], machine.locals[actor]
-    twin.row = {**machine.row, lock: Entry(entry.page, entry.order[:])}
-    twin.holder = dict(machine.holder)
-    twin.locals = machine.locals[:]
-    twin.locals[actor] = replace(local, ends=local.ends[:], reads=[read[:] for read in local.reads])
+    twin, local = copy(machine), machine.locals[actor]
+    twin.row, twin.holder, twin.locals = dict(machine.row), dict(machine.holder), machine.locals[:]
+    twin.locals[actor] = replace(local, ends=local.ends[:], reads=[read[:] for read in local.reads],
+                                 held=dict(local.held))
     twin.turn(actor)
     return twin
 
 
 def key_of(machine: Machine) -> Hashable:
-    """All that a state is, to be compared."""
-    actors = tuple((local.at, local.stage, local.carries, tuple(local.ends), tuple(map(tuple, local.reads)))
-                   for local in machine.locals)
-    row = tuple((entry.page, tuple(entry.order)) for entry in machine.row.values())
-    return actors, row, tuple(sorted(machine.holder.items()))
+    """All that a state is, to be compared. Of pages that the phase has no call on nothing changes."""
+    actors = tuple((local.at, local.stage, local.carried, tuple(local.held.items()), tuple(local.ends),
+                    tuple(map(tuple, local.reads))) for local in machine.locals)
+    slots = tuple(machine.entry(page) for page in machine.called)
+    others = frozenset((lock, value) for lock, value in machine.row.items() if lock.kind != "slot")
+    return actors, slots, others, tuple(sorted(machine.holder.items()))
 
 
 @dataclass
@@ -103,24 +104,20 @@ class Graph:
 class Explorer:
     """All runs of the phase of a job that has this number, counted from 1. Those after it run by their schedules."""
 
-    def __init__(self, items: list[Item], number: int, limit: int, stages: dict[str, Stage] = STAGES) -> None:
-        self.items, self.number, self.limit, self.stages = items, number, limit, stages
-        self.begin()
+    def __init__(self, items: list[Item], number: int, limit: int, kind: Type[Machine] = Machine) -> None:
+        self.items, self.number, self.limit, self.kind = items, number, limit, kind
+        self.start = self.begin()
         self.graph = Graph()
         self.visit()
         self.turns = self.graph.most_events()
         self.count_orders()
         self.count_schedules()
 
-    def begin(self) -> None:
-        """Runs the phases before, and takes apart the phase's own pages from those that it leaves alone."""
-        for nr, machine in enumerate(phases_of(self.items, self.stages), 1):
-            if nr == self.number:
-                self.rest: Row = machine.row
-                machine.row = {Lock("slot", page): machine.entry(page) for page in machine.touched}
-                self.start = machine
-                return
-            machine.run()
+    def begin(self) -> Machine:
+        """The phase's machine, after the items before it, and with the items after it put aside."""
+        phases = [place for place, item in enumerate(self.items) if isinstance(item, Phase)]
+        self.after = self.items[phases[self.number - 1] + 1:]
+        return phase_among(results_of(self.items, {}, kind=self.kind), self.number)
 
     def visit(self) -> None:
         """Visits each state once, by the number of events that lead to it."""
@@ -156,22 +153,16 @@ class Explorer:
 
     def note_end(self, state: int, machine: Machine) -> None:
         """Notes the output of a state in which all are finished."""
-        wrong = list(breaches(machine))
+        wrong = list(page_breaches(machine))
+        if any(report_breaches(machine)):
+            wrong.append("the account and the pools aren't those of the pages")
         lines = dict(labelled(machine, ""))
-        for nr, later in self.later(machine):
-            later.run()
-            lines.update(labelled(later, f"phase {nr} "))
+        later = results_of(self.after, dict(machine.row), machine.pages, self.kind)
+        lines.update(labelled_later(later, self.number))
         key = (tuple(lines.items()), tuple(wrong))
         self.graph.ends[state] = key
         if key not in self.graph.outputs:
             self.graph.outputs[key] = Output(lines, wrong, self.graph.path_to(state))
-
-    def later(self, machine: Machine) -> Iterator[tuple[int, Machine]]:
-        """The phases after the explored one, on what it left."""
-        left = {lock: Entry(entry.page) for lock, entry in {**self.rest, **machine.row}.items()}
-        phases = [item for item in self.items if isinstance(item, Phase)]
-        for nr, phase in enumerate(phases[self.number:], self.number + 1):
-            yield nr, Machine(left, machine.pages, phase, self.stages)
 
     def count_orders(self) -> None:
         """Counts for each output the orders of events that give it."""
@@ -231,6 +222,33 @@ class Explorer:
         return ", ".join(f"{count(turns, 'turn')} for actor {actor}" for actor, turns in enumerate(self.turns))
 
 
+def phase_among(results: Results, number: int) -> Machine:
+    """The machine of the phase of this number, with the phases before it run."""
+    for result in results:
+        if isinstance(result, Machine):
+            number -= 1
+            if number == 0:
+                return result
+            result.run()
+    raise AssertionError("the job has such a phase")
+
+
+def labelled_later(results: Results, number: int) -> dict[str, str]:
+    """The lines of what comes after the phase of this number, each with what it is of."""
+    lines, reports = {}, 0
+    for result in results:
+        if isinstance(result, Machine):
+            number += 1
+            result.run()
+            lines.update(labelled(result, f"phase {number} "))
+        else:
+            reports += 1
+            for line in result:
+                words = line.split()
+                lines[f"report {reports} {' '.join(words[:2 if words[0] in ('state', 'class') else 1])}"] = line
+    return lines
+
+
 def labelled(machine: Machine, prefix: str) -> Iterator[tuple[str, str]]:
     """The lines of a phase that has been run, each with what it is of."""
     of, sector = "", 0
@@ -248,7 +266,8 @@ def labelled(machine: Machine, prefix: str) -> Iterator[tuple[str, str]]:
 
 def differing(outputs: list[Output]) -> list[str]:
     """What the lines are of that the outputs don't share."""
-    labels = dict.fromkeys(label for output in outputs for label in output.lines)
+    labels = list(dict.fromkeys(label for output in outputs for label in output.lines))
+    labels.sort(key=lambda label: label.startswith(("phase ", "report ")))
     return [label for label in labels if len({output.lines.get(label) for output in outputs}) > 1]
 
 

@@ -5,8 +5,10 @@ import sys
 from itertools import groupby
 from typing import Iterable, Iterator, NoReturn, Sequence
 
-from model import EVENT, MISS, STAGES, Fault, Item, Machine, Page, Piece, Phase, Tag, Turn, Turns, read_job, short
-from unlocked import HALF, UNLOCKED
+from language import Fault, Item, Phase, Turns, read_job
+from memory import Account, Kept, Page, Same
+from model import EVENT, MISS, Entry, Machine, Piece, Tag, Turn, short
+
 
 def fail(tool: str, message: str) -> NoReturn:
     """Ends a tool with a message, and the status of a refusal."""
@@ -64,37 +66,61 @@ def page_text(page: Page) -> str:
     return ", ".join(parts)
 
 
-def work_text(piece: Piece, first: int = 0, end: int = 8) -> str:
-    """What an operation does on those of its piece's sectors that are among these."""
-    first, last = max(piece.first, first), min(piece.first + piece.count, end) - 1
-    if first > last:
-        return "copies nothing" if piece.op.word == "read" else "puts nothing"
+def kept_text(kept: Kept) -> str:
+    """A kept form in words."""
+    if kept is None:
+        return "empty"
+    if isinstance(kept, Same):
+        return "same-filled"
+    return f"{'huge' if kept.is_huge else f'packed in {kept.length:,} bytes'}, class {kept.number}"
+
+
+def work_text(piece: Piece) -> str:
+    """What an operation does on its piece's sectors."""
     verb = {"read": "copies", "write": "puts", "discard": "clears"}[piece.op.word]
-    return f"{verb} {span(first, last)}"
+    return f"{verb} {span(piece.first, piece.first + piece.count - 1)}"
 
 
-def unlocked_text(turn: Turn) -> str:
-    """A turn without locks, which does half of a piece."""
+def account_text(stage: str, taken: Account, given: Account) -> str:
+    """What a giving has made of the account."""
+    if stage == "Refusing":
+        return "counts a request beyond the disk"
+    if stage == "Both" and given.failed_writes > taken.failed_writes:
+        return "is refused at the limit"
+    if stage == "Both":
+        frames = given.frames - taken.frames
+        return f"charges {count(frames, 'frame')}, stores the page" if frames else "stores the page"
+    frames = taken.frames - given.frames
+    return f"gives {count(frames, 'frame')} back, counts the page" if frames else "counts the page"
+
+
+GIVINGS = {
+    "Pinning": "pins the object",
+    "Unpinning": "unpins the object",
+    "Freeing": "frees the old object",
+}
+
+
+def giving_text(turn: Turn) -> str:
+    """What was done with a value before it was given; nothing, where that was done earlier."""
     assert turn.piece is not None
-    piece, is_first = turn.piece, turn.stage is UNLOCKED["Start"]
-    if piece.op.word == "write" and not piece.is_whole():
-        put = span(piece.first, piece.first + piece.count - 1)
-        return "copies the page" if is_first else f"puts back its copy with {put}"
-    return work_text(piece, 0, HALF) if is_first else work_text(piece, HALF)
+    if isinstance(turn.taken, Account) and isinstance(turn.given, Account):
+        return account_text(turn.stage, turn.taken, turn.given)
+    if isinstance(turn.taken, Entry) and isinstance(turn.given, Entry):
+        return "leaves the page" if len(turn.given.order) == len(turn.taken.order) else work_text(turn.piece)
+    return GIVINGS.get(turn.stage, "")
 
 
-def event_text(turn: Turn) -> str:
-    """What happened in a turn."""
+def event_text(machine: Machine, turn: Turn) -> str:
+    """What happened in a turn of a machine."""
     if turn.kind == MISS:
         return f"misses {turn.lock}, which actor {turn.holder} has"
     if turn.kind != EVENT:
         return "nothing: it is finished"
-    assert turn.piece is not None
-    if turn.stage is STAGES["Start"]:
-        return f"takes {turn.lock}"
-    if turn.stage is STAGES["Entered"]:
-        return f"{work_text(turn.piece)}, gives {turn.lock}"
-    return unlocked_text(turn)
+    if turn.given is None:
+        return f"{machine.takes} {turn.lock}"
+    done = giving_text(turn)
+    return f"{done}, {machine.gives} {turn.lock}" if done else f"{machine.gives} {turn.lock}"
 
 
 def columns(machine: Machine) -> Iterator[str]:
@@ -102,7 +128,7 @@ def columns(machine: Machine) -> Iterator[str]:
     rows = [["turn"] + [f"actor {actor}" for actor in range(len(machine.locals))]]
     for turn in machine.turns():
         row = [str(len(rows))] + ["|"] * len(machine.locals)
-        row[turn.actor + 1] = event_text(turn)
+        row[turn.actor + 1] = event_text(machine, turn)
         rows.append(row)
     widths = [max(map(len, column)) for column in zip(*rows)]
     for row in rows:

@@ -129,6 +129,17 @@ module _ (h q c m : ℕ) (s : Shape) (vs p : List ℕ) (k : IsSplitBy h m s vs p
       ∙ based_back (is_large h m (get_or vs j 0)) (k.mask / 2 ^ j % 2) (get_or k.deltas j 0) b m
       (get_or vs j 0) (k.marked j lt) (k.below j lt) (rw base_is (k.value_is j lt)))
 
+  -- a value is told by the payload
+  pub value_read : (j : ℕ) → j < s.count → get_or vs j 0
+      ≡ (get_or (map (signed_by h m q) (digits_l q s.count (number_l 256
+      (chunk (s.count / 8 + s.width) (s.delta * s.count) p)))) j 0
+      + number_l 256 (chunk 0 (s.count / 8) p) / 2 ^ j % 2
+      * number_l 256 (chunk (s.count / 8) s.width p)) % m
+  value_read j lt =
+      k.value_is j lt
+      ∙ sym (λ i. ((ap (λ l. get_or (map (signed_by h m q) l) j 0) low_read ∙ signed_read j lt) i
+      + mask_read i / 2 ^ j % 2 * base_read i) % m)
+
 -- ---- reading from a place on
 
 pub chunk_tail : (n k : ℕ) (xs : List ℕ)

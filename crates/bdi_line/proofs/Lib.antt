@@ -1,4 +1,5 @@
 pub mod Bits
+pub mod Bytes
 pub mod Digits
 pub mod Lanes
 pub mod Large

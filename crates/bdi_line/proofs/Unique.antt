@@ -1,15 +1,16 @@
--- A line has one code and payload.
-use Rattle.std.proofs.Common.{◌≡◌, ℕ, ◌^◌, ◌<◌, ◌≤◌, ◌⊎◌, inl, inr, List, length, get_or, take, replicate, refl, sym, ap, subst, ◌∙◌, arith, lit<, length-take}
+-- A line has one code and payload, and these have one line.
+use Rattle.std.proofs.Common.{◌≡◌, ℕ, suc, ◌-◌, ◌*◌, ◌/◌, ◌^◌, ◌<◌, ◌≤◌, ◌⊎◌, inl, inr, List, length, get_or, take, replicate, refl, sym, ap, subst, ◌∙◌, arith, lit<, length-take}
 use Rattle.std.proofs.lemmas.Grind.{same_number_lists}
 use Rattle.std.proofs.lemmas.List.{get_or-replicate, take_all}
 use Rattle.std.proofs.lemmas.Simd.{get_or_wider, Each1-from_get_or}
-use Rattle.std.specs.Simd.Lanes.{number_l, chunk, Each1}
-use Rattle.bdi_line.specs.Line.{values, bound_of, modulus_of, Shape, IsSplit, b8d1, b8d2, b8d4, b4d1, b4d2, b2d1}
+use Rattle.std.specs.Simd.Lanes.{number_l, digits_l, chunk, Each1}
+use Rattle.bdi_line.specs.Line.{values, bound_of, modulus_of, Shape, IsSplit, IsSplitBy, b8d1, b8d2, b8d4, b4d1, b4d2, b2d1}
 use Rattle.bdi_line.specs.Coded.{code_number, size_of, FitsCode, IsPayload, IsCoded, IsByteLine}
 use Rattle.bdi_line.specs.Packed.{code_of, payload_of}
 use Rattle.bdi_line.specs.declared.codes.Code.{Code}
 use Rattle.bdi_line.specs.declared.codes.Code.TheVariants.{Zeros, Repeated, B8D1, B8D2, B8D4, B4D1, B4D2, B2D1, Raw}
-use Rattle.bdi_line.proofs.Digits.{length-values, values_below}
+use Rattle.bdi_line.proofs.Digits.{length-values, values_below, bytes_back}
+use Rattle.bdi_line.proofs.Decoded.{value_read}
 use Rattle.bdi_line.proofs.Least.{same_code, coded_line}
 use Rattle.bdi_line.proofs.Split.{payload_unique}
 
@@ -71,3 +72,56 @@ repeated_line line p v is repeated e ev =
 
 pub under : (line p : List ℕ) (c d : Code) → c ≡ d → IsCoded line c p → IsCoded line d p
 under line p c d e k = let P : Code → Type 0 = λ x. IsCoded line x p in subst P e k
+
+-- ---- a code and a payload have one line
+
+module _ (one other : List ℕ) (long : IsByteLine one) (wide : IsByteLine other) where
+  -- the same values are those of one line
+  same_line : (w n : ℕ) → 0 < 256 ^ w → (256 ^ w) ^ n ≡ 256 ^ 64
+      → values w n one ≡ values w n other → one ≡ other
+  same_line w n pos e same =
+      sym (bytes_back w n one long.0 (bytes_of_line one long) pos e)
+      ∙ ap (λ l. digits_l 256 64 (number_l (256 ^ w) l)) same
+      ∙ bytes_back w n other wide.0 (bytes_of_line other wide) pos e
+
+  split_line : (h q c m : ℕ) (s : Shape) (p : List ℕ) → m ≡ 256 ^ s.width → 0 < m
+      → q ≡ 256 ^ s.delta → q ≡ 2 * h → m ≡ q * suc c → 2 ^ s.count ≡ 256 ^ (s.count / 8)
+      → (256 ^ s.width) ^ s.count ≡ 256 ^ 64
+      → IsSplitBy h m s (values s.width s.count one) p
+      → IsSplitBy h m s (values s.width s.count other) p → one ≡ other
+  split_line h q c m s p width pos eq twice multiple mask_bytes whole k l =
+      let P : ℕ → Type 0 = λ n. 0 < n in
+      let wrap : 0 < 256 ^ s.width = subst P width pos in
+      let Q : List ℕ → ℕ → Type 0 = λ xs n. Each1 (λ v. v < n) xs in
+      let below : (line : List ℕ) → Each1 (λ v. v < m) (values s.width s.count line) =
+      λ line. subst (Q (values s.width s.count line)) (sym width)
+      (values_below s.width s.count line wrap) in
+      let read : (line : List ℕ) → (IsSplitBy h m s (values s.width s.count line) p)
+      → (j : ℕ) → j < s.count → get_or (values s.width s.count line) j 0 ≡ _ =
+      λ line r. value_read h q c m s (values s.width s.count line) p r eq twice multiple mask_bytes
+      width (length-values s.width s.count line) (below line) pos in
+      same_line s.width s.count wrap whole
+      (same_number_lists _ _
+      (length-values s.width s.count one ∙ sym (length-values s.width s.count other)) (λ j lt.
+      let inside : j < s.count = omega (arith, length-values s.width s.count one) in
+      read one k j inside ∙ sym (read other l j inside)))
+
+  pub one_line : (c : Code) (p : List ℕ) → IsCoded one c p → IsCoded other c p → one ≡ other
+  one_line Zeros p k l = sym (zero_line one long k.fits) ∙ zero_line other wide l.fits
+  one_line Repeated p k l =
+      same_line 8 8 (lit< tt) refl
+      (sym (repeated_line one p _ long k.fits k.payload_is refl)
+      ∙ repeated_line other p _ wide l.fits l.payload_is refl)
+  one_line B8D1 p k l = split_line 128 256 (2 ^ 56 - 1) (2 ^ 64) b8d1 p refl (lit< tt) refl refl refl
+      refl refl k.payload_is l.payload_is
+  one_line B8D2 p k l = split_line 32768 65536 (2 ^ 48 - 1) (2 ^ 64) b8d2 p refl (lit< tt) refl refl
+      refl refl refl k.payload_is l.payload_is
+  one_line B8D4 p k l = split_line (2 ^ 31) (2 ^ 32) (2 ^ 32 - 1) (2 ^ 64) b8d4 p refl (lit< tt) refl
+      refl refl refl refl k.payload_is l.payload_is
+  one_line B4D1 p k l = split_line 128 256 (2 ^ 24 - 1) (2 ^ 32) b4d1 p refl (lit< tt) refl refl refl
+      refl refl k.payload_is l.payload_is
+  one_line B4D2 p k l = split_line 32768 65536 (2 ^ 16 - 1) (2 ^ 32) b4d2 p refl (lit< tt) refl refl
+      refl refl refl k.payload_is l.payload_is
+  one_line B2D1 p k l = split_line 128 256 (2 ^ 8 - 1) (2 ^ 16) b2d1 p refl (lit< tt) refl refl refl
+      refl refl k.payload_is l.payload_is
+  one_line Raw p k l = sym k.payload_is ∙ l.payload_is

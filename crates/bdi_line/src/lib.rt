@@ -27,7 +27,7 @@ mod read;
 mod words;
 
 pub use codes::Code;
-pub use laws::lines_have_one_coding;
+pub use laws::{codings_have_one_line, lines_have_one_coding, payloads_are_bytes};
 pub use pack::pack_line;
 pub use read::{decode_line, unpack_line};
 

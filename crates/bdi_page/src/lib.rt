@@ -10,7 +10,7 @@ mod laws;
 mod reader;
 mod writer;
 
-pub use laws::pages_have_one_packing;
+pub use laws::{packings_are_bytes, packings_have_one_page, pages_have_one_packing};
 pub use reader::{decode, unpack};
 pub use writer::pack;
 

@@ -4,13 +4,14 @@ use Rattle.std.specs.List.{range_with_len, AllByRecursion}
 use Rattle.std.proofs.lemmas.Bool.{cases_Bool}
 use Rattle.zr_base.specs.declared.op.Tag.{Tag}
 use Rattle.zr_base.specs.declared.op.Op.{Op}
-use Rattle.zr_base.specs.declared.op.Op.TheVariants.{Write, Read, Discard}
+use Rattle.zr_base.specs.declared.op.Op.TheVariants.{Read}
 use Rattle.call_history.specs.declared.part.Part.{Part}
 use Rattle.call_history.specs.declared.part.PartEnd.{PartEnd}
 use Rattle.call_history.specs.declared.part.Done.{Done}
-use Rattle.zr_base.specs.Plain.{named, sector_after_named, content, is_beyond, has_event}
+use Rattle.zr_base.specs.Plain.{named, sector_after_named, content, has_event}
 use Rattle.zr_base.specs.Pieces.{first_page, pages_of}
-use Rattle.call_history.specs.Parts.{parts_from, parts, program, without, left_by, is_carried, EndsSo, Follows, is_on, noted_on, ops_of, got_by}
+use Rattle.plain_disk.specs.Ends.{is_single}
+use Rattle.call_history.specs.Parts.{parts_from, parts, program, without, left_by, is_carried, Follows, is_on, noted_on, ops_of, got_by}
 
 pub content-append : (actors : List (List Op)) (s : ℕ) (old : List ℕ) (xs ys : List Tag)
     → content actors s old (xs ++ ys) ≡ content actors s (content actors s old xs) ys
@@ -63,18 +64,19 @@ module _ {A : Type 0} where
   take_front (z ∷ zs) ys = ap (λ (xs : List A). z ∷ xs) (take_front zs ys)
 
 -- the pieces of a program go on
-pub follows_on : (ps : List Part) (ds : List Done) (p : Part) (rest : List Part) (d : Done)
-    → Follows ps ds (p ∷ rest) → d.part ≡ p → EndsSo p.op d.end
-    → Follows ps (ds ++ d ∷ []) (left_by d.end p.nr rest)
-follows_on [] [] p rest d f e so = absurd (let q : p ∷ rest ≡ [] = f in cc)
-follows_on (x ∷ xs) [] p rest d f e so =
+pub follows_on : (So : Part → PartEnd → Type 0) (ps : List Part) (ds : List Done) (p : Part)
+    (rest : List Part) (d : Done)
+    → Follows So ps ds (p ∷ rest) → d.part ≡ p → So p d.end
+    → Follows So ps (ds ++ d ∷ []) (left_by d.end p.nr rest)
+follows_on So [] [] p rest d f e so = absurd (let q : p ∷ rest ≡ [] = f in cc)
+follows_on So (x ∷ xs) [] p rest d f e so =
     let q : p ∷ rest ≡ x ∷ xs = f in
     let r : p ≡ x = cc in
     let s : rest ≡ xs = cc in
-    (e ∙ r, subst (λ (y : Part). EndsSo y.op d.end) r so, λ i. left_by d.end (r i).nr (s i))
-follows_on [] (x ∷ ds) p rest d f e so = absurd f
-follows_on (y ∷ ys) (x ∷ ds) p rest d f e so =
-    (f.0, f.1, follows_on (left_by x.end y.nr ys) ds p rest d f.2 e so)
+    (e ∙ r, subst (λ (y : Part). So y d.end) r so, λ i. left_by d.end (r i).nr (s i))
+follows_on So [] (x ∷ ds) p rest d f e so = absurd f
+follows_on So (y ∷ ys) (x ∷ ds) p rest d f e so =
+    (f.0, f.1, follows_on So (left_by x.end y.nr ys) ds p rest d f.2 e so)
 
 -- what each piece of a program has, each that is left has
 module _ (P : Part → Type 0) where
@@ -88,7 +90,7 @@ module _ (P : Part → Type 0) where
     | inr off ↦ rw off (all.0, every_without nr ps all.1)
   ]
 
-  every_left : (end : PartEnd) (nr : ℕ) (ps : List Part) → Every ps → Every (left_by end nr ps)
+  pub every_left : (end : PartEnd) (nr : ℕ) (ps : List Part) → Every ps → Every (left_by end nr ps)
   every_left end nr ps all =
       elim (cases_Bool (is_carried end)) [
         | inl on ↦ rw on all
@@ -96,13 +98,12 @@ module _ (P : Part → Type 0) where
             rw off (every_without nr ps all)
       ]
 
-  pub every_todo : (ps : List Part) (ds : List Done) (todo : List Part) → Follows ps ds todo
-      → Every ps
-      → Every todo
-  every_todo ps [] todo f all = subst Every (sym f) all
-  every_todo [] (d ∷ ds) todo f all = absurd f
-  every_todo (p ∷ ps) (d ∷ ds) todo f all =
-      every_todo (left_by d.end p.nr ps) ds todo f.2 (every_left d.end p.nr ps all.1)
+  pub every_todo : (So : Part → PartEnd → Type 0) (ps : List Part) (ds : List Done)
+      (todo : List Part) → Follows So ps ds todo → Every ps → Every todo
+  every_todo So ps [] todo f all = subst Every (sym f) all
+  every_todo So [] (d ∷ ds) todo f all = absurd f
+  every_todo So (p ∷ ps) (d ∷ ds) todo f all =
+      every_todo So (left_by d.end p.nr ps) ds todo f.2 (every_left d.end p.nr ps all.1)
 
   pub every_append : (ps qs : List Part) → Every ps → Every qs → Every (ps ++ qs)
   every_append [] qs a b = b
@@ -117,10 +118,10 @@ module _ (P : Part → Type 0) where
     | inr off ↦ rw off (every_parts_from nr op (page + 1) n all)
   ]
 
-  pub every_parts : (pages nr : ℕ) (op : Op) → ((q : ℕ) → P (record { nr = nr; op = op; page = q }))
-      → Every (parts pages nr op)
-  every_parts pages nr op all = elim (cases_Bool (is_beyond pages op)) [
-    | inl on ↦ rw on tt
+  pub every_parts : (pages : ℕ) (nr : ℕ) (op : Op)
+      → ((q : ℕ) → P (record { nr = nr; op = op; page = q })) → Every (parts pages nr op)
+  every_parts pages nr op all = elim (cases_Bool (is_single pages op)) [
+    | inl on ↦ rw on (all (first_page op), tt)
     | inr off ↦ rw off (every_parts_from nr op (first_page op) (pages_of op) all)
   ]
 
@@ -128,7 +129,7 @@ module _ (P : Part → Type 0) where
 abbrev pub Named : List Op → Part → Type 0
 Named ops p = slice_get ops p.nr ≡ Some p.op
 
-pub every_named : (pages nr : ℕ) (all ops : List Op)
+pub every_named : (pages : ℕ) (nr : ℕ) (all ops : List Op)
     → ((j : ℕ) → slice_get ops j ≡ slice_get all (nr + j))
     → AllByRecursion (Named all) (program pages nr ops)
 every_named pages nr all [] same = tt
@@ -141,10 +142,11 @@ every_named pages nr all (op ∷ ops) same =
     ∙ ap (λ (k : ℕ). slice_get all k) (let e : nr + suc j ≡ nr + 1 + j = omega arith in e)))
 
 -- the piece that is next is of the operation that it names
-pub next_named : (pages : ℕ) (ops : List Op) (ds : List Done) (p : Part) (rest : List Part)
-    → Follows (program pages 0 ops) ds (p ∷ rest) → slice_get ops p.nr ≡ Some p.op
-next_named pages ops ds p rest f =
-    let all = every_todo (Named ops) (program pages 0 ops) ds (p ∷ rest) f
+pub next_named : (So : Part → PartEnd → Type 0) (pages : ℕ) (ops : List Op) (ds : List Done)
+    (p : Part) (rest : List Part)
+    → Follows So (program pages 0 ops) ds (p ∷ rest) → slice_get ops p.nr ≡ Some p.op
+next_named So pages ops ds p rest f =
+    let all = every_todo (Named ops) So (program pages 0 ops) ds (p ∷ rest) f
     (every_named pages 0 ops ops (λ j. ap (λ (k : ℕ). slice_get ops k) (sym (zero-add j)))) in
     all.0
 
@@ -160,10 +162,9 @@ same_range f g a (suc n) same =
 pub same_got : (op : Op) (page : ℕ) (f g : ℕ → List ℕ)
     → ((k : ℕ) → k < 8 → f (8 * page + k) ≡ g (8 * page + k))
     → got_by op page f ≡ got_by op page g
-same_got (Write start count stuff) page f g same = refl
 same_got (Read start count) page f g same =
     same_range f g (max start (8 * page))
     (min (start + count) (8 * page + 8) - max start (8 * page))
     (λ s low high. let e : 8 * page + (s - 8 * page) ≡ s = omega arith in
     subst (λ (x : ℕ). f x ≡ g x) e (same (s - 8 * page) (omega arith)))
-same_got (Discard start count) page f g same = refl
+same_got _ page f g same = refl

@@ -6,24 +6,23 @@ use Rattle.zr_base.specs.declared.op.Tag.{Tag}
 use Rattle.zr_base.specs.declared.op.Op.{Op}
 use Rattle.zr_base.specs.declared.op.OpEnd.{OpEnd}
 use Rattle.zr_base.specs.Plain.{count_of}
+use Rattle.plain_disk.specs.Ends.{Ground, Bounds}
 use Rattle.plain_disk.specs.Phases.{Given, nth_order}
 use Rattle.call_history.specs.declared.part.Done.{Done}
-use Rattle.call_history.specs.Parts.{program, Follows, stands_so, noted_on, ops_of, ends_from, told_from}
+use Rattle.call_history.specs.Parts.{program, EndsSo, KeepsTo, Follows, stands_so, noted_on, ops_of, ends_from, told_from}
 use Rattle.call_history.specs.Shows.{IsTold}
 
 -- the ends of the actors' operations
-abbrev pub ends_each : ℕ → List (List Op) → List (List Done) → List (List OpEnd)
-ends_each pages [] dones = []
-ends_each pages (ops ∷ more) [] = []
-ends_each pages (ops ∷ more) (done ∷ dones) =
-    ends_from pages 0 ops done ∷ ends_each pages more dones
+abbrev pub ends_each : List (List Op) → List (List Done) → List (List OpEnd)
+ends_each [] dones = []
+ends_each (ops ∷ more) [] = []
+ends_each (ops ∷ more) (done ∷ dones) = ends_from 0 ops done ∷ ends_each more dones
 
 -- the sectors that they tell
-abbrev pub told_each : ℕ → List (List Op) → List (List Done) → List (List (List (List ℕ)))
-told_each pages [] dones = []
-told_each pages (ops ∷ more) [] = []
-told_each pages (ops ∷ more) (done ∷ dones) =
-    told_from pages 0 ops done ∷ told_each pages more dones
+abbrev pub told_each : List (List Op) → List (List Done) → List (List (List (List ℕ)))
+told_each [] dones = []
+told_each (ops ∷ more) [] = []
+told_each (ops ∷ more) (done ∷ dones) = told_from 0 ops done ∷ told_each more dones
 
 -- the pieces of an actor that are over
 abbrev pub history : List (List Done) → ℕ → List Done
@@ -37,13 +36,17 @@ SomeEach ops = AllByRecursion (λ op. 1 ≤ count_of op) ops
 abbrev pub HasSomeEach : List (List Op) → Type 0
 HasSomeEach actors = (a : ℕ) (ops : List Op) → slice_get actors a ≡ Some ops → SomeEach ops
 
--- All actors are finished, and their histories agree with the orders of the pages.
-pub record Agree (g : Given) (dones : List (List Done)) (orders : List (List Tag)) : Type 0 where
+-- All actors are finished, and their histories agree with the orders of the pages and with what
+-- ends are measured by.
+pub record Agree (t : Ground) (b : ℕ → Bounds) (g : Given) (dones : List (List Done))
+    (orders : List (List Tag)) : Type 0 where
   pub count : length dones ≡ length g.actors
   pub follows : (a : ℕ) (ops : List Op) (done : List Done) → slice_get g.actors a ≡ Some ops
       → slice_get dones a ≡ Some done
-      → Follows (program g.size 0 ops) done []
+      → Follows (EndsSo t) (program t.size 0 ops) done []
   pub every_page : length orders ≡ g.size
   pub turns : (p a : ℕ) → p < g.size → ops_of a (nth_order orders p) ≡ noted_on p (history dones a)
   pub reads : (a i : ℕ) (d : Done) → slice_get (history dones a) i ≡ Some d → d.part.page < g.size
       → stands_so d.part.op d.end ≡ true → IsTold g a d (nth_order orders d.part.page)
+  pub keeps : (a i : ℕ) (d : Done) → slice_get (history dones a) i ≡ Some d
+      → KeepsTo t (b a) d.end

@@ -1,4 +1,5 @@
 pub mod Parts
 pub mod Shows
 pub mod Histories
+pub mod Tallies
 pub mod Laws

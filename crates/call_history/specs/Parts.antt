@@ -1,17 +1,18 @@
 -- The pieces of operations that have events, and what is over of them.
-use Rattle.std.specs.Prelude.{◌≡◌, ℕ, zero, suc, ◌+◌, ◌-◌, ◌*◌, ◌==◌, Bool, true, ◌&&◌, min, max, List, [], ◌∷◌, ◌++◌, map, if◌then◌else◌, ⊤}
+use Rattle.std.specs.Prelude.{◌≡◌, ℕ, zero, suc, ◌+◌, ◌-◌, ◌*◌, ◌<◌, ◌==◌, Bool, true, false, ◌&&◌, min, max, List, [], ◌∷◌, ◌++◌, map, if◌then◌else◌, ⊤}
 use Rattle.std.specs.List.{range_with_len}
 use Rattle.zr_base.specs.declared.op.Tag.{Tag}
 use Rattle.zr_base.specs.declared.op.Op.{Op}
-use Rattle.zr_base.specs.declared.op.Op.TheVariants.{Write, Read, Discard}
+use Rattle.zr_base.specs.declared.op.Op.TheVariants.{Read}
 use Rattle.zr_base.specs.declared.op.OpEnd.{OpEnd}
 use Rattle.zr_base.specs.declared.op.OpEnd.TheVariants as ends
 use Rattle.call_history.specs.declared.part.Part.{Part}
 use Rattle.call_history.specs.declared.part.PartEnd.{PartEnd}
-use Rattle.call_history.specs.declared.part.PartEnd.TheVariants.{Carried}
+use Rattle.call_history.specs.declared.part.PartEnd.TheVariants as over
 use Rattle.call_history.specs.declared.part.Done.{Done}
 use Rattle.zr_base.specs.Pieces.{first_page, pages_of}
-use Rattle.zr_base.specs.Plain.{start_of, count_of, is_beyond, has_event}
+use Rattle.zr_base.specs.Plain.{start_of, count_of, has_event}
+use Rattle.plain_disk.specs.Ends.{Ground, Bounds, is_single, MayWant, MayBeAtLimit, MayBeSingle}
 
 -- the pieces with events of an operation on so many pages, from a page on
 abbrev pub parts_from : ℕ → Op → ℕ → ℕ → List Part
@@ -20,10 +21,11 @@ parts_from nr op page (suc n) =
     (if has_event op page then record { nr = nr; op = op; page = page } ∷ [] else [])
     ++ parts_from nr op (page + 1) n
 
--- the pieces with events of an operation on a disk of so many pages
+-- the pieces with events of an operation on a disk of so many pages: one where it is over in one
 abbrev pub parts : ℕ → ℕ → Op → List Part
-parts pages nr op =
-    if is_beyond pages op then [] else parts_from nr op (first_page op) (pages_of op)
+parts pages nr op = if is_single pages op
+    then record { nr = nr; op = op; page = first_page op } ∷ []
+    else parts_from nr op (first_page op) (pages_of op)
 
 -- those of all operations of an actor from the nr-th on
 abbrev pub program : ℕ → ℕ → List Op → List Part
@@ -37,26 +39,38 @@ without nr (p ∷ ps) = if p.nr == nr then without nr ps else p ∷ without nr p
 
 -- whether the piece was carried out, and its operation goes on
 abbrev pub is_carried : PartEnd → Bool
-is_carried Carried = true
+is_carried over.Carried = true
+is_carried _ = false
 
 -- whether its tag was noted
 abbrev pub stands_so : Op → PartEnd → Bool
-stands_so op Carried = true
+stands_so op over.Carried = true
+stands_so op _ = false
 
 -- what is left where a piece has ended so: a refusal ends its operation
 abbrev pub left_by : PartEnd → ℕ → List Part → List Part
 left_by end nr ps = if is_carried end then ps else without nr ps
 
--- the ends that a piece of an operation may have
-abbrev pub EndsSo : Op → PartEnd → Type 0
-EndsSo op Carried = ⊤
+-- the ends that a piece may have in a phase
+abbrev pub EndsSo : Ground → Part → PartEnd → Type 0
+EndsSo t p over.Carried = is_single t.size p.op ≡ false
+EndsSo t p (over.AtLimit charged need limit) = (is_single t.size p.op ≡ false)
+    × MayBeAtLimit t p.op p.page charged need limit
+EndsSo t p over.NoMemory = (is_single t.size p.op ≡ false) × MayWant t.form p.op p.page
+EndsSo t p (over.Whole end) = (is_single t.size p.op ≡ true) × MayBeSingle t p.op end
 
--- the pieces that are over, and those that are left, are those of the program
-abbrev pub Follows : List Part → List Done → List Part → Type 0
-Follows ps [] todo = todo ≡ ps
-Follows [] (d ∷ ds) todo = ⊥
-Follows (p ∷ ps) (d ∷ ds) todo = (d.part ≡ p) × EndsSo p.op d.end
-    × Follows (left_by d.end p.nr ps) ds todo
+-- what such an end says of the whole phase
+abbrev pub KeepsTo : Ground → Bounds → PartEnd → Type 0
+KeepsTo t b (over.AtLimit charged need limit) = limit < t.chain * b.reach
+KeepsTo t b _ = ⊤
+
+-- the pieces that are over, and those that are left, are those of the program; each ended in a way
+-- that the rule of ends allows
+abbrev pub Follows : (Part → PartEnd → Type 0) → List Part → List Done → List Part → Type 0
+Follows So ps [] todo = todo ≡ ps
+Follows So [] (d ∷ ds) todo = ⊥
+Follows So (p ∷ ps) (d ∷ ds) todo = (d.part ≡ p) × So p d.end
+    × Follows So (left_by d.end p.nr ps) ds todo
 
 -- whether a piece that is over stands in the order of a page
 abbrev pub is_on : ℕ → Done → Bool
@@ -81,9 +95,8 @@ sectors_on op page =
 
 -- what a piece reads, where the sectors have these bytes
 abbrev pub got_by : Op → ℕ → (ℕ → List ℕ) → List (List ℕ)
-got_by (Write start count stuff) page bytes = []
 got_by (Read start count) page bytes = map bytes (sectors_on (Read start count) page)
-got_by (Discard start count) page bytes = []
+got_by _ page bytes = []
 
 -- what the pieces of an operation have read
 abbrev pub got_of : ℕ → List Done → List (List ℕ)
@@ -93,7 +106,10 @@ got_of nr (d ∷ ds) = if d.part.nr == nr then d.got ++ got_of nr ds else got_of
 -- what the end of a piece makes of its operation's end, where so many pieces were carried out
 -- before it
 abbrev pub op_end : PartEnd → ℕ → OpEnd
-op_end Carried n = ends.Ok
+op_end over.Carried n = ends.Ok
+op_end (over.AtLimit charged need limit) n = ends.AtLimit charged need limit n
+op_end over.NoMemory n = ends.NoMemory n
+op_end (over.Whole end) n = end
 
 -- how an operation ends by one of its pieces and the end by the later ones
 abbrev pub end_step : PartEnd → ℕ → OpEnd → OpEnd
@@ -106,23 +122,36 @@ end_by nr n (d ∷ ds) =
     if d.part.nr == nr then end_step d.end n (end_by nr (n + 1) ds) else end_by nr n ds
 
 -- how an operation has ended, by its pieces that are over
-abbrev pub end_of : ℕ → ℕ → Op → List Done → OpEnd
-end_of pages nr op done = if is_beyond pages op then ends.Range else end_by nr 0 done
+abbrev pub end_of : ℕ → List Done → OpEnd
+end_of nr done = end_by nr 0 done
 
 -- how an actor's operations end, from the nr-th on
-abbrev pub ends_from : ℕ → ℕ → List Op → List Done → List OpEnd
-ends_from pages nr [] done = []
-ends_from pages nr (op ∷ ops) done = end_of pages nr op done ∷ ends_from pages (nr + 1) ops done
+abbrev pub ends_from : ℕ → List Op → List Done → List OpEnd
+ends_from nr [] done = []
+ends_from nr (op ∷ ops) done = end_of nr done ∷ ends_from (nr + 1) ops done
 
 -- the sectors that are told of an operation, of those that its pieces have read
 abbrev pub shown : Op → OpEnd → List (List ℕ) → List (List ℕ)
 shown (Read start count) ends.Ok got = got
-shown (Read start count) ends.Range got = []
-shown (Write start count stuff) end got = []
-shown (Discard start count) end got = []
+shown _ _ got = []
 
 -- what an actor's operations from the nr-th on tell, by their pieces
-abbrev pub told_from : ℕ → ℕ → List Op → List Done → List (List (List ℕ))
-told_from pages nr [] done = []
-told_from pages nr (op ∷ ops) done =
-    shown op (end_of pages nr op done) (got_of nr done) ∷ told_from pages (nr + 1) ops done
+abbrev pub told_from : ℕ → List Op → List Done → List (List (List ℕ))
+told_from nr [] done = []
+told_from nr (op ∷ ops) done =
+    shown op (end_of nr done) (got_of nr done) ∷ told_from (nr + 1) ops done
+
+-- what a piece gives where its operation gives so much by its end: one that was carried out gives
+-- nothing
+abbrev pub piece_gives : (Op → OpEnd → ℕ) → Op → PartEnd → ℕ
+piece_gives g op end = if is_carried end then 0 else g op (op_end end 0)
+
+-- the sum over an actor's pieces that are over
+abbrev pub done_sum : (Op → OpEnd → ℕ) → List Done → ℕ
+done_sum g [] = 0
+done_sum g (d ∷ ds) = piece_gives g d.part.op d.end + done_sum g ds
+
+-- the sum over the pieces of all actors that are over
+abbrev pub dones_sum : (Op → OpEnd → ℕ) → List (List Done) → ℕ
+dones_sum g [] = 0
+dones_sum g (done ∷ dones) = done_sum g done + dones_sum g dones

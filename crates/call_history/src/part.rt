@@ -1,11 +1,11 @@
 //! Pieces that have events, as the machine of a phase speaks of them.
 
 use std::collections::LinkedList;
-use zr_base::Op;
+use zr_base::{Op, OpEnd};
 
 /// A piece that has events: the operation's number among the actor's, counted from 0, the
-/// operation,
-/// and the page. No running code makes one.
+/// operation, and the page. An operation beyond the disk is one piece, whose page says nothing. No
+/// running code makes one.
 pub struct Part {
     pub nr: u32,
     pub op: Op,
@@ -17,6 +17,12 @@ pub struct Part {
 pub enum PartEnd {
     /// It was carried out.
     Carried,
+    /// It was refused at the memory limit: the frames charged, those needed, and the limit.
+    AtLimit { pages: u64, need: u64, limit: u64 },
+    /// It was refused for want of memory.
+    NoMemory,
+    /// It was all of its operation, which ended so: beyond the disk.
+    Whole(OpEnd),
 }
 
 /// A piece that is over, with the sectors that it read. No running code makes one.

@@ -12,3 +12,4 @@ pub mod PlannedLaws
 pub mod SettledLaws
 pub mod RestLaws
 pub mod LeastLaws
+pub mod WeightLaws

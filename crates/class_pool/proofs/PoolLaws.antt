@@ -49,7 +49,7 @@ length_more : (us vs : List UsedCell) (u : UsedCell) → HasOneMore us vs u
     → length vs ≡ length us + 1
 length_more us vs u more = omega (arith, length_sum us, length_sum vs, more (λ x. 1))
 
-fill_more : (zs : List (Option Cells)) (i j : ℕ) (cells : Cells) (u : UsedCell)
+pub fill_more : (zs : List (Option Cells)) (i j : ℕ) (cells : Cells) (u : UsedCell)
     → entry zs i ≡ Some cells → slice_get cells j ≡ Some None
     → HasOneMore (used_cells zs) (used_cells (set zs i (Some (set cells j (Some u))))) u
 fill_more zs i j cells u at free f =
@@ -57,7 +57,7 @@ fill_more zs i j cells u at free f =
     let gone : entry cells j ≡ None = get_or_from_slice_get cells j None None free in
     omega (arith, sum_change f zs i j cells (Some u) at low, ap (at_use f) gone)
 
-clear_more : (zs : List (Option Cells)) (i j : ℕ) (cells : Cells) (u : UsedCell)
+pub clear_more : (zs : List (Option Cells)) (i j : ℕ) (cells : Cells) (u : UsedCell)
     → entry zs i ≡ Some cells → entry cells j ≡ Some u
     → HasOneMore (used_cells (set zs i (Some (set cells j None)))) (used_cells zs) u
 clear_more zs i j cells u at here f =

@@ -5,3 +5,4 @@ pub mod Pool
 pub mod Index
 pub mod Moves
 pub mod Compaction
+pub mod Laws

@@ -2,7 +2,7 @@
 -- come the list of the live objects, their places, and the cells that are out.
 use Rattle.std.specs.Prelude.{ℕ, ◌≡◌, ◌≢◌, ◌+◌, ◌*◌, ◌/◌, ◌<◌, ◌≤◌, ◌⊎◌, List, [], ◌∷◌, ◌++◌, Option, None, Some, true, false, length, map, replicate, sum_by, count_by, Contains, slice_set, slice_index, Bool, ◌==◌}
 use Rattle.size_class.specs.Groups.{group_of}
-use Rattle.size_class.specs.Classes.{class_size, IsChain, stands_of}
+use Rattle.size_class.specs.Classes.{class_size, IsChain}
 use Rattle.zspage.specs.Cells.{CellState, UsedCell, used_of, entry, IsStored, IsCellAt, IsLowestFree}
 use Rattle.class_pool.specs.Zspages.{Cells, AreFilled, AreWhole, HasRoom, IsFullest, IsLeastAbsent, put_at, use_at}
 
@@ -116,13 +116,12 @@ pub record IsPool (p : PoolState) : Type 0 where
       → use_at p.zspages k l ≡ Some v
       → u.handle ≡ v.handle → (i ≡ k) × (j ≡ l)
 
--- a class that stands as itself, with its numbers, at some limit on the frames of a chain
+-- a class with its numbers, at some limit on the frames of a chain
 pub record IsClass (class size chain per : ℕ) : Type 0 where
   pub limit : ℕ
   pub low : 4 ≤ limit
   pub high : limit ≤ 16
   pub known : class < 255
-  pub itself : stands_of limit class ≡ class
   pub size_is : size ≡ class_size class
   pub chain_is : IsChain limit class chain
   pub per_is : per ≡ chain * 4096 / size

@@ -1,8 +1,10 @@
 //! The pool of one size class: objects of bytes under handles, in the cells of zspages.
 #![tactic(auto)]
 
+mod laws;
 mod places;
 mod pool;
 mod zspages;
 
+pub use laws::objects_move;
 pub use pool::{ClassPool, Moved};

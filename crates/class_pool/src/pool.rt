@@ -66,6 +66,14 @@ impl ClassPool {
         }
     }
 
+    /// The frames of a zspage's chain.
+    pub fn chain(&self) -> u32
+        ensures chain { result ≡ self.now.chain }
+        ensures pool { IsPool self.now }
+    {
+        self.zspages.chain()
+    }
+
     /// Whether some cell is free.
     pub fn room(&self) -> bool
         ensures room { IsTrue result → PoolHasRoom self.now }

@@ -1,17 +1,19 @@
 -- What a lawful job asks of its phases.
-use Rattle.std.proofs.Common.{◌≡◌, ◌⊎◌, ℕ, zero, suc, ◌+◌, ◌<◌, ◌≤◌, List, [], ◌∷◌, ◌++◌, length, Some, slice_get, unwrap_or, refl, sym, ◌∙◌, subst, inl, inr, arith}
+use Rattle.std.proofs.Common.{◌≡◌, ◌⊎◌, ℕ, false, zero, suc, ◌+◌, ◌<◌, ◌≤◌, ◌^◌, List, [], ◌∷◌, ◌++◌, length, Some, slice_get, unwrap_or, refl, sym, ap, ◌∙◌, subst, inl, inr, arith}
+use Rattle.std.specs.List.{sum_by}
 use Rattle.std.proofs.lemmas.Bool.{true≢false}
 use Rattle.std.proofs.lemmas.Bool.Decides.{nat_tests}
+use Rattle.std.proofs.lemmas.List.Sums.{sum_by-cons}
 use Rattle.std.proofs.lemmas.Option.{slice_get_within}
 use Rattle.zr_base.specs.declared.op.Op.{Op}
 use Rattle.zr_base.specs.declared.op.Turns.{Turns}
 use Rattle.zr_base.specs.Plain.{IsRequest}
 use Rattle.zr_base.specs.declared.limits.TheConstants.{MOST_ACTORS, MOST_OPERATIONS}
-use Rattle.zr_core.specs.Places.{AreRequests, IsWork, operations}
-use Rattle.job_text.specs.declared.job.Attr.TheVariants.{DiskPages}
+use Rattle.actor_steps.specs.Places.{AreRequests, IsWork, operations}
+use Rattle.job_text.specs.declared.job.Attr.TheVariants.{DiskPages, LimitPages}
 use Rattle.job_text.specs.declared.job.Item.{Item}
 use Rattle.job_text.specs.declared.job.Item.TheVariants as items
-use Rattle.job_text.specs.Jobs.{Used, with_disk, with_phase, with_op, with_ops, with_actors, with_text, MayOperate, MayAct, MayTurn, MayFollow}
+use Rattle.job_text.specs.Jobs.{Used, with_attr, with_phase, with_op, with_ops, with_actors, with_text, HasDisk, MayOperate, MayAct, MayTurn, MayFollow}
 use Rattle.job_session.specs.Telling.{MayStand}
 
 pub no_item : {A : Type 0} (k : ℕ) (x : A) → slice_get [] k ≡ Some x → ⊥
@@ -46,7 +48,7 @@ few u (op ∷ ops) may = inr (by (few (with_op u op) ops may.2))
 
 -- ---- the actors of a phase
 
-requests_each : (u : Used) (actors : List (List Op)) → MayAct u actors → (a : ℕ) (ops : List Op)
+pub requests_each : (u : Used) (actors : List (List Op)) → MayAct u actors → (a : ℕ) (ops : List Op)
     → slice_get actors a ≡ Some ops → AreRequests ops
 requests_each u [] may a ops is = absurd (no_item a ops is)
 requests_each u (mine ∷ more) may zero ops is = subst AreRequests (λ i. unwrap_or (is i) mine)
@@ -67,7 +69,7 @@ few_all u (ops ∷ more) may = by (few u ops may.0) (few_all (with_ops u ops) mo
     by (inr fits) (inl nothing) = inr (omega (arith, fits, nothing))
     by some (inr fits) = inr (omega (arith, fits, counted u ops))
 
-disk_by : (u : Used) (actors : List (List Op)) → (with_actors u actors).disk ≡ u.disk
+pub disk_by : (u : Used) (actors : List (List Op)) → (with_actors u actors).disk ≡ u.disk
 disk_by u [] = refl
 disk_by u (ops ∷ more) = disk_by (with_ops u ops) more ∙ disk_by_ops u ops
 
@@ -84,6 +86,16 @@ work_by u actors size may = record {
     by (inl none) = omega (arith, none)
     by (inr fits) = omega (arith, fits)
 
+pub few_operations : (actors : List (List Op)) → IsWork actors
+    → sum_by (λ (ops : List Op). length ops) actors < 2 ^ 32
+few_operations actors work = omega (arith, summed actors, work.most)
+  where
+    summed : (actors : List (List Op)) → sum_by (λ (ops : List Op). length ops) actors
+        ≡ operations actors
+    summed [] = refl
+    summed (ops ∷ more) = sum_by-cons (λ (xs : List Op). length xs) ops more
+        ∙ ap (λ (n : ℕ). length ops + n) (summed more)
+
 pub named : (actors : ℕ) (schedule : List Turns) → MayTurn actors schedule → (k : ℕ) (t : Turns)
     → slice_get schedule k ≡ Some t → t.actor < actors
 named actors [] may k t is = absurd (no_item k t is)
@@ -91,34 +103,68 @@ named actors (turns ∷ more) may zero t is = subst (λ (x : Turns). x.actor < a
     (λ i. unwrap_or (is i) turns) may.0
 named actors (turns ∷ more) may (suc k) t is = named actors more may.3 k t is
 
+-- an actor stands only after the disk's size
+pub none_without : (u : Used) (actors : List (List Op)) → HasDisk u actors → u.disk ≡ false
+    → actors ≡ []
+none_without u [] has none = refl
+none_without u (ops ∷ more) has none = absurd (true≢false (sym has ∙ none))
+
 -- ---- items
 
+-- the disk's pages before and after an item: only a disk's size changes them
+abbrev pub KeepsPages : Item → ℕ → ℕ → Type 0
+KeepsPages (items.Attr (DiskPages n)) before after = after ≡ n
+KeepsPages (items.Attr (LimitPages n)) before after = after ≡ before
+KeepsPages (items.Report report) before after = after ≡ before
+KeepsPages (items.Phase text) before after = after ≡ before
+
 -- the items after one that was run, which leaves so many pages
-pub stand_on : (pages after : ℕ) (item : Item) (more : List Item)
-    → ((text : _) → item ≡ items.Phase text → after ≡ pages)
+pub stand_on : (pages after : ℕ) (item : Item) (more : List Item) → KeepsPages item pages after
     → MayStand pages (item ∷ more) → MayStand after more
-stand_on pages after (items.Attr (DiskPages n)) more size may = record {
-  used = with_disk may.used;
+stand_on pages after (items.Attr (DiskPages n)) more keeps may = record {
+  used = with_attr may.used (DiskPages n);
   bare = λ bare. absurd (true≢false bare);
-  may = may.may.3;
+  sized = λ none. let some = may.may.1.0 in absurd (omega (arith, none, keeps, some));
+  may = may.may.2;
 }
-stand_on pages after (items.Phase text) more size may = record {
+stand_on pages after (items.Attr (LimitPages n)) more keeps may = record {
+  used = with_attr may.used (LimitPages n);
+  bare = λ bare. keeps ∙ may.bare bare;
+  sized = λ none. may.sized (sym keeps ∙ none);
+  may = may.may.2;
+}
+stand_on pages after (items.Report report) more keeps may = record {
+  used = may.used;
+  bare = λ bare. keeps ∙ may.bare bare;
+  sized = λ none. may.sized (sym keeps ∙ none);
+  may = may.may;
+}
+stand_on pages after (items.Phase text) more keeps may = record {
   used = with_text may.used text.actors text.schedule;
-  bare = λ bare. size text refl ∙ may.bare (sym (disk_by (with_phase may.used) text.actors) ∙ bare);
+  bare = λ bare. keeps ∙ may.bare (sym (disk_by (with_phase may.used) text.actors) ∙ bare);
+  sized = λ none. disk_by (with_phase may.used) text.actors ∙ may.sized (sym keeps ∙ none);
   may = may.may.1;
 }
 
 -- the first of several items
 pub stand_first : (pages : ℕ) (item : Item) (more : List Item) → MayStand pages (item ∷ more)
     → MayStand pages (item ∷ [])
-stand_first pages (items.Attr (DiskPages n)) more may = record {
+stand_first pages (items.Attr attr) more may = record {
   used = may.used;
   bare = may.bare;
-  may = (may.may.0, may.may.1, may.may.2, tt);
+  sized = may.sized;
+  may = (may.may.0, may.may.1, tt);
+}
+stand_first pages (items.Report report) more may = record {
+  used = may.used;
+  bare = may.bare;
+  sized = may.sized;
+  may = tt;
 }
 stand_first pages (items.Phase text) more may = record {
   used = may.used;
   bare = may.bare;
+  sized = may.sized;
   may = (may.may.0, tt);
 }
 
@@ -126,7 +172,8 @@ stand_first pages (items.Phase text) more may = record {
 pub front_may : (u : Used) (front later : List Item) → MayFollow u (front ++ later)
     → MayFollow u front
 front_may u [] later may = tt
-front_may u (items.Attr (DiskPages n) ∷ front) later may =
-    (may.0, may.1, may.2, front_may (with_disk u) front later may.3)
+front_may u (items.Attr attr ∷ front) later may =
+    (may.0, may.1, front_may (with_attr u attr) front later may.2)
+front_may u (items.Report report ∷ front) later may = front_may u front later may
 front_may u (items.Phase text ∷ front) later may =
     (may.0, front_may (with_text u text.actors text.schedule) front later may.1)

@@ -1,8 +1,11 @@
-pub mod Filled
 pub mod Jobs
+pub mod Standing
+pub mod Bare
 pub mod Lawful
+pub mod Legal
 pub mod Lines
 pub mod Orders
+pub mod Reports
 pub mod Shown
 pub mod Sending
 pub mod Written

@@ -1,11 +1,15 @@
 -- Lines one after the other, and the lines of operations, actors and pages from a place on.
-use Rattle.std.proofs.Common.{◌≡◌, ℕ, zero, suc, ◌+◌, ◌<◌, ◌≤◌, Bool, true, false, ◌||◌, List, [], ◌∷◌, ◌++◌, length, map, drop, get_or, Some, slice_get, refl, sym, ap, ◌∙◌}
+use Rattle.std.proofs.Common.{◌≡◌, ℕ, zero, suc, ◌+◌, ◌-◌, ◌<◌, ◌≤◌, Bool, true, false, ◌||◌, List, [], ◌∷◌, ◌++◌, length, map, drop, get_or, Some, slice_get, refl, sym, ap, ◌∙◌, arith}
 use Rattle.std.proofs.Math.ListN.{drop_of_length-le}
 use Rattle.std.proofs.lemmas.List.{drop_more}
 use Rattle.std.proofs.lemmas.Option.{get_or_from_slice_get, slice_get_within}
+use Rattle.std.specs.List.{flat_map, range_with_len}
 use Rattle.zr_base.specs.declared.op.Tag.{Tag}
 use Rattle.zr_base.specs.declared.op.OpEnd.{OpEnd}
-use Rattle.plain_disk.specs.Output.{OutLine, ended, sector, op_lines, actor_lines, actors_lines, order_line, is_refusal, any_refusal}
+use Rattle.mem_account.specs.declared.weight.Weight.{Weight}
+use Rattle.mem_account.specs.declared.weight.Weight.TheVariants.{Empty, Same, Packed, Huge, Back}
+use Rattle.plain_disk.specs.Rests.{state_line}
+use Rattle.plain_disk.specs.Output.{OutLine, state, ended, sector, op_lines, actor_lines, actors_lines, order_line, is_refusal, any_refusal}
 use Rattle.zr_core.specs.States.{of_op}
 
 -- ---- refusals
@@ -39,7 +43,31 @@ any_refusal-op tag end got = ap (λ (b : Bool). is_refusal (ended tag end) || b)
     (any_refusal-sectors got)
     ∙ or_false (is_refusal (ended tag end))
 
+-- a page that isn't empty has a line
+pub state_line_is : (p : ℕ) (w : Weight) (t : ℕ) → (w ≡ Empty → ⊥)
+    → state_line p w t ≡ state (record { page = p; kept = w; touched = t }) ∷ []
+state_line_is p Empty t some = absurd (some refl)
+state_line_is p Same t some = refl
+state_line_is p (Packed bytes) t some = refl
+state_line_is p Huge t some = refl
+state_line_is p Back t some = refl
+
 -- ---- lines from a place on
+
+-- those that a function gives for the numbers from this one to the last
+abbrev pub lines_on : (ℕ → List OutLine) → ℕ → ℕ → List OutLine
+lines_on f at last = flat_map f (range_with_len at (last - at))
+
+pub next_on : (f : ℕ → List OutLine) (at last : ℕ) → at < last
+    → lines_on f at last ≡ f at ++ lines_on f (at + 1) last
+next_on f at last lt =
+    ap (λ (n : ℕ). flat_map f (range_with_len at n))
+    (let n : last - at ≡ suc (last - (at + 1)) = omega (arith, lt) in n)
+
+pub none_on : (f : ℕ → List OutLine) (at last : ℕ) → last ≤ at → lines_on f at last ≡ []
+none_on f at last past =
+    ap (λ (n : ℕ). flat_map f (range_with_len at n))
+    (let n : last - at ≡ 0 = omega (arith, past) in n)
 
 module _ {A : Type 0} where
   pub of_op_is : (all : List (List A)) (actor op : ℕ) → of_op all actor op

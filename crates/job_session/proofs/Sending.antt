@@ -1,18 +1,19 @@
 -- Lines told one after the other.
-use Rattle.std.proofs.Common.{◌≡◌, ℕ, ◌≤◌, Bool, ◌||◌, List, [], ◌++◌, Option, Result, Ok, Err, refl, sym, ap, ◌∙◌, subst, append_assoc, inl, inr, arith}
+use Rattle.std.proofs.Common.{◌≡◌, ℕ, ◌-◌, ◌≤◌, Bool, false, ◌||◌, List, [], ◌∷◌, ◌++◌, Option, Result, Ok, Err, refl, sym, ap, ◌∙◌, subst, append_assoc, inl, inr, arith}
 use Rattle.std.proofs.KnownBytes.{Appends-nil, Appends-trans}
 use Rattle.std.proofs.Math.Bool.{or_assoc}
 use Rattle.std.proofs.lemmas.List.{append-nil}
 use Rattle.std.proofs.lemmas.List.Concat.{flat_map-append}
 use Rattle.std.proofs.lemmas.Result.{on_ok_weaker, IfErr-weaker}
+use Rattle.std.specs.List.{flat_map, range_with_len}
 use Rattle.std.specs.Io.KnownBytes.{Appends}
 use Rattle.plain_disk.specs.Output.{OutLine, any_refusal}
 use Rattle.job_session.specs.declared.stop.Stop.{Stop}
 use Rattle.job_session.specs.declared.stop.Stop.TheVariants.{Memory, Write}
 use Rattle.job_session.specs.Runs.{BeginsWith}
 use Rattle.job_session.specs.Telling.{StopCause, OutputState, Tells}
-use Rattle.job_session.specs.Texts.{text, line_text}
-use Rattle.job_session.proofs.Lines.{or_false, any_refusal-append}
+use Rattle.job_print.specs.Texts.{text, line_text}
+use Rattle.job_session.proofs.Lines.{or_false, any_refusal-append, lines_on}
 
 -- ---- beginnings of a text
 
@@ -140,6 +141,18 @@ Tells-put o m n r lines sent waits refused faults loan t =
       cause = tt;
     }
 
+-- one line that tells of no refusal was put into the buffer
+pub Tells-line : (o m n : OutputState) (r : Result (Unit {0}) Stop) (line : OutLine)
+    → m.sent ≡ o.sent
+    → m.waits ≡ o.waits ++ line_text line → any_refusal (line ∷ []) ≡ false
+    → m.refused ≡ o.refused → m.faults ≡ o.faults → m.loan ≡ o.loan
+    → Tells m n r [] → Tells o n r (line ∷ [])
+Tells-line o m n r line sent waits quiet refused faults loan t =
+    Tells-put o m n r (line ∷ []) sent
+    (waits ∙ ap (λ (x : List ℕ). o.waits ++ x) (sym (append-nil (line_text line))))
+    (refused ∙ sym (or_false o.refused) ∙ ap (λ (b : Bool). o.refused || b) (sym quiet))
+    faults loan t
+
 -- what was given up among some lines was given up among more
 pub Tells-cut : (o m : OutputState) (stop : Stop) (xs ys : List OutLine) → Tells o m (Err stop) xs
     → Tells o m (Err stop) (xs ++ ys)
@@ -164,6 +177,14 @@ pub record SoFar (o m : OutputState) (left all : List OutLine) : Type 0 where
 
 pub SoFar-start : (o : OutputState) (all : List OutLine) → SoFar o o all all
 SoFar-start o all = record { front = []; told = Tells-none o; joined = refl }
+
+-- before the lines for the first number
+pub SoFar-range : (o : OutputState) (f : ℕ → List OutLine) (n : ℕ)
+    → SoFar o o (lines_on f 0 n) (flat_map f (range_with_len 0 n))
+SoFar-range o f n =
+    let all : n ≡ n - 0 = omega arith in
+    subst (λ (k : ℕ). SoFar o o (flat_map f (range_with_len 0 k)) (flat_map f (range_with_len 0 n)))
+    all (SoFar-start o (flat_map f (range_with_len 0 n)))
 
 -- all were
 pub SoFar-all : (o m : OutputState) (left all : List OutLine) → SoFar o m left all → left ≡ []

@@ -4,11 +4,12 @@ use Rattle.std.specs.Option.{IsSome}
 use Rattle.std.proofs.lemmas.List.{get_or-map, length-map}
 use Rattle.std.proofs.lemmas.Option.{get_or_from_slice_get, slice_get_read, slice_get_within}
 use Rattle.zr_base.specs.declared.op.Op.{Op}
-use Rattle.zr_core.specs.declared.worker.Reply.{Reply}
-use Rattle.zr_core.specs.declared.worker.Worker.{Worker}
-use Rattle.zr_core.specs.Workers.{IsFit}
+use Rattle.page_steps.specs.Steps.{Terms}
+use Rattle.actor_steps.specs.declared.reply.Reply.{Reply}
+use Rattle.actor_steps.specs.declared.worker.Worker.{Worker}
+use Rattle.actor_steps.specs.Workers.{IsFit}
 use Rattle.zr_core.specs.Runs.{AllOver}
-use Rattle.zr_core.specs.States.{ends_shown, sectors_shown, of_op, AreFit, HasEnded}
+use Rattle.zr_core.specs.States.{told_by, ends_shown, sectors_shown, of_op, AreFit, HasEnded}
 use Rattle.job_session.proofs.Lines.{of_op_is}
 
 module _ {A : Type 0} where
@@ -35,14 +36,14 @@ module _ {A : Type 0} (f : Reply → A) (ws : List Worker) where
       ∙ ap shown (get_or_from_slice_get ws actor w w there))
       ∙ length-map w.replies.items f
 
-module _ (size : ℕ) (actors : List (List Op)) (ws : List Worker) (fit : AreFit size actors ws) where
+module _ (t : Terms) (actors : List (List Op)) (ws : List Worker) (fit : AreFit t actors ws) where
   pub ends_count : length (ends_shown ws) ≡ length actors
   ends_count = length-map ws (λ (w : Worker). map (λ (r : Reply). r.end) w.replies.items)
       ∙ fit.count
 
   pub sectors_count : length (sectors_shown ws) ≡ length actors
   sectors_count = length-map ws
-      (λ (w : Worker). map (λ (r : Reply). r.sectors.items) w.replies.items)
+      (λ (w : Worker). map (λ (r : Reply). told_by r.end r.sectors.items) w.replies.items)
       ∙ fit.count
 
   -- an actor, and its operations as they were read
@@ -56,7 +57,7 @@ module _ (size : ℕ) (actors : List (List Op)) (ws : List Worker) (fit : AreFit
     named : slice_get actors actor ≡ Some mine
     named = slice_get_read actors (length actors) actor mine refl lt is
 
-    is_fit : IsFit size mine worker.0
+    is_fit : IsFit t mine worker.0
     is_fit = fit.each actor mine worker.0 named worker.1
 
     same_size : length mine ≡ length ops
@@ -75,6 +76,6 @@ module _ (size : ℕ) (actors : List (List Op)) (ws : List Worker) (fit : AreFit
         ∙ same_size
 
     pub sectors_size : length (get_or (sectors_shown ws) actor []) ≡ length ops
-    sectors_size = shown_size (λ (r : Reply). r.sectors.items) ws actor worker.0 worker.1
+    sectors_size = shown_size (λ (r : Reply). told_by r.end r.sectors.items) ws actor worker.0 worker.1
         ∙ is_fit.replies
         ∙ same_size

@@ -1,43 +1,68 @@
 -- What was written of a job whose items were told.
-use Rattle.std.proofs.Common.{◌≡◌, ℕ, Bool, false, ◌||◌, List, [], ◌++◌, Option, Result, Ok, refl, sym, ap, ◌∙◌, subst}
+use Rattle.std.proofs.Common.{◌≡◌, ℕ, Bool, false, ◌||◌, List, [], ◌++◌, Option, Result, Ok, refl, sym, ap, ◌∙◌, subst, inl, arith}
 use Rattle.std.proofs.KnownBytes.{Appends-trans}
 use Rattle.std.proofs.lemmas.List.{append-nil}
 use Rattle.std.specs.Io.KnownBytes.{Appends}
 use Rattle.plain_disk.specs.Output.{OutLine, any_refusal}
+use Rattle.plain_disk.specs.Rests.{Rest}
+use Rattle.plain_disk.specs.Legal.{IsFirst}
 use Rattle.job_text.specs.declared.job.Item.{Item}
 use Rattle.job_text.specs.Jobs.{Used, nothing_used, MayFollow}
 use Rattle.job_session.specs.declared.stop.Stop.{Stop}
 use Rattle.job_session.specs.Legal.{Legal}
-use Rattle.job_session.specs.Stepped.{Disk, without_pages, plain, Stepped, AreOwn}
+use Rattle.job_session.specs.Stands.{Stands}
+use Rattle.job_session.specs.Stepped.{Disk, without_pages, Stepped, AreOwn}
 use Rattle.job_session.specs.Runs.{BeginsWith, IsWritten, IsCut}
 use Rattle.job_session.specs.Telling.{OutputState, ItemsTold}
-use Rattle.job_session.specs.Texts.{text}
+use Rattle.job_print.specs.Texts.{text}
 use Rattle.job_session.proofs.Jobs.{all_stepped, all_own}
 use Rattle.job_session.proofs.Lawful.{front_may}
+use Rattle.job_session.proofs.Legal.{first_rest}
 use Rattle.job_session.proofs.Sending.{BeginsWith-trans}
 
-module _ (legal : (u : Used) (d : Disk) (job : List Item) (turns : List (List ℕ))
+-- the first rest is as it has to be
+first_is : IsFirst first_rest
+first_is = record {
+  no_disk = refl;
+  unused = record { used = λ k lt. refl; most = refl; so_far = refl };
+  set = refl;
+}
+
+module _ (legal : (u : Used) (r : Rest) (d : Disk) (job : List Item) (turns : List (List ℕ))
     (lines : List OutLine) (last : Disk)
-    → MayFollow u job → Stepped d job turns lines last
-    → Legal (plain d) job lines (plain last)) where
+    → MayFollow u job → (d.size ≡ 0 → u.disk ≡ false) → Stands r d → Stepped d job turns lines last
+    → (m : Rest) × Legal r job lines m × Stands m last) where
+  first_stands : Stands first_rest without_pages
+  first_stands = record {
+    size = refl;
+    most = omega arith;
+    limit = refl;
+    clock = refl;
+    chain = refl;
+    row = inl (record { none = refl; empty = refl; unused = first_is.unused });
+  }
+
   written_by : (job : List Item) (Writes : List ℕ → Type 0) (turns : List (List ℕ))
       (lines : List OutLine) (last : Disk)
       → MayFollow nothing_used job → Stepped without_pages job turns lines last → AreOwn job turns
       → Writes (text lines)
       → IsWritten job Writes (any_refusal lines)
-  written_by job Writes turns lines last may stepped own output = record {
-    lines = lines;
-    first = plain without_pages;
-    last = plain last;
-    no_disk = refl;
-    legal = legal nothing_used without_pages job turns lines last may stepped;
-    turns = turns;
-    disk = last;
-    stepped = stepped;
-    own = own;
-    refused_is = refl;
-    output = output;
-  }
+  written_by job Writes turns lines last may stepped own output =
+      let all = legal nothing_used first_rest without_pages job turns lines last may (λ none. refl)
+      first_stands stepped in
+      record {
+        lines = lines;
+        first = first_rest;
+        last = all.0;
+        is_first = first_is;
+        legal = all.1;
+        turns = turns;
+        disk = last;
+        stepped = stepped;
+        own = own;
+        refused_is = refl;
+        output = output;
+      }
 
   -- a job that was told on an output to which u was written before, and w in all
   module _ (job : List Item) (last : Disk) (o p : OutputState) (may : MayFollow nothing_used job)

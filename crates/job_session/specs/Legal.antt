@@ -1,34 +1,31 @@
--- The outputs that a job may have.
-use Rattle.std.specs.Prelude.{◌≡◌, ℕ, ◌*◌, ◌<◌, List, [], ◌∷◌, ◌++◌}
-use Rattle.zr_base.specs.declared.op.Op.{Op}
-use Rattle.zr_base.specs.Plain.{zero_sector}
+-- The outputs that a job may have, by the plain disk.
+use Rattle.std.specs.Prelude.{List, map}
 use Rattle.plain_disk.specs.Output.{OutLine}
-use Rattle.plain_disk.specs.Phases.{Given, IsPhase}
-use Rattle.job_text.specs.declared.job.Attr.TheVariants.{DiskPages}
+use Rattle.plain_disk.specs.Rests.{Rest}
+use Rattle.plain_disk.specs.Rests.{Report as PlainReport, mm_stat, io_stat, states, classes}
+use Rattle.plain_disk.specs.Legal.{Item as PlainItem, disk, limit_to, asks, phase}
+use Rattle.plain_disk.specs.Legal.{Legal as LegalItems}
+use Rattle.slot_entry.specs.Forms.{page_weight}
+use Rattle.job_text.specs.declared.job.Attr.TheVariants.{DiskPages, LimitPages}
+use Rattle.job_text.specs.declared.job.Report.{Report}
+use Rattle.job_text.specs.declared.job.Report.TheVariants as reports
 use Rattle.job_text.specs.declared.job.Item.{Item}
 use Rattle.job_text.specs.declared.job.Item.TheVariants as items
 
--- the plain disk between two items: its pages, none before its size is given, and what each sector
--- holds
-pub record PlainDisk : Type 0 where
-  pub size : ℕ
-  pub holds : ℕ → List ℕ
+-- a report as the plain disk knows it
+abbrev pub plain_report : Report → PlainReport
+plain_report reports.MmStat = mm_stat
+plain_report reports.IoStat = io_stat
+plain_report reports.States = states
+plain_report reports.Classes = classes
 
--- a phase of these actors begins
-abbrev pub begun : PlainDisk → List (List Op) → Given
-begun d actors = record { size = d.size; actors = actors; before = d.holds }
+-- an item as the plain disk knows it
+abbrev pub plain_item : Item → PlainItem
+plain_item (items.Attr (DiskPages n)) = disk n
+plain_item (items.Attr (LimitPages n)) = limit_to n
+plain_item (items.Report report) = asks (plain_report report)
+plain_item (items.Phase text) = phase text.actors
 
--- The lines that an item may print between two plain disks. A disk's size prints nothing and gives
--- sectors of zeros.
-abbrev pub ItemIsLegal : PlainDisk → Item → List OutLine → PlainDisk → Type 0
-ItemIsLegal d (items.Attr (DiskPages n)) lines m =
-    (lines ≡ []) × (m.size ≡ n) × ((s : ℕ) → s < 8 * n → m.holds s ≡ zero_sector)
-ItemIsLegal d (items.Phase text) lines m = (m.size ≡ d.size)
-    × IsPhase (begun d text.actors) lines m.holds
-
--- the lines that a job's items may print one after the other, from one plain disk to the last
-abbrev pub Legal : PlainDisk → List Item → List OutLine → PlainDisk → Type 0
-Legal d [] lines last = (lines ≡ []) × (last ≡ d)
-Legal d (item ∷ items) lines last =
-    (m : PlainDisk) × (first others : List OutLine) × ItemIsLegal d item first m
-    × Legal m items others last × (lines ≡ first ++ others)
+-- the lines that a job's items may print, one after the other, from one rest to the last
+abbrev pub Legal : Rest → List Item → List OutLine → Rest → Type 0
+Legal r job lines last = LegalItems page_weight r (map plain_item job) lines last

@@ -1,5 +1,5 @@
 pub mod Legal
 pub mod Stepped
+pub mod Stands
 pub mod Runs
 pub mod Telling
-pub mod Texts

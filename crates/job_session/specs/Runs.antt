@@ -11,9 +11,11 @@ use Rattle.job_text.specs.declared.limits.TheConstants.{MOST_BYTES}
 use Rattle.job_text.specs.Jobs.{IsJob}
 use Rattle.job_session.specs.declared.sim.Status.{Status}
 use Rattle.job_session.specs.declared.sim.Status.TheVariants as statuses
-use Rattle.job_session.specs.Legal.{PlainDisk, Legal}
+use Rattle.plain_disk.specs.Rests.{Rest}
+use Rattle.plain_disk.specs.Legal.{IsFirst}
+use Rattle.job_session.specs.Legal.{Legal}
 use Rattle.job_session.specs.Stepped.{Disk, without_pages, Stepped, AreOwn}
-use Rattle.job_session.specs.Texts.{text, fault_text}
+use Rattle.job_print.specs.Texts.{text, fault_text}
 
 -- the exit status of the program
 abbrev pub status_number : Status → ℕ
@@ -55,14 +57,14 @@ pub record IsRead (left left_after : Option (List ℕ)) (Is : List ℕ → Type 
 
 -- ---- a text that is a job
 
--- What was written is the text of lines that these items may print, from a plain disk without
--- pages, and that their phases print by their own turns; some line says that something was refused,
--- or none does.
+-- What was written is the text of lines that these items may print, from a rest without a disk on,
+-- and that their phases print by their own turns; some line says that something was refused, or none
+-- does.
 pub record IsWritten (job : List Item) (Writes : List ℕ → Type 0) (refused : Bool) : Type 0 where
   pub lines : List OutLine
-  pub first : PlainDisk
-  pub last : PlainDisk
-  pub no_disk : first.size ≡ 0
+  pub first : Rest
+  pub last : Rest
+  pub is_first : IsFirst first
   pub legal : Legal first job lines last
   pub turns : List (List ℕ)
   pub disk : Disk

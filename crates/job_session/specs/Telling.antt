@@ -13,7 +13,7 @@ use Rattle.job_session.specs.declared.stop.NoText.{NoText}
 use Rattle.job_session.specs.declared.stop.NoText.TheVariants as no
 use Rattle.job_session.specs.Runs.{BeginsWith, WriteCause, IsTextRun, IsNoJob, IsTextCut}
 use Rattle.job_session.specs.Stepped.{Disk, Stepped, AreOwn}
-use Rattle.job_session.specs.Texts.{text}
+use Rattle.job_print.specs.Texts.{text}
 
 -- ---- why a call was given up
 
@@ -61,6 +61,7 @@ pub record Tells (o m : OutputState) (r : Result (Unit {0}) Stop)
 pub record MayStand (pages : ℕ) (items : List Item) : Type 0 where
   pub used : Used
   pub bare : used.disk ≡ false → pages ≡ 0
+  pub sized : pages ≡ 0 → used.disk ≡ false
   pub may : MayFollow used items
 
 -- Items were run one after the other by their own turns, on the disk d, and their lines were told.

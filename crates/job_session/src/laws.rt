@@ -1,25 +1,27 @@
-//! What a job prints, whatever the turns of its actors are, and how a sector is printed.
+//! What a job prints, whatever the turns of its actors are.
 
-ghost use Rattle.std.specs.Prelude.{◌≡◌, ℕ, List, length};
+ghost use Rattle.std.specs.Prelude.{◌≡◌, false};
 ghost use Rattle.job_text.specs.Jobs.{MayFollow};
+ghost use Rattle.plain_disk.specs.Rests.{Rest};
 ghost use Rattle.job_session.specs.Legal.{Legal};
-ghost use Rattle.job_session.specs.Stepped.{Stepped, plain};
-ghost use Rattle.job_session.specs.Texts.{IsFilled, sector_text, fill_text, hex_text, word_at};
+ghost use Rattle.job_session.specs.Stands.{Stands};
+ghost use Rattle.job_session.specs.Stepped.{Stepped};
 
-use zr_core::phases_are_legal;
+use disk_rest::{disks_begin, phases_begin, phases_end, rows_print, rows_stand};
+use joint_rule::rule_keeps;
 
-/// A job prints what the plain disk allows, whatever its turns are.
+/// A job prints what the plain disk allows, whatever its turns are: from a rest that its disk stands
+/// for, it leads to one that the last disk stands for.
 pub fn jobs_are_legal()
-    ensures legal { (u : _) (d : _) (job : _) (turns : _) (lines : _) (last : _) → MayFollow u job
-        → Stepped d job turns lines last → Legal (plain d) job lines (plain last) }
+    ensures legal { (u : _) (r : Rest) (d : _) (job : _) (turns : _) (lines : _) (last : _)
+        → MayFollow u job → (d.size ≡ 0 → u.disk ≡ false) → Stands r d
+        → Stepped d job turns lines last
+        → (m : Rest) × Legal r job lines m × Stands m last }
 {
-    phases_are_legal();
+    rule_keeps();
+    phases_begin();
+    phases_end();
+    disks_begin();
+    rows_stand();
+    rows_print();
 }
-
-/// A sector is printed as one word exactly where its 64 words are equal, and else as its bytes.
-pub fn equal_words_fill()
-    ensures fill { (bytes : List ℕ) → length bytes ≡ 512 → IsFilled bytes
-        → sector_text bytes ≡ fill_text (word_at bytes 0) }
-    ensures hex { (bytes : List ℕ) → length bytes ≡ 512 → ¬ IsFilled bytes
-        → sector_text bytes ≡ hex_text bytes }
-{}

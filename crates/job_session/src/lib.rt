@@ -4,13 +4,12 @@
 mod io;
 mod laws;
 mod output;
-mod print;
 mod session;
 mod sim;
 mod stop;
 mod tell;
 
-pub use laws::{equal_words_fill, jobs_are_legal};
+pub use laws::jobs_are_legal;
 pub use sim::{Status, sim_main};
 
 #[cfg(test)]

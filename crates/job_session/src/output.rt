@@ -3,13 +3,17 @@
 //! The lines of an operation, or of a page's order, are put into the buffer; the buffer goes to the
 //! sink whenever it has 64 KiB or more. What is left at the end is sent by whoever made the output.
 
-ghost use Rattle.std.specs.Prelude.{◌≡◌, false, []};
-ghost use Rattle.plain_disk.specs.Output.{ended, is_refusal, op_lines, order_line};
+ghost use Rattle.std.specs.Prelude.{◌≡◌, false, [], ◌∷◌};
+ghost use Rattle.plain_disk.specs.Output.{ClassLine, ended, is_refusal, op_lines, order_line, memory, calls, class_of};
+ghost use Rattle.plain_disk.specs.Rests.{state_line};
+ghost use Rattle.job_print.specs.Texts.{IsSummary};
 ghost use Rattle.job_session.specs.Telling.{OutputState, Tells};
 
 use crate::io::{PIECE, send};
-use crate::print::{put_op, put_order};
 use crate::stop::Stop;
+use job_print::{put_calls, put_class, put_memory, put_op, put_order, put_state};
+use mem_account::{IoStat, MmStat, Weight};
+use size_class::ClassStat;
 use std::alloc::Global;
 use std::marker::Model;
 use zr_base::{OpEnd, Sink, Tag};
@@ -43,7 +47,7 @@ fn is_refused(end: OpEnd) -> bool
 {
     match end {
         OpEnd::Ok => false,
-        OpEnd::Range => true,
+        OpEnd::Range | OpEnd::AtLimit { .. } | OpEnd::NoMemory { .. } => true,
     }
 }
 
@@ -88,7 +92,7 @@ impl<'a, K: Sink> Output<'a, K> {
     ) -> Result<(), Stop>
         ensures { Tells self.old self.new result (op_lines tag end sectors.now) }
     {
-        put_op(&mut self.buffer, self.alloc, tag, end, sectors)?;
+        put_op(&mut self.buffer, tag, end, sectors)?;
         self.refused = self.refused | is_refused(end);
         self.spill()
     }
@@ -97,7 +101,45 @@ impl<'a, K: Sink> Output<'a, K> {
     pub(crate) fn tell_order(&mut self, page: u32, order: &[Tag]) -> Result<(), Stop>
         ensures { Tells self.old self.new result (order_line page order.now) }
     {
-        put_order(&mut self.buffer, self.alloc, page, order)?;
+        put_order(&mut self.buffer, page, order)?;
+        self.spill()
+    }
+
+    /// Tells the statistics of the memory.
+    pub(crate) fn tell_memory(&mut self, stat: &MmStat) -> Result<(), Stop>
+        ensures { Tells self.old self.new result (memory stat.now ∷ []) }
+    {
+        put_memory(&mut self.buffer, stat)?;
+        self.spill()
+    }
+
+    /// Tells the statistics of what failed, was refused or was discarded.
+    pub(crate) fn tell_calls(&mut self, stat: &IoStat) -> Result<(), Stop>
+        ensures { Tells self.old self.new result (calls stat.now ∷ []) }
+    {
+        put_calls(&mut self.buffer, stat)?;
+        self.spill()
+    }
+
+    /// Tells of a page how it is kept and when it was touched, where it isn't empty.
+    pub(crate) fn tell_state(&mut self, page: u32, kept: Weight, touched: u64) -> Result<(), Stop>
+        ensures { Tells self.old self.new result (state_line page kept touched) }
+    {
+        match kept {
+            Weight::Empty => Ok(()),
+            _ => {
+                put_state(&mut self.buffer, page, kept, touched)?;
+                self.spill()
+            }
+        }
+    }
+
+    /// Tells the statistics of a class that has zspages.
+    pub(crate) fn tell_class(&mut self, stat: &ClassStat) -> Result<(), Stop>
+        ensures { (c : ClassLine) → IsSummary c stat.now
+            → Tells self.old self.new result (class_of c ∷ []) }
+    {
+        put_class(&mut self.buffer, stat)?;
         self.spill()
     }
 }

@@ -1,7 +1,7 @@
 //! The items of a job, one after the other, on one world.
 
 ghost use Rattle.std.specs.Prelude.{◌≡◌, ◌∷◌, [], OnOk};
-ghost use Rattle.zr_core.specs.States.{IsAtRest};
+ghost use Rattle.zr_core.specs.Rests.{IsAtRest};
 ghost use Rattle.job_text.specs.declared.job.Item.TheVariants as items;
 ghost use Rattle.job_text.specs.Jobs.{MayFollow, nothing_used};
 ghost use Rattle.job_session.specs.Stepped.{Disk, disk_of, Stepped, without_pages};
@@ -9,7 +9,7 @@ ghost use Rattle.job_session.specs.Telling.{MayStand, ItemsTold};
 
 use crate::output::Output;
 use crate::stop::Stop;
-use crate::tell::tell_phase;
+use crate::tell::{tell_phase, tell_report};
 use job_text::{Attr, Item, PhaseText};
 use std::alloc::{AllocError, Global};
 use zr_base::Sink;
@@ -17,15 +17,18 @@ use zr_core::World;
 
 // Sets an attribute.
 fn set_attr(world: &mut World, attr: Attr) -> Result<(), AllocError>
-    requires { MayStand world.old.pages (items.Attr attr ∷ []) }
+    requires may { MayStand world.old.pages (items.Attr attr ∷ []) }
+    requires rest { IsAtRest world.old.pages world.old.noted.items world.old.row.cells }
     ensures stepped { OnOk result
         (Stepped (disk_of world.old) (items.Attr attr ∷ []) [] [] (disk_of world.new)) }
     ensures rest { OnOk result
         (IsAtRest world.new.pages world.new.noted.items world.new.row.cells) }
 {
     match attr {
-        Attr::DiskPages(pages) => world.set_disk(pages),
+        Attr::DiskPages(pages) => world.set_disk(pages)?,
+        Attr::LimitPages(pages) => world.set_limit(pages),
     }
+    Ok(())
 }
 
 // A phase: it is set up, run by its schedule, and told.
@@ -43,7 +46,7 @@ fn run_phase<K: Sink>(
 {
     let actors = text.actors.as_slice();
     let schedule = text.schedule.as_slice();
-    let mut phase = world.prepare(actors)?;
+    let mut phase = world.prepare(actors, 0)?;
     world.run(&mut phase, actors, schedule);
     tell_phase(out, world, &phase, actors)
 }
@@ -62,6 +65,7 @@ fn run_item<K: Sink>(out: &mut Output<'_, K>, world: &mut World, item: &Item) ->
             set_attr(world, *attr)?;
             Ok(())
         }
+        Item::Report(report) => tell_report(out, world, *report),
         Item::Phase(text) => run_phase(out, world, text),
     }
 }

@@ -20,19 +20,17 @@ ghost use Rattle.std.specs.Io.KnownBytes.{Appends};
 ghost use Rattle.job_text.specs.Jobs.{MayFollow, nothing_used};
 ghost use Rattle.job_session.specs.Runs.{status_number, WriteCause, BeginsWith, IsRunWord, IsWritten, IsRun, IsCut, IsCutRun, IsRefused};
 ghost use Rattle.job_session.specs.Telling.{StopCause, LineStops, TextEnds, TextStops, stop_status};
-ghost use Rattle.job_session.specs.Texts.{usage_text, fault_text};
+ghost use Rattle.job_print.specs.Texts.{usage_text, fault_text};
 
 use crate::io::{read_all, send};
 use crate::laws::jobs_are_legal;
 use crate::output::Output;
-use crate::print::put_fault;
 use crate::session::run_items;
 use crate::stop::{NoText, Stop};
+use job_print::put_fault;
 use job_text::{Cause, Item, JobFault, ReadFault, read_job};
 use std::alloc::Global;
 use zr_base::{Failed, Sink, Source};
-
-const USAGE: &[u8] = b"usage: zramsim run\n";
 
 // The fault of a text that is too long.
 const TOO_LONG: JobFault = JobFault {
@@ -86,6 +84,14 @@ fn stopped(stop: Stop) -> Status
     }
 }
 
+// The usage line.
+#[tactic(auto, unfolding(job_print::specs::Texts::name_of, job_print::specs::Texts::words_of))]
+fn usage() -> &'static [u8]
+    ensures { result.now ≡ usage_text }
+{
+    b"usage: zramsim run\n"
+}
+
 fn is_run(words: &[&str]) -> bool
     ensures { IsTrue result ↔ IsRunWord words.now }
 {
@@ -130,7 +136,7 @@ fn refuse<K: Sink>(alloc: Global, fault: JobFault, sink: &mut K) -> Result<Statu
         (StopCause (K.fault_count sink.old) (K.fault_count sink.new) (K.has_stopped sink.new)) }
 {
     let mut line = Vec::new(alloc);
-    put_fault(&mut line, alloc, fault)?;
+    put_fault(&mut line, fault)?;
     send(sink, &line)?;
     Ok(Status::Job)
 }
@@ -207,7 +213,7 @@ pub fn sim_main<S: Source, K: Sink>(
         (BeginsWith (K.written out.old) (K.written out.new))) }
 {
     if !is_run(words) {
-        return match send(out, USAGE) {
+        return match send(out, usage()) {
             Ok(()) => Status::Words,
             Err(Failed) => Status::WriteFault,
         };

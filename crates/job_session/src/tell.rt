@@ -1,17 +1,30 @@
 //! The lines of a phase that was run: its operations, actor by actor, and then the orders of its
-//! pages.
+//! pages. And the lines of reports.
 
 ghost use Rattle.std.specs.Prelude.{◌≡◌, ℕ, ◌<◌, ◌≤◌, [], length, get_or};
 ghost use Rattle.zr_base.specs.declared.limits.TheConstants.{MOST_ACTORS};
 ghost use Rattle.plain_disk.specs.Output.{order_lines, actor_lines, actors_lines};
+ghost use Rattle.page_steps.specs.Steps.{Terms};
 ghost use Rattle.zr_core.specs.Machines.{orders_of};
 ghost use Rattle.zr_core.specs.Playing.{playing, lines_shown};
 ghost use Rattle.zr_core.specs.Runs.{AllOver};
-ghost use Rattle.zr_core.specs.States.{ends_shown, sectors_shown, AreFit, CanGoOn, HasEnded, IsAtRest};
+ghost use Rattle.zr_core.specs.Rests.{IsAtRest};
+ghost use Rattle.zr_core.specs.States.{ends_shown, sectors_shown, AreFit, CanGoOn, HasEnded};
+ghost use Rattle.slot_entry.specs.Entries.{weight_of};
+ghost use Rattle.disk_rest.specs.Rows.{value_at, used_at};
+ghost use Rattle.disk_rest.specs.Printed.{state_in, row_report};
+ghost use Rattle.plain_disk.specs.Rests.{class_line, states, classes};
+ghost use Rattle.zr_core.specs.declared.limits.TheConstants.{MOST_CHAIN};
+ghost use Rattle.job_session.specs.Stepped.{disk_of, report_of};
 ghost use Rattle.job_session.specs.Telling.{Tells};
 
 use crate::output::Output;
 use crate::stop::Stop;
+use disk_rest::pools_count;
+use job_text::Report;
+use mem_account::Weight;
+use size_class::CLASSES;
+use slot_entry::Kept;
 use zr_base::{ActorOps, PageIx, Sink, Tag};
 use zr_core::{Phase, World};
 
@@ -43,7 +56,7 @@ fn tell_actors<K: Sink>(
     actors: &[ActorOps],
 ) -> Result<(), Stop>
     requires few { length actors.now ≤ MOST_ACTORS }
-    requires fit { (size : ℕ) × AreFit size actors.now phase.now.workers.items }
+    requires fit { (t : Terms) × AreFit t actors.now phase.now.workers.items }
     requires over { AllOver actors.now phase.now.workers.items }
     ensures { Tells out.old out.new result (actors_lines 0
         (ends_shown phase.now.workers.items) (sectors_shown phase.now.workers.items)) }
@@ -58,7 +71,8 @@ fn tell_actors<K: Sink>(
 // The orders of all pages: only those that are noted can have one.
 fn tell_orders<K: Sink>(out: &mut Output<'_, K>, world: &World) -> Result<(), Stop>
     requires { IsAtRest world.now.pages world.now.noted.items world.now.row.cells }
-    ensures { Tells out.old out.new result (order_lines 0 (orders_of world.now.row.cells)) }
+    ensures { Tells out.old out.new result
+        (order_lines 0 (orders_of world.now.pages world.now.row.cells)) }
 {
     let noted = world.noted();
     for page in noted {
@@ -82,4 +96,81 @@ pub(crate) fn tell_phase<K: Sink>(
 {
     tell_actors(out, phase, actors)?;
     tell_orders(out, world)
+}
+
+// What the account counts of a kept form.
+fn weight(kept: Kept) -> Weight
+    ensures { result ≡ weight_of kept }
+{
+    match kept {
+        Kept::Empty => Weight::Empty,
+        Kept::Same(_) => Weight::Same,
+        Kept::Obj(object) if object.huge => Weight::Huge,
+        Kept::Obj(object) => Weight::Packed(object.len),
+    }
+}
+
+// A page, where it isn't empty.
+fn tell_state<K: Sink>(out: &mut Output<'_, K>, world: &World, page: u32) -> Result<(), Stop>
+    requires rest { IsAtRest world.now.pages world.now.noted.items world.now.row.cells }
+    requires page { page < world.now.pages }
+    ensures { Tells out.old out.new result (state_in page (value_at world.now.row.cells page)) }
+{
+    let entry = world.entry(PageIx(page));
+    out.tell_state(page, weight(entry.kept()), entry.touched())
+}
+
+// The pages that aren't empty.
+fn tell_states<K: Sink>(out: &mut Output<'_, K>, world: &World) -> Result<(), Stop>
+    requires { IsAtRest world.now.pages world.now.noted.items world.now.row.cells }
+    ensures { Tells out.old out.new result
+        (row_report world.now.pages MOST_CHAIN world.now.row.cells states) }
+{
+    for page in 0..world.pages() {
+        tell_state(out, world, page)?;
+    }
+    Ok(())
+}
+
+// A class, where it has zspages.
+fn tell_class<K: Sink>(out: &mut Output<'_, K>, world: &World, class: u8) -> Result<(), Stop>
+    requires rest { IsAtRest world.now.pages world.now.noted.items world.now.row.cells }
+    requires class { class < 255 }
+    ensures { Tells out.old out.new result
+        (class_line MOST_CHAIN class (used_at world.now.pages world.now.row.cells class)) }
+{
+    pools_count();
+    match world.class_stat(class) {
+        Some(stat) => out.tell_class(&stat),
+        None => Ok(()),
+    }
+}
+
+// The classes that have zspages.
+fn tell_classes<K: Sink>(out: &mut Output<'_, K>, world: &World) -> Result<(), Stop>
+    requires { IsAtRest world.now.pages world.now.noted.items world.now.row.cells }
+    ensures { Tells out.old out.new result
+        (row_report world.now.pages MOST_CHAIN world.now.row.cells classes) }
+{
+    for class in 0..CLASSES {
+        tell_class(out, world, class)?;
+    }
+    Ok(())
+}
+
+/// The lines of a report.
+pub(crate) fn tell_report<K: Sink>(
+    out: &mut Output<'_, K>,
+    world: &World,
+    report: Report,
+) -> Result<(), Stop>
+    requires { IsAtRest world.now.pages world.now.noted.items world.now.row.cells }
+    ensures { Tells out.old out.new result (report_of (disk_of world.now) report) }
+{
+    match report {
+        Report::MmStat => out.tell_memory(&world.mm_stat()),
+        Report::IoStat => out.tell_calls(&world.io_stat()),
+        Report::States => tell_states(out, world),
+        Report::Classes => tell_classes(out, world),
+    }
 }

@@ -87,3 +87,55 @@ fn keeps_the_disk_between_phases(rt: HostRuntime) -> Result<(), Fail> {
     assert!(rt; out.bytes().ends_with(last.as_bytes()));
     Ok(())
 }
+
+// Reports and refusals, on a disk before its size is given, and after phases.
+#[test]
+fn tells_reports(rt: HostRuntime) -> Result<(), Fail> {
+    let table = [
+        (
+            "mem_limit 8K\nmm_stat\nio_stat\nstates\nclasses\n",
+            Status::Done,
+            "mm_stat 0 0 0 8192 0 0 0 0 0\nio_stat 0 0 0 0\n",
+        ),
+        (
+            "disksize 4K\nactor\nwrite 0 8 fill aa\nrun\nmm_stat\n",
+            Status::Done,
+            "op 0 0 ok\norder 0 0:0\nmm_stat 4096 0 0 0 0 1 0 0 0\n",
+        ),
+        (
+            "disksize 4K\nactor\nwrite 0 8 seq f4240 1\nrun\nmm_stat\nclasses\n",
+            Status::Done,
+            "op 0 0 ok\norder 0 0:0\nmm_stat 4096 1120 8192 0 8192 0 0 0 0\nclass 71 1168 pages 2 per 7 used 1 zspages 1 groups 0 1 0 0 0 0 0 0 0 0 0\n",
+        ),
+        (
+            "disksize 4K\nactor\nwrite 0 8 seq 0 9e3779b97f4a7c15\nrun\nmm_stat\nstates\n",
+            Status::Done,
+            "op 0 0 ok\norder 0 0:0\nmm_stat 4096 4096 4096 0 4096 0 0 1 1\nstate 0 ..h. 0\n",
+        ),
+        (
+            "mem_limit 4K\ndisksize 4K\nactor\nwrite 0 8 seq f4240 1\nwrite 0 8 seq 0 9e3779b97f4a7c15\nrun\nmm_stat\nio_stat\n",
+            Status::Refused,
+            "op 0 0 limit 0 2 1 done 0\nop 0 1 ok\norder 0 0:1\nmm_stat 4096 4096 4096 4096 4096 0 0 1 1\nio_stat 0 1 0 0\n",
+        ),
+        (
+            "disksize 4K\nactor\nwrite 8 1 fill 1\nwrite 7 1 fill 1\nrun\nio_stat\n",
+            Status::Refused,
+            "op 0 0 range\nop 0 1 ok\norder 0 0:1\nio_stat 0 0 1 0\n",
+        ),
+        (
+            "mem_limit 8K\ndisksize 16K\nactor\nwrite 0 24 seq 0 9e3779b97f4a7c15\nrun\nmm_stat\n",
+            Status::Refused,
+            "op 0 0 limit 2 1 2 done 2\norder 0 0:0\norder 1 0:0\nmm_stat 8192 8192 8192 8192 8192 0 0 2 2\n",
+        ),
+        (
+            "disksize 12K\nactor\nwrite 0 24 fill 5\ndiscard 4 16\nread 4 1\nrun\nio_stat\n",
+            Status::Done,
+            "op 0 0 ok\nop 0 1 ok\nop 0 2 ok\nfill 0000000000000005\norder 0 0:0 0:2\norder 1 0:0 0:1\norder 2 0:0\nio_stat 0 0 0 1\n",
+        ),
+    ];
+    for (job, status, wanted) in table {
+        let ended = ends(rt.alloc(), &["run"], job, &[], 1000, wanted)?;
+        assert_eq!(rt; ended, (status, true), "at {job}");
+    }
+    Ok(())
+}

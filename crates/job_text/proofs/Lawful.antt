@@ -2,7 +2,7 @@
 use Rattle.std.proofs.Common.{◌≡◌, ℕ, suc, ◌+◌, ◌*◌, ◌/◌, ◌<◌, ◌≤◌, Bool, true, false, not, ◌&&◌, ◌||◌, ◌==◌, nat_le, nat_lt, cond, List, [], ◌∷◌, length, map, get_or, IfOk, Option, Some, None, Result, Ok, Err, refl, sym, ap, ◌∙◌, subst, arith, codes, inl, inr}
 use Rattle.std.specs.List.{list_all, concat}
 use Rattle.std.specs.Str.{bytes_eq}
-use Rattle.std.proofs.lemmas.Bool.{and_parts, not-false, eqb-true, le-leb, ltb-true, true_from_ne_false, both_ways, cases_lt}
+use Rattle.std.proofs.lemmas.Bool.{and_parts, not-false, eqb-true, le-leb, leb-true, ltb-true, true_from_ne_false, both_ways, cases_lt}
 use Rattle.std.proofs.lemmas.Bool.Decides.{nat_tests}
 use Rattle.std.proofs.lemmas.List.{length-map, get_or_past}
 use Rattle.std.proofs.lemmas.List.Folds.{list_all_at}
@@ -10,12 +10,14 @@ use Rattle.std.proofs.lemmas.List.FromFn.{length-map-range_with_len, get_or-map-
 use Rattle.zr_base.specs.Plain.{InBounds}
 use Rattle.zr_base.specs.declared.op.Turns.{Turns}
 use Rattle.zr_base.specs.declared.limits.TheConstants.{MOST_PAGES, MOST_SECTORS, MOST_ACTORS}
+use Rattle.job_text.specs.declared.limits.TheConstants.{MOST_LIMIT_PAGES}
+use Rattle.job_text.specs.declared.job.Report.{Report}
 use Rattle.job_text.specs.declared.fault.Cause.{Cause}
 use Rattle.job_text.specs.declared.fault.Cause.TheVariants as causes
 use Rattle.job_text.specs.declared.fault.NotTaken.{NotTaken}
 use Rattle.job_text.specs.declared.line.Line.{Line}
 use Rattle.job_text.specs.Numbers.{digit_value, byte_at, is_number, size_pages, number_of, are_digits, bytes_by, turn_of}
-use Rattle.job_text.specs.Lines.{Form, blank_form, size_form, actor_form, fill_form, seq_form, hex_form, read_form, discard_form, schedule_form, run_form, alone, size_in, read_in, discard_in, fill_in, seq_in, hex_in, stuff_in, write_in, schedule_in, named_in, form_of, fill_sectors, is_malformed, meaning, are_bounds, may_give, has_bad_value, line_with, line_of}
+use Rattle.job_text.specs.Lines.{Form, blank_form, disk_form, limit_form, report_form, actor_form, fill_form, seq_form, hex_form, read_form, discard_form, schedule_form, run_form, alone, with_word, report_named, report_in, read_in, discard_in, fill_in, seq_in, hex_in, stuff_in, write_in, schedule_in, named_in, form_of, fill_sectors, is_malformed, meaning, are_bounds, may_give, has_bad_value, line_with, line_of}
 use Rattle.job_text.specs.Jobs.{MayTurn}
 use Rattle.job_text.specs.Answers.{Answers, IsInRange}
 
@@ -27,7 +29,9 @@ IfRead P (Ok x) = P x
 -- a `schedule` has some words after it
 abbrev HasWords : Form → Type 0
 HasWords blank_form = Unit {0}
-HasWords (size_form size) = Unit {0}
+HasWords (disk_form size) = Unit {0}
+HasWords (limit_form size) = Unit {0}
+HasWords (report_form report) = Unit {0}
 HasWords actor_form = Unit {0}
 HasWords (fill_form start count word) = Unit {0}
 HasWords (seq_form start count base step) = Unit {0}
@@ -95,7 +99,7 @@ form-lawful : (form : Form) → HasWords form → is_malformed form ≡ false
     → IsInRange (meaning form)
 unfolding is_malformed meaning
 form-lawful blank_form has well good = tt
-form-lawful (size_form size) has well good = sized (size_pages size) good
+form-lawful (disk_form size) has well good = sized (size_pages size) good
   where
     sized : (pages : ℕ) → not (nat_le 1 pages && nat_le pages MOST_PAGES) ≡ false
         → (1 ≤ pages) × (pages ≤ MOST_PAGES)
@@ -104,6 +108,9 @@ form-lawful (size_form size) has well good = sized (size_pages size) good
       nat_tests,
       not-false (nat_le 1 pages && nat_le pages MOST_PAGES) good,
     )
+form-lawful (limit_form size) has well good =
+    leb-true (size_pages size) MOST_LIMIT_PAGES (not-false _ good)
+form-lawful (report_form report) has well good = tt
 form-lawful actor_form has well good = tt
 form-lawful (fill_form start count word) has well good =
     (bounds (number_of start) (number_of count) good, tt, tt)
@@ -138,14 +145,20 @@ when : (b : Bool) (x y : Option Form) → IfForm x → IfForm y → IfForm (cond
 when true x y p q = p
 when false x y p q = q
 
-size-words : (words : List (List ℕ)) → IfForm (size_in words)
-size-words [] = tt
-size-words (a ∷ []) = tt
-size-words (a ∷ b ∷ more) = tt
+one-word : (form : List ℕ → Form) (words : List (List ℕ))
+    → ((word : List ℕ) → HasWords (form word))
+    → IfForm (with_word form words)
+one-word form [] has = tt
+one-word form (a ∷ []) has = has a
+one-word form (a ∷ b ∷ more) has = tt
 
 alone-words : (form : Form) (words : List (List ℕ)) → HasWords form → IfForm (alone form words)
 alone-words form [] has = has
 alone-words form (a ∷ more) has = tt
+
+report-words : (report : Option Report) (words : List (List ℕ)) → IfForm (report_in report words)
+report-words None words = tt
+report-words (Some report) words = alone-words (report_form report) words tt
 
 read-words : (words : List (List ℕ)) → IfForm (read_in words)
 read-words [] = tt
@@ -192,13 +205,15 @@ form-words : (words : List (List ℕ)) → IfForm (form_of words)
 unfolding named_in
 form-words [] = tt
 form-words (name ∷ words) =
-    when (bytes_eq name (codes "disksize")) _ _ (size-words words)
+    when (bytes_eq name (codes "disksize")) _ _ (one-word disk_form words (λ size. tt))
+    (when (bytes_eq name (codes "mem_limit")) _ _ (one-word limit_form words (λ size. tt))
     (when (bytes_eq name (codes "actor")) _ _ (alone-words actor_form words tt)
     (when (bytes_eq name (codes "write")) _ _ (write-words words)
     (when (bytes_eq name (codes "read")) _ _ (read-words words)
     (when (bytes_eq name (codes "discard")) _ _ (discard-words words)
     (when (bytes_eq name (codes "schedule")) _ _ (schedule-words words)
-    (when (bytes_eq name (codes "run")) _ _ (alone-words run_form words tt) tt))))))
+    (when (bytes_eq name (codes "run")) _ _ (alone-words run_form words tt)
+    (report-words (report_named name) words))))))))
 
 line-lawful-by : (form : Form) → HasWords form → (m b : Bool) → is_malformed form ≡ m
     → has_bad_value (meaning form) ≡ b

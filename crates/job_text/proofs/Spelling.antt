@@ -7,11 +7,10 @@ use Rattle.zr_base.specs.declared.op.Op.{Op}
 use Rattle.zr_base.specs.declared.op.Turns.{Turns}
 use Rattle.zr_base.specs.declared.limits.TheConstants.{MOST_ACTORS}
 use Rattle.job_text.specs.declared.limits.TheConstants.{MOST_TURNS}
-use Rattle.job_text.specs.declared.job.Attr.TheVariants.{DiskPages}
 use Rattle.job_text.specs.declared.job.Item.{Item}
 use Rattle.job_text.specs.declared.job.Item.TheVariants as items
 use Rattle.job_text.specs.declared.begun.Begun.{Begun}
-use Rattle.job_text.specs.Jobs.{Saying, says_actor, says_operation, says_turns, says_run, actor_sayings, item_sayings, Used, with_disk, with_phase, with_op, with_ops, with_actors, with_turns, with_text, has_turns_left, MayOperate, MayAct, MayTurn, MayRun, MayFollow}
+use Rattle.job_text.specs.Jobs.{Saying, says_actor, says_operation, says_turns, says_run, actor_sayings, item_sayings, Used, with_attr, with_phase, with_op, with_ops, with_actors, with_turns, with_text, has_turns_left, MayOperate, MayAct, MayTurn, MayRun, MayFollow}
 use Rattle.job_text.specs.Reading.{is_scheduled, all_actors, text_of, fresh, with_actor, with_operation, items_from}
 use Rattle.job_text.proofs.Steps.{turns_step}
 
@@ -146,11 +145,13 @@ spelled_phase u (ops ∷ more) schedule rest fits may =
 pub spelled_read : (u : Used) (job : List Item) → u.turns ≤ MOST_TURNS → MayFollow u job
     → items_from u None (flat_map item_sayings job) ≡ Some job
 spelled_read u [] fits may = refl
-spelled_read u (items.Attr (DiskPages pages) ∷ more) fits may =
-    ap (λ b. cond b None (option_map (λ later. items.Attr (DiskPages pages) ∷ later)
-    (items_from (with_disk u) None (flat_map item_sayings more)))) may.0
-    ∙ ap (option_map (λ later. items.Attr (DiskPages pages) ∷ later))
-    (spelled_read (with_disk u) more fits may.3)
+spelled_read u (items.Attr attr ∷ more) fits may =
+    ap (λ b. cond b None (option_map (λ later. items.Attr attr ∷ later)
+    (items_from (with_attr u attr) None (flat_map item_sayings more)))) may.0
+    ∙ ap (option_map (λ later. items.Attr attr ∷ later))
+    (spelled_read (with_attr u attr) more fits may.2)
+spelled_read u (items.Report report ∷ more) fits may =
+    ap (option_map (λ later. items.Report report ∷ later)) (spelled_read u more fits may)
 spelled_read u (items.Phase text ∷ more) fits may =
     let left : (with_text u text.actors text.schedule).turns ≤ MOST_TURNS =
     leb-true _ _ may.0.turns_left in

@@ -9,15 +9,14 @@ use Rattle.job_text.specs.declared.limits.TheConstants.{MOST_TURNS}
 use Rattle.job_text.specs.declared.fault.Cause.{Cause}
 use Rattle.job_text.specs.declared.fault.Cause.TheVariants as causes
 use Rattle.job_text.specs.declared.fault.JobFault.{JobFault}
-use Rattle.job_text.specs.declared.job.Attr.TheVariants.{DiskPages}
 use Rattle.job_text.specs.declared.job.Item.{Item}
 use Rattle.job_text.specs.declared.job.Item.TheVariants as items
 use Rattle.job_text.specs.declared.line.Line.{Line}
-use Rattle.job_text.specs.declared.line.Line.TheVariants.{Blank, Disk, Actor, Operation, Schedule, Run}
+use Rattle.job_text.specs.declared.line.Line.TheVariants.{Blank, Attribute, Tell, Actor, Operation, Schedule, Run}
 use Rattle.job_text.specs.declared.begun.Begun.{Begun}
 use Rattle.job_text.specs.declared.reading.Reading.{Reading}
 use Rattle.job_text.specs.Lines.{Form, words_of, form_of, is_malformed, meaning, has_bad_value, line_with, line_of}
-use Rattle.job_text.specs.Jobs.{Saying, says_turns, said_by, said_before, sayings, Used, with_disk, with_phase, turns_in, with_turns, has_phase_left, has_left_for, has_turns_left}
+use Rattle.job_text.specs.Jobs.{Saying, says_turns, said_by, said_before, sayings, Used, is_second_size, with_attr, with_phase, turns_in, with_turns, has_phase_left, has_left_for, has_turns_left}
 use Rattle.job_text.specs.Faults.{Phase, said_in, cause_in, cause_of, used_with, phase_with, fault_at, first_fault_from}
 use Rattle.job_text.specs.Answers.{IsInRange}
 use Rattle.job_text.specs.Reading.{used_by, is_scheduled, phase_at, phase_of, all_actors, text_of, with_schedule, place_cause, begun_with, items_by, IsNext, items_from, items_with, items_after}
@@ -141,10 +140,12 @@ pub line_step : (u : Used) (begun : Option Begun) (first : ℕ) (line : Line) (r
     (items_from (used_with u (phase_at first begun) line) (begun_with begun line) rest))
 line_step u None first Blank rest is fits = same (items_from u None rest)
 line_step u (Some begun) first Blank rest is fits = same (items_from u (Some begun) rest)
-line_step u None first (Disk pages) rest is fits =
-    placed (option_map (λ later. items.Attr (DiskPages pages) ∷ later)
-    (items_from (with_disk u) None rest)) u.disk
-line_step u (Some begun) first (Disk pages) rest is fits = refl
+line_step u None first (Attribute attr) rest is fits =
+    placed (option_map (λ later. items.Attr attr ∷ later)
+    (items_from (with_attr u attr) None rest)) (is_second_size u attr)
+line_step u (Some begun) first (Attribute attr) rest is fits = refl
+line_step u None first (Tell report) rest is fits = refl
+line_step u (Some begun) first (Tell report) rest is fits = refl
 line_step u None first Actor rest is fits = acted _ false u.disk (has_phase_left u)
 line_step u (Some begun) first Actor rest is fits =
     acted _ (is_scheduled begun) u.disk (nat_le (length begun.actors + 1 + 1) MOST_ACTORS)
@@ -165,7 +166,8 @@ line_step u (Some begun) first Run rest is fits = refl
 -- the line of the first actor of the phase after a line
 abbrev first_with : ℕ → ℕ → Option Begun → Line → ℕ
 first_with number first begun Blank = first
-first_with number first begun (Disk pages) = first
+first_with number first begun (Attribute attr) = first
+first_with number first begun (Tell report) = first
 first_with number first None Actor = number
 first_with number first (Some begun) Actor = first
 first_with number first begun (Operation op) = first
@@ -177,8 +179,10 @@ phase_step : (number first : ℕ) (begun : Option Begun) (line : Line) → IsInR
     ≡ phase_at (first_with number first begun line) (begun_with begun line)
 phase_step number first None Blank is = refl
 phase_step number first (Some begun) Blank is = refl
-phase_step number first None (Disk pages) is = refl
-phase_step number first (Some begun) (Disk pages) is = refl
+phase_step number first None (Attribute attr) is = refl
+phase_step number first (Some begun) (Attribute attr) is = refl
+phase_step number first None (Tell report) is = refl
+phase_step number first (Some begun) (Tell report) is = refl
 phase_step number first None Actor is = refl
 phase_step number first (Some begun) Actor is =
     let n : length begun.actors + 1 ≡ length (all_actors begun) =
@@ -200,8 +204,10 @@ turns_fit : (u : Used) (phase : Option Phase) (line : Line) → place_cause u ph
     → u.turns ≤ MOST_TURNS → (used_with u phase line).turns ≤ MOST_TURNS
 turns_fit u None Blank free fits = fits
 turns_fit u (Some phase) Blank free fits = fits
-turns_fit u None (Disk pages) free fits = fits
-turns_fit u (Some phase) (Disk pages) free fits = fits
+turns_fit u None (Attribute attr) free fits = fits
+turns_fit u (Some phase) (Attribute attr) free fits = fits
+turns_fit u None (Tell report) free fits = fits
+turns_fit u (Some phase) (Tell report) free fits = fits
 turns_fit u None Actor free fits = fits
 turns_fit u (Some phase) Actor free fits = fits
 turns_fit u None (Operation op) free fits = fits

@@ -10,7 +10,7 @@ use Rattle.job_text.specs.declared.fault.Cause.TheVariants as causes
 use Rattle.job_text.specs.declared.fault.JobFault.{JobFault}
 use Rattle.job_text.specs.declared.job.Item.{Item}
 use Rattle.job_text.specs.declared.line.Line.{Line}
-use Rattle.job_text.specs.declared.line.Line.TheVariants.{Blank, Disk, Actor, Operation, Schedule, Run}
+use Rattle.job_text.specs.declared.line.Line.TheVariants.{Blank, Attribute, Tell, Actor, Operation, Schedule, Run}
 use Rattle.job_text.specs.Lines.{words_of, line_of}
 use Rattle.job_text.specs.Jobs.{Saying, says_turns, said_by, said_before, sayings, text_lines, nothing_used, MayTurn, IsJob}
 use Rattle.job_text.specs.Faults.{first_fault, first_fault_from}
@@ -31,7 +31,8 @@ said_turns actors (t ∷ ts) more may rest = ((may.1, may.2), said_turns actors 
 said_more : (line : Line) (more : List Saying) → IsInRange line → AllByRecursion IsSaid more
     → AllByRecursion IsSaid (said_by line ++ more)
 said_more Blank more is rest = rest
-said_more (Disk pages) more is rest = (is, rest)
+said_more (Attribute attr) more is rest = (is, rest)
+said_more (Tell report) more is rest = (tt, rest)
 said_more Actor more is rest = (tt, rest)
 said_more (Operation op) more is rest = (is, rest)
 said_more (Schedule turns) more is rest = said_turns MOST_ACTORS turns more is.1 rest

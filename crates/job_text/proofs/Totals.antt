@@ -7,10 +7,9 @@ use Rattle.zr_base.specs.declared.op.Op.{Op}
 use Rattle.zr_base.specs.declared.limits.TheConstants.{MOST_OPERATIONS}
 use Rattle.zr_base.specs.Pieces.{pages_of}
 use Rattle.job_text.specs.declared.limits.TheConstants.{MOST_PHASES, MOST_PIECES, MOST_SECTORS_READ, MOST_TURNS}
-use Rattle.job_text.specs.declared.job.Attr.TheVariants.{DiskPages}
 use Rattle.job_text.specs.declared.job.Item.{Item}
 use Rattle.job_text.specs.declared.job.Item.TheVariants as items
-use Rattle.job_text.specs.Jobs.{Used, nothing_used, with_disk, with_phase, with_op, with_ops, with_actors, with_text, sectors_to_read, MayOperate, MayAct, MayFollow, IsJob}
+use Rattle.job_text.specs.Jobs.{Used, nothing_used, with_attr, with_phase, with_op, with_ops, with_actors, with_text, sectors_to_read, MayOperate, MayAct, MayFollow, IsJob}
 use Rattle.job_text.specs.Totals.{phases_in, sum_in, scheduled_in, IsWithinLimits}
 
 -- what is used is within the limits, with so much more
@@ -136,16 +135,20 @@ module _ (u v : Used) (item : Item) (more : List Item)
 
 items_fit : (u : Used) (job : List Item) → MayFollow u job → IsWithin u → FitsAll u job
 items_fit u [] may is = is
-items_fit u (items.Attr (DiskPages pages) ∷ more) may is =
-    with_first u (with_disk u) (items.Attr (DiskPages pages)) more
+items_fit u (items.Attr attr ∷ more) may is =
+    with_first u (with_attr u attr) (items.Attr attr) more
     (omega arith) (omega arith) (omega arith) (omega arith) (omega arith)
-    (items_fit (with_disk u) more may.3 (record {
+    (items_fit (with_attr u attr) more may.2 (record {
       phases_fit = is.phases_fit;
       operations_fit = is.operations_fit;
       pieces_fit = is.pieces_fit;
       sectors_fit = is.sectors_fit;
       turns_fit = is.turns_fit;
     }))
+items_fit u (items.Report report ∷ more) may is =
+    with_first u u (items.Report report) more
+    (omega arith) (omega arith) (omega arith) (omega arith) (omega arith)
+    (items_fit u more may is)
 items_fit u (items.Phase text ∷ more) may is =
     let started = with_phase u in
     let n : u.phases + 1 ≤ MOST_PHASES = leb-true _ _ may.0.phase_left in

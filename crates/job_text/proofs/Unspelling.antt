@@ -7,18 +7,18 @@ use Rattle.std.proofs.lemmas.Bool.{leb-true, le-leb, ltb-true, eqb-true, and_par
 use Rattle.zr_base.specs.Plain.{IsRequest}
 use Rattle.zr_base.specs.declared.op.Op.{Op}
 use Rattle.zr_base.specs.declared.op.Turns.{Turns}
-use Rattle.zr_base.specs.declared.limits.TheConstants.{MOST_PAGES, MOST_ACTORS}
+use Rattle.zr_base.specs.declared.limits.TheConstants.{MOST_ACTORS}
 use Rattle.job_text.specs.declared.limits.TheConstants.{MOST_TURNS}
-use Rattle.job_text.specs.declared.job.Attr.TheVariants.{DiskPages}
 use Rattle.job_text.specs.declared.job.Item.{Item}
 use Rattle.job_text.specs.declared.job.Item.TheVariants as items
 use Rattle.job_text.specs.declared.begun.Begun.{Begun}
-use Rattle.job_text.specs.Jobs.{Saying, says_disk, says_actor, says_operation, says_turns, says_run, actor_sayings, item_sayings, Used, with_disk, with_phase, with_op, with_ops, with_actors, turns_in, with_turns, with_text, has_phase_left, has_left_for, has_turns_left, MayOperate, MayAct, MayTurn, HasDisk, MayRun, MayFollow}
+use Rattle.job_text.specs.Jobs.{Saying, says_attr, says_report, says_actor, says_operation, says_turns, says_run, actor_sayings, item_sayings, Used, is_second_size, with_attr, with_phase, with_op, with_ops, with_actors, turns_in, with_turns, with_text, has_phase_left, has_left_for, has_turns_left, MayOperate, MayAct, MaySet, MayTurn, HasDisk, MayRun, MayFollow}
 use Rattle.job_text.specs.Reading.{is_scheduled, all_actors, text_of, fresh, with_actor, with_operation, with_schedule, items_from}
 
 -- a saying's values are in their range
 abbrev pub IsSaid : Saying → Type 0
-IsSaid (says_disk pages) = (1 ≤ pages) × (pages ≤ MOST_PAGES)
+IsSaid (says_attr attr) = MaySet attr
+IsSaid (says_report report) = Unit {0}
 IsSaid says_actor = Unit {0}
 IsSaid (says_operation op) = IsRequest op
 IsSaid (says_turns turns) = (1 ≤ turns.times) × (turns.times ≤ MOST_TURNS)
@@ -276,16 +276,22 @@ unspelled before u None [] job at are e =
     let none : [] ≡ job = cc in
     subst P none (refl, tt)
 unspelled before u (Some begun) [] job at are e = cc
-unspelled before u None (says_disk pages ∷ said) job at are e =
-    let free = free_of u.disk _ job e in
-    let more = mapped (λ later. items.Attr (DiskPages pages) ∷ later)
-    (items_from (with_disk u) None said) job free.1 in
-    let rest = unspelled (with_disk u) (with_disk u) None said more.0 (refl, at.1) are.1 more.1 in
-    let P : List Item → Type 0 = λ j. Spelled u None (says_disk pages ∷ said) j in
-    let Q : Used → Type 0 = λ b. Spelled b None (says_disk pages ∷ said) job in
+unspelled before u None (says_attr attr ∷ said) job at are e =
+    let free = free_of (is_second_size u attr) _ job e in
+    let v = with_attr u attr in
+    let more = mapped (λ later. items.Attr attr ∷ later) (items_from v None said) job free.1 in
+    let rest = unspelled v v None said more.0 (refl, at.1) are.1 more.1 in
+    let P : List Item → Type 0 = λ j. Spelled u None (says_attr attr ∷ said) j in
+    let Q : Used → Type 0 = λ b. Spelled b None (says_attr attr ∷ said) job in
     subst Q at.0 (subst P more.2
-    (ap (λ (xs : List Saying). says_disk pages ∷ xs) rest.0, (free.0, are.0.0, are.0.1, rest.1)))
-unspelled before u (Some begun) (says_disk pages ∷ said) job at are e = cc
+    (ap (λ (xs : List Saying). says_attr attr ∷ xs) rest.0, (free.0, are.0, rest.1)))
+unspelled before u (Some begun) (says_attr attr ∷ said) job at are e = cc
+unspelled before u None (says_report report ∷ said) job at are e =
+    let more = mapped (λ later. items.Report report ∷ later) (items_from u None said) job e in
+    let rest = unspelled before u None said more.0 at are.1 more.1 in
+    let P : List Item → Type 0 = λ j. Spelled before None (says_report report ∷ said) j in
+    subst P more.2 (ap (λ (xs : List Saying). says_report report ∷ xs) rest.0, rest.1)
+unspelled before u (Some begun) (says_report report ∷ said) job at are e = cc
 unspelled before u None (says_actor ∷ said) job at are e =
     let kept = kept_by (u.disk && has_phase_left u) _ job e in
     let parts = and_parts u.disk (has_phase_left u) kept.0 in

@@ -2,17 +2,17 @@
 use Rattle.std.specs.Prelude.{◌≡◌, ℕ, ◌+◌, ◌-◌, ◌/◌, ◌^◌, ◌==◌, ◌≤◌, min, List, length, map, position, Option, Result, Ok, Err, if◌then◌else◌}
 use Rattle.std.specs.List.{list_all}
 use Rattle.zr_base.specs.declared.op.Turns.{Turns}
-use Rattle.zr_base.specs.declared.limits.TheConstants.{MOST_PAGES, MOST_ACTORS}
+use Rattle.zr_base.specs.declared.limits.TheConstants.{MOST_ACTORS}
 use Rattle.job_text.specs.declared.fault.Cause.{Cause}
 use Rattle.job_text.specs.declared.fault.Cause.TheVariants as causes
 use Rattle.job_text.specs.declared.fault.NotTaken.{NotTaken}
 use Rattle.job_text.specs.declared.fault.NotTaken.TheVariants as untaken
 use Rattle.zr_base.specs.Plain.{IsRequest}
 use Rattle.job_text.specs.declared.line.Line.{Line}
-use Rattle.job_text.specs.declared.line.Line.TheVariants.{Blank, Disk, Actor, Operation, Schedule, Run}
+use Rattle.job_text.specs.declared.line.Line.TheVariants.{Blank, Attribute, Tell, Actor, Operation, Schedule, Run}
 use Rattle.job_text.specs.Numbers.{turn_of}
 use Rattle.job_text.specs.Lines.{may_give}
-use Rattle.job_text.specs.Jobs.{MayTurn}
+use Rattle.job_text.specs.Jobs.{MaySet, MayTurn}
 
 -- ---- words
 
@@ -49,7 +49,8 @@ turns_with words =
 -- what a line says is in its range
 abbrev pub IsInRange : Line → Type 0
 IsInRange Blank = Unit {0}
-IsInRange (Disk pages) = (1 ≤ pages) × (pages ≤ MOST_PAGES)
+IsInRange (Attribute attr) = MaySet attr
+IsInRange (Tell report) = Unit {0}
 IsInRange Actor = Unit {0}
 IsInRange (Operation op) = IsRequest op
 IsInRange (Schedule turns) = (1 ≤ length turns) × MayTurn MOST_ACTORS turns

@@ -7,9 +7,9 @@ use Rattle.job_text.specs.declared.fault.Cause.{Cause}
 use Rattle.job_text.specs.declared.fault.Cause.TheVariants as causes
 use Rattle.job_text.specs.declared.fault.JobFault.{JobFault}
 use Rattle.job_text.specs.declared.line.Line.{Line}
-use Rattle.job_text.specs.declared.line.Line.TheVariants.{Blank, Disk, Actor, Operation, Schedule, Run}
+use Rattle.job_text.specs.declared.line.Line.TheVariants.{Blank, Attribute, Tell, Actor, Operation, Schedule, Run}
 use Rattle.job_text.specs.Lines.{Form, words_of, form_of, is_malformed, meaning, has_bad_value}
-use Rattle.job_text.specs.Jobs.{Used, nothing_used, with_disk, with_phase, with_op, with_turns, has_phase_left, has_left_for, has_turns_left, text_lines}
+use Rattle.job_text.specs.Jobs.{Used, nothing_used, is_second_size, with_attr, with_phase, with_op, with_turns, has_phase_left, has_left_for, has_turns_left, text_lines}
 
 -- A phase that has begun: the line of its first `actor`, its actors so far, and whether it has a
 -- `schedule` already.
@@ -23,7 +23,8 @@ pub record Phase : Type 0 where
 -- a turn of a `schedule` names no actor of the phase; outside a phase none does
 abbrev pub names_no_actor : Option Phase → Line → Bool
 names_no_actor phase Blank = false
-names_no_actor phase (Disk pages) = false
+names_no_actor phase (Attribute attr) = false
+names_no_actor phase (Tell report) = false
 names_no_actor phase Actor = false
 names_no_actor phase (Operation op) = false
 names_no_actor None (Schedule turns) = true
@@ -31,12 +32,14 @@ names_no_actor (Some phase) (Schedule turns) =
     not (list_all (λ t. nat_lt t.actor phase.actors) turns)
 names_no_actor phase Run = false
 
--- The disk's size is given once, outside a phase. Operations and turns belong to a phase that has
--- begun, and after a `schedule` come only more of it and the `run`.
+-- Attributes and reports stand outside a phase, and the disk's size is given once. Operations and
+-- turns belong to a phase that has begun, and after a `schedule` come only more of it and the `run`.
 abbrev pub is_misplaced : Used → Option Phase → Line → Bool
 is_misplaced u phase Blank = false
-is_misplaced u None (Disk pages) = u.disk
-is_misplaced u (Some phase) (Disk pages) = true
+is_misplaced u None (Attribute attr) = is_second_size u attr
+is_misplaced u (Some phase) (Attribute attr) = true
+is_misplaced u None (Tell report) = false
+is_misplaced u (Some phase) (Tell report) = true
 is_misplaced u None Actor = false
 is_misplaced u (Some phase) Actor = phase.scheduled
 is_misplaced u None (Operation op) = true
@@ -48,7 +51,8 @@ is_misplaced u phase Run = false
 -- an actor begins before the disk has a size
 abbrev pub lacks_disk : Used → Line → Bool
 lacks_disk u Blank = false
-lacks_disk u (Disk pages) = false
+lacks_disk u (Attribute attr) = false
+lacks_disk u (Tell report) = false
 lacks_disk u Actor = not u.disk
 lacks_disk u (Operation op) = false
 lacks_disk u (Schedule turns) = false
@@ -58,7 +62,8 @@ lacks_disk u Run = false
 -- has at most 64 actors.
 abbrev pub passes_limit : Used → Option Phase → Line → Bool
 passes_limit u phase Blank = false
-passes_limit u phase (Disk pages) = false
+passes_limit u phase (Attribute attr) = false
+passes_limit u phase (Tell report) = false
 passes_limit u None Actor = not (has_phase_left u)
 passes_limit u (Some phase) Actor = not (nat_le (phase.actors + 1) MOST_ACTORS)
 passes_limit u phase (Operation op) = not (has_left_for u op)
@@ -95,7 +100,8 @@ cause_of u phase words = cause_in u phase (form_of words)
 -- what is used with a line that has no cause
 abbrev pub used_with : Used → Option Phase → Line → Used
 used_with u phase Blank = u
-used_with u phase (Disk pages) = with_disk u
+used_with u phase (Attribute attr) = with_attr u attr
+used_with u phase (Tell report) = u
 used_with u None Actor = with_phase u
 used_with u (Some phase) Actor = u
 used_with u phase (Operation op) = with_op u op
@@ -106,7 +112,8 @@ used_with u (Some phase) Run = u
 -- the phase after the line of this number, if it has no cause
 abbrev pub phase_with : ℕ → Option Phase → Line → Option Phase
 phase_with number phase Blank = phase
-phase_with number phase (Disk pages) = phase
+phase_with number phase (Attribute attr) = phase
+phase_with number phase (Tell report) = phase
 phase_with number None Actor = Some (record { first = number; actors = 1; scheduled = false })
 phase_with number (Some phase) Actor = Some (record phase { actors = phase.actors + 1 })
 phase_with number phase (Operation op) = phase

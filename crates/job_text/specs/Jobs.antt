@@ -1,5 +1,5 @@
 -- The job that a text is.
-use Rattle.std.specs.Prelude.{◌≡◌, ℕ, ◌+◌, ◌<◌, ◌≤◌, Bool, true, false, ◌==◌, ◌&&◌, nat_le, List, [], ◌∷◌, ◌++◌, length, map, Option, Some, None, Result, Ok, Err, ⊤}
+use Rattle.std.specs.Prelude.{◌≡◌, ℕ, ◌+◌, ◌<◌, ◌≤◌, Bool, true, false, ◌==◌, ◌&&◌, ◌||◌, nat_le, List, [], ◌∷◌, ◌++◌, length, map, Option, Some, None, Result, Ok, Err, ⊤}
 use Rattle.std.specs.List.{slice_split, flat_map}
 use Rattle.zr_base.specs.Plain.{IsRequest}
 use Rattle.zr_base.specs.Pieces.{pages_of}
@@ -7,13 +7,15 @@ use Rattle.zr_base.specs.declared.op.Op.{Op}
 use Rattle.zr_base.specs.declared.op.Op.TheVariants.{Write, Read, Discard}
 use Rattle.zr_base.specs.declared.op.Turns.{Turns}
 use Rattle.zr_base.specs.declared.limits.TheConstants.{MOST_PAGES, MOST_ACTORS, MOST_OPERATIONS}
-use Rattle.job_text.specs.declared.limits.TheConstants.{MOST_BYTES, MOST_PHASES, MOST_PIECES, MOST_SECTORS_READ, MOST_TURNS}
+use Rattle.job_text.specs.declared.limits.TheConstants.{MOST_BYTES, MOST_LIMIT_PAGES, MOST_PHASES, MOST_PIECES, MOST_SECTORS_READ, MOST_TURNS}
 use Rattle.job_text.specs.declared.fault.Cause.{Cause}
-use Rattle.job_text.specs.declared.job.Attr.TheVariants.{DiskPages}
+use Rattle.job_text.specs.declared.job.Attr.{Attr}
+use Rattle.job_text.specs.declared.job.Attr.TheVariants.{DiskPages, LimitPages}
+use Rattle.job_text.specs.declared.job.Report.{Report}
 use Rattle.job_text.specs.declared.job.Item.{Item}
 use Rattle.job_text.specs.declared.job.Item.TheVariants as items
 use Rattle.job_text.specs.declared.line.Line.{Line}
-use Rattle.job_text.specs.declared.line.Line.TheVariants.{Blank, Disk, Actor, Operation, Schedule, Run}
+use Rattle.job_text.specs.declared.line.Line.TheVariants.{Blank, Attribute, Tell, Actor, Operation, Schedule, Run}
 use Rattle.job_text.specs.Lines.{words_of, line_of}
 
 -- ---- what a text says
@@ -24,7 +26,8 @@ text_lines bytes = slice_split (λ b. b == 10) bytes
 
 -- What lines say, piece by piece: the turns of several `schedule` lines are one row.
 pub data Saying : Type 0 where
-  says_disk : (pages : ℕ) → Saying
+  says_attr : Attr → Saying
+  says_report : Report → Saying
   says_actor : Saying
   says_operation : Op → Saying
   says_turns : Turns → Saying
@@ -33,7 +36,8 @@ pub data Saying : Type 0 where
 -- what a line says
 abbrev pub said_by : Line → List Saying
 said_by Blank = []
-said_by (Disk pages) = says_disk pages ∷ []
+said_by (Attribute attr) = says_attr attr ∷ []
+said_by (Tell report) = says_report report ∷ []
 said_by Actor = says_actor ∷ []
 said_by (Operation op) = says_operation op ∷ []
 said_by (Schedule turns) = map says_turns turns
@@ -56,7 +60,8 @@ actor_sayings ops = says_actor ∷ map says_operation ops
 
 -- what the lines say that stand for an item
 abbrev pub item_sayings : Item → List Saying
-item_sayings (items.Attr (DiskPages pages)) = says_disk pages ∷ []
+item_sayings (items.Attr attr) = says_attr attr ∷ []
+item_sayings (items.Report report) = says_report report ∷ []
 item_sayings (items.Phase text) =
     flat_map actor_sayings text.actors ++ map says_turns text.schedule ++ says_run ∷ []
 
@@ -94,9 +99,14 @@ abbrev pub turns_in : List Turns → ℕ
 turns_in [] = 0
 turns_in (turns ∷ more) = turns.times + turns_in more
 
--- after the disk's size
-abbrev pub with_disk : Used → Used
-with_disk u = record u { disk = true }
+-- whether an attribute is the disk's size
+abbrev pub is_disk_size : Attr → Bool
+is_disk_size (DiskPages pages) = true
+is_disk_size (LimitPages pages) = false
+
+-- after an attribute
+abbrev pub with_attr : Used → Attr → Used
+with_attr u attr = record u { disk = is_disk_size attr || u.disk }
 
 -- with one phase more
 abbrev pub with_phase : Used → Used
@@ -141,6 +151,15 @@ has_turns_left u turns = nat_le (u.turns + turns_in turns) MOST_TURNS
 
 -- ---- the order of items
 
+-- the disk's size is given a second time
+abbrev pub is_second_size : Used → Attr → Bool
+is_second_size u attr = is_disk_size attr && u.disk
+
+-- an attribute in its range: a disk of one page at least, any limit on memory, and neither too great
+abbrev pub MaySet : Attr → Type 0
+MaySet (DiskPages pages) = (1 ≤ pages) × (pages ≤ MOST_PAGES)
+MaySet (LimitPages pages) = pages ≤ MOST_LIMIT_PAGES
+
 -- operations after those that were counted
 abbrev pub MayOperate : Used → List Op → Type 0
 MayOperate u [] = ⊤
@@ -175,11 +194,13 @@ pub record MayRun (u : Used) (actors : List (List Op)) (schedule : List Turns) :
   pub may_turn : MayTurn (length actors) schedule
   pub turns_left : has_turns_left (with_actors (with_phase u) actors) schedule ≡ true
 
--- the items of a job after others: at most one disk's size, and phases within the limits
+-- the items of a job after others: attributes in their range with at most one disk's size, reports,
+-- and phases within the limits
 abbrev pub MayFollow : Used → List Item → Type 0
 MayFollow u [] = ⊤
-MayFollow u (items.Attr (DiskPages pages) ∷ more) =
-    (u.disk ≡ false) × (1 ≤ pages) × (pages ≤ MOST_PAGES) × MayFollow (with_disk u) more
+MayFollow u (items.Attr attr ∷ more) =
+    (is_second_size u attr ≡ false) × MaySet attr × MayFollow (with_attr u attr) more
+MayFollow u (items.Report report ∷ more) = MayFollow u more
 MayFollow u (items.Phase text ∷ more) =
     MayRun u text.actors text.schedule × MayFollow (with_text u text.actors text.schedule) more
 

@@ -7,9 +7,13 @@ use Rattle.zr_base.specs.declared.op.Stuff.TheVariants.{Fill, Seq, Hex}
 use Rattle.zr_base.specs.declared.op.Turns.{Turns}
 use Rattle.zr_base.specs.Plain.{start_of, count_of}
 use Rattle.zr_base.specs.declared.limits.TheConstants.{MOST_PAGES, MOST_SECTORS, MOST_ACTORS}
-use Rattle.job_text.specs.declared.limits.TheConstants.{MOST_TURNS}
+use Rattle.job_text.specs.declared.limits.TheConstants.{MOST_LIMIT_PAGES, MOST_TURNS}
+use Rattle.job_text.specs.declared.job.Attr.{Attr}
+use Rattle.job_text.specs.declared.job.Attr.TheVariants.{DiskPages, LimitPages}
+use Rattle.job_text.specs.declared.job.Report.{Report}
+use Rattle.job_text.specs.declared.job.Report.TheVariants.{MmStat, IoStat, States, Classes}
 use Rattle.job_text.specs.declared.line.Line.{Line}
-use Rattle.job_text.specs.declared.line.Line.TheVariants.{Blank, Disk, Actor, Operation, Schedule, Run}
+use Rattle.job_text.specs.declared.line.Line.TheVariants.{Blank, Attribute, Tell, Actor, Operation, Schedule, Run}
 use Rattle.job_text.specs.declared.fault.Cause.{Cause}
 use Rattle.job_text.specs.declared.fault.Cause.TheVariants as causes
 use Rattle.job_text.specs.Numbers.{are_digits, is_number, number_of, is_word, word_of, bytes_by, is_size, size_pages, is_turn, turn_of}
@@ -40,7 +44,9 @@ words_of line =
 -- A form of a line, with the words that stand for its values.
 pub data Form : Type 0 where
   blank_form : Form
-  size_form : (size : List ℕ) → Form
+  disk_form : (size : List ℕ) → Form
+  limit_form : (size : List ℕ) → Form
+  report_form : Report → Form
   actor_form : Form
   fill_form : (start count word : List ℕ) → Form
   seq_form : (start count base step : List ℕ) → Form
@@ -55,10 +61,24 @@ abbrev pub alone : Form → List (List ℕ) → Option Form
 alone form [] = Some form
 alone form (word ∷ words) = None
 
--- what stands after `disksize`
-abbrev pub size_in : List (List ℕ) → Option Form
-size_in (size ∷ []) = Some (size_form size)
-size_in words = None
+-- a form with one word after the first
+abbrev pub with_word : (List ℕ → Form) → List (List ℕ) → Option Form
+with_word form (word ∷ []) = Some (form word)
+with_word form words = None
+
+-- the report of this name, if there is one
+abbrev pub report_named : List ℕ → Option Report
+report_named name =
+    if bytes_eq name (codes "mm_stat") then Some MmStat
+    else if bytes_eq name (codes "io_stat") then Some IoStat
+    else if bytes_eq name (codes "states") then Some States
+    else if bytes_eq name (codes "classes") then Some Classes
+    else None
+
+-- what stands after a report's name
+abbrev pub report_in : Option Report → List (List ℕ) → Option Form
+report_in None words = None
+report_in (Some report) words = alone (report_form report) words
 
 -- what stands after `read`
 abbrev pub read_in : List (List ℕ) → Option Form
@@ -106,14 +126,15 @@ schedule_in (turn ∷ more) = Some (schedule_form (turn ∷ more))
 -- what stands after a line's first word
 unfoldable pub named_in : List ℕ → List (List ℕ) → Option Form
 named_in name words =
-    if bytes_eq name (codes "disksize") then size_in words
+    if bytes_eq name (codes "disksize") then with_word disk_form words
+    else if bytes_eq name (codes "mem_limit") then with_word limit_form words
     else if bytes_eq name (codes "actor") then alone actor_form words
     else if bytes_eq name (codes "write") then write_in words
     else if bytes_eq name (codes "read") then read_in words
     else if bytes_eq name (codes "discard") then discard_in words
     else if bytes_eq name (codes "schedule") then schedule_in words
     else if bytes_eq name (codes "run") then alone run_form words
-    else None
+    else report_in (report_named name) words
 
 -- the form of a line of these words, if it has one: else a word isn't known, or there are too few
 -- or too many
@@ -131,7 +152,9 @@ fill_sectors digits count =
 -- a word isn't of its form, or there are too few or too many digits
 unfoldable pub is_malformed : Form → Bool
 is_malformed blank_form = false
-is_malformed (size_form size) = not (is_size size)
+is_malformed (disk_form size) = not (is_size size)
+is_malformed (limit_form size) = not (is_size size)
+is_malformed (report_form report) = false
 is_malformed actor_form = false
 is_malformed (fill_form start count word) = not (is_number start && is_number count && is_word word)
 is_malformed (seq_form start count base step) =
@@ -147,7 +170,9 @@ is_malformed run_form = false
 -- what a line says whose words are of their forms
 unfoldable pub meaning : Form → Line
 meaning blank_form = Blank
-meaning (size_form size) = Disk (size_pages size)
+meaning (disk_form size) = Attribute (DiskPages (size_pages size))
+meaning (limit_form size) = Attribute (LimitPages (size_pages size))
+meaning (report_form report) = Tell report
 meaning actor_form = Actor
 meaning (fill_form start count word) =
     Operation (Write (number_of start) (number_of count) (Fill (word_of word)))
@@ -159,6 +184,12 @@ meaning (read_form start count) = Operation (Read (number_of start) (number_of c
 meaning (discard_form start count) = Operation (Discard (number_of start) (number_of count))
 meaning (schedule_form turns) = Schedule (map turn_of turns)
 meaning run_form = Run
+
+-- a disk's size of one page at least and of no more than the most, or a limit on memory up to the
+-- greatest
+abbrev pub may_set : Attr → Bool
+may_set (DiskPages pages) = nat_le 1 pages && nat_le pages MOST_PAGES
+may_set (LimitPages pages) = nat_le pages MOST_LIMIT_PAGES
 
 -- a request's sectors begin below 2 ^ 32, and are 1 to the most that a request has
 abbrev pub are_bounds : ℕ → ℕ → Bool
@@ -174,7 +205,8 @@ may_give turns =
 -- a value that is never allowed
 abbrev pub has_bad_value : Line → Bool
 has_bad_value Blank = false
-has_bad_value (Disk pages) = not (nat_le 1 pages && nat_le pages MOST_PAGES)
+has_bad_value (Attribute attr) = not (may_set attr)
+has_bad_value (Tell report) = false
 has_bad_value Actor = false
 has_bad_value (Operation op) = not (are_bounds (start_of op) (count_of op))
 has_bad_value (Schedule turns) = not (list_all may_give turns)

@@ -10,16 +10,15 @@ use Rattle.job_text.specs.declared.fault.Cause.TheVariants as causes
 use Rattle.job_text.specs.declared.fault.JobFault.{JobFault}
 use Rattle.job_text.specs.declared.fault.NotTaken.{NotTaken}
 use Rattle.job_text.specs.declared.fault.NotTaken.TheVariants as untaken
-use Rattle.job_text.specs.declared.job.Attr.TheVariants.{DiskPages}
 use Rattle.job_text.specs.declared.job.Item.{Item}
 use Rattle.job_text.specs.declared.job.Item.TheVariants as items
 use Rattle.job_text.specs.declared.job.PhaseText.{PhaseText}
 use Rattle.job_text.specs.declared.line.Line.{Line}
-use Rattle.job_text.specs.declared.line.Line.TheVariants.{Blank, Disk, Actor, Operation, Schedule, Run}
+use Rattle.job_text.specs.declared.line.Line.TheVariants.{Blank, Attribute, Tell, Actor, Operation, Schedule, Run}
 use Rattle.job_text.specs.declared.begun.Begun.{Begun}
 use Rattle.job_text.specs.declared.reading.Reading.{Reading}
 use Rattle.job_text.specs.Lines.{words_of}
-use Rattle.job_text.specs.Jobs.{Saying, says_disk, says_actor, says_operation, says_turns, says_run, text_lines, sayings, Used, nothing_used, with_disk, with_phase, with_op, with_turns, has_phase_left, has_left_for, has_turns_left}
+use Rattle.job_text.specs.Jobs.{Saying, says_attr, says_report, says_actor, says_operation, says_turns, says_run, text_lines, sayings, Used, nothing_used, is_second_size, with_attr, with_phase, with_op, with_turns, has_phase_left, has_left_for, has_turns_left}
 use Rattle.job_text.specs.Faults.{Phase, names_no_actor, is_misplaced, lacks_disk, passes_limit, cause_of, used_with, phase_with, first_fault_from}
 
 -- ---- a reader's state
@@ -107,7 +106,8 @@ cause_at r line = cause_of (used_by r) (phase_of r) (words_of line)
 -- the phase that has begun, with one more line
 abbrev pub begun_with : Option Begun → Line → Option Begun
 begun_with begun Blank = begun
-begun_with begun (Disk pages) = begun
+begun_with begun (Attribute attr) = begun
+begun_with begun (Tell report) = begun
 begun_with None Actor = Some fresh
 begun_with (Some begun) Actor = Some (with_actor begun)
 begun_with None (Operation op) = None
@@ -119,7 +119,8 @@ begun_with begun Run = None
 -- the items that end with a line
 abbrev pub items_by : Option Begun → Line → List Item
 items_by begun Blank = []
-items_by begun (Disk pages) = items.Attr (DiskPages pages) ∷ []
+items_by begun (Attribute attr) = items.Attr attr ∷ []
+items_by begun (Tell report) = items.Report report ∷ []
 items_by begun Actor = []
 items_by begun (Operation op) = []
 items_by begun (Schedule turns) = []
@@ -142,11 +143,13 @@ IsNext r number line next =
 abbrev pub items_from : Used → Option Begun → List Saying → Option (List Item)
 items_from u None [] = Some []
 items_from u (Some begun) [] = None
-items_from u None (says_disk pages ∷ more) =
-    if u.disk then None
-    else option_map (λ later. items.Attr (DiskPages pages) ∷ later)
-    (items_from (with_disk u) None more)
-items_from u (Some begun) (says_disk pages ∷ more) = None
+items_from u None (says_attr attr ∷ more) =
+    if is_second_size u attr then None
+    else option_map (λ later. items.Attr attr ∷ later) (items_from (with_attr u attr) None more)
+items_from u (Some begun) (says_attr attr ∷ more) = None
+items_from u None (says_report report ∷ more) =
+    option_map (λ later. items.Report report ∷ later) (items_from u None more)
+items_from u (Some begun) (says_report report ∷ more) = None
 items_from u None (says_actor ∷ more) =
     if u.disk && has_phase_left u then items_from (with_phase u) (Some fresh) more else None
 items_from u (Some begun) (says_actor ∷ more) =

@@ -8,19 +8,22 @@ use Rattle.job_text.specs.declared.job.Item.{Item}
 use Rattle.job_text.specs.declared.job.Item.TheVariants as items
 use Rattle.job_text.specs.Jobs.{sectors_to_read, turns_in}
 
--- one for a phase, and nothing for an attribute
+-- one for a phase, and nothing for another item
 abbrev pub phases_in : Item → ℕ
 phases_in (items.Attr attr) = 0
+phases_in (items.Report report) = 0
 phases_in (items.Phase text) = 1
 
 -- the sum of a number of each operation, over all actors of an item
 abbrev pub sum_in : (Op → ℕ) → Item → ℕ
 sum_in f (items.Attr attr) = 0
+sum_in f (items.Report report) = 0
 sum_in f (items.Phase text) = sum_by (λ ops. sum_by f ops) text.actors
 
 -- the turns that the schedule of an item gives
 abbrev pub scheduled_in : Item → ℕ
 scheduled_in (items.Attr attr) = 0
+scheduled_in (items.Report report) = 0
 scheduled_in (items.Phase text) = turns_in text.schedule
 
 -- The totals over all items of a job are within the limits.

@@ -1,4 +1,4 @@
-//! Jobs: attributes and phases, in the order of their lines.
+//! Jobs: attributes, reports and phases, in the order of their lines.
 
 ghost use Rattle.std.specs.Prelude.{◌≡◌, [], ◌∷◌, ◌++◌, OnOk};
 
@@ -10,6 +10,22 @@ use zr_base::{ActorOps, List, Turns};
 pub enum Attr {
     /// The disk's size in pages of 4096 bytes, 1 to 262,144.
     DiskPages(u32),
+    /// How many pages of 4096 bytes of memory the disk may take, up to 2^28; 0 for no limit.
+    LimitPages(u64),
+}
+
+/// A report: statistics that are printed.
+#[derive(Clone, Copy, PartialEq, Eq, Debug)]
+pub enum Report {
+    /// What the disk's pages hold and take in bytes, with the limit, and how many are kept in which
+    /// way.
+    MmStat,
+    /// How many requests and pieces failed, and how many pages were discarded.
+    IoStat,
+    /// How each page that isn't empty is kept.
+    States,
+    /// The pool of each size class that has a zspage.
+    Classes,
 }
 
 /// The operations of a phase, and the turns that its schedule gives, those of all its `schedule`
@@ -24,6 +40,7 @@ pub struct PhaseText {
 #[derive(Drop)]
 pub enum Item {
     Attr(Attr),
+    Report(Report),
     Phase(PhaseText),
 }
 

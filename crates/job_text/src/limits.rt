@@ -4,6 +4,9 @@
 /// The most bytes of a job's text.
 pub const MOST_BYTES: usize = 16_777_216;
 
+/// The greatest limit on memory, in pages of 4096 bytes: 1 TiB.
+pub const MOST_LIMIT_PAGES: u64 = 268_435_456;
+
 /// The most phases of a job.
 pub const MOST_PHASES: u32 = 1000;
 

@@ -1,14 +1,15 @@
 //! One line of a job.
 
 ghost use Rattle.std.specs.Prelude.{◌≡◌, ℕ, List, map, IfOk, if◌then◌else◌};
-ghost use Rattle.job_text.specs.Lines.{without_return, before_comment, words_of, line_by, line_with, line_of, are_bounds, fill_sectors};
-ghost use Rattle.job_text.specs.Lines.{Form, size_form, actor_form, fill_form, seq_form, hex_form, read_form, discard_form, schedule_form, run_form};
-ghost use Rattle.job_text.specs.Lines.{alone, size_in, read_in, discard_in, fill_in, seq_in, hex_in, stuff_in, write_in, schedule_in, named_in};
+ghost use Rattle.job_text.specs.Lines.{without_return, before_comment, words_of, line_by, line_with, line_of, report_named, are_bounds, fill_sectors};
+ghost use Rattle.job_text.specs.Lines.{Form, disk_form, limit_form, report_form, actor_form, fill_form, seq_form, hex_form, read_form, discard_form, schedule_form, run_form};
+ghost use Rattle.job_text.specs.Lines.{alone, with_word, report_in, read_in, discard_in, fill_in, seq_in, hex_in, stuff_in, write_in, schedule_in, named_in};
 ghost use Rattle.job_text.specs.Answers.{Answers, IsInRange, hash_in};
 
 use crate::fault::{Cause, NotTaken};
-use crate::job::TurnList;
+use crate::job::{Attr, Report, TurnList};
 use crate::joined::{are_hex, bytes, joined};
+use crate::limits::MOST_LIMIT_PAGES;
 use crate::number::{number, pages, word64};
 use crate::turns::{are_turns, turns};
 use std::alloc::{AllocError, Global};
@@ -19,8 +20,10 @@ use zr_base::{MOST_PAGES, MOST_SECTORS, Op, Stuff};
 pub enum Line {
     /// Nothing.
     Blank,
-    /// The disk's size in pages of 4096 bytes.
-    Disk(u32),
+    /// An attribute is set.
+    Attribute(Attr),
+    /// A report is told.
+    Tell(Report),
     /// The next actor begins.
     Actor,
     /// An operation of the last actor.
@@ -83,11 +86,23 @@ fn fills(digits: usize, count: u64) -> bool
 
 #[tactic(auto, unfolding(crate::specs::Lines::is_malformed, crate::specs::Lines::meaning))]
 fn disk_size(size: &[u8]) -> Result<Line, Cause>
-    ensures { result ≡ line_by (size_form size.now) }
+    ensures { result ≡ line_by (disk_form size.now) }
 {
     let pages = pages(size)?;
     if 1 <= pages && pages <= MOST_PAGES as u64 {
-        Ok(Line::Disk(pages as u32))
+        Ok(Line::Attribute(Attr::DiskPages(pages as u32)))
+    } else {
+        Err(Cause::Range)
+    }
+}
+
+#[tactic(auto, unfolding(crate::specs::Lines::is_malformed, crate::specs::Lines::meaning))]
+fn memory_limit(size: &[u8]) -> Result<Line, Cause>
+    ensures { result ≡ line_by (limit_form size.now) }
+{
+    let pages = pages(size)?;
+    if pages <= MOST_LIMIT_PAGES {
+        Ok(Line::Attribute(Attr::LimitPages(pages)))
     } else {
         Err(Cause::Range)
     }
@@ -195,11 +210,46 @@ fn run_line(words: &[&[u8]]) -> Result<Line, NotTaken>
     }
 }
 
-fn size_line(words: &[&[u8]]) -> Result<Line, NotTaken>
-    ensures { Answers (line_with (size_in (map (λ word. word.now) words.now))) result }
+fn disk_line(words: &[&[u8]]) -> Result<Line, NotTaken>
+    ensures { Answers (line_with (with_word disk_form (map (λ word. word.now) words.now))) result }
 {
     match words {
         [size] => Ok(disk_size(size)?),
+        _ => Err(NotTaken::Faulty(Cause::Word)),
+    }
+}
+
+fn limit_line(words: &[&[u8]]) -> Result<Line, NotTaken>
+    ensures { Answers (line_with (with_word limit_form (map (λ word. word.now) words.now))) result }
+{
+    match words {
+        [size] => Ok(memory_limit(size)?),
+        _ => Err(NotTaken::Faulty(Cause::Word)),
+    }
+}
+
+fn report(name: &[u8]) -> Option<Report>
+    ensures { result ≡ report_named name.now }
+{
+    if name == b"mm_stat".as_slice() {
+        Some(Report::MmStat)
+    } else if name == b"io_stat".as_slice() {
+        Some(Report::IoStat)
+    } else if name == b"states".as_slice() {
+        Some(Report::States)
+    } else if name == b"classes".as_slice() {
+        Some(Report::Classes)
+    } else {
+        None
+    }
+}
+
+#[tactic(auto, unfolding(crate::specs::Lines::is_malformed, crate::specs::Lines::meaning))]
+fn report_line(report: Option<Report>, words: &[&[u8]]) -> Result<Line, NotTaken>
+    ensures { Answers (line_with (report_in report (map (λ word. word.now) words.now))) result }
+{
+    match (report, words) {
+        (Some(report), []) => Ok(Line::Tell(report)),
         _ => Err(NotTaken::Faulty(Cause::Word)),
     }
 }
@@ -297,7 +347,9 @@ fn named_line(alloc: Global, name: &[u8], words: &[&[u8]]) -> Result<Line, NotTa
     ensures { Answers (line_with (named_in name.now (map (λ word. word.now) words.now))) result }
 {
     if name == b"disksize".as_slice() {
-        size_line(words)
+        disk_line(words)
+    } else if name == b"mem_limit".as_slice() {
+        limit_line(words)
     } else if name == b"actor".as_slice() {
         actor_line(words)
     } else if name == b"write".as_slice() {
@@ -311,7 +363,7 @@ fn named_line(alloc: Global, name: &[u8], words: &[&[u8]]) -> Result<Line, NotTa
     } else if name == b"run".as_slice() {
         run_line(words)
     } else {
-        Err(NotTaken::Faulty(Cause::Word))
+        report_line(report(name), words)
     }
 }
 

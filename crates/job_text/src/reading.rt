@@ -3,11 +3,11 @@
 ghost use Rattle.std.specs.Prelude.{◌≡◌, ℕ, ◌≤◌};
 ghost use Rattle.zr_base.specs.declared.limits.TheConstants.{MOST_ACTORS, MOST_OPERATIONS};
 ghost use Rattle.job_text.specs.declared.limits.TheConstants.{MOST_PHASES, MOST_PIECES, MOST_SECTORS_READ, MOST_TURNS};
-ghost use Rattle.job_text.specs.Jobs.{sectors_to_read};
+ghost use Rattle.job_text.specs.Jobs.{is_disk_size, sectors_to_read};
 
 use crate::begun::{Begun, empty_phase, more_turns, names_actors, push_all};
 use crate::fault::{Cause, JobFault, NotTaken};
-use crate::job::{Attr, Item, Job, TurnList, push};
+use crate::job::{Attr, Item, Job, Report, TurnList, push};
 use crate::limits::{MOST_PHASES, MOST_PIECES, MOST_SECTORS_READ};
 use crate::line::Line;
 use std::alloc::Global;
@@ -31,6 +31,15 @@ pub(crate) struct Reading {
     ghost some_pieces: { pieces ≤ MOST_PIECES },
     ghost some_sectors: { sectors ≤ MOST_SECTORS_READ },
     ghost some_turns: { turns ≤ MOST_TURNS },
+}
+
+fn is_disk_size(attr: Attr) -> bool
+    ensures { result ≡ is_disk_size attr }
+{
+    match attr {
+        Attr::DiskPages(_) => true,
+        Attr::LimitPages(_) => false,
+    }
 }
 
 // The sectors that an operation reads.
@@ -79,15 +88,27 @@ impl Reading {
         }
     }
 
-    fn disk(&mut self, pages: u32) -> Result<(), NotTaken>
-        ensures fault { IfErr result (IsRefusedAt self.old (said.Disk pages)) }
-        ensures taken { OnOk result (IsNext self.old 0 (said.Disk pages) self.new) }
+    fn attribute(&mut self, attr: Attr) -> Result<(), NotTaken>
+        ensures fault { IfErr result (IsRefusedAt self.old (said.Attribute attr)) }
+        ensures taken { OnOk result (IsNext self.old 0 (said.Attribute attr) self.new) }
     {
-        if self.begun.is_some() || self.has_disk {
+        let is_size = is_disk_size(attr);
+        if self.begun.is_some() || (is_size && self.has_disk) {
             return Err(NotTaken::Faulty(Cause::Order));
         }
-        push(&mut self.items, Item::Attr(Attr::DiskPages(pages)))?;
-        self.has_disk = true;
+        push(&mut self.items, Item::Attr(attr))?;
+        self.has_disk = is_size || self.has_disk;
+        Ok(())
+    }
+
+    fn tell(&mut self, report: Report) -> Result<(), NotTaken>
+        ensures fault { IfErr result (IsRefusedAt self.old (said.Tell report)) }
+        ensures taken { OnOk result (IsNext self.old 0 (said.Tell report) self.new) }
+    {
+        if self.begun.is_some() {
+            return Err(NotTaken::Faulty(Cause::Order));
+        }
+        push(&mut self.items, Item::Report(report))?;
         Ok(())
     }
 
@@ -195,7 +216,8 @@ impl Reading {
     {
         match line {
             Line::Blank => Ok(()),
-            Line::Disk(pages) => self.disk(pages),
+            Line::Attribute(attr) => self.attribute(attr),
+            Line::Tell(report) => self.tell(report),
             Line::Actor => self.actor(alloc, number),
             Line::Operation(op) => self.operation(op),
             Line::Schedule(turns) => self.schedule(turns),

@@ -26,6 +26,9 @@ fn tells_jobs(rt: HostRuntime) -> Result<(), Fail> {
         "disksize 4096 # one page\r\n# none\r\nactor#0\r\nrun\r",
         "disksize 1\nactor\nactor\ndiscard 00 01\nschedule 1 0*2\nschedule 1*16777212\nrun",
         "disksize 1\nactor\nschedule\t0\nrun",
+        "mem_limit 0\nmm_stat\nstates # of no pages",
+        "mem_limit 1073741824K\ndisksize 4K\nmem_limit 1048576m\nactor\nrun\nmem_limit 1024G",
+        "mem_limit 1099511627776\nmem_limit 00\nio_stat\nio_stat\nclasses\nrun\nclasses",
     ];
     for text in table {
         assert_eq!(rt; fault_in(rt.alloc(), text)?, None, "at {text}");
@@ -34,11 +37,19 @@ fn tells_jobs(rt: HostRuntime) -> Result<(), Fail> {
 }
 
 // Texts with their first faulty line and its cause: by their words alone, then by their places.
-const FAULTY: [(&str, u32, Cause); 39] = [
+const FAULTY: [(&str, u32, Cause); 65] = [
     ("stop", 1, Cause::Word),
     ("RUN", 1, Cause::Word),
     ("run now", 1, Cause::Word),
-    ("disksize 4K\nmem_limit 4K", 2, Cause::Word),
+    ("disksize 4K\nbacking 1", 2, Cause::Word),
+    ("MM_STAT", 1, Cause::Word),
+    ("mem_limit", 1, Cause::Word),
+    ("mem_limit 4 K", 1, Cause::Word),
+    ("mem_limit x 1", 1, Cause::Word),
+    ("mm_stat 0", 1, Cause::Word),
+    ("io_stat io_stat", 1, Cause::Word),
+    ("states all", 1, Cause::Word),
+    ("disksize 4K\nactor\nclasses 71", 3, Cause::Word),
     ("write x 1 fil 0", 1, Cause::Word),
     ("write 0 1 hex", 1, Cause::Word),
     ("schedule", 1, Cause::Word),
@@ -46,6 +57,10 @@ const FAULTY: [(&str, u32, Cause); 39] = [
     ("run\r#x", 1, Cause::Word),
     ("disksize 1T", 1, Cause::Number),
     ("disksize K", 1, Cause::Number),
+    ("mem_limit -1", 1, Cause::Number),
+    ("mem_limit 1KK", 1, Cause::Number),
+    ("mem_limit none", 1, Cause::Number),
+    ("disksize 4K\nactor\nmem_limit G", 3, Cause::Number),
     ("write 99999999999999999999 1 fill g", 1, Cause::Number),
     ("write 0 0 fill 00000000000000001", 1, Cause::Number),
     ("write 0 1 hex 0g", 1, Cause::Number),
@@ -57,6 +72,11 @@ const FAULTY: [(&str, u32, Cause); 39] = [
     ("disksize 1048577K", 1, Cause::Range),
     ("disksize 18446744073709551616", 1, Cause::Range),
     ("disksize 18446744073709551615G", 1, Cause::Range),
+    ("mem_limit 1073741825K", 1, Cause::Range),
+    ("mem_limit 1099511627777", 1, Cause::Range),
+    ("mem_limit 18446744073709551616", 1, Cause::Range),
+    ("mem_limit 18014398509481984K", 1, Cause::Range),
+    ("disksize 4K\nactor\nmem_limit 1025G", 3, Cause::Range),
     ("read 4294967296 1", 1, Cause::Range),
     ("discard 0 0", 1, Cause::Range),
     ("write 0 2049 hex 00", 1, Cause::Range),
@@ -71,8 +91,25 @@ const FAULTY: [(&str, u32, Cause); 39] = [
     ("disksize 4K\nactor\nschedule 0\nactor", 4, Cause::Order),
     ("disksize 4K\nactor\nread 0 1", 2, Cause::Order),
     ("disksize 4K\nactor\nactor\n\n", 2, Cause::Order),
+    ("disksize 4K\nactor\nmem_limit 0", 3, Cause::Order),
+    (
+        "disksize 4K\nactor\nread 0 1\nmem_limit 4K",
+        4,
+        Cause::Order,
+    ),
+    ("disksize 4K\nactor\nmm_stat", 3, Cause::Order),
+    ("disksize 4K\nactor\nread 0 1\nio_stat", 4, Cause::Order),
+    ("disksize 4K\nactor\nactor\nstates", 4, Cause::Order),
+    ("disksize 4K\nactor\nschedule 0\nclasses", 4, Cause::Order),
+    (
+        "states\ndisksize 4K\nmem_limit 0\ndisksize 4K",
+        4,
+        Cause::Order,
+    ),
     ("actor", 1, Cause::NoDisk),
     ("run\nactor\nstop", 2, Cause::NoDisk),
+    ("mem_limit 4K\nactor\nrun", 2, Cause::NoDisk),
+    ("classes\nactor\nrun", 2, Cause::NoDisk),
     (
         "disksize 4K\nactor\nschedule 0*16777216\nschedule 0",
         4,
@@ -105,6 +142,7 @@ fn tells_limits(rt: HostRuntime) -> Result<(), Fail> {
     let table = [
         ("", "run\n", 1000, "", None),
         ("", "run\n", 1000, "run\n", Some(1001)),
+        ("", "mm_stat\nmem_limit 4K\nrun\n", 1000, "classes\n", None),
         ("disksize 4K\n", "run\n", 1000, "actor\n", Some(1002)),
         ("disksize 4K\n", "actor\n", 64, "run\n", None),
         ("disksize 4K\n", "actor\n", 65, "run\n", Some(66)),
@@ -203,12 +241,14 @@ fn phase_shown(alloc: Global, text: &PhaseText) -> Result<String, AllocError> {
 fn attr_shown(alloc: Global, attr: Attr) -> Result<String, AllocError> {
     match attr {
         Attr::DiskPages(pages) => format!(in alloc; "pages {pages}; "),
+        Attr::LimitPages(pages) => format!(in alloc; "limit {pages}; "),
     }
 }
 
 fn item_shown(alloc: Global, item: &Item) -> Result<String, AllocError> {
     match item {
         Item::Attr(attr) => attr_shown(alloc, *attr),
+        Item::Report(report) => format!(in alloc; "{report:?}; "),
         Item::Phase(text) => phase_shown(alloc, text),
     }
 }
@@ -250,6 +290,14 @@ fn reads_values(rt: HostRuntime) -> Result<(), Fail> {
         (
             "disksize 4K\nactor\nactor\nschedule 0*2 1*16777213\nschedule 0 # last\nrun\nrun",
             "pages 1; actor; actor; 0*2; 1*16777213; 0*1; run; run; ",
+        ),
+        (
+            "mem_limit 0\nmem_limit 1\nmem_limit 4096\nmem_limit 4097\nmem_limit 1073741824k\n",
+            "limit 0; limit 1; limit 1; limit 2; limit 268435456; ",
+        ),
+        (
+            "mm_stat\ndisksize 4K\nmem_limit 5K\nio_stat\nactor\nrun\nstates\nclasses\nmm_stat",
+            "MmStat; pages 1; limit 2; IoStat; actor; run; States; Classes; MmStat; ",
         ),
         (
             hex.as_str(),

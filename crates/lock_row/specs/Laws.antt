@@ -1,9 +1,10 @@
 -- What an event of one actor does to the values of a row and to sums over them, and what is known
 -- of names: statements that the laws claim.
-use Rattle.std.specs.Prelude.{◌≡◌, ℕ, ◌+◌, ◌≤◌, List, ◌∷◌, Some, None, slice_get, slice_set}
+use Rattle.std.specs.Prelude.{◌≡◌, ◌≢◌, ℕ, ◌+◌, ◌≤◌, List, ◌∷◌, length, Some, None, slice_get, slice_set}
 use Rattle.lock_row.specs.declared.names.LockNo.{LockNo}
 use Rattle.lock_row.specs.declared.names.Local.{Local}
 use Rattle.lock_row.specs.declared.names.State.{State}
+use Rattle.lock_row.specs.Rows.{IsDistinct, place_in}
 use Rattle.lock_row.specs.Values.{Exclusive}
 use Rattle.lock_row.specs.Totals.{mass, locals_sum, total}
 
@@ -62,3 +63,13 @@ module _ (V : Type 0) where
   IsPartOfSum = (g : Local V → ℕ) (ls : List (Local V)) (a : ℕ) (l : Local V)
       → slice_get ls a ≡ Some l
       → g l ≤ locals_sum g ls
+
+-- a lock that stands among distinct names has its place there
+abbrev pub NamesHavePlaces : Type 0
+NamesHavePlaces = (names : List LockNo) (i : ℕ) (k : LockNo) → IsDistinct names
+    → slice_get names i ≡ Some k → place_in names k ≡ i
+
+-- one that doesn't has its place behind them all
+abbrev pub OthersHaveNone : Type 0
+OthersHaveNone = (names : List LockNo) (k : LockNo) → ((i : ℕ) → slice_get names i ≢ Some k)
+    → length names ≤ place_in names k

@@ -2,7 +2,7 @@
 //! empty
 //! body: who wants it calls it, and has its clauses.
 
-ghost use Rattle.lock_row.specs.Laws.{TakingStaysApart, GivingStaysApart, TakingKeepsTotal, GivingMovesTotal, SumMoves, IsPartOfSum};
+ghost use Rattle.lock_row.specs.Laws.{TakingStaysApart, GivingStaysApart, TakingKeepsTotal, GivingMovesTotal, SumMoves, IsPartOfSum, NamesHavePlaces, OthersHaveNone};
 
 /// Each value is in the row or with one actor, after a taking and after a giving too.
 pub fn values_stay_apart<V>()
@@ -22,4 +22,10 @@ pub fn totals_move<V>()
 pub fn sums_move<V>()
     ensures moves { SumMoves V }
     ensures part { IsPartOfSum V }
+{}
+
+/// The places of locks among names: that of one that stands there, and that of one that doesn't.
+pub fn names_have_places()
+    ensures there { NamesHavePlaces }
+    ensures none { OthersHaveNone }
 {}

@@ -10,7 +10,7 @@ mod row;
 mod rule;
 
 pub use hand::{Hand, NextLocal, Still};
-pub use laws::{sums_move, totals_move, values_stay_apart};
-pub use names::{At, Held, Local, LockNo, Plan, State};
+pub use laws::{names_have_places, sums_move, totals_move, values_stay_apart};
+pub use names::{At, Held, Local, LockNo, Object, Pin, Plan, State};
 pub use row::{SimHand, SimRow};
 pub use rule::{PhaseStart, RowValue};

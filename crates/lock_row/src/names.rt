@@ -1,6 +1,7 @@
 //! The names of locks and of what they guard, and the plain data that the machine speaks of.
 
-use call_history::{Done, Part};
+use call_history::{Done, Part, PartEnd};
+use mem_account::Weight;
 use std::collections::LinkedList;
 use zr_base::PageIx;
 
@@ -36,24 +37,85 @@ pub enum Plan {
     Give(LockNo),
 }
 
-/// The stage of an actor's piece.
+/// The stage of an actor's piece, by its next event.
 pub enum At {
-    /// It takes the page's slot next.
+    /// It takes the page's slot, or the account for a request beyond the disk.
     Start,
-    /// It has the page's slot.
-    Entered,
+    /// It gives the account, which counted a request beyond the disk.
+    Refusing,
+    /// It takes the class of the page's object, to pin it.
+    Seen,
+    /// It gives that class, with the object's cell out.
+    Pinning,
+    /// It takes that class, to unpin the object.
+    Pinned,
+    /// It gives that class, with the cell at home.
+    Unpinning,
+    /// It gives the slot, whose page is kept as it was.
+    Leaving,
+    /// It takes the class of the new object.
+    Wanting,
+    /// It takes the account, to charge the new object.
+    Inside,
+    /// It gives the account, and makes the new object.
+    Both,
+    /// It gives the class of the new object.
+    Made,
+    /// It takes the class of the old object, to free it.
+    Old,
+    /// It gives that class, without the object.
+    Freeing,
+    /// It takes the account, to give back frames and to count the page.
+    Owing,
+    /// It gives the account.
+    Giving,
+    /// It gives the slot, with the page's new form.
+    Ready,
 }
 
-/// What an actor is at: its number, the stage, the pieces to do with the one in work first, the
-/// locks
-/// that it holds with their values, the last taken first, and the pieces that are over.
+/// An object of a pool, by its class and its handle, with its bytes. No running code makes one.
+pub struct Object {
+    pub class: u8,
+    pub handle: u64,
+    pub bytes: LinkedList<u8>,
+}
+
+/// A cell that an actor has pinned: the class and the handle of its object, and the cell as its
+/// pool sees it, with the place of its chain, its number there, its size and its bytes.
 /// No running code makes one.
+pub struct Pin {
+    pub class: u8,
+    pub handle: u64,
+    pub chain: *const u8,
+    pub number: u32,
+    pub size: u32,
+    pub bytes: LinkedList<u8>,
+}
+
+/// What an actor is at. No running code makes one.
 pub struct Local<V> {
     pub actor: u32,
     pub at: At,
+    /// the pieces to do, the one in work first
     pub todo: LinkedList<Part>,
+    /// the locks that it holds with their values, the last taken first
     pub held: LinkedList<(LockNo, V)>,
+    /// the pieces that are over
     pub done: LinkedList<Done>,
+    /// the new object, from its making to the slot's giving
+    pub fresh: Option<Object>,
+    /// the cell that it has pinned
+    pub pin: Option<Pin>,
+    /// frames that it freed and hasn't given back yet
+    pub owed: u64,
+    /// what the account counts of the page, beside what the entry shows
+    pub ahead: Option<Weight>,
+    /// what the entry shows, and the account doesn't count any more
+    pub behind: Option<Weight>,
+    /// the page that it read from a pinned cell
+    pub page: Option<LinkedList<u8>>,
+    /// the refusal that ends its piece
+    pub fail: Option<PartEnd>,
 }
 
 /// A row of locks, with each value that is at home, and the actors. No running code makes one.

@@ -34,7 +34,20 @@ module _ {V : Type 0} where
   nobody = record {
     actor = 0;
     local =
-        record { actor = 0; at = Start; todo = []; held = []; done = [] };
+        record {
+          actor = 0;
+          at = Start;
+          todo = [];
+          held = [];
+          done = [];
+          fresh = None;
+          pin = None;
+          owed = 0;
+          ahead = None;
+          behind = None;
+          page = None;
+          fail = None;
+        };
     seen = [];
   }
 

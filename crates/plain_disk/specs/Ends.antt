@@ -1,41 +1,141 @@
--- How operations may end, and the sectors that they then have to tell.
-use Rattle.std.specs.Prelude.{◌≡◌, ℕ, ◌+◌, true, false, List, [], ◌∷◌, map, ⊤}
-use Rattle.std.specs.List.{range_with_len}
+-- How operations may end, the sectors that they then have to tell, and counts of them by their
+-- ends.
+use Rattle.std.specs.Prelude.{◌≡◌, ◌⊎◌, ℕ, ◌+◌, ◌-◌, ◌*◌, ◌<◌, Bool, true, false, List, [], ◌∷◌, map, ⊤}
+use Rattle.std.specs.List.{flat_map, range_with_len}
+use Rattle.zr_base.specs.declared.op.Stuff.{Stuff}
 use Rattle.zr_base.specs.declared.op.Op.{Op}
-use Rattle.zr_base.specs.declared.op.Op.TheVariants.{Write, Read, Discard}
+use Rattle.zr_base.specs.declared.op.Op.TheVariants.{Write, Read}
 use Rattle.zr_base.specs.declared.op.OpEnd.{OpEnd}
 use Rattle.zr_base.specs.declared.op.OpEnd.TheVariants as ends
-use Rattle.zr_base.specs.Plain.{is_beyond}
+use Rattle.zr_base.specs.Pieces.{first_page, pages_of}
+use Rattle.zr_base.specs.Plain.{stuff_sector, has_whole, is_beyond}
+use Rattle.mem_account.specs.declared.weight.Weight.{Weight}
+use Rattle.size_class.specs.Classes.{chain_of}
+use Rattle.plain_disk.specs.Forms.{is_pooled, in_class}
 
--- the ends that an operation may have on a disk of so many pages: `range` exactly where it lies
--- beyond the disk
-abbrev pub MayEnd : ℕ → Op → OpEnd → Type 0
-MayEnd pages op ends.Ok = is_beyond pages op ≡ false
-MayEnd pages op ends.Range = is_beyond pages op ≡ true
+-- ---- what ends are measured by
+
+-- What ends are measured by from the phase's start on: the form of a page by its bytes, the disk's
+-- pages, the most frames of a chain, and the limit in frames, where 0 is none.
+pub record Ground : Type 0 where
+  pub form : List ℕ → Weight
+  pub size : ℕ
+  pub chain : ℕ
+  pub limit : ℕ
+
+-- What the ends of an actor's operations are measured by at the phase's end: the number of pages
+-- that are in the pool at some moment, with that of actors.
+pub record Bounds : Type 0 where
+  pub reach : ℕ
+
+-- ---- the ends of an operation
+
+-- whether an operation on a disk of so many pages is over in one piece, which stands in no order:
+-- one beyond the disk
+abbrev pub is_single : ℕ → Op → Bool
+is_single pages op = is_beyond pages op
+
+-- the bytes that a write of all sectors of a page puts there
+abbrev pub page_put : ℕ → Stuff → ℕ → List ℕ
+page_put start stuff page =
+    flat_map (λ s. stuff_sector stuff (s - start)) (range_with_len (8 * page) 8)
+
+-- a refused piece is one of a write; where it has all sectors of its page, the page that they make
+-- is one for the pool
+abbrev pub MayWant : (List ℕ → Weight) → Op → ℕ → Type 0
+MayWant form (Write start count stuff) page =
+    has_whole start count page ≡ true → is_pooled (form (page_put start stuff page)) ≡ true
+MayWant form _ page = ⊥
+
+-- where a write has all sectors of the page, class k has the page that they make
+abbrev pub IsOfClass : Ground → Op → ℕ → ℕ → Type 0
+IsOfClass t (Write start count stuff) page k = has_whole start count page ≡ true
+    → in_class t.chain k (t.form (page_put start stuff page)) ≡ true
+IsOfClass t _ page k = ⊥
+
+-- the need of an allocation is none, or the chain of its class
+abbrev pub IsNeed : Ground → Op → ℕ → ℕ → Type 0
+IsNeed t op page need =
+    (need ≡ 0) ⊎ ((k : ℕ) × (k < 255) × (need ≡ chain_of t.chain k) × IsOfClass t op page k)
+
+-- The piece may be refused with these frames charged, this need and this limit: there is a limit,
+-- and together they pass it.
+pub record MayBeAtLimit (t : Ground) (op : Op) (page charged need limit : ℕ) : Type 0 where
+  pub wants : MayWant t.form op page
+  pub is : limit ≡ t.limit
+  pub some : 0 < limit
+  pub past : limit < charged + need
+  pub needs : IsNeed t op page need
+
+-- the ends of an operation that is over in one piece: `range` where it lies beyond the disk
+abbrev pub MayBeSingle : Ground → Op → OpEnd → Type 0
+MayBeSingle t op ends.Range = is_beyond t.size op ≡ true
+MayBeSingle t op _ = ⊥
+
+-- so many pieces of an operation on the disk were carried out, and not all
+abbrev pub IsCutAt : ℕ → Op → ℕ → Type 0
+IsCutAt pages op done = (is_single pages op ≡ false) × (done < pages_of op)
+
+-- The ends that an operation may have. A refused piece is the next one after those that were
+-- carried out. At a refusal the limit is below the frames that the pages in the pool and the actors
+-- can have.
+abbrev pub MayEnd : Ground → Bounds → Op → OpEnd → Type 0
+MayEnd t b op ends.Ok = is_single t.size op ≡ false
+MayEnd t b op (ends.AtLimit charged need limit done) = IsCutAt t.size op done
+    × MayBeAtLimit t op (first_page op + done) charged need limit × (limit < t.chain * b.reach)
+MayEnd t b op (ends.NoMemory done) = IsCutAt t.size op done
+    × MayWant t.form op (first_page op + done)
+MayEnd t b op end = MayBeSingle t op end
 
 -- those of an actor's operations
-abbrev pub MayEndAll : ℕ → List Op → List OpEnd → Type 0
-MayEndAll pages [] [] = ⊤
-MayEndAll pages (op ∷ ops) (end ∷ es) = MayEnd pages op end × MayEndAll pages ops es
-MayEndAll pages [] (end ∷ es) = ⊥
-MayEndAll pages (op ∷ ops) [] = ⊥
+abbrev pub MayEndAll : Ground → Bounds → List Op → List OpEnd → Type 0
+MayEndAll t b [] [] = ⊤
+MayEndAll t b (op ∷ ops) (end ∷ es) = MayEnd t b op end × MayEndAll t b ops es
+MayEndAll t b [] (end ∷ es) = ⊥
+MayEndAll t b (op ∷ ops) [] = ⊥
 
--- those of all actors
-abbrev pub MayEndEach : ℕ → List (List Op) → List (List OpEnd) → Type 0
-MayEndEach pages [] [] = ⊤
-MayEndEach pages (ops ∷ more) (es ∷ others) = MayEndAll pages ops es × MayEndEach pages more others
-MayEndEach pages [] (es ∷ others) = ⊥
-MayEndEach pages (ops ∷ more) [] = ⊥
+-- those of the actors from the a-th on, each by bounds of its own
+abbrev pub MayEndEach : Ground → (ℕ → Bounds) → ℕ → List (List Op) → List (List OpEnd) → Type 0
+MayEndEach t b a [] [] = ⊤
+MayEndEach t b a (ops ∷ more) (es ∷ others) = MayEndAll t (b a) ops es
+    × MayEndEach t b (a + 1) more others
+MayEndEach t b a [] (es ∷ others) = ⊥
+MayEndEach t b a (ops ∷ more) [] = ⊥
+
+-- ---- the sectors that are told
 
 -- the sectors that an operation with its end tells, where a sector holds these bytes
 abbrev pub read_by : Op → OpEnd → (ℕ → List ℕ) → List (List ℕ)
 read_by (Read start count) ends.Ok bytes = map bytes (range_with_len start count)
-read_by (Read start count) ends.Range bytes = []
-read_by (Write start count stuff) end bytes = []
-read_by (Discard start count) end bytes = []
+read_by _ _ bytes = []
 
 -- those of an actor's operations from the nr-th on, where each has bytes of its own
 abbrev pub due_from : ℕ → List Op → List OpEnd → (ℕ → ℕ → List ℕ) → List (List (List ℕ))
 due_from nr [] es bytes = []
 due_from nr (op ∷ ops) [] bytes = []
 due_from nr (op ∷ ops) (end ∷ es) bytes = read_by op end (bytes nr) ∷ due_from (nr + 1) ops es bytes
+
+-- ---- counts by ends
+
+-- the sum of what each operation with its end gives
+abbrev pub ops_sum : (Op → OpEnd → ℕ) → List Op → List OpEnd → ℕ
+ops_sum f [] es = 0
+ops_sum f (op ∷ ops) [] = 0
+ops_sum f (op ∷ ops) (end ∷ es) = f op end + ops_sum f ops es
+
+-- the sum over all actors
+abbrev pub ends_sum : (Op → OpEnd → ℕ) → List (List Op) → List (List OpEnd) → ℕ
+ends_sum f [] es = 0
+ends_sum f (ops ∷ more) [] = 0
+ends_sum f (ops ∷ more) (es ∷ others) = ops_sum f ops es + ends_sum f more others
+
+-- one for a write that was refused
+abbrev pub failed_write : Op → OpEnd → ℕ
+failed_write (Write start count stuff) (ends.AtLimit charged need limit done) = 1
+failed_write (Write start count stuff) (ends.NoMemory done) = 1
+failed_write _ _ = 0
+
+-- one for a request beyond the disk
+abbrev pub beyond : Op → OpEnd → ℕ
+beyond op ends.Range = 1
+beyond op _ = 0

@@ -1,8 +1,24 @@
 -- The lines of an output.
-use Rattle.std.specs.Prelude.{◌≡◌, ℕ, ◌+◌, Bool, true, false, ◌||◌, List, [], ◌∷◌, ◌++◌, map}
+use Rattle.std.specs.Prelude.{ℕ, ◌+◌, Bool, true, false, ◌||◌, List, [], ◌∷◌, ◌++◌, map}
 use Rattle.zr_base.specs.declared.op.Tag.{Tag}
 use Rattle.zr_base.specs.declared.op.OpEnd.{OpEnd}
 use Rattle.zr_base.specs.declared.op.OpEnd.TheVariants as ends
+use Rattle.mem_account.specs.declared.account.MmStat.{MmStat}
+use Rattle.mem_account.specs.declared.account.IoStat.{IoStat}
+use Rattle.mem_account.specs.declared.weight.Weight.{Weight}
+
+-- a page that isn't empty: its number, how it is kept, and when it was touched
+pub record StateLine : Type 0 where
+  pub page : ℕ
+  pub kept : Weight
+  pub touched : ℕ
+
+-- a class that has zspages: its number, the most frames of a chain, and how many cells of each
+-- zspage are used
+pub record ClassLine : Type 0 where
+  pub class : ℕ
+  pub chain : ℕ
+  pub used : List ℕ
 
 -- A line of an output.
 pub data OutLine : Type 0 where
@@ -12,6 +28,14 @@ pub data OutLine : Type 0 where
   sector : List ℕ → OutLine
   -- the order of a page
   ordered : ℕ → List Tag → OutLine
+  -- the statistics of the memory
+  memory : MmStat → OutLine
+  -- those of what failed, was refused or was discarded
+  calls : IoStat → OutLine
+  -- a page that isn't empty
+  state : StateLine → OutLine
+  -- a class of the pool
+  class_of : ClassLine → OutLine
 
 -- an operation's line, and those of the sectors that it tells
 abbrev pub op_lines : Tag → OpEnd → List (List ℕ) → List OutLine
@@ -46,13 +70,16 @@ abbrev pub phase_lines : List (List OpEnd) → List (List (List (List ℕ))) →
     → List OutLine
 phase_lines es gots orders = actors_lines 0 es gots ++ order_lines 0 orders
 
+-- whether an operation with this end was refused
+abbrev pub is_refused : OpEnd → Bool
+is_refused ends.Ok = false
+is_refused _ = true
+
 -- whether a line says that something was refused; the status is 1 where some line of the output
 -- does
 abbrev pub is_refusal : OutLine → Bool
-is_refusal (ended tag ends.Ok) = false
-is_refusal (ended tag ends.Range) = true
-is_refusal (sector bytes) = false
-is_refusal (ordered page tags) = false
+is_refusal (ended tag end) = is_refused end
+is_refusal _ = false
 
 -- whether some line says that something was refused
 abbrev pub any_refusal : List OutLine → Bool

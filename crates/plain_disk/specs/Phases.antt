@@ -1,12 +1,19 @@
--- What a phase may print: its ends, for each page an order of the calls on it, and for each read
--- the bytes that the calls before it left.
-use Rattle.std.specs.Prelude.{◌≡◌, ℕ, ◌+◌, ◌*◌, ◌/◌, ◌<◌, List, [], ◌∷◌, length, get_or}
+-- What a phase may print, and the rest that it leaves: its ends, for each page an order of the
+-- calls on it, and for each read the bytes that the calls before it left.
+use Rattle.std.specs.Prelude.{◌≡◌, ℕ, ◌+◌, ◌*◌, ◌/◌, ◌<◌, ◌≤◌, List, [], ◌∷◌, length, get_or, sum_by, count_by}
+use Rattle.std.specs.List.{range_with_len}
 use Rattle.zr_base.specs.declared.op.Tag.{Tag}
 use Rattle.zr_base.specs.declared.op.Op.{Op}
 use Rattle.zr_base.specs.declared.op.OpEnd.{OpEnd}
 use Rattle.zr_base.specs.Plain.{content, order_before, IsOrder}
-use Rattle.plain_disk.specs.Ends.{MayEndEach, due_from}
+use Rattle.mem_account.specs.declared.weight.Weight.{Weight}
+use Rattle.mem_account.specs.Counters.{at_most_end}
+use Rattle.plain_disk.specs.Ends.{Ground, Bounds, MayEndEach, due_from, ends_sum, failed_write, beyond}
 use Rattle.plain_disk.specs.Output.{OutLine, phase_lines}
+use Rattle.plain_disk.specs.Calls.{Found, after_all, ever_pooled, calls_sum, made_huge, freed}
+use Rattle.plain_disk.specs.Rests.{SoFar, Rest, page_of, kept_pages, frames_of, AreUsed}
+
+-- ---- orders and contents
 
 -- what a phase begins with: the disk's pages, the operations of its actors, and what each sector
 -- holds
@@ -37,12 +44,91 @@ due g orders a (ops ∷ more) [] = []
 due g orders a (ops ∷ more) (es ∷ others) =
     due_from 0 ops es (sector_read g orders a) ∷ due g orders (a + 1) more others
 
--- Lines that a phase may print, and what the sectors may hold after it.
-pub record IsPhase (g : Given) (lines : List OutLine) (after : ℕ → List ℕ) : Type 0 where
+-- ---- what a phase is measured by
+
+-- a phase of these actors begins
+abbrev pub begun : Rest → List (List Op) → Given
+begun r actors = record { size = r.size; actors = actors; before = r.holds }
+
+-- what its ends are measured by from its start on
+abbrev pub phase_ground : (List ℕ → Weight) → Rest → Ground
+phase_ground form r =
+    record { form = form; size = r.size; chain = r.set.chain; limit = r.set.limit }
+
+-- the pages that are in the pool before the phase or after some first calls of their orders
+abbrev pub ever : (List ℕ → Weight) → Rest → List (List Op) → List (List Tag) → ℕ
+ever form r actors orders =
+    count_by (λ p. ever_pooled form p actors (page_of r p) (nth_order orders p))
+    (range_with_len 0 r.size)
+
+-- those pages and the actors: each has the frames of one chain at most
+abbrev pub reach : (List ℕ → Weight) → Rest → List (List Op) → List (List Tag) → ℕ
+reach form r actors orders = ever form r actors orders + length actors
+
+-- what the ends of an actor's operations are measured by at the phase's end
+abbrev pub bounds : (List ℕ → Weight) → Rest → List (List Op) → List (List Tag) → ℕ → Bounds
+bounds form r actors orders a = record { reach = reach form r actors orders }
+
+-- ---- the rest after a phase
+
+-- a sum over the orders of all pages
+abbrev pub phase_sum : (ℕ → Found → List Tag → ℕ) → Rest → List (List Tag) → ℕ
+phase_sum w r orders =
+    sum_by (λ p. w p (page_of r p) (nth_order orders p)) (range_with_len 0 r.size)
+
+-- what has happened so far after a phase with these ends and orders
+abbrev pub so_far_after : (List ℕ → Weight) → Rest → List (List Op) → List (List OpEnd)
+    → List (List Tag) → SoFar
+so_far_after form r actors ends orders = record r.so_far {
+  huge = at_most_end
+      (r.so_far.huge + phase_sum (λ p. calls_sum (made_huge form p) actors) r orders);
+  failed_writes = at_most_end (r.so_far.failed_writes + ends_sum failed_write actors ends);
+  beyond = at_most_end (r.so_far.beyond + ends_sum beyond actors ends);
+  freed = at_most_end (r.so_far.freed + phase_sum (λ p. calls_sum freed actors) r orders);
+}
+
+-- when a page is touched last: by the clock, where some call stands in its order
+abbrev pub touched_by : List Tag → ℕ → ℕ → ℕ
+touched_by [] clock touched = touched
+touched_by (tag ∷ tags) clock touched = clock
+
+-- The greatest number of frames after a phase: it hasn't fallen, and where it rose it is within the
+-- limit, and within the chains of the pages that are in the pool at some moment and of the actors.
+pub record IsMost (r : Rest) (reached most : ℕ) (used : ℕ → List ℕ) : Type 0 where
+  pub now : frames_of r.set.chain used ≤ most
+  pub before : r.most ≤ most
+  pub within : r.most < most → 0 < r.set.limit → most ≤ r.set.limit
+  pub few : r.most < most → most ≤ r.set.chain * reached
+
+-- The rest that a phase with these orders leaves, but for what has happened so far.
+pub record LeavesPages (form : List ℕ → Weight) (r : Rest) (actors : List (List Op))
+    (orders : List (List Tag)) (m : Rest) : Type 0 where
+  pub size : m.size ≡ r.size
+  pub holds : (s : ℕ) → s < 8 * r.size
+      → m.holds s ≡ held_after (begun r actors) (nth_order orders (s / 8)) s
+  pub blank : (p : ℕ) → p < r.size
+      → m.blank p ≡ (after_all actors (page_of r p) (nth_order orders p)).blank
+  pub touched : (p : ℕ) → p < r.size
+      → m.touched p ≡ touched_by (nth_order orders p) r.set.clock (r.touched p)
+  pub used : AreUsed r.set.chain (kept_pages form m) m.used
+  pub most : IsMost r (reach form r actors orders) m.most m.used
+  pub set : m.set ≡ r.set
+
+-- The rest that a phase with these ends and orders leaves.
+pub record Leaves (form : List ℕ → Weight) (r : Rest) (actors : List (List Op))
+    (ends : List (List OpEnd)) (orders : List (List Tag)) (m : Rest) : Type 0 where
+  pub pages : LeavesPages form r actors orders m
+  pub so_far : m.so_far ≡ so_far_after form r actors ends orders
+
+-- ---- phases
+
+-- Lines that a phase of these actors may print between two rests.
+pub record IsPhase (form : List ℕ → Weight) (r : Rest) (actors : List (List Op))
+    (lines : List OutLine) (m : Rest) : Type 0 where
   pub ends : List (List OpEnd)
   pub orders : List (List Tag)
-  pub may : MayEndEach g.size g.actors ends
-  pub every_page : length orders ≡ g.size
-  pub each : (p : ℕ) → p < g.size → IsOrder g.actors ends p (nth_order orders p)
-  pub lines_are : lines ≡ phase_lines ends (due g orders 0 g.actors ends) orders
-  pub after_is : (s : ℕ) → s < 8 * g.size → after s ≡ held_after g (nth_order orders (s / 8)) s
+  pub may : MayEndEach (phase_ground form r) (bounds form r actors orders) 0 actors ends
+  pub every_page : length orders ≡ r.size
+  pub each : (p : ℕ) → p < r.size → IsOrder actors ends p (nth_order orders p)
+  pub lines_are : lines ≡ phase_lines ends (due (begun r actors) orders 0 actors ends) orders
+  pub leaves : Leaves form r actors ends orders m

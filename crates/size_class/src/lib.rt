@@ -3,10 +3,12 @@
 //! chains are alike share one pool.
 #![tactic(auto)]
 
+mod laws;
 mod stat;
 mod table;
 #[cfg(test)]
 mod tests;
 
+pub use laws::packed_classes_stay_below;
 pub use stat::{ClassStat, group};
 pub use table::{CLASSES, ClassTable, size};

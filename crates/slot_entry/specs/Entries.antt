@@ -1,16 +1,39 @@
--- What is seen of an entry, and the page that a kept form stands for.
-use Rattle.std.specs.Prelude.{ℕ, List, replicate}
+-- What is seen of an entry, and what a kept form stands for.
+use Rattle.std.specs.Prelude.{ℕ, List, cond, codes}
 use Rattle.zr_base.specs.declared.op.Tag.{Tag}
-use Rattle.slot_entry.specs.declared.entry.Kept.{Kept}
-use Rattle.slot_entry.specs.declared.entry.Kept.TheVariants.{Empty, Plain}
+use Rattle.mem_account.specs.declared.weight.Weight.{Weight}
+use Rattle.mem_account.specs.declared.weight.Weight.TheVariants as weight
+use Rattle.slot_entry.specs.declared.kept.Kept.{Kept}
+use Rattle.slot_entry.specs.declared.kept.Kept.TheVariants.{Empty, Same, Obj}
+use Rattle.slot_entry.specs.Forms.{zero_page, filled_page}
 
--- the kept form, the order, and the order's spare room
+-- the kept form, the order with its spare room, and the time of the last access
 pub record EntryState : Type 0 where
   pub kept : Kept
   pub order : List Tag
   pub room : ℕ
+  pub touched : ℕ
 
--- the bytes of the page that a form stands for: zeros where nothing was put
-abbrev pub page_of : Kept → List ℕ
-page_of Empty = replicate 4096 0
-page_of (Plain page) = page
+-- what the account counts of a kept form
+abbrev pub weight_of : Kept → Weight
+weight_of Empty = weight.Empty
+weight_of (Same w) = weight.Same
+weight_of (Obj o) = cond o.huge weight.Huge (weight.Packed o.len)
+
+-- the page of a form that needs no object; one that needs one stands for no page by itself
+abbrev pub plain_page : Kept → List ℕ
+plain_page Empty = zero_page
+plain_page (Same w) = filled_page w
+plain_page (Obj o) = zero_page
+
+-- the form needs no object
+abbrev pub IsPlain : Kept → Type 0
+IsPlain Empty = Unit {0}
+IsPlain (Same w) = Unit {0}
+IsPlain (Obj o) = ⊥
+
+-- how a form is printed: one letter for a same-filled page, one for a huge one
+abbrev pub letters_of : Kept → List ℕ
+letters_of Empty = codes "...."
+letters_of (Same w) = codes "s..."
+letters_of (Obj o) = cond o.huge (codes "..h.") (codes "....")

@@ -1,20 +1,13 @@
 //! The entry of one page.
 
 ghost use Rattle.std.specs.Prelude.{◌≡◌, ◌+◌, ◌-◌, ◌<◌, ◌≤◌, [], ◌∷◌, ◌++◌, OnOk, OnErr};
-ghost use Rattle.slot_entry.specs.declared.entry.Kept.TheVariants.{Empty};
+ghost use Rattle.slot_entry.specs.Entries.{letters_of};
+ghost use Rattle.slot_entry.specs.declared.kept.Kept.TheVariants.{Empty};
 
+use crate::kept::Kept;
 use std::alloc::{AllocError, Global};
 use std::marker::Model;
-use zr_base::{Page, Tag};
-
-/// The form in which a page is kept.
-#[derive(Drop)]
-pub enum Kept {
-    /// Nothing was put: the page of zeros.
-    Empty,
-    /// The page's 4096 bytes.
-    Plain(Page),
-}
+use zr_base::Tag;
 
 /// What a page's slot has: the form in which the page is kept, and the order of the phase's calls
 /// on it.
@@ -22,6 +15,7 @@ pub enum Kept {
 pub struct Entry {
     kept: Kept,
     order: Vec<Tag>,
+    touched: u64,
 }
 
 impl Model for Entry {
@@ -30,7 +24,7 @@ impl Model for Entry {
 
     ghost Value = { EntryState };
 
-    ghost view = { λ e. record { kept = e.kept; order = e.order.items; room = vec_capacity e.order - vec_len e.order } };
+    ghost view = { λ e. record { kept = e.kept; order = e.order.items; room = vec_capacity e.order - vec_len e.order; touched = e.touched } };
 }
 
 impl Entry {
@@ -38,10 +32,12 @@ impl Entry {
     pub fn new(alloc: Global) -> Entry
         ensures kept { result.kept ≡ Empty }
         ensures order { result.order ≡ [] }
+        ensures touched { result.touched ≡ 0 }
     {
         Entry {
             kept: Kept::Empty,
             order: Vec::new(alloc),
+            touched: 0,
         }
     }
 
@@ -50,6 +46,7 @@ impl Entry {
         ensures emptied { OnOk result (self.new.order ≡ []) }
         ensures room { OnOk result (n ≤ self.new.room) }
         ensures kept { self.new.kept ≡ self.old.kept }
+        ensures touched { self.new.touched ≡ self.old.touched }
         ensures err { OnErr result (self.new ≡ self.old) }
     {
         let more = (n as usize).saturating_sub(self.order.len());
@@ -64,6 +61,7 @@ impl Entry {
         ensures noted { self.new.order ≡ self.old.order ++ tag ∷ [] }
         ensures room { self.new.room + 1 ≡ self.old.room }
         ensures kept { self.new.kept ≡ self.old.kept }
+        ensures touched { self.new.touched ≡ self.old.touched }
     {
         self.order.push_reserved(tag);
     }
@@ -73,15 +71,42 @@ impl Entry {
         ensures kept { self.new.kept ≡ kept }
         ensures order { self.new.order ≡ self.old.order }
         ensures room { self.new.room ≡ self.old.room }
+        ensures touched { self.new.touched ≡ self.old.touched }
     {
         self.kept = kept;
     }
 
-    /// The form in which the page is kept.
-    pub fn kept(&self) -> &Kept
-        ensures { result.now ≡ self.now.kept }
+    /// Notes an access at this time.
+    pub fn accessed(&mut self, now: u64)
+        ensures touched { self.new ≡ record self.old { touched = now } }
     {
-        &self.kept
+        self.touched = now;
+    }
+
+    /// The form in which the page is kept.
+    pub fn kept(&self) -> Kept
+        ensures { result ≡ self.now.kept }
+    {
+        self.kept
+    }
+
+    /// The time of the last access.
+    pub fn touched(&self) -> u64
+        ensures { result ≡ self.now.touched }
+    {
+        self.touched
+    }
+
+    /// How the page is printed: one letter for each mark that holds, or a dot, in the order
+    /// same-filled, on the device, huge, idle.
+    pub fn letters(&self) -> [u8; 4]
+        ensures { result ≡ letters_of self.now.kept }
+    {
+        match self.kept {
+            Kept::Empty => *b"....",
+            Kept::Same(_) => *b"s...",
+            Kept::Obj(object) => if object.huge { *b"..h." } else { *b"...." },
+        }
     }
 
     /// The tags of the calls on the page, in their order.

@@ -115,10 +115,17 @@ content actors s old (tag ∷ tags) =
 
 -- ---- orders
 
--- whether an operation with its end stands in the order of a page
+-- whether a page is among so many from one on
+abbrev pub is_among : ℕ → ℕ → ℕ → Bool
+is_among first n page = nat_le first page && nat_lt page (first + n)
+
+-- whether an operation with its end stands in the order of a page: with all its pieces, or with
+-- those that were carried out before one was refused
 abbrev pub stands_on : Op → OpEnd → ℕ → Bool
 stands_on op ends.Ok page = touches (start_of op) (count_of op) page && has_event op page
 stands_on op ends.Range page = false
+stands_on op (ends.AtLimit pages need limit done) page = is_among (start_of op / 8) done page
+stands_on op (ends.NoMemory done) page = is_among (start_of op / 8) done page
 
 -- whether the operation that is named stands in the order of a page with its end, where there are both
 abbrev pub stands_named : Option Op → Option OpEnd → ℕ → Bool

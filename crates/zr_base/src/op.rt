@@ -37,6 +37,18 @@ pub enum OpEnd {
     Ok,
     /// Its sectors lie beyond the disk, and nothing was done.
     Range,
+    /// A piece of a write was refused at the memory limit, after `done` pieces that were carried
+    /// out: the frames charged, those needed, and the limit, each of 4096 bytes.
+    AtLimit {
+        pages: u64,
+        need: u64,
+        limit: u64,
+        done: u32,
+    },
+    /// A piece of a write was refused for want of memory, after `done` pieces that were carried out.
+    NoMemory {
+        done: u32,
+    },
 }
 
 /// A list of bytes.

@@ -1,183 +1,112 @@
--- The pieces of a page, counted.
-use Rattle.std.proofs.Common.{◌≡◌, ℕ, zero, suc, ◌+◌, ◌*◌, ◌<◌, ◌≤◌, Bool, false, cond, eqb, List, [], ◌∷◌, ◌++◌, length, drop, get_or, Some, slice_get, slice_set, refl, sym, ap, ◌∙◌, arith, inl, inr}
-use mathlib.Core.Logic.{dite}
-use native.Mathlib.Decide.{ℕ_discrete}
-use Rattle.std.proofs.lemmas.Bool.{cases_Bool, eq-eqb, ne_eqb, ltb-false}
-use Rattle.std.proofs.lemmas.List.{get_or-set_same, get_or-set_other}
+-- A phase has no more pieces on a page than operations.
+use Rattle.std.proofs.Common.{◌≡◌, ℕ, zero, suc, ◌+◌, ◌^◌, ◌<◌, ◌≤◌, Bool, true, false, cond, eqb, List, [], ◌∷◌, ◌++◌, length, inl, inr, refl, ap, ◌∙◌, arith}
+use Rattle.std.proofs.lemmas.Bool.{cases_Bool, cases_lt, eqb-true}
 use Rattle.zr_base.specs.declared.op.Op.{Op}
-use Rattle.zr_base.specs.declared.op.Piece.{Piece}
-use Rattle.zr_base.specs.Plain.{start_of, count_of, is_beyond, has_event, IsRequest}
+use Rattle.zr_base.specs.Pieces.{first_page, pages_of}
+use Rattle.zr_base.specs.Plain.{has_event}
+use Rattle.plain_disk.specs.Ends.{is_single}
 use Rattle.call_history.specs.declared.part.Part.{Part}
-use Rattle.zr_base.specs.Pieces.{first_page, pages_of, pieces_from, pieces_of}
-use Rattle.std.specs.List.{AllByRecursion}
 use Rattle.call_history.specs.Parts.{parts_from, parts, program}
-use Rattle.zr_core.specs.Joint.{pieces_on}
-use Rattle.zr_core.specs.Places.{AreRequests, IsWork, operations}
-use Rattle.zr_core.specs.Preparing.{count_at, pieces_each}
-use Rattle.zr_core.proofs.Places.{drop_cons, few_pages, pages_some, in_bounds}
+use Rattle.actor_steps.specs.Places.{operations, IsWork}
+use Rattle.joint_rule.specs.Begins.{piece_on, pieces_on, pieces_each}
 
--- the piece of one page
-abbrev one : Op → ℕ → ℕ → ℕ
-one op page p = cond (has_event op page) (cond (eqb page p) 1 0) 0
+module _ (size page : ℕ) where
+  on_append : (xs ys : List Part)
+      → pieces_on size page (xs ++ ys) ≡ pieces_on size page xs + pieces_on size page ys
+  on_append [] ys = omega arith
+  on_append (x ∷ xs) ys = let q = on_append xs ys in omega arith
 
-pub pieces_append : (p : ℕ) (xs ys : List Part)
-    → pieces_on p (xs ++ ys) ≡ pieces_on p xs + pieces_on p ys
-pieces_append p [] ys = omega arith
-pieces_append p (x ∷ xs) ys = let q = pieces_append p xs ys in omega arith
+  at_most_one : (p : Part) → piece_on size page p ≤ 1
+  at_most_one p = elim (cases_Bool (is_single size p.op)) [
+    | inl on ↦ rw on (omega arith)
+    | inr off ↦ rw off (elim (cases_Bool (eqb p.page page)) [
+      | inl same ↦ rw same (omega arith)
+      | inr not ↦ rw not (omega arith)
+    ])
+  ]
 
-pub pieces_next : (nr p : ℕ) (op : Op) (page n : ℕ)
-    → pieces_on p (parts_from nr op page (suc n))
-    ≡ one op page p + pieces_on p (parts_from nr op (page + 1) n)
-pieces_next nr p op page n = elim (cases_Bool (has_event op page)) [
-  | inl on ↦ rw on (omega arith)
-  | inr off ↦ rw off (omega arith)
-]
+  none_before : (p : Part) → page < p.page → piece_on size page p ≡ 0
+  none_before p lt = elim (cases_Bool (is_single size p.op)) [
+    | inl on ↦ rw on refl
+    | inr off ↦ rw off (elim (cases_Bool (eqb p.page page)) [
+      | inl same ↦ absurd (let e = eqb-true p.page page same in let no : ⊥ = omega arith in no)
+      | inr not ↦ rw not refl
+    ])
+  ]
 
--- the pieces with events on a page, among those of a walk
-abbrev pub carried_on : Op → ℕ → List Piece → ℕ
-carried_on op p [] = 0
-carried_on op p (piece ∷ more) = one op piece.page.0 p + carried_on op p more
+  none_single : (p : Part) → is_single size p.op ≡ true → piece_on size page p ≡ 0
+  none_single p on = rw on refl
 
--- the first piece, and then the others
-pub carried_first : (op : Op) (p : ℕ) (piece : Piece) (pieces more : List Piece) (b : Bool)
-    → pieces ≡ piece ∷ more → has_event op piece.page.0 ≡ b
-    → carried_on op p pieces ≡ cond b (cond (eqb piece.page.0 p) 1 0) 0 + carried_on op p more
-carried_first op p piece pieces more b is e =
-    ap (carried_on op p) is
-    ∙ ap (λ (x : Bool). cond x (cond (eqb piece.page.0 p) 1 0) 0 + carried_on op p more) e
+  module _ (nr : ℕ) (op : Op) where
+    -- the piece on a page, if it has events
+    abbrev first : ℕ → List Part
+    first from =
+        cond (has_event op from) (record { nr = nr; op = op; page = from } ∷ []) []
 
-carried_from : (p : ℕ) (op : Op) (page n : ℕ)
-    → carried_on op p (pieces_from (start_of op) (count_of op) page n)
-    ≡ pieces_on p (parts_from 0 op page n)
-carried_from p op page zero = refl
-carried_from p op page (suc n) =
-    let q = pieces_next 0 p op page n in
-    let r = carried_from p op (page + 1) n in omega arith
+    first_one : (from : ℕ) → pieces_on size page (first from) ≤ 1
+    first_one from = elim (cases_Bool (has_event op from)) [
+      | inl on ↦ rw on (let q = at_most_one (record { nr = nr; op = op; page = from }) in omega arith)
+      | inr off ↦ rw off (omega arith)
+    ]
 
--- the number of the operation does not matter
-nr_from : (nr m p : ℕ) (op : Op) (page n : ℕ)
-    → pieces_on p (parts_from nr op page n) ≡ pieces_on p (parts_from m op page n)
-nr_from nr m p op page zero = refl
-nr_from nr m p op page (suc n) = pieces_next nr p op page n
-    ∙ ap (λ (k : ℕ). one op page p + k) (nr_from nr m p op (page + 1) n)
-    ∙ sym (pieces_next m p op page n)
+    first_none : (from : ℕ) → page < from → pieces_on size page (first from) ≡ 0
+    first_none from lt = elim (cases_Bool (has_event op from)) [
+      | inl on ↦ rw on
+          (let q = none_before (record { nr = nr; op = op; page = from }) lt in omega arith)
+      | inr off ↦ rw off refl
+    ]
 
-nr_parts : (size nr m p : ℕ) (op : Op)
-    → pieces_on p (parts size nr op) ≡ pieces_on p (parts size m op)
-nr_parts size nr m p op = elim (cases_Bool (is_beyond size op)) [
-  | inl on ↦ rw on refl
-  | inr off ↦ rw off (nr_from nr m p op (first_page op) (pages_of op))
-]
+    from_none : (from n : ℕ) → page < from → pieces_on size page (parts_from nr op from n) ≡ 0
+    from_none from zero lt = refl
+    from_none from (suc n) lt =
+        let a = on_append (first from) (parts_from nr op (from + 1) n) in
+        let b = first_none from lt in
+        let c = from_none (from + 1) n (omega arith) in omega arith
 
-nr_program : (size nr m p : ℕ) (ops : List Op)
-    → pieces_on p (program size nr ops) ≡ pieces_on p (program size m ops)
-nr_program size nr m p [] = refl
-nr_program size nr m p (op ∷ ops) =
-    pieces_append p (parts size nr op) (program size (nr + 1) ops)
-    ∙ (λ i. nr_parts size nr m p op i + nr_program size (nr + 1) (m + 1) p ops i)
-    ∙ sym (pieces_append p (parts size m op) (program size (m + 1) ops))
+    from_one : (from n : ℕ) → pieces_on size page (parts_from nr op from n) ≤ 1
+    from_one from zero = omega arith
+    from_one from (suc n) =
+        let a = on_append (first from) (parts_from nr op (from + 1) n) in
+        elim (cases_lt page (from + 1)) [
+          | inl lt ↦ (let b = first_one from in
+              let c = from_none (from + 1) n lt in omega arith)
+          | inr ge ↦ (let b = skip from (omega arith) in
+              let c = from_one (from + 1) n in omega arith)
+        ] where
+          skip : (from : ℕ) → from < page → pieces_on size page (first from) ≡ 0
+          skip from lt = elim (cases_Bool (has_event op from)) [
+            | inl on ↦ rw on
+                (let q = other (record { nr = nr; op = op; page = from }) lt in omega arith)
+            | inr off ↦ rw off refl
+          ] where
+            other : (p : Part) → p.page < page → piece_on size page p ≡ 0
+            other p lt = elim (cases_Bool (is_single size p.op)) [
+              | inl on ↦ rw on refl
+              | inr off ↦ rw off (elim (cases_Bool (eqb p.page page)) [
+                | inl same ↦ absurd
+                    (let e = eqb-true p.page page same in let no : ⊥ = omega arith in no)
+                | inr not ↦ rw not refl
+              ])
+            ]
 
--- the first operation, and then the later ones
-pub program_next : (size p i : ℕ) (ops : List Op) (op : Op) → slice_get ops i ≡ Some op
-    → pieces_on p (program size 0 (drop i ops))
-    ≡ pieces_on p (parts size 0 op) + pieces_on p (program size 0 (drop (i + 1) ops))
-program_next size p i ops op at =
-    ap (λ (os : List Op). pieces_on p (program size 0 os)) (drop_cons ops i op at
-    ∙ ap (λ (j : ℕ). op ∷ drop j ops) (let q : suc i ≡ i + 1 = omega arith in q))
-    ∙ pieces_append p (parts size 0 op) (program size 1 (drop (i + 1) ops))
-    ∙ ap (λ (k : ℕ). pieces_on p (parts size 0 op) + k) (nr_program size 1 0 p (drop (i + 1) ops))
+    parts_one : pieces_on size page (parts size nr op) ≤ 1
+    parts_one = elim (cases_Bool (is_single size op)) [
+      | inl on ↦ rw on
+          (let q = none_single (record { nr = nr; op = op; page = first_page op }) on in omega arith)
+      | inr off ↦ rw off (from_one (first_page op) (pages_of op))
+    ]
 
-pub each_next : (size p i : ℕ) (actors : List (List Op)) (ops : List Op)
-    → slice_get actors i ≡ Some ops
-    → pieces_each size (drop i actors) p
-    ≡ pieces_on p (program size 0 ops) + pieces_each size (drop (i + 1) actors) p
-each_next size p i actors ops at =
-    ap (λ (os : List (List Op)). pieces_each size os p)
-    (drop_cons actors i ops at
-    ∙ ap (λ (j : ℕ). ops ∷ drop j actors) (let q : suc i ≡ i + 1 = omega arith in q))
+  program_few : (nr : ℕ) (ops : List Op) → pieces_on size page (program size nr ops) ≤ length ops
+  program_few nr [] = omega arith
+  program_few nr (op ∷ ops) =
+      let a = on_append (parts size nr op) (program size (nr + 1) ops) in
+      let b = parts_one nr op in
+      let c = program_few (nr + 1) ops in omega arith
 
--- the walk over an operation on the disk: its pieces are on pages of the disk, and are all counted
-module _ (size : ℕ) (op : Op) (inside : is_beyond size op ≡ false) where
-  pub carried_of : (p : ℕ)
-      → carried_on op p (pieces_of (start_of op) (count_of op)) ≡ pieces_on p (parts size 0 op)
-  carried_of p =
-      carried_from p op (first_page op) (pages_of op)
-      ∙ sym (ap (λ (b : Bool). pieces_on p
-      (cond b [] (parts_from 0 op (first_page op) (pages_of op)))) inside)
+  each_few : (actors : List (List Op)) → pieces_each size actors page ≤ operations actors
+  each_few [] = omega arith
+  each_few (ops ∷ more) = let a = program_few 0 ops in let b = each_few more in omega arith
 
-  pub pages_below : IsRequest op
-      → AllByRecursion (λ (piece : Piece). piece.page.0 < size)
-      (pieces_of (start_of op) (count_of op))
-  pages_below r =
-      let end = ltb-false (8 * size) (start_of op + count_of op) inside in
-      let n = pages_some op r in
-      let some = (in_bounds op r).1 in
-      below_from (first_page op) (pages_of op) (omega arith)
-    where
-      below_from : (page n : ℕ) → page + n ≤ size
-          → AllByRecursion (λ (piece : Piece). piece.page.0 < size)
-          (pieces_from (start_of op) (count_of op) page n)
-      below_from page zero fits = tt
-      below_from page (suc n) fits = (omega arith, below_from (page + 1) n (omega arith))
-
-pub counts_itself : (page : ℕ) → let n : ℕ = cond (eqb page page) 1 0 in n ≡ 1
-counts_itself page = ap (λ (b : Bool). cond b 1 0) (eq-eqb page page refl)
-
--- one page more is counted
-pub count_more : (counts : List ℕ) (page p : ℕ) → page < length counts
-    → count_at (slice_set counts page (get_or counts page 0 + 1)) p
-    ≡ count_at counts p + cond (eqb page p) 1 0
-count_more counts page p lt = dite (ℕ_discrete p page)
-    (λ s. ap (λ (q : ℕ). count_at (slice_set counts page (get_or counts page 0 + 1)) q) s
-    ∙ get_or-set_same counts page (get_or counts page 0 + 1) 0 lt
-    ∙ sym (ap (λ (b : Bool). count_at counts p + cond b 1 0) (eq-eqb page p (sym s))
-    ∙ ap (λ (q : ℕ). count_at counts q + 1) s))
-    (λ ne. get_or-set_other counts page p (get_or counts page 0 + 1) 0 ne
-    ∙ sym (ap (λ (b : Bool). count_at counts p + cond b 1 0) (ne_eqb page p (λ s. ne (sym s)))
-    ∙ (let q : count_at counts p + 0 ≡ count_at counts p = omega arith in q)))
-
--- ---- there are not many
-
-few_from : (nr p : ℕ) (op : Op) (page n : ℕ) → pieces_on p (parts_from nr op page n) ≤ n
-few_from nr p op page zero = omega arith
-few_from nr p op page (suc n) = let q = pieces_next nr p op page n in
-    let r = few_from nr p op (page + 1) n in
-    let s = few_one op page p in omega arith where
-      few_one : (op : Op) (page p : ℕ) → one op page p ≤ 1
-      few_one op page p = elim (cases_Bool (has_event op page)) [
-        | inl on ↦ rw on
-            (elim (cases_Bool (eqb page p)) [
-              | inl same ↦ rw same (omega arith)
-              | inr other ↦
-                  rw other (omega arith)
-            ])
-        | inr off ↦ rw off (omega arith)
-      ]
-
-few_parts : (size nr p : ℕ) (op : Op) → IsRequest op → pieces_on p (parts size nr op) ≤ 1000
-few_parts size nr p op r = elim (cases_Bool (is_beyond size op)) [
-  | inl on ↦ rw on (omega arith)
-  | inr off ↦ rw off
-      (let q = few_from nr p op (first_page op) (pages_of op) in let f = few_pages op r in
-      omega arith)
-]
-
-pub few_program : (size nr p : ℕ) (ops : List Op) → AreRequests ops
-    → pieces_on p (program size nr ops) ≤ 1000 * length ops
-few_program size nr p [] r = omega arith
-few_program size nr p (op ∷ ops) r =
-    let q = pieces_append p (parts size nr op) (program size (nr + 1) ops) in
-    let f = few_parts size nr p op (r 0 op refl) in
-    let g = few_program size (nr + 1) p ops (λ k o e. r (suc k) o e) in omega arith
-
-few_each : (size p : ℕ) (actors : List (List Op))
-    → ((a : ℕ) (ops : List Op) → slice_get actors a ≡ Some ops
-    → AreRequests ops) → pieces_each size actors p ≤ 1000 * operations actors
-few_each size p [] r = omega arith
-few_each size p (ops ∷ more) r = let f = few_program size 0 p ops (r 0 ops refl) in
-    let g = few_each size p more (λ a os e. r (suc a) os e) in omega arith
-
-pub few_pieces : (size p : ℕ) (actors : List (List Op)) → IsWork actors
-    → pieces_each size actors p ≤ 1000000000
-few_pieces size p actors w = let f = few_each size p actors w.requests in let m = w.most in
-    omega arith
+  pub pieces_few : (actors : List (List Op)) → IsWork actors
+      → pieces_each size actors page < 2 ^ 32
+  pieces_few actors work = let a = each_few actors in let b = work.most in omega arith

@@ -2,7 +2,7 @@
 use Rattle.std.proofs.Common.{◌≡◌, ◌≢◌, ◌⊎◌, ℕ, zero, suc, ◌+◌, ◌<◌, ◌≤◌, Bool, true, false, eqb, ◌||◌, List, [], ◌∷◌, ◌++◌, take, Some, slice_get, refl, sym, ap, ◌∙◌, subst, arith, inl, inr}
 use Rattle.std.specs.List.{AllByRecursion}
 use Rattle.std.proofs.lemmas.Bool.{cases_Bool, eqb-true, eq-eqb, ne_eqb}
-use Rattle.zr_core.specs.Preparing.{count_at}
+use Rattle.actor_steps.specs.Counts.{count_at}
 use Rattle.zr_core.specs.Noted.{is_in, IsRising, ArePages, AreCounted}
 
 -- a page is in a longer list where it was or is the new one

@@ -1,30 +1,42 @@
--- A phase that is set up: the state before its first turn.
-use Rattle.std.proofs.Common.{◌≡◌, ℕ, zero, suc, ◌+◌, ◌*◌, ◌/◌, ◌%◌, ◌<◌, ◌≢◌, ⊎_elim, Bool, true, false, ◌||◌, List, [], ◌∷◌, ◌++◌, inl, inr, length, get_or, Option, Some, None, slice_get, refl, sym, ap, ◌∙◌, subst, arith}
+-- A phase that is set up: its entries, and the state before its first turn.
+use Rattle.std.proofs.Common.{◌≡◌, ◌⊎◌, ℕ, zero, suc, ◌+◌, ◌^◌, ◌<◌, ◌≤◌, ◌≢◌, Bool, true, false, ◌||◌, List, [], ◌∷◌, ◌++◌, inl, inr, length, get_or, map, Option, Some, None, slice_get, refl, sym, ap, ◌∙◌, subst, arith}
+use Rattle.std.specs.List.{AllByRecursion}
 use mathlib.Core.Logic.{dite}
 use native.Mathlib.Decide.{ℕ_discrete}
-use Rattle.std.proofs.lemmas.Option.{slice_get_within, get_or_from_slice_get}
+use Rattle.std.proofs.lemmas.Option.{slice_get_within}
 use Rattle.std.proofs.lemmas.List.{length-map}
-use Rattle.std.proofs.lemmas.Bool.{cases_Bool}
+use Rattle.std.proofs.lemmas.Bool.{cases_Bool, cases_lt}
 use Rattle.zr_base.specs.declared.op.Op.{Op}
-use Rattle.zr_base.specs.Sectors.{page_sector}
 use Rattle.call_history.specs.declared.part.Done.{Done}
 use Rattle.call_history.specs.Parts.{program}
 use Rattle.lock_row.specs.declared.names.Held.TheVariants as holds
-use Rattle.slot_entry.specs.declared.entry.Kept.{Kept}
-use Rattle.slot_entry.specs.Entries.{EntryState, page_of}
-use Rattle.zr_core.specs.declared.worker.Worker.{Worker}
-use Rattle.zr_core.specs.Steps.{DiskHeld, Here}
-use Rattle.zr_core.specs.Joint.{pieces_on, owed}
-use Rattle.zr_core.specs.Places.{todo_at}
-use Rattle.zr_core.specs.Machines.{order_in, page_in, sector_in, Starts, IsFresh, IsStart}
-use Rattle.zr_core.specs.Workers.{at_of, held_by, here, Keeps}
-use Rattle.zr_core.specs.Laws.{StartHasJoint}
-use Rattle.zr_core.specs.States.{heres, state, Playing, given_on, HasEntries, IsAtRest, IsPrepared, AreKept, HasJoint, CanGoOn}
+use Rattle.lock_row.specs.declared.names.State.{State}
+use Rattle.slot_entry.specs.Entries.{EntryState}
+use Rattle.page_steps.specs.Steps.{Terms, DiskHeld, Here}
+use Rattle.actor_steps.specs.declared.worker.Worker.{Worker}
+use Rattle.actor_steps.specs.Counts.{count_at, pieces_each as counted_each}
+use Rattle.actor_steps.specs.Preparing.{AreNewWorkers}
+use Rattle.actor_steps.specs.Places.{IsWork, todo_at}
+use Rattle.actor_steps.specs.Workers.{here, stage_of, Keeps}
+use Rattle.page_steps.specs.Calls.{at_of, held_of, fresh_of, cell_in, owed_of, ahead_of, behind_of, page_of, fail_of}
+use Rattle.joint_rule.specs.Begins.{Begin, pieces_on, pieces_each}
+use Rattle.joint_rule.specs.Laws.{StartHasRule, RestGoesOn, RequestsAreProper}
+use Rattle.joint_rule.specs.Rule.{owed}
+use Rattle.joint_rule.specs.Starts.{IsStart}
+use Rattle.zr_core.specs.declared.limits.TheConstants.{MOST_CHAIN}
+use Rattle.zr_core.specs.Machines.{order_at, without_calls, IsKept, KeepsValues, Begins, IsSetUp}
+use Rattle.zr_core.specs.Noted.{is_in, AreCounted, HasAllOrders, HasAllPieces}
+use Rattle.zr_core.specs.Preparing.{IsReserved, KeepsPage, AreReserved}
+use Rattle.zr_core.specs.Rests.{HasEntries, RestsAs, IsAtRest, IsBare, begun}
 use Rattle.zr_core.specs.Runs.{nothing_over}
-use Rattle.zr_core.specs.Preparing.{count_at, pieces_each, IsReserved, KeepsPage, AreReserved, AreNewWorkers}
-use Rattle.zr_core.specs.Noted.{is_in, order_at, AreCounted}
+use Rattle.zr_core.specs.States.{heres, state, Playing, state_of, AreKept, IsOf, IsPrepared, IsSetUpOn, IsEmpty, HasRule, CanGoOn}
+use Rattle.zr_core.proofs.Blanks.{begins_proper}
+use Rattle.zr_core.proofs.Counts.{pieces_few}
+use Rattle.zr_core.proofs.Ended.{each_same}
+use Rattle.zr_core.proofs.Lists.{there_is}
+use Rattle.zr_core.proofs.Matches.{Row, emptied_at, order_is}
 use Rattle.zr_core.proofs.Noted.{was_in, wasn_t_in, or_false}
-use Rattle.zr_core.proofs.Places.{there_is}
+use Rattle.zr_core.proofs.Rests.{at_rest, rests_on, begins}
 
 -- ---- the row
 
@@ -33,26 +45,29 @@ same_entry : (e f : EntryState) (c : Option (Option DiskHeld)) → c ≡ Some (S
 same_entry e f c p q = let r : c ≡ Some (Some (holds.Slot f)) = q in cc
 
 pub reserved_none : (size : ℕ) (counts : List ℕ) (cells : List (Option DiskHeld))
-    → HasEntries size cells → AreReserved (is_in []) counts cells cells
+    → HasEntries size cells → AreReserved (is_in []) counts size cells cells
 reserved_none size counts cells rest = record {
   size = refl;
-  each = λ p lt. let e = rest.each p (let s = rest.size in omega arith) in record {
+  others = λ k ge. refl;
+  each = λ p lt. let e = rest.each p lt in record {
     was = e.0;
     is = e.0;
     before = e.1;
     after = e.1;
     kept = refl;
+    touched = refl;
     order = λ none. absurd (cc);
     room = λ none. absurd (cc);
     same = λ off. refl;
   };
 }
 
-pub reserved_more : (counts xs : List ℕ) (page n : ℕ) (old mid new : List (Option DiskHeld))
-    → n ≡ count_at counts page → AreReserved (is_in xs) counts old mid → IsReserved page n mid new
-    → AreReserved (is_in (xs ++ page ∷ [])) counts old new
-reserved_more counts xs page n old mid new count r x = record {
+pub reserved_more : (counts xs : List ℕ) (size page n : ℕ) → page < size → (old mid new : List (Option DiskHeld))
+    → n ≡ count_at counts page → AreReserved (is_in xs) counts size old mid → IsReserved page n mid new
+    → AreReserved (is_in (xs ++ page ∷ [])) counts size old new
+reserved_more counts xs size page n low old mid new count r x = record {
   size = x.size ∙ r.size;
+  others = λ k ge. x.others k (λ e. let none : ⊥ = omega arith in none) ∙ r.others k ge;
   each = λ p lt. let k = r.each p lt in dite (ℕ_discrete p page)
       (λ s.
       let mine = same_entry x.was k.is (slice_get mid page) x.before
@@ -63,6 +78,7 @@ reserved_more counts xs page n old mid new count r x = record {
         before = k.before;
         after = ap (slice_get new) s ∙ x.after;
         kept = x.kept ∙ ap (λ (e : EntryState). e.kept) mine ∙ k.kept;
+        touched = x.touched ∙ ap (λ (e : EntryState). e.touched) mine ∙ k.touched;
         order = λ done. x.order;
         room = λ done. let q = x.room in let t = ap (count_at counts) s in omega arith;
         same = λ off. absurd ((wasn_t_in xs page p off).1 s);
@@ -73,6 +89,7 @@ reserved_more counts xs page n old mid new count r x = record {
         before = k.before;
         after = x.others p ne ∙ k.after;
         kept = k.kept;
+        touched = k.touched;
         order = λ done. k.order (before_it p ne done);
         room = λ done. k.room (before_it p ne done);
         same = λ off. k.same (wasn_t_in xs page p off).0;
@@ -82,24 +99,26 @@ reserved_more counts xs page n old mid new count r x = record {
   before_it p ne done = elim (was_in xs page p done) [ inl old ↦ old | inr same ↦ absurd (ne same) ]
 
 -- one after the other
-pub reserved_both : (d e : ℕ → Bool) (counts : List ℕ) (old mid new : List (Option DiskHeld))
-    → AreReserved d counts old mid → AreReserved e counts mid new
-    → AreReserved (λ p. e p || d p) counts old new
-reserved_both d e counts old mid new r s = record {
+pub reserved_both : (d e : ℕ → Bool) (counts : List ℕ) (size : ℕ) (old mid new : List (Option DiskHeld))
+    → AreReserved d counts size old mid → AreReserved e counts size mid new
+    → AreReserved (λ p. e p || d p) counts size old new
+reserved_both d e counts size old mid new r s = record {
   size = s.size ∙ r.size;
+  others = λ k ge. s.others k ge ∙ r.others k ge;
   each = λ p lt. both p lt (e p) refl;
 } where
-  both : (p : ℕ) → p < length old → (b : Bool) → e p ≡ b
+  both : (p : ℕ) → p < size → (b : Bool) → e p ≡ b
       → KeepsPage (λ q. e q || d q) counts p old new
   both p lt b is =
       let k = r.each p lt in
-      let l = s.each p (let q = r.size in omega arith) in
+      let l = s.each p lt in
       let mine = same_entry l.was k.is (slice_get mid p) l.before k.after in record {
         was = k.was;
         is = l.is;
         before = k.before;
         after = l.after;
         kept = l.kept ∙ ap (λ (x : EntryState). x.kept) mine ∙ k.kept;
+        touched = l.touched ∙ ap (λ (x : EntryState). x.touched) mine ∙ k.touched;
         order = λ done. elim (cases_Bool (e p)) [
           | inl on ↦ l.order on
           | inr off ↦ ap (λ (x : EntryState). x.order) (l.same off ∙ mine)
@@ -113,79 +132,125 @@ reserved_both d e counts old mid new r s = record {
         same = λ off. let o = or_false (e p) (d p) off in l.same o.0 ∙ mine ∙ k.same o.1;
       }
 
-pub reserved_rest : (size : ℕ) (d : ℕ → Bool) (counts : List ℕ) (old new : List (Option DiskHeld))
-    → HasEntries size old → AreReserved d counts old new → HasEntries size new
-reserved_rest size d counts old new rest r = record {
-  size = r.size ∙ rest.size;
-  each = λ p lt. let k = r.each p (let s = rest.size in omega arith) in (k.is, k.after);
+-- each page of a list is one of the disk
+pub page_low : (size : ℕ) (pages : List ℕ) (i d : ℕ) → AllByRecursion (λ p. p < size) pages
+    → i < length pages → get_or pages i d < size
+page_low size [] i d all lt = absurd (omega arith)
+page_low size (p ∷ ps) zero d all lt = all.0
+page_low size (p ∷ ps) (suc i) d all lt = page_low size ps i d all.1 (omega arith)
+
+pub reserved_entries : (size : ℕ) (d : ℕ → Bool) (counts : List ℕ) (old new : Row)
+    → HasEntries size old → AreReserved d counts size old new → HasEntries size new
+reserved_entries size d counts old new rest r = record {
+  size = (let a = rest.size in let b = r.size in omega arith);
+  each = λ p lt. let k = r.each p lt in (k.is, k.after);
 }
 
-order_of : (cells : List (Option DiskHeld)) (p : ℕ) (e : EntryState)
-    → slice_get cells p ≡ Some (Some (holds.Slot e)) → order_at cells p ≡ e.order
-order_of cells p e at = ap order_in (get_or_from_slice_get cells p (Some (holds.Slot e)) None at)
-
 -- a page without an order has none after it
-pub reserved_orders : (size : ℕ) (d : ℕ → Bool) (counts noted : List ℕ)
-    (old new : List (Option DiskHeld))
-    → IsAtRest size noted old → AreReserved d counts old new → IsAtRest size noted new
-reserved_orders size d counts noted old new rest r = record {
-  entries = reserved_rest size d counts old new rest.entries r;
-  orders = record { listed = rest.orders.listed; others = none };
+pub reserved_orders : (size : ℕ) (d : ℕ → Bool) (counts noted : List ℕ) (old new : Row)
+    → HasAllOrders size noted old → AreReserved d counts size old new → HasAllOrders size noted new
+reserved_orders size d counts noted old new orders r = record {
+  listed = orders.listed;
+  others = none;
 } where
   none : (p : ℕ) → p < size → is_in noted p ≡ false → order_at new p ≡ []
   none p lt off =
-      let k = r.each p (let s = rest.entries.size in omega arith) in
-      order_of new p k.is k.after ∙ elim (cases_Bool (d p)) [
+      let k = r.each p lt in
+      order_is new p k.is k.after ∙ elim (cases_Bool (d p)) [
         | inl on ↦ k.order on
         | inr not ↦ ap (λ (x : EntryState). x.order) (k.same not)
-            ∙ sym (order_of old p k.was k.before)
-            ∙ rest.orders.others p lt off
+            ∙ sym (order_is old p k.was k.before) ∙ orders.others p lt off
       ]
 
 -- all pages have no order and their room, where those with an order and those with pieces are done
-pub all_reserved : (size : ℕ) (counts noted pages : List ℕ) (old mid new : List (Option DiskHeld))
-    → IsAtRest size noted old → AreCounted size counts pages
-    → AreReserved (is_in noted) counts old mid
-    → AreReserved (is_in pages) counts mid new → AreReserved (λ p. true) counts old new
-all_reserved size counts noted pages old mid new rest c r s = record {
+pub all_reserved : (size : ℕ) (counts noted pages : List ℕ) (old mid new : Row)
+    → HasAllOrders size noted old → AreCounted size counts pages
+    → AreReserved (is_in noted) counts size old mid
+    → AreReserved (is_in pages) counts size mid new → AreReserved (λ p. true) counts size old new
+all_reserved size counts noted pages old mid new orders c r s = record {
   size = both.size;
+  others = both.others;
   each = λ p lt. let k = both.each p lt in record {
     was = k.was;
     is = k.is;
     before = k.before;
     after = k.after;
     kept = k.kept;
+    touched = k.touched;
     order = λ on. elim (cases_Bool (is_in pages p || is_in noted p)) [
       | inl done ↦ k.order done
       | inr off ↦ ap (λ (x : EntryState). x.order) (k.same off)
-          ∙ sym (order_of old p k.was k.before)
-          ∙ rest.orders.others p (let n = rest.entries.size in omega arith)
-          (or_false (is_in pages p) (is_in noted p) off).1
+          ∙ sym (order_is old p k.was k.before)
+          ∙ orders.others p lt (or_false (is_in pages p) (is_in noted p) off).1
     ];
     room = λ on. elim (cases_Bool (is_in pages p || is_in noted p)) [
       | inl done ↦ k.room done
-      | inr off ↦ (let z = c.others p (let n = rest.entries.size in omega arith)
-          (or_false (is_in pages p) (is_in noted p) off).0 in omega arith)
+      | inr off ↦ (let z = c.others p lt (or_false (is_in pages p) (is_in noted p) off).0 in
+          omega arith)
     ];
     same = λ off. absurd (cc);
   };
 } where
-  both : AreReserved (λ p. is_in pages p || is_in noted p) counts old new
-  both = reserved_both (is_in noted) (is_in pages) counts old mid new r s
+  both : AreReserved (λ p. is_in pages p || is_in noted p) counts size old new
+  both = reserved_both (is_in noted) (is_in pages) counts size old mid new r s
 
-page_at : (cells : List (Option DiskHeld)) (p : ℕ) (e : EntryState)
-    → slice_get cells p ≡ Some (Some (holds.Slot e))
-    → page_in (get_or cells p None) ≡ page_of e.kept
-page_at cells p e at = ap page_in (get_or_from_slice_get cells p (Some (holds.Slot e)) None at)
+-- each value is as before, but for the orders
+kept_refl : (v : DiskHeld) → IsKept v v
+kept_refl (holds.Slot e) = (e, refl, refl, refl)
+kept_refl (holds.Class q) = refl
+kept_refl (holds.Account c) = refl
+kept_refl (holds.Blocks x) = refl
+kept_refl (holds.Device x) = refl
 
-pub reserved_holds : (size : ℕ) (d : ℕ → Bool) (counts : List ℕ) (old new : List (Option DiskHeld))
-    → HasEntries size old
-    → AreReserved d counts old new → (s : ℕ) → s < 8 * size → sector_in new s ≡ sector_in old s
-reserved_holds size d counts old new rest r s lt =
-    let k = r.each (s / 8) (let e = rest.size in omega arith) in
-    ap (λ (page : List ℕ). page_sector page (s % 8))
-    (page_at new (s / 8) k.is k.after ∙ ap page_of k.kept
-    ∙ sym (page_at old (s / 8) k.was k.before))
+pub keeps_same : (row : Row) → KeepsValues row row
+keeps_same row = record { size = refl; each = λ k v at. (v, at, kept_refl v) }
+
+-- behind the pages no value is an entry
+pub no_entry : (pages : ℕ) (noted : List ℕ) (cells : Row) → IsAtRest pages noted cells
+    → (k : ℕ) (e : EntryState) → pages ≤ k → slice_get cells k ≡ Some (Some (holds.Slot e)) → ⊥
+no_entry pages noted cells rest k e ge at = by rest.rests where
+  by : IsBare pages cells ⊎ ((g : Begin) × RestsAs g pages cells) → ⊥
+  by (inl bare) = let q : None ≡ Some (Some (holds.Slot e)) =
+      sym (ap (λ (row : Row). slice_get row k) bare.1) ∙ at in cc
+  by (inr (g, rests)) =
+      let lt = (rests.row.home k (without_calls (holds.Slot e))
+      (emptied_at cells k (Some (holds.Slot e)) at)).sound.page in
+      let s = rests.size in let none : ⊥ = omega arith in none
+
+pub keeps_values : (size : ℕ) (d : ℕ → Bool) (counts : List ℕ) (old new : Row)
+    → AreReserved d counts size old new → KeepsValues old new
+keeps_values size d counts old new r = record { size = r.size; each = each } where
+  each : (k : ℕ) (v : DiskHeld) → slice_get old k ≡ Some (Some v)
+      → (u : DiskHeld) × (slice_get new k ≡ Some (Some u)) × IsKept v u
+  each k v at = elim (cases_lt k size) [
+    | inl lt ↦ (let p = r.each k lt in (
+      holds.Slot p.is,
+      p.after,
+      subst (λ (x : DiskHeld). IsKept x (holds.Slot p.is))
+          (let q : Some (Some (holds.Slot p.was)) ≡ Some (Some v) = sym p.before ∙ at in
+          let s : holds.Slot p.was ≡ v = cc in s) (p.is, refl, p.kept, p.touched),
+    ))
+    | inr ge ↦ (v, r.others k ge ∙ at, kept_refl v)
+  ]
+
+-- what a prepare that fails leaves is at rest
+pub still_rests : (pages : ℕ) (noted : List ℕ) (old new : Row) → IsAtRest pages noted old
+    → (d : ℕ → Bool) (counts : List ℕ) → AreReserved d counts pages old new
+    → IsAtRest pages noted new
+still_rests pages noted old new rest d counts r = record {
+  entries = reserved_entries pages d counts old new rest.entries r;
+  orders = reserved_orders pages d counts noted old new rest.orders r;
+  rests = by rest.rests;
+} where
+  by : IsBare pages old ⊎ ((g : Begin) × RestsAs g pages old)
+      → IsBare pages new ⊎ ((g : Begin) × RestsAs g pages new)
+  by (inl bare) = inl (bare.0, empty new (let a = r.size in let b = ap length bare.1 in omega arith))
+    where
+      empty : (row : Row) → length row ≡ 0 → row ≡ []
+      empty [] e = refl
+      empty (x ∷ row) e = absurd (let none : ⊥ = omega arith in none)
+  by (inr (g, rests)) =
+      inr (g, rests_on g pages old rests new (keeps_values pages d counts old new r))
 
 -- ---- the workers
 
@@ -196,150 +261,187 @@ none_over [] a done e = absurd (cc)
 none_over (w ∷ ws) zero done e = let q : Some (let ds : List Done = [] in ds) ≡ Some done = e in cc
 none_over (w ∷ ws) (suc a) done e = none_over ws a done e
 
-record HereAt (size : ℕ) (actors : List (List Op)) (ws : List Worker) (a : ℕ)
+record HereAt (t : Terms) (actors : List (List Op)) (ws : List Worker) (a : ℕ)
     (l : Here) : Type 0 where
   ops : List Op
   worker : Worker
   named : slice_get actors a ≡ Some ops
   there : slice_get ws a ≡ Some worker
-  is : l ≡ here size ops worker []
+  is : l ≡ here t.size ops worker []
 
-here_at : (size : ℕ) (actors : List (List Op)) (ws : List Worker) (a : ℕ) (l : Here)
-    → slice_get (heres size actors ws (nothing_over ws)) a ≡ Some l → HereAt size actors ws a l
-here_at size [] ws a l e = absurd (cc)
-here_at size (ops ∷ more) [] a l e = absurd (cc)
-here_at size (ops ∷ more) (w ∷ ws) zero l e =
+here_at : (t : Terms) (actors : List (List Op)) (ws : List Worker) (a : ℕ) (l : Here)
+    → slice_get (heres t actors ws (nothing_over ws)) a ≡ Some l → HereAt t actors ws a l
+here_at t [] ws a l e = absurd (cc)
+here_at t (ops ∷ more) [] a l e = absurd (cc)
+here_at t (ops ∷ more) (w ∷ ws) zero l e =
     record {
       ops = ops;
       worker = w;
       named = refl;
       there = refl;
       is =
-          (let q : Some (here size ops w []) ≡ Some l = e in cc);
+          (let q : Some (here t.size ops w []) ≡ Some l = e in cc);
     }
-here_at size (ops ∷ more) (w ∷ ws) (suc a) l e = let h = here_at size more ws a l e in
+here_at t (ops ∷ more) (w ∷ ws) (suc a) l e = let h = here_at t more ws a l e in
     record { ops = h.ops; worker = h.worker; named = h.named; there = h.there; is = h.is }
 
-as_many : (size : ℕ) (actors : List (List Op)) (ws : List Worker) → length ws ≡ length actors
-    → length (heres size actors ws (nothing_over ws)) ≡ length actors
-as_many size [] ws e = refl
-as_many size (ops ∷ more) [] e = absurd (let q : 0 ≡ suc (length more) = e in
+as_many : (t : Terms) (actors : List (List Op)) (ws : List Worker) → length ws ≡ length actors
+    → length (heres t actors ws (nothing_over ws)) ≡ length actors
+as_many t [] ws e = refl
+as_many t (ops ∷ more) [] e = absurd (let q : 0 ≡ suc (length more) = e in
     let none : ⊥ = omega arith in none)
-as_many size (ops ∷ more) (w ∷ ws) e = ap suc (as_many size more ws (omega arith))
+as_many t (ops ∷ more) (w ∷ ws) e = ap suc (as_many t more ws (omega arith))
 
-owed_is : (size p : ℕ) (actors : List (List Op)) (ws : List Worker) → length ws ≡ length actors
+owed_is : (t : Terms) (p : ℕ) (actors : List (List Op)) (ws : List Worker)
+    → length ws ≡ length actors
     → ((a : ℕ) (ops : List Op) (w : Worker) → slice_get actors a ≡ Some ops
     → slice_get ws a ≡ Some w
-    → todo_at size ops w.place ≡ program size 0 ops)
-    → owed (heres size actors ws (nothing_over ws)) p ≡ pieces_each size actors p
-owed_is size p [] ws e todo = refl
-owed_is size p (ops ∷ more) [] e todo = absurd (let q : 0 ≡ suc (length more) = e in
+    → todo_at t.size ops w.place ≡ program t.size 0 ops)
+    → owed t.size (heres t actors ws (nothing_over ws)) p ≡ pieces_each t.size actors p
+owed_is t p [] ws e todo = refl
+owed_is t p (ops ∷ more) [] e todo = absurd (let q : 0 ≡ suc (length more) = e in
     let none : ⊥ = omega arith in none)
-owed_is size p (ops ∷ more) (w ∷ ws) e todo =
-    λ i. pieces_on p (todo 0 ops w refl refl i)
-    + owed_is size p more ws (omega arith)
+owed_is t p (ops ∷ more) (w ∷ ws) e todo =
+    λ i. pieces_on t.size p (todo 0 ops w refl refl i)
+    + owed_is t p more ws (omega arith)
     (λ a os v named there. todo (suc a) os v named there) i
 
 -- ---- the state before the first turn
 
-module _ (size : ℕ) (actors : List (List Op)) (cells cells' : List (Option DiskHeld))
-    (ws : List Worker) (counts : List ℕ) (new : AreNewWorkers size actors ws)
-    (counted : (p : ℕ) → p < size
-    → count_at counts p ≡ pieces_each size actors p) (rest : HasEntries size cells)
-    (r : AreReserved (λ p. true) counts cells cells') where
+module _ (t : Terms) (actors : List (List Op)) (cells cells' : Row) (ws : List Worker)
+    (counts noted : List ℕ) (new : AreNewWorkers t.size t.chain actors ws)
+    (counted : (p : ℕ) → p < t.size → count_at counts p ≡ counted_each t.size actors p)
+    (r : AreReserved (λ p. true) counts t.size cells cells')
+    (beyond : (k : ℕ) (e : EntryState) → t.size ≤ k
+    → slice_get cells k ≡ Some (Some (holds.Slot e)) → ⊥) where
+  abbrev now : Playing
+  now = record { terms = t; noted = noted; actors = actors; cells = cells'; workers = ws }
+
+  abbrev locals : List Here
+  locals = heres t actors ws (nothing_over ws)
+
   kept : AreKept ws (nothing_over ws)
   kept = record {
     count = length-map ws (λ (w : Worker). (let ds : List Done = [] in ds));
-    each = λ a w done e f. subst (Keeps w) (sym (none_over ws a done f)) record {
-      sectors = λ k reply at.
-          let ops = there_is actors a
-          (let q = slice_get_within ws a w e in let n = new.count in omega arith) in
-          (new.each a ops.0 w ops.1 e).none k reply at;
-    };
+    each = λ a w done e f. subst (Keeps w) (sym (none_over ws a done f))
+        (let ops = there_is actors a
+        (let q = slice_get_within ws a w e in let n = new.count in omega arith) in
+        (new.each a ops.0 w ops.1 e).keeps);
   }
 
-  abbrev now : List ℕ → Playing
-  now noted = record { size = size; noted = noted; actors = actors; cells = cells'; workers = ws }
+  orders : (k : ℕ) (e : EntryState) → slice_get cells' k ≡ Some (Some (holds.Slot e))
+      → (e.order ≡ []) × (owed t.size locals k ≤ e.room)
+  orders k e at = elim (cases_lt k t.size) [
+    | inl lt ↦ (let p = r.each k lt in
+        let q : p.is ≡ e = (let h : Some (Some (holds.Slot p.is)) ≡ Some (Some (holds.Slot e)) =
+        sym p.after ∙ at in cc) in
+        subst (λ (x : EntryState). (x.order ≡ []) × (owed t.size locals k ≤ x.room)) q (
+          p.order refl,
+          (let o = owed_is t k actors ws new.count
+              (λ a ops w named there. (new.each a ops w named there).todo) in
+              let m = counted k lt in
+              let s = each_same t.size actors k in let room = p.room refl in omega arith),
+        ))
+    | inr ge ↦ absurd (beyond k e ge (sym (r.others k ge) ∙ at))
+  ]
 
-  abbrev locals : List Here
-  locals = heres size actors ws (nothing_over ws)
-
-  fresh : (p : ℕ) (c : Option DiskHeld) → slice_get cells' p ≡ Some c
-      → IsFresh (given_on size actors cells) locals p c
-  fresh p c e =
-      let lt : p < size =
-      (let q = slice_get_within cells' p c e in let s = r.size in let t = rest.size in
-      omega arith) in
-      let k = r.each p (let t = rest.size in omega arith) in
-      let is : Some (holds.Slot k.is) ≡ c =
-      (let q : Some (Some (holds.Slot k.is)) ≡ Some c = sym k.after
-      ∙ e in cc) in
-      subst (IsFresh (given_on size actors cells) locals p) is (
-        k.order refl,
-        (λ j small.
-            ap (λ (kept : Kept). page_sector (page_of kept) j) k.kept
-            ∙ sym (ap (λ (x : ℕ × ℕ). page_sector (page_in (get_or cells x.0 None)) x.1)
-            (λ i. (
-              (let q : (8 * p + j) / 8 ≡ p = omega arith in q) i,
-              (let q : (8 * p + j) % 8 ≡ j = omega arith in q) i,
-            ))
-            ∙ ap (λ (page : List ℕ). page_sector page j) (page_at cells p k.was k.before))),
-        (let o = owed_is size p actors ws new.count
-            (λ a ops w named there. (new.each a ops w named there).todo) in let m = counted p lt in
-            let room = k.room refl in omega arith),
-      )
-
-  starts : (a : ℕ) (l : Here) → slice_get locals a ≡ Some l
-      → Starts (given_on size actors cells) a l
-  starts a l e =
-      let h = here_at size actors ws a l e in
+  begin : (a : ℕ) (l : Here) → slice_get locals a ≡ Some l → Begins t.size actors a l
+  begin a l e =
+      let h = here_at t actors ws a l e in
       let w = new.each a h.ops h.worker h.named h.there in
-      subst (Starts (given_on size actors cells) a) (sym h.is) record {
+      subst (Begins t.size actors a) (sym h.is) record {
         who = w.who;
         ops = h.ops;
         named = h.named;
-        at = ap at_of w.at;
+        at = ap (λ c. at_of (stage_of c)) w.at;
         todo = w.todo;
-        held = ap (held_by h.worker.place.page) w.at;
+        held = ap (λ c. held_of h.worker.place.page (stage_of c)) w.at;
         done = refl;
+        fresh = ap (λ c. fresh_of h.worker.scratch (stage_of c)) w.at;
+        pin = ap (λ c. cell_in (stage_of c)) w.at;
+        owed = ap (λ c. owed_of (stage_of c)) w.at;
+        ahead = ap (λ c. ahead_of (stage_of c)) w.at;
+        behind = ap (λ c. behind_of (stage_of c)) w.at;
+        page = ap (λ c. page_of h.worker.scratch (stage_of c)) w.at;
+        fail = ap (λ c. fail_of (stage_of c)) w.at;
       }
 
-  first_state : IsStart (given_on size actors cells) (state size actors cells' ws (nothing_over ws))
-  first_state = record {
-    row = r.size
-        ∙ rest.size;
-    count = as_many size actors ws new.count;
-    values = fresh;
-    actors = starts;
+  abbrev first : State DiskHeld
+  first = state_of now (nothing_over ws)
+
+  is_set_up : IsSetUp t.size actors cells first
+  is_set_up = record {
+    row = keeps_values t.size (λ p. true) counts cells cells' r;
+    orders = orders;
+    count = as_many t actors ws new.count;
+    begin = begin;
   }
 
-  pub prepared : IsPrepared (given_on size actors cells) cells' ws
-  prepared = record { dones = nothing_over ws; kept = kept; start = first_state }
+  pub set_up_on : IsSetUpOn cells now
+  set_up_on = record { dones = nothing_over ws; kept = kept; set_up = is_set_up }
 
-  pub has_joint : StartHasJoint → (noted : List ℕ)
-      → HasJoint (given_on size actors cells) (now noted)
-  has_joint start noted = record {
-    pages = refl;
-    ops = refl;
-    dones = nothing_over ws;
-    kept = kept;
-    joint = start (given_on size actors cells)
-        (state size actors cells' ws (nothing_over ws)) first_state;
-  }
+  module _ (g : Begin) (rests : RestsAs g t.size cells) (work : IsWork actors)
+      (chain : t.chain ≡ MOST_CHAIN) (next : RestGoesOn) (law : RequestsAreProper) where
+    begins_so : IsOf (begun g actors t.clock) now
+    begins_so = record {
+      goes_by = λ i. record {
+        size = rests.size i;
+        chain = (rests.chain ∙ sym chain) i;
+        clock = t.clock;
+      };
+      actors = refl;
+      some = rests.some;
+      most = rests.most;
+      proper = begins_proper law g rests.proper (begun g actors t.clock) work refl refl refl
+          (let a = rests.size in let b = rests.most in let c = work.few in omega arith)
+          (λ p lt. pieces_few g.given.size p actors work);
+    }
 
-  pub may_go_on : StartHasJoint → (noted : List ℕ) → AreCounted size counts noted
-      → CanGoOn (now noted)
-  may_go_on start noted c = record {
+    is_start : IsStart (begun g actors t.clock) first
+    is_start = begins g t.size cells rests actors t.clock first is_set_up next
+
+    pub prepared : IsPrepared (begun g actors t.clock) now
+    prepared = record {
+      of = begins_so;
+      dones = nothing_over ws;
+      kept = kept;
+      start = is_start;
+    }
+
+    pub ruled : StartHasRule → HasRule (begun g actors t.clock) now
+    ruled start = record {
+      of = begins_so;
+      dones = nothing_over ws;
+      kept = kept;
+      rule = start (begun g actors t.clock) first begins_so.proper is_start;
+    }
+
+  -- the phase can go on, also on a disk without pages
+  pub may_go_on : (before : List ℕ) → IsAtRest t.size before cells → (t.size ≡ 0 → actors ≡ [])
+      → IsWork actors → t.chain ≡ MOST_CHAIN → AreCounted t.size counts noted
+      → StartHasRule → RestGoesOn → RequestsAreProper → CanGoOn now
+  may_go_on before rest none work chain c start next law = record {
+    fit = record {
+      count = new.count;
+      each =
+          λ a ops w named there. (new.each a ops w named there).fit t.clock;
+    };
     pieces = record {
       listed = c.listed;
       others = λ p lt off. sym (counted p lt)
           ∙ c.others p lt off;
     };
-    fit = record {
-      count = new.count;
-      each =
-          λ a ops w named there. (new.each a ops w named there).fit;
-    };
-    given = given_on size actors cells;
-    joint = has_joint start noted;
-  }
+    ruled = by rest.rests;
+  } where
+    empty : (row : Row) → length row ≡ 0 → row ≡ []
+    empty [] e = refl
+    empty (x ∷ row) e = absurd (let no : ⊥ = omega arith in no)
+
+    by : IsBare t.size cells ⊎ ((g : Begin) × RestsAs g t.size cells)
+        → IsEmpty now ⊎ ((g : Begin) × HasRule g now)
+    by (inl bare) = inl (
+      (bare.0, empty cells' (let a = r.size in let b = ap length bare.1 in omega arith)),
+      none bare.0,
+    )
+    by (inr (g, rests)) =
+        inr (begun g actors t.clock, ruled g rests work chain next law start)

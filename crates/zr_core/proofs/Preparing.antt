@@ -1,13 +1,17 @@
--- Setting a phase up.
-use Rattle.std.proofs.Common.{◌≡◌, ◌≢◌, ℕ, zero, suc, ◌<◌, ◌≤◌, List, [], ◌∷◌, length, Option, Some, None, slice_get, slice_set, refl, sym, ap, ◌∙◌, length-set}
+-- Setting a phase up: one value of the row at a time.
+use Rattle.std.proofs.Common.{◌≡◌, ◌≢◌, ℕ, ◌<◌, ◌≤◌, List, [], length, Option, Some, None, slice_get, slice_set, refl, sym, ap, ◌∙◌, arith, length-set}
 use Rattle.std.specs.Prelude.{Result, Ok, Err, OnOk, OnErr}
+use Rattle.lock_row.specs.declared.names.LockNo.{LockNo}
 use Rattle.lock_row.specs.declared.names.Held.TheVariants as holds
-use Rattle.lock_row.specs.Rows.{Row, IsIn, place_in, cell, with_cell, at_home}
+use Rattle.lock_row.specs.Laws.{NamesHavePlaces}
+use Rattle.lock_row.specs.Rows.{Row, IsIn, cell, with_cell}
 use Rattle.slot_entry.specs.Entries.{EntryState}
-use Rattle.zr_core.specs.Steps.{DiskHeld, slot}
-use Rattle.zr_core.specs.States.{slots_of, HasEntries}
+use Rattle.page_steps.specs.Steps.{DiskHeld, slot, spot}
+use Rattle.joint_rule.specs.Progress.{IsLock}
 use Rattle.zr_core.specs.Preparing.{IsReserved}
-use Rattle.zr_core.proofs.States.{set_same, slot_place}
+use Rattle.zr_core.specs.Rests.{names_of, names_by, HasEntries}
+use Rattle.zr_core.proofs.Lists.{get_here, get_else, set_same, set_twice}
+use Rattle.zr_core.proofs.Names.{cell_at, cells_with, names_some}
 
 pub on_ok_both : {A E P Q R : Type 0} (r : Result A E) → (P → Q → R) → OnOk r P → OnOk r Q
     → OnOk r R
@@ -18,88 +22,68 @@ pub on_err_any : {A E P : Type 0} (r : Result A E) → P → OnErr r P
 on_err_any (Ok x) p = tt
 on_err_any (Err e) p = p
 
--- ---- one entry
+-- ---- a value that is taken and given back
 
-get_set_here : {A : Type 0} (xs : List A) (i : ℕ) (x y : A) → slice_get xs i ≡ Some y
-    → slice_get (slice_set xs i x) i ≡ Some x
-get_set_here [] i x y e = absurd (cc)
-get_set_here (z ∷ zs) zero x y e = refl
-get_set_here (z ∷ zs) (suc i) x y e = get_set_here zs i x y e
+module _ (places : NamesHavePlaces) (size : ℕ) (k : LockNo) (is : IsLock size k)
+    (r : Row DiskHeld) (names : r.names ≡ names_of size) (v : DiskHeld) where
+  abbrev at : ℕ
+  at = spot size k
 
-get_set_other : {A : Type 0} (xs : List A) (i j : ℕ) (x : A) → j ≢ i
-    → slice_get (slice_set xs i x) j ≡ slice_get xs j
-get_set_other [] i j x ne = refl
-get_set_other (z ∷ zs) zero zero x ne = absurd (ne refl)
-get_set_other (z ∷ zs) zero (suc j) x ne = refl
-get_set_other (z ∷ zs) (suc i) zero x ne = refl
-get_set_other (z ∷ zs) (suc i) (suc j) x ne = get_set_other zs i j x (λ e. ne (ap suc e))
+  pub cell_home : slice_get r.cells at ≡ Some (Some v) → cell r k ≡ Some (Some v)
+  cell_home home = cell_at size places k is r names ∙ home
 
-set_twice : {A : Type 0} (xs : List A) (i : ℕ) (x y : A)
-    → slice_set (slice_set xs i x) i y ≡ slice_set xs i y
-set_twice [] i x y = refl
-set_twice (z ∷ zs) zero x y = refl
-set_twice (z ∷ zs) (suc i) x y = ap (λ ws. z ∷ ws) (set_twice zs i x y)
+  pub is_in : slice_get r.cells at ≡ Some (Some v) → IsIn r k
+  is_in home = (Some v, cell_home home)
 
-module _ (size page : ℕ) (lt : page < size) where
-  cell_at : (r : Row DiskHeld) → r.names ≡ slots_of size
-      → cell r (slot page) ≡ slice_get r.cells page
-  cell_at r names =
-      ap (slice_get r.cells) (ap (λ ks. place_in ks (slot page)) names ∙ slot_place size page lt)
+  pub not_out : slice_get r.cells at ≡ Some (Some v) → cell r k ≡ Some None → ⊥
+  not_out home out = let q : Some None ≡ Some (Some v) = sym out ∙ cell_home home in cc
 
-  cells_with : (r : Row DiskHeld) (x : Option DiskHeld) → r.names ≡ slots_of size
-      → (with_cell r (slot page) x).cells ≡ slice_set r.cells page x
-  cells_with r x names =
-      ap (λ (p : ℕ). slice_set r.cells p x) (ap (λ ks. place_in ks (slot page)) names
-      ∙ slot_place size page lt)
+  module _ (home : cell r k ≡ Some (Some v)) (r₁ : Row DiskHeld)
+      (taken : r₁ ≡ with_cell r k None) where
+    names₁ : r₁.names ≡ names_of size
+    names₁ = ap (λ (x : Row DiskHeld). x.names) taken ∙ names
 
-  module _ (r : Row DiskHeld) (names : r.names ≡ slots_of size)
-      (rest : HasEntries size r.cells) where
-    pub entry_in_row : IsIn r (slot page)
-    entry_in_row = let e = rest.each page lt in (Some (holds.Slot e.0), cell_at r names ∙ e.1)
+    cells₁ : r₁.cells ≡ slice_set r.cells at None
+    cells₁ = ap (λ (x : Row DiskHeld). x.cells) taken ∙ cells_with size places k is r names None
 
-    pub not_out : cell r (slot page) ≡ Some None → ⊥
-    not_out out = let e = rest.each page lt in
-        let q : Some None ≡ Some (Some (holds.Slot e.0)) = sym out
-        ∙ cell_at r names ∙ e.1 in cc
+    pub there : slice_get r.cells at ≡ Some (Some v)
+    there = sym (cell_at size places k is r names) ∙ home
 
-    module _ (v : DiskHeld) (home : cell r (slot page) ≡ Some (Some v)) (r₁ : Row DiskHeld)
-        (taken : r₁ ≡ with_cell r (slot page) None) where
-      names₁ : r₁.names ≡ slots_of size
-      names₁ = ap (λ (x : Row DiskHeld). x.names) taken ∙ names
+    pub is_out_now : cell r₁ k ≡ Some None
+    is_out_now = cell_at size places k is r₁ names₁
+        ∙ ap (λ (cs : List (Option DiskHeld)). slice_get cs at) cells₁
+        ∙ get_here r.cells at None (Some v) there
 
-      cells₁ : r₁.cells ≡ slice_set r.cells page None
-      cells₁ = ap (λ (x : Row DiskHeld). x.cells) taken ∙ cells_with r None names
+    module _ (w : DiskHeld) (r₂ : Row DiskHeld) (given : r₂ ≡ with_cell r₁ k (Some w)) where
+      pub cells_set : r₂.cells ≡ slice_set r.cells at (Some w)
+      cells_set = ap (λ (x : Row DiskHeld). x.cells) given
+          ∙ cells_with size places k is r₁ names₁ (Some w)
+          ∙ ap (λ (cs : List (Option DiskHeld)). slice_set cs at (Some w)) cells₁
+          ∙ set_twice r.cells at None (Some w)
 
-      pub is_out_now : cell r₁ (slot page) ≡ Some None
-      is_out_now = cell_at r₁ names₁
-          ∙ ap (λ (cs : List (Option DiskHeld)). slice_get cs page) cells₁
-          ∙ get_set_here r.cells page None (Some v) (sym (cell_at r names) ∙ home)
+      pub gives_back : w ≡ v → r₂.cells ≡ r.cells
+      gives_back same = cells_set
+          ∙ set_same r.cells at (Some w) (there ∙ ap (λ (x : DiskHeld). Some (Some x)) (sym same))
 
-      module _ (w : DiskHeld) (r₂ : Row DiskHeld)
-          (given : r₂ ≡ with_cell r₁ (slot page) (Some w)) where
-        cells₂ : r₂.cells ≡ slice_set r.cells page (Some w)
-        cells₂ = ap (λ (x : Row DiskHeld). x.cells) given ∙ cells_with r₁ (Some w) names₁
-            ∙ ap (λ (cs : List (Option DiskHeld)). slice_set cs page (Some w)) cells₁
-            ∙ set_twice r.cells page None (Some w)
+-- ---- an entry whose order is emptied
 
-        pub gives_back : w ≡ v → r₂.cells ≡ r.cells
-        gives_back same = cells₂ ∙ set_same r.cells page (Some w) (sym (cell_at r names) ∙ home
-            ∙ ap (λ (x : DiskHeld). Some (Some x)) (sym same))
-
-        pub gives_reserved : (n : ℕ) (e f : EntryState) → v ≡ holds.Slot e → w ≡ holds.Slot f
-            → f.kept ≡ e.kept
-            → f.order ≡ [] → n ≤ f.room → IsReserved page n r.cells r₂.cells
-        gives_reserved n e f was is kept order room = record {
-          size = ap length cells₂ ∙ length-set r.cells page (Some w);
-          others = λ p ne. ap (λ (cs : List (Option DiskHeld)). slice_get cs p) cells₂
-              ∙ get_set_other r.cells page p (Some w) ne;
-          was = e;
-          is = f;
-          before = sym (cell_at r names) ∙ home ∙ ap (λ (x : DiskHeld). Some (Some x)) was;
-          after = ap (λ (cs : List (Option DiskHeld)). slice_get cs page) cells₂
-              ∙ get_set_here r.cells page (Some w) (Some v) (sym (cell_at r names) ∙ home)
-              ∙ ap (λ (x : DiskHeld). Some (Some x)) is;
-          kept = kept;
-          order = order;
-          room = room;
-        }
+module _ (size page : ℕ) (old new : List (Option DiskHeld)) (v w : DiskHeld)
+    (there : slice_get old page ≡ Some (Some v)) (set : new ≡ slice_set old page (Some w)) where
+  pub reserved_is : (n : ℕ) (e f : EntryState) → v ≡ holds.Slot e → w ≡ holds.Slot f
+      → f.kept ≡ e.kept → f.touched ≡ e.touched → f.order ≡ [] → n ≤ f.room
+      → IsReserved page n old new
+  reserved_is n e f was is kept touched order room = record {
+    size = ap length set ∙ length-set old page (Some w);
+    others = λ p ne. ap (λ (cs : List (Option DiskHeld)). slice_get cs p) set
+        ∙ get_else old page p (Some w) ne;
+    was = e;
+    is = f;
+    before = there ∙ ap (λ (x : DiskHeld). Some (Some x)) was;
+    after = ap (λ (cs : List (Option DiskHeld)). slice_get cs page) set
+        ∙ get_here old page (Some w) (Some v) there
+        ∙ ap (λ (x : DiskHeld). Some (Some x)) is;
+    kept = kept;
+    touched = touched;
+    order = order;
+    room = room;
+  }

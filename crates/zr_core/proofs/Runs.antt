@@ -1,193 +1,67 @@
 -- No state with the joint rule is stuck, and each event leaves fewer.
-use Rattle.std.proofs.Common.{◌≡◌, ◌≢◌, ◌⊎◌, ℕ, zero, suc, ◌+◌, ◌-◌, ◌*◌, ◌<◌, ◌≤◌, List, [], ◌∷◌, ◌++◌, map, length, Option, Some, None, slice_get, slice_set, sym, refl, ap, ◌∙◌, subst, arith, inl, inr, ⊎_elim, append_assoc, add-one}
+use Rattle.std.proofs.Common.{◌≡◌, ◌≢◌, ◌⊎◌, ℕ, zero, suc, ◌+◌, ◌-◌, ◌<◌, ◌≤◌, List, [], ◌∷◌, ◌++◌, length, Option, Some, None, slice_get, sym, refl, ap, ◌∙◌, subst, arith, inl, inr, ⊎_elim, append_assoc, add-one}
 use Rattle.std.specs.Prelude.{replicate, take}
 use Rattle.std.specs.List.{range_with_len}
 use Rattle.std.proofs.lemmas.List.{append-nil, replicate_more, replicate-append-replicate}
-use Rattle.std.proofs.lemmas.Option.{slice_get_within, slice_get-map}
-use Rattle.std.specs.Prelude.{option_map}
+use Rattle.std.proofs.lemmas.Option.{slice_get_within}
 use mathlib.Core.Logic.{dite}
 use native.Mathlib.Decide.{ℕ_discrete}
 use Rattle.zr_base.specs.declared.op.Op.{Op}
-use Rattle.plain_disk.specs.Phases.{Given}
-use Rattle.call_history.specs.declared.part.Part.{Part}
+use Rattle.zr_base.specs.declared.op.Turns.{Turns as By}
 use Rattle.call_history.specs.declared.part.Done.{Done}
-use Rattle.lock_row.specs.declared.names.LockNo.{LockNo}
-use Rattle.lock_row.specs.declared.names.At.{At}
-use Rattle.lock_row.specs.declared.names.At.TheVariants.{Start, Entered}
-use Rattle.lock_row.specs.declared.names.Plan.{Plan}
-use Rattle.lock_row.specs.declared.names.Plan.TheVariants.{Finished, Take, Give}
 use Rattle.lock_row.specs.declared.names.State.{State}
-use Rattle.lock_row.specs.Machine.{finished, missed, taken, given}
+use Rattle.lock_row.specs.Machine.{missed}
 use Rattle.lock_row.specs.Totals.{locals_sum}
 use Rattle.lock_row.specs.Laws.{SumMoves}
-use Rattle.zr_base.specs.declared.op.Turns.{Turns as By}
-use Rattle.zr_core.specs.declared.worker.Worker.{Worker}
-use Rattle.zr_core.specs.declared.worker.Turn.{Turn as WasTurn}
-use Rattle.zr_core.specs.declared.worker.Turn.TheVariants as turn
-use Rattle.zr_core.specs.Steps.{DiskHeld, Here, slot, spot, plan, plan_at, took, Works, carries}
-use Rattle.zr_core.specs.Joint.{locks_at, Joint}
-use Rattle.zr_core.specs.Machines.{OneTurn, Turns, AllFinished, rounds_of}
-use Rattle.zr_core.specs.Workers.{here, at_of}
-use Rattle.zr_core.specs.Laws.{TurnKeepsJoint}
-use Rattle.zr_core.specs.States.{heres, state, Playing, state_of, AreKept, CanGoOn, HasJoint, IsReachedFrom, TurnIs, TurnsOnce}
-use Rattle.zr_core.specs.Runs.{turns_of, Plays, RunsOut, IsBusy, AllOver, left_at, left_by, all_left, left_of, IsFree, Round, RoundTo}
-use Rattle.zr_core.proofs.Joint.{joint_run}
-use Rattle.zr_core.proofs.Machines.{run_on, run_both}
-use Rattle.zr_core.proofs.Places.{there_is, no_todo}
-use Rattle.zr_core.proofs.States.{heres_get, takes_here, in_row}
-use Rattle.zr_core.proofs.Turns.{todo_next}
-use Rattle.zr_core.proofs.Worlds.{one_turn}
+use Rattle.page_steps.specs.Steps.{Terms, DiskHeld, Here}
+use Rattle.actor_steps.specs.declared.worker.Worker.{Worker}
+use Rattle.actor_steps.specs.declared.worker.Turn.{Turn as WasTurn}
+use Rattle.actor_steps.specs.declared.worker.Turn.TheVariants as turn
+use Rattle.actor_steps.specs.Workers.{here}
+use Rattle.joint_rule.specs.Begins.{Begin}
+use Rattle.joint_rule.specs.Laws.{TurnKeepsRule}
+use Rattle.joint_rule.specs.Progress.{SomeFree}
+use Rattle.zr_core.specs.Machines.{OneTurn, Turns, IsReached, AllFinished, rounds_of}
+use Rattle.zr_core.specs.States.{heres, state, Playing, state_of, AreKept, CanGoOn, HasRule, IsReachedFrom, TurnIs, TurnsOnce}
+use Rattle.zr_core.specs.Runs.{turns_of, Plays, RunsOut, IsBusy, AllOver, left_by, all_left, nothing_over, left_of, IsFree, Round, RoundTo}
+use Rattle.zr_core.proofs.Falls.{falls, free_falls}
+use Rattle.zr_core.proofs.Lists.{there_is}
+use Rattle.zr_core.proofs.Machines.{run_on, run_both, rule_run}
+use Rattle.zr_core.proofs.Places.{no_todo, some_todo}
+use Rattle.zr_core.proofs.States.{heres_get}
+use Rattle.zr_core.proofs.Worlds.{one_turn, of_on, ruled_by}
 
--- ---- who can go on
+pub round_none : (t : Terms) (start : State DiskHeld) → Round t start start 0
+round_none t start = inr (refl, (λ f free. omega arith))
 
--- who holds a lock gives it next
-gives_next : (ps : List Part) (at : At) (i : ℕ) (k : LockNo) → slice_get (locks_at at ps) i ≡ Some k
-    → (m : LockNo) × (plan_at ps at ≡ Give m)
-gives_next [] Start i k e = absurd (cc)
-gives_next [] Entered i k e = absurd (cc)
-gives_next (p ∷ ps) Start i k e = absurd (cc)
-gives_next (p ∷ ps) Entered i k e = (slot p.page, refl)
-
-take_on_disk : (ps : List Part) (at : At) (k : LockNo) → plan_at ps at ≡ Take k
-    → (p : Part) × (rest : List Part) × (ps ≡ p ∷ rest) × (k ≡ slot p.page)
-take_on_disk [] at k e = absurd (cc)
-take_on_disk (p ∷ ps) Start k e = (
-  p,
-  ps,
-  refl,
-  (let q : Take (slot p.page) ≡ Take k = e in
-      let r : slot p.page ≡ k = cc in sym r),
-)
-take_on_disk (p ∷ ps) Entered k e = absurd (cc)
-
-module _ (g : Given) (w : State DiskHeld) (j : Joint g w) where
-  free_give : (a : ℕ) (l : Here) (m : LockNo) → slice_get w.locals a ≡ Some l → plan l ≡ Give m
-      → IsFree w a
-  free_give a l m who what = (
-    l,
-    who,
-    (λ e. absurd (let q : Give m ≡ Finished = sym what
-        ∙ e in cc)),
-    (λ k e. absurd (let q : Give m ≡ Take k = sym what ∙ e in cc)),
-  )
-
-  free_take : (a : ℕ) (l : Here) (k : LockNo) (v : DiskHeld) → slice_get w.locals a ≡ Some l
-      → plan l ≡ Take k
-      → slice_get w.row (spot k) ≡ Some (Some v) → IsFree w a
-  free_take a l k v who what there = (
-    l,
-    who,
-    (λ e. absurd (let q : Take k ≡ Finished = sym what ∙ e in cc)),
-    (λ m e. let q : k ≡ m = (let z : Take k ≡ Take m = sym what ∙ e in cc) in
-        (v, ap (λ (c : LockNo). slice_get w.row (spot c)) (sym q) ∙ there)),
-  )
-
-  lock_held : (h : ℕ) (m : Here) (i : ℕ) (x : LockNo × DiskHeld) → slice_get w.locals h ≡ Some m
-      → slice_get m.held i ≡ Some x → slice_get (locks_at m.at m.todo) i ≡ Some x.0
-  lock_held h m i x who at = ap (λ ks. slice_get ks i) (sym (j.told.actors h m who).locks)
-      ∙ slice_get-map (λ (y : LockNo × DiskHeld). y.0) m.held i
-      ∙ ap (option_map (λ (y : LockNo × DiskHeld). y.0)) at
-
-  by_cell : (a : ℕ) (l : Here) (k : LockNo) → slice_get w.locals a ≡ Some l → plan l ≡ Take k
-      → (c : Option DiskHeld) → slice_get w.row (spot k) ≡ Some c → (f : ℕ) × IsFree w f
-  by_cell a l k who what (Some v) e = (a, free_take a l k v who what e)
-  by_cell a l k who what None e =
-      let h = j.apart.keeper (spot k) e in
-      let m = gives_next h.1.todo h.1.at h.2 h.3.0 (lock_held h.0 h.1 h.2 h.3 h.4 h.5) in
-      (h.0, free_give h.0 h.1 m.0 h.4 m.1)
-
-  -- where some actor can take on the disk, some actor can go on
-  pub some_free : (a : ℕ) (l : Here) (p : Plan) → slice_get w.locals a ≡ Some l → plan l ≡ p
-      → p ≢ Finished
-      → ((k : LockNo) → plan l ≡ Take k
-      → (c : Option DiskHeld) × (slice_get w.row (spot k) ≡ Some c))
-      → (f : ℕ) × IsFree w f
-  some_free a l Finished who what ne on = absurd (ne refl)
-  some_free a l (Give k) who what ne on = (a, free_give a l k who what)
-  some_free a l (Take k) who what ne on = let c = on k what in by_cell a l k who what c.0 c.1
-
--- ---- fewer are left
-
-take_falls : (ps : List Part) (at : At) (k : LockNo) → plan_at ps at ≡ Take k
-    → left_at ps Entered < left_at ps at
-take_falls [] at k e = absurd (cc)
-take_falls (p ∷ ps) Start k e = omega arith
-take_falls (p ∷ ps) Entered k e = absurd (cc)
-
-starts_left : (ps : List Part) → left_at ps Start ≤ 2 * length ps
-starts_left [] = omega arith
-starts_left (p ∷ ps) = omega arith
-
-give_falls : (l : Here) (v : DiskHeld) (m : Here) → Works l v m → left_by m < left_by l
-give_falls l v m (carries p rest e f todo at held v_is work m_is) =
-    subst (λ (n : Here). left_by n < left_by l) (sym m_is)
-    (let s = starts_left rest in
-    let q : left_by l ≡ 1 + 2 * length rest = (λ i. left_at (todo i) (at i)) in
-    omega arith)
-
-pub round_none : (start : State DiskHeld) → Round start start 0
-round_none start = inr (refl, (λ f free. omega arith))
-
-module _ (sums : SumMoves DiskHeld) where
-  less_left : (ls : List Here) (a : ℕ) (l m : Here) → slice_get ls a ≡ Some l
-      → left_by m < left_by l
-      → locals_sum left_by (slice_set ls a m) < locals_sum left_by ls
-  less_left ls a l m who lt = let q = sums left_by ls a l m who in omega arith
-
-  -- a turn changes nothing, or leaves fewer events; that of a free actor leaves fewer
-  pub falls : (a : ℕ) (w n : State DiskHeld) → OneTurn a w n → (n ≡ w) ⊎ (all_left n < all_left w)
-  falls a w n (finished l who what same) = inl same
-  falls a w n (missed l k who what there same) = inl same
-  falls a w n (taken l k v t) =
-      inr (subst (λ (u : State DiskHeld). all_left u < all_left w) (sym t.after)
-      (less_left w.locals a l (took l v) t.who (take_falls l.todo l.at k t.what)))
-  falls a w n (given l k v m t) =
-      inr (subst (λ (u : State DiskHeld). all_left u < all_left w) (sym t.after)
-      (less_left w.locals a l m t.who (give_falls l v m t.work)))
-
-  pub free_falls : (a : ℕ) (w n : State DiskHeld) → IsFree w a → OneTurn a w n
-      → all_left n < all_left w
-  free_falls a w n f (finished l who what same) =
-      absurd (f.2 (ap plan (let q : Some f.0 ≡ Some l = sym f.1
-      ∙ who in let r : f.0 ≡ l = cc in r) ∙ what))
-  free_falls a w n f (missed l k who what there same) =
-      let r : f.0 ≡ l = (let q : Some f.0 ≡ Some l = sym f.1 ∙ who in cc) in
-      let t = f.3 k (ap plan r ∙ what) in
-      absurd (let z : Some (Some t.0) ≡ Some None = sym t.1 ∙ there in cc)
-  free_falls a w n f (taken l k v t) =
-      subst (λ (u : State DiskHeld). all_left u < all_left w) (sym t.after)
-      (less_left w.locals a l (took l v) t.who (take_falls l.todo l.at k t.what))
-  free_falls a w n f (given l k v m t) =
-      subst (λ (u : State DiskHeld). all_left u < all_left w) (sym t.after)
-      (less_left w.locals a l m t.who (give_falls l v m t.work))
-
+module _ (sums : SumMoves DiskHeld) (t : Terms) where
   -- ---- a round
 
-  pub round_more : (start now next : State DiskHeld) (i : ℕ) → Round start now i
-      → OneTurn i now next
-      → Round start next (i + 1)
-  round_more start now next i (inl less) t =
+  pub round_more : (start now next : State DiskHeld) (i : ℕ) → Round t start now i
+      → OneTurn t i now next
+      → Round t start next (i + 1)
+  round_more start now next i (inl less) e =
       inl (⊎_elim (λ same. let q : all_left next ≡ all_left now = ap all_left same in omega arith)
-      (λ fell. omega arith) (falls i now next t))
-  round_more start now next i (inr r) t =
+      (λ fell. omega arith) (falls sums t i now next e))
+  round_more start now next i (inr r) e =
       let base : all_left now ≡ all_left start = ap all_left r.0 in ⊎_elim
       (λ same. inr (
         same ∙ r.0,
         λ f free. dite (ℕ_discrete f i)
-            (λ e. absurd
-            (let g : IsFree now i =
-            subst (λ (p : State DiskHeld × ℕ). IsFree p.0 p.1) (λ k. (sym r.0 k, e k)) free in
-            let h = free_falls i now next g t in
+            (λ is. absurd
+            (let g : IsFree t now i =
+            subst (λ (p : State DiskHeld × ℕ). IsFree t p.0 p.1) (λ k. (sym r.0 k, is k)) free in
+            let h = free_falls sums t i now next g e in
             let q : all_left next ≡ all_left now = ap all_left same in
             let none : ⊥ = omega arith in none))
             (λ ne. let h = r.1 f free in omega arith),
       ))
       (λ fell. inl (omega arith))
-      (falls i now next t)
+      (falls sums t i now next e)
 
   pub round_falls : (start now : State DiskHeld) (n : ℕ) → length start.locals ≤ n → (f : ℕ)
-      → IsFree start f
-      → Round start now n → all_left now < all_left start
+      → IsFree t start f
+      → Round t start now n → all_left now < all_left start
   round_falls start now n many f free (inl less) = less
   round_falls start now n many f free (inr r) =
       absurd (let b = slice_get_within start.locals f free.0 free.1 in
@@ -196,88 +70,82 @@ module _ (sums : SumMoves DiskHeld) where
 -- ---- workers
 
 -- what is left doesn't depend on what is over
-pub left_same : (size : ℕ) (actors : List (List Op)) (ws : List Worker) (dones : List (List Done))
+pub left_same : (t : Terms) (actors : List (List Op)) (ws : List Worker) (dones : List (List Done))
     → length dones ≡ length ws
-    → locals_sum left_by (heres size actors ws dones) ≡ left_of size actors ws
-left_same size [] ws ds e = refl
-left_same size (ops ∷ more) [] ds e = refl
-left_same size (ops ∷ more) (w ∷ ws) [] e = absurd (let q : 0 ≡ suc (length ws) = e in
+    → locals_sum left_by (heres t actors ws dones)
+    ≡ locals_sum left_by (heres t actors ws (nothing_over ws))
+left_same t [] ws ds e = refl
+left_same t (ops ∷ more) [] ds e = refl
+left_same t (ops ∷ more) (w ∷ ws) [] e = absurd (let q : 0 ≡ suc (length ws) = e in
     let none : ⊥ = omega arith in none)
-left_same size (ops ∷ more) (w ∷ ws) (d ∷ ds) e =
-    ap (λ (n : ℕ). left_by (here size ops w d) + n) (left_same size more ws ds (omega arith))
+left_same t (ops ∷ more) (w ∷ ws) (d ∷ ds) e =
+    ap (λ (n : ℕ). left_by (here t.size ops w d) + n) (left_same t more ws ds (omega arith))
 
-pub heres_length : (size : ℕ) (actors : List (List Op)) (ws : List Worker)
+pub heres_length : (t : Terms) (actors : List (List Op)) (ws : List Worker)
     (dones : List (List Done))
-    → length (heres size actors ws dones) ≤ length actors
-heres_length size [] ws ds = omega arith
-heres_length size (ops ∷ more) [] ds = omega arith
-heres_length size (ops ∷ more) (w ∷ ws) [] = omega arith
-heres_length size (ops ∷ more) (w ∷ ws) (d ∷ ds) = let q = heres_length size more ws ds in
+    → length (heres t actors ws dones) ≤ length actors
+heres_length t [] ws ds = omega arith
+heres_length t (ops ∷ more) [] ds = omega arith
+heres_length t (ops ∷ more) (w ∷ ws) [] = omega arith
+heres_length t (ops ∷ more) (w ∷ ws) (d ∷ ds) = let q = heres_length t more ws ds in
     omega arith
 
-module _ (x : Playing) (can : CanGoOn x) (busy : IsBusy x.actors x.workers) where
-  -- the busy actor's local isn't finished, and takes on the disk
-  pub busy_free : (f : ℕ) × IsFree (state_of x can.joint.dones) f
-  busy_free =
-      let j = can.joint in
-      let s = state_of x j.dones in
-      let done = there_is j.dones busy.actor (let n = j.kept.count in
-      let q = slice_get_within x.workers busy.actor busy.worker busy.there in omega arith) in
-      let is_fit = can.fit.each busy.actor busy.ops busy.worker busy.named busy.there in
-      let op = there_is busy.ops busy.worker.place.nr busy.more in
-      let todo = todo_next x.size busy.ops busy.worker.place op.0 op.1 is_fit.settled in
-      let l = here x.size busy.ops busy.worker done.0 in
-      let who = heres_get x.size x.actors x.workers j.dones busy.actor busy.ops busy.worker done.0
-      busy.named
-      busy.there done.1 in
-      some_free can.given s j.joint busy.actor l (plan l) who refl (not_over l.at todo)
-      (λ k what. let d = takes_here x.size busy.ops busy.worker k is_fit what in
-      let c = in_row can.given s j.joint busy.actor x.size j.pages busy.ops busy.worker done.0
-      is_fit who
-      busy.worker.place.page d.1 in
-      (c.0, ap (λ (m : LockNo). slice_get x.cells (spot m)) d.0 ∙ c.1)) where
-        not_over : (at : At) {p : Part} {rest ps : List Part} → ps ≡ p ∷ rest
-            → plan_at ps at ≢ Finished
-        not_over Start {p} e f =
-            absurd (let q : Take (slot p.page) ≡ Finished = sym (ap (λ xs. plan_at xs Start) e)
-            ∙ f in cc)
-        not_over Entered {p} e f =
-            absurd (let q : Give (slot p.page) ≡ Finished = sym (ap (λ xs. plan_at xs Entered) e)
-            ∙ f in cc)
+module _ (free : SomeFree) (x : Playing) (can : CanGoOn x) (busy : IsBusy x.actors x.workers)
+  where
+    -- the rule, since there is an actor
+    pub rule : (g : Begin) × HasRule g x
+    rule = ruled_by x busy.actor busy.ops can.ruled busy.named
 
-  -- a whole round leaves fewer events
-  pub round_left : SumMoves DiskHeld → (y : Playing) → y.size ≡ x.size → y.actors ≡ x.actors
-      → (n : ℕ)
-      → length x.actors ≤ n → RoundTo (state_of x can.joint.dones) y n
-      → left_of y.size y.actors y.workers < left_of x.size x.actors x.workers
-  round_left sums y pages ops n many r =
-      let f = busy_free in
-      let j = can.joint in
-      let less = round_falls sums (state_of x j.dones) (state_of y r.0) n
-      (let q = heres_length x.size x.actors x.workers j.dones in omega arith) f.0 f.1 r.3 in
-      let a = left_same x.size x.actors x.workers j.dones j.kept.count in
-      let b = left_same y.size y.actors y.workers r.0 r.1.count in omega arith
+    -- the busy actor isn't finished, so some actor is free
+    pub busy_free : (f : ℕ) × IsFree x.terms (state_of x rule.1.dones) f
+    busy_free =
+        let g = rule.0 in
+        let j = rule.1 in
+        let s = state_of x j.dones in
+        let done = there_is j.dones busy.actor (let n = j.kept.count in
+        let q = slice_get_within x.workers busy.actor busy.worker busy.there in omega arith) in
+        let is_fit = can.fit.each busy.actor busy.ops busy.worker busy.named busy.there in
+        let who = heres_get x.terms x.actors x.workers j.dones busy.actor busy.ops busy.worker done.0
+        busy.named busy.there done.1 in
+        let f = free g s busy.actor (here x.terms.size busy.ops busy.worker done.0) j.of.proper j.rule
+        who (some_todo x.terms.size busy.ops busy.worker.place is_fit.settled busy.more) in (
+          f.0,
+          subst (λ (t : Terms). IsFree t s f.0) j.of.goes_by (f.1, f.2, f.3, f.4),
+        )
+
+    -- a whole round leaves fewer events
+    pub round_left : SumMoves DiskHeld → (y : Playing) → y.terms ≡ x.terms → y.actors ≡ x.actors
+        → (n : ℕ)
+        → length x.actors ≤ n → RoundTo (state_of x rule.1.dones) y n
+        → left_of y < left_of x
+    round_left sums y same ops n many r =
+        let f = busy_free in
+        let j = rule.1 in
+        let less = round_falls sums x.terms (state_of x j.dones) (state_of y r.0) n
+        (let q = heres_length x.terms x.actors x.workers j.dones in omega arith) f.0 f.1
+        (subst (λ (t : Terms). Round t (state_of x j.dones) (state_of y r.0) n) same r.3) in
+        let a = left_same x.terms x.actors x.workers j.dones j.kept.count in
+        let b = left_same y.terms y.actors y.workers r.0 r.1.count in omega arith
 
 -- where all workers are past their operations, all actors are finished
-pub all_finished : (size : ℕ) (actors : List (List Op)) (cells : List (Option DiskHeld))
+pub all_finished : (t : Terms) (actors : List (List Op)) (cells : List (Option DiskHeld))
     (ws : List Worker) (dones : List (List Done)) → AllOver actors ws
-    → AllFinished (state size actors cells ws dones)
-all_finished size actors cells ws dones over a l who =
+    → AllFinished (state t actors cells ws dones)
+all_finished t actors cells ws dones over a l who =
     let x = of_here actors ws dones a who in
-    subst (λ (m : Here). plan m ≡ Finished) x.4
-    (ap (λ ps. plan_at ps (at_of x.1.entry))
-    (no_todo size x.1.place.nr x.0 x.1.place.page x.1.place.left (over a x.0 x.1 x.3.0 x.3.1)))
+    subst (λ (m : Here). m.todo ≡ []) x.4
+    (no_todo t.size x.1.place.nr x.0 x.1.place.page x.1.place.left (over a x.0 x.1 x.3.0 x.3.1))
   where
     of_here : (actors : List (List Op)) (ws : List Worker) (dones : List (List Done)) (a : ℕ)
-        → slice_get (heres size actors ws dones) a ≡ Some l
+        → slice_get (heres t actors ws dones) a ≡ Some l
         → (ops : List Op) × (w : Worker) × (done : List Done)
         × ((slice_get actors a ≡ Some ops) × (slice_get ws a ≡ Some w))
-        × (here size ops w done ≡ l)
+        × (here t.size ops w done ≡ l)
     of_here [] ws ds a e = absurd (cc)
     of_here (x ∷ xs) [] ds a e = absurd (cc)
     of_here (x ∷ xs) (y ∷ ys) [] a e = absurd (cc)
     of_here (x ∷ xs) (y ∷ ys) (z ∷ zs) zero e =
-        (x, y, z, (refl, refl), (let q : Some (here size x y z) ≡ Some l = e in cc))
+        (x, y, z, (refl, refl), (let q : Some (here t.size x y z) ≡ Some l = e in cc))
     of_here (x ∷ xs) (y ∷ ys) (z ∷ zs) (suc a) e = of_here xs ys zs a e
 
 -- one more actor that is finished
@@ -304,46 +172,53 @@ range_suc a (suc n) j e = ap (λ (xs : List ℕ). a ∷ xs) (range_suc (a + 1) n
 range_push : (a n j : ℕ) → a + n ≡ j → range_with_len a (n + 1) ≡ range_with_len a n ++ j ∷ []
 range_push a n j e = rw add-one (range_suc a n j e)
 
-pub turn_more : SumMoves DiskHeld → (start : State DiskHeld) (x y : Playing) (i : ℕ) (t : WasTurn)
-    → RoundTo start x i
+pub turn_more : SumMoves DiskHeld → (start : State DiskHeld) (x y : Playing) → y.terms ≡ x.terms
+    → (i : ℕ) (t : WasTurn) → RoundTo start x i
     → ((dones : List (List Done)) → AreKept x.workers dones → TurnsOnce i x y t dones)
     → RoundTo start y (i + 1)
-turn_more sums start x y i t r turn =
+turn_more sums start x y same i t r turn =
     let n = turn r.0 r.1 in
-    let once = one_turn i (state_of x r.0) (state_of y n.0) t n.2 in (
+    let once = one_turn x.terms i (state_of x r.0) (state_of y n.0) t n.2 in
+    subst (λ (u : Terms). (dones : List (List Done)) × AreKept y.workers dones
+    × Turns u (range_with_len 0 (i + 1)) start (state_of y dones)
+    × Round u start (state_of y dones) (i + 1)) (sym same) (
       n.0,
       n.1,
-      subst (λ (ts : List ℕ). Turns ts start (state_of y n.0))
+      subst (λ (ts : List ℕ). Turns x.terms ts start (state_of y n.0))
           (sym (range_push 0 i i (omega arith)))
-          (run_on (range_with_len 0 i) i start (state_of x r.0) (state_of y n.0) r.2 once),
-      round_more sums start (state_of x r.0) (state_of y n.0) i r.3 once,
+          (run_on x.terms (range_with_len 0 i) i start (state_of x r.0) (state_of y n.0) r.2 once),
+      round_more sums x.terms start (state_of x r.0) (state_of y n.0) i r.3 once,
     )
 
 -- ---- turns after turns
 
 pub plays_none : (x : Playing) → CanGoOn x → Plays [] x x
-plays_none x can = record { pages = refl; can = can; goes = λ dones kept. (dones, kept, refl) }
+plays_none x can = record { same = refl; can = can; goes = λ dones kept. (dones, kept, refl) }
 
 pub plays_on : (xs ys : List ℕ) (x y z : Playing) → Plays xs x y → Plays ys y z
     → Plays (xs ++ ys) x z
 plays_on xs ys x y z first then = record {
-  pages = then.pages ∙ first.pages;
+  same = then.same ∙ first.same;
   can = then.can;
   goes = λ dones kept.
       let f = first.goes dones kept in
-      let t = then.goes f.0 f.1 in
-      (t.0, t.1, run_both xs ys (state_of x dones) (state_of y f.0) (state_of z t.0) f.2 t.2);
+      let t = then.goes f.0 f.1 in (
+        t.0,
+        t.1,
+        run_both x.terms xs ys (state_of x dones) (state_of y f.0) (state_of z t.0) f.2
+            (subst (λ (u : Terms). Turns u ys (state_of y f.0) (state_of z t.0)) first.same t.2),
+      );
 }
 
 -- one turn
-pub plays_once : (a : ℕ) (x y : Playing) (t : WasTurn) → y.size ≡ x.size → CanGoOn y
+pub plays_once : (a : ℕ) (x y : Playing) (t : WasTurn) → y.terms ≡ x.terms → CanGoOn y
     → ((dones : List (List Done)) → AreKept x.workers dones → TurnsOnce a x y t dones)
     → Plays (a ∷ []) x y
-plays_once a x y t pages can turn = record {
-  pages = pages;
+plays_once a x y t same can turn = record {
+  same = same;
   can = can;
   goes = λ dones kept. let n = turn dones kept in
-      (n.0, n.1, (state_of y n.0, one_turn a _ _ t n.2, refl));
+      (n.0, n.1, (state_of y n.0, one_turn x.terms a _ _ t n.2, refl));
 }
 
 rounds_push : (n r : ℕ) → rounds_of n r ++ range_with_len 0 n ≡ rounds_of n (suc r)
@@ -358,24 +233,24 @@ turns_append (x ∷ xs) t = ap (λ (ys : List ℕ). replicate x.times x.actor ++
     ∙ sym (append_assoc (replicate x.times x.actor) (turns_of xs) (replicate t.times t.actor))
 
 -- after a turn that changes nothing, more turns of that actor change nothing
-idle : (k a : ℕ) (w n : State DiskHeld) (t : WasTurn) → t ≢ turn.Went → TurnIs a w n t
-    → Turns (replicate k a) w n
-idle k a w n turn.Went not is = absurd (not refl)
-idle zero a w n (turn.Waited m) not is = is.4
-idle zero a w n turn.Finished not is = is.3
-idle (suc k) a w n (turn.Waited m) not is =
-    (w, missed is.0 m is.1 is.2 is.3 refl, idle k a w n (turn.Waited m) not is)
-idle (suc k) a w n turn.Finished not is =
-    (w, finished is.0 is.1 is.2 refl, idle k a w n turn.Finished not is)
+idle : (u : Terms) (k a : ℕ) (w n : State DiskHeld) (t : WasTurn) → t ≢ turn.Went → TurnIs u a w n t
+    → Turns u (replicate k a) w n
+idle u k a w n turn.Went not is = absurd (not refl)
+idle u zero a w n (turn.Waited m) not is = is.4
+idle u zero a w n turn.Finished not is = is.3
+idle u (suc k) a w n (turn.Waited m) not is =
+    (w, missed is.0 m is.1 is.2 is.3 refl, idle u k a w n (turn.Waited m) not is)
+idle u (suc k) a w n turn.Finished not is =
+    (w, one_turn u a w w turn.Finished (is.0, is.1, is.2, refl), idle u k a w n turn.Finished not is)
 
-pub plays_idle : (k a : ℕ) (x y : Playing) (t : WasTurn) → t ≢ turn.Went → y.size ≡ x.size
+pub plays_idle : (k a : ℕ) (x y : Playing) (t : WasTurn) → t ≢ turn.Went → y.terms ≡ x.terms
     → CanGoOn y
     → ((dones : List (List Done)) → AreKept x.workers dones → TurnsOnce a x y t dones)
     → Plays (replicate k a) x y
-plays_idle k a x y t not pages can once = record {
-  pages = pages;
+plays_idle k a x y t not same can once = record {
+  same = same;
   can = can;
-  goes = λ dones kept. let n = once dones kept in (n.0, n.1, idle k a _ _ t not n.2);
+  goes = λ dones kept. let n = once dones kept in (n.0, n.1, idle x.terms k a _ _ t not n.2);
 }
 
 module _ (x y z : Playing) where
@@ -429,23 +304,24 @@ module _ (x y z : Playing) where
 -- ---- what turns keep
 
 module _ (xs : List ℕ) (x y : Playing) (ops : y.actors ≡ x.actors) (plays : Plays xs x y) where
-  pub plays_joint : TurnKeepsJoint → (g : Given) → HasJoint g x → HasJoint g y
-  plays_joint keeps g j = let n = plays.goes j.dones j.kept in record {
-    pages = j.pages ∙ sym plays.pages;
-    ops = j.ops ∙ sym ops;
+  pub plays_rule : TurnKeepsRule → (g : Begin) → HasRule g x → HasRule g y
+  plays_rule keeps g j = let n = plays.goes j.dones j.kept in record {
+    of = of_on x y plays.same ops g j.of;
     dones = n.0;
     kept = n.1;
-    joint = joint_run keeps g xs (state_of x j.dones) (state_of y n.0) j.joint n.2;
+    rule = rule_run keeps g j.of.proper xs (state_of x j.dones) (state_of y n.0) j.rule
+        (subst (λ (u : Terms). Turns u xs (state_of x j.dones) (state_of y n.0)) (sym j.of.goes_by)
+        n.2);
   }
 
   pub plays_reached : (start : State DiskHeld) → IsReachedFrom start x → IsReachedFrom start y
   plays_reached start r = let n = plays.goes r.dones r.kept in record {
     dones = n.0;
     kept = n.1;
-    reached = (
+    reached = subst (λ (u : Terms). IsReached u start (state_of y n.0)) (sym plays.same) (
       r.reached.0
           ++ xs,
-      run_both r.reached.0 xs start (state_of x r.dones) (state_of y n.0) r.reached.1 n.2,
+      run_both x.terms r.reached.0 xs start (state_of x r.dones) (state_of y n.0) r.reached.1 n.2,
     );
   }
 
@@ -455,4 +331,4 @@ pub runs_out : (x y : Playing) (turns : List ℕ) (rounds : ℕ)
     → (dones : List (List Done)) → AreKept x.workers dones → RunsOut turns x y dones
 runs_out x y turns rounds plays over dones kept =
     let n = plays.goes dones kept in
-    (rounds, n.0, n.1, n.2, all_finished y.size y.actors y.cells y.workers n.0 over)
+    (rounds, n.0, n.1, n.2, all_finished y.terms y.actors y.cells y.workers n.0 over)

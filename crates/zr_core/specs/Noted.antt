@@ -1,11 +1,10 @@
 -- The pages that have an order, as a list, so that no other page need be looked at.
-use Rattle.std.specs.Prelude.{◌≡◌, ℕ, ◌<◌, Bool, true, false, ◌==◌, ◌||◌, List, [], ◌∷◌, get_or, Option, None, ⊤}
+use Rattle.std.specs.Prelude.{◌≡◌, ℕ, ◌<◌, Bool, true, false, ◌==◌, ◌||◌, List, [], ◌∷◌, Option, ⊤}
 use Rattle.std.specs.List.{AllByRecursion}
 use Rattle.zr_base.specs.declared.op.Op.{Op}
-use Rattle.zr_base.specs.declared.op.Tag.{Tag}
-use Rattle.zr_core.specs.Steps.{DiskHeld}
-use Rattle.zr_core.specs.Machines.{order_in}
-use Rattle.zr_core.specs.Preparing.{count_at, pieces_each}
+use Rattle.page_steps.specs.Steps.{DiskHeld}
+use Rattle.actor_steps.specs.Counts.{count_at, pieces_each}
+use Rattle.zr_core.specs.Machines.{order_at}
 
 -- whether a page is in a list
 abbrev pub is_in : List ℕ → ℕ → Bool
@@ -16,10 +15,6 @@ is_in (p ∷ ps) page = p == page || is_in ps page
 abbrev pub IsRising : List ℕ → Type 0
 IsRising [] = ⊤
 IsRising (p ∷ ps) = AllByRecursion (λ q. p < q) ps × IsRising ps
-
--- the order of a page that is at home
-abbrev pub order_at : List (Option DiskHeld) → ℕ → List Tag
-order_at cells page = order_in (get_or cells page None)
 
 -- The list has pages of the disk, in rising order.
 pub record ArePages (pages : ℕ) (noted : List ℕ) : Type 0 where

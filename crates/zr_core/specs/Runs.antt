@@ -1,5 +1,5 @@
 -- Runs of a world, and the events that are left.
-use Rattle.std.specs.Prelude.{◌≡◌, ◌≢◌, ◌⊎◌, ℕ, ◌+◌, ◌*◌, ◌<◌, ◌≤◌, List, [], ◌∷◌, ◌++◌, length, map, replicate, Option, Some, slice_get}
+use Rattle.std.specs.Prelude.{◌≡◌, ◌⊎◌, ◌≢◌, ℕ, ◌+◌, ◌*◌, ◌<◌, ◌≤◌, List, [], ◌∷◌, ◌++◌, length, map, replicate, Option, Some, slice_get}
 use Rattle.std.specs.List.{flat_map, range_with_len}
 use Rattle.zr_base.specs.declared.op.Op.{Op}
 use Rattle.zr_base.specs.declared.op.Turns.{Turns}
@@ -7,12 +7,12 @@ use Rattle.call_history.specs.declared.part.Part.{Part}
 use Rattle.call_history.specs.declared.part.Done.{Done}
 use Rattle.lock_row.specs.declared.names.LockNo.{LockNo}
 use Rattle.lock_row.specs.declared.names.At.{At}
-use Rattle.lock_row.specs.declared.names.At.TheVariants.{Start, Entered}
+use Rattle.lock_row.specs.declared.names.At.TheVariants.{Start, Refusing, Seen, Pinning, Pinned, Unpinning, Leaving, Wanting, Inside, Both, Made, Old, Freeing, Owing, Giving, Ready}
 use Rattle.lock_row.specs.declared.names.Plan.TheVariants.{Finished, Take}
 use Rattle.lock_row.specs.declared.names.State.{State}
 use Rattle.lock_row.specs.Totals.{locals_sum}
-use Rattle.zr_core.specs.declared.worker.Worker.{Worker}
-use Rattle.zr_core.specs.Steps.{DiskHeld, Here, spot, plan}
+use Rattle.page_steps.specs.Steps.{Terms, DiskHeld, Here, spot, plan}
+use Rattle.actor_steps.specs.declared.worker.Worker.{Worker}
 use Rattle.zr_core.specs.Machines.{Turns as Makes, rounds_of, AllFinished}
 use Rattle.zr_core.specs.States.{heres, AreKept, Playing, state_of, CanGoOn}
 
@@ -23,17 +23,18 @@ turns_of schedule = flat_map (λ t. replicate t.times t.actor) schedule
 -- these turns lead from the state that was to one that is, whatever was over before
 abbrev pub GoesBy : List ℕ → Playing → Playing → List (List Done) → Type 0
 GoesBy turns x y dones = (dones' : List (List Done)) × AreKept y.workers dones'
-    × Makes turns (state_of x dones) (state_of y dones')
+    × Makes x.terms turns (state_of x dones) (state_of y dones')
 
 -- the schedule's turns, and then rounds until all actors are finished
 abbrev pub RunsOut : List ℕ → Playing → Playing → List (List Done) → Type 0
 RunsOut turns x y dones = (rounds : ℕ) × (dones' : List (List Done)) × AreKept y.workers dones'
-    × Makes (turns ++ rounds_of (length x.actors) rounds) (state_of x dones) (state_of y dones')
+    × Makes x.terms (turns ++ rounds_of (length x.actors) rounds) (state_of x dones)
+    (state_of y dones')
     × AllFinished (state_of y dones')
 
 -- The phase goes on by these turns, and can go on.
 pub record Plays (turns : List ℕ) (x y : Playing) : Type 0 where
-  pub pages : y.size ≡ x.size
+  pub same : y.terms ≡ x.terms
   pub can : CanGoOn y
   pub goes : (dones : List (List Done)) → AreKept x.workers dones → GoesBy turns x y dones
 
@@ -51,13 +52,31 @@ abbrev pub AllOver : List (List Op) → List Worker → Type 0
 AllOver actors ws = (a : ℕ) (ops : List Op) (w : Worker) → slice_get actors a ≡ Some ops
     → slice_get ws a ≡ Some w → length ops ≤ w.place.nr
 
--- the events that are left: two for each piece, and one less where its slot is taken
+-- the most events that a piece at a stage has left
+abbrev pub stage_left : At → ℕ
+stage_left Start = 12
+stage_left Seen = 11
+stage_left Pinning = 10
+stage_left Wanting = 9
+stage_left Inside = 8
+stage_left Both = 7
+stage_left Made = 6
+stage_left Old = 5
+stage_left Freeing = 4
+stage_left Owing = 3
+stage_left Pinned = 3
+stage_left Giving = 2
+stage_left Unpinning = 2
+stage_left Ready = 1
+stage_left Leaving = 1
+stage_left Refusing = 1
+
+-- the most events that are left: those of the piece in work, and twelve for each later one
 abbrev pub left_at : List Part → At → ℕ
 left_at [] at = 0
-left_at (p ∷ ps) Start = 2 + 2 * length ps
-left_at (p ∷ ps) Entered = 1 + 2 * length ps
+left_at (p ∷ ps) at = stage_left at + 12 * length ps
 
--- the events that an actor has left
+-- those that an actor has left
 abbrev pub left_by : Here → ℕ
 left_by l = left_at l.todo l.at
 
@@ -70,21 +89,23 @@ abbrev pub nothing_over : List Worker → List (List Done)
 nothing_over ws = map (λ w. []) ws
 
 -- the events that workers have left, whatever is over
-abbrev pub left_of : ℕ → List (List Op) → List Worker → ℕ
-left_of size actors ws = locals_sum left_by (heres size actors ws (nothing_over ws))
+abbrev pub left_of : Playing → ℕ
+left_of x = locals_sum left_by (heres x.terms x.actors x.workers (nothing_over x.workers))
 
 -- the next turn of this actor is an event
-abbrev pub IsFree : State DiskHeld → ℕ → Type 0
-IsFree w a = (l : Here) × (slice_get w.locals a ≡ Some l) × (plan l ≢ Finished)
-    × ((k : LockNo) → plan l ≡ Take k → (v : DiskHeld) × (slice_get w.row (spot k) ≡ Some (Some v)))
+abbrev pub IsFree : Terms → State DiskHeld → ℕ → Type 0
+IsFree t w a = (l : Here) × (slice_get w.locals a ≡ Some l) × (plan t l ≢ Finished)
+    × ((k : LockNo) → plan t l ≡ Take k
+    → (v : DiskHeld) × (slice_get w.row (spot t.size k) ≡ Some (Some v)))
 
 -- in a round so far, up to the actor i: fewer events are left, or nothing happened and no actor
 -- below i was free
-abbrev pub Round : State DiskHeld → State DiskHeld → ℕ → Type 0
-Round start now i = (all_left now < all_left start)
-    ⊎ ((now ≡ start) × ((f : ℕ) → IsFree start f → i ≤ f))
+abbrev pub Round : Terms → State DiskHeld → State DiskHeld → ℕ → Type 0
+Round t start now i = (all_left now < all_left start)
+    ⊎ ((now ≡ start) × ((f : ℕ) → IsFree t start f → i ≤ f))
 
 -- a round has come to the actor i
 abbrev pub RoundTo : State DiskHeld → Playing → ℕ → Type 0
 RoundTo start x i = (dones : List (List Done)) × AreKept x.workers dones
-    × Makes (range_with_len 0 i) start (state_of x dones) × Round start (state_of x dones) i
+    × Makes x.terms (range_with_len 0 i) start (state_of x dones)
+    × Round x.terms start (state_of x dones) i

@@ -1,19 +1,19 @@
-//! The disk and its actors: phases by turns, the joint rule, and what a phase prints.
+//! The disk and its actors: phases by turns, the joint rule, what a phase prints, and statistics.
 #![tactic(auto)]
 
 mod disk;
-mod laws;
+mod limits;
 mod phase;
-mod place;
 mod prepare;
-mod work;
-mod worker;
+mod row;
+mod stats;
 mod world;
 
+pub use actor_steps::Turn;
 pub use disk::World;
-pub use laws::{phases_are_legal, turns_keep};
+pub use limits::MOST_CHAIN;
+pub use page_steps::DiskHeld;
 pub use phase::Phase;
-pub use worker::{DiskHeld, Turn};
 
 #[cfg(test)]
 mod tests;

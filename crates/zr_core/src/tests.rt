@@ -12,8 +12,12 @@ use zr_base::{ActorOps, Op, PageIx, Stuff, Turns};
 fn makes_a_disk(rt: HostRuntime) -> Result<(), Fail> {
     let mut world = World::new(rt.alloc());
     assert_eq!(rt; world.pages(), 0);
+    world.set_limit(3);
+    assert_eq!(rt; world.mm_stat().limit, 12288);
     world.set_disk(2)?;
     assert_eq!(rt; world.pages(), 2);
+    assert_eq!(rt; world.mm_stat().limit, 12288);
+    assert_eq!(rt; world.class_stat(71), None);
     assert!(rt; world.entry(PageIx(1)).order().is_empty());
     Ok(())
 }
@@ -44,7 +48,7 @@ fn runs_two_actors(rt: HostRuntime) -> Result<(), Fail> {
     let mut ops = Vec::new(rt.alloc());
     ops.push(operations(rt.alloc(), write)?)?;
     ops.push(operations(rt.alloc(), read)?)?;
-    let mut phase = world.prepare(&ops)?;
+    let mut phase = world.prepare(&ops, 0)?;
     assert_eq!(rt; world.step(&mut phase, &ops, 0), Turn::Went);
     assert_eq!(rt;
         world.step(&mut phase, &ops, 1),
@@ -53,5 +57,6 @@ fn runs_two_actors(rt: HostRuntime) -> Result<(), Fail> {
     let turns = Turns { actor: 0, times: 1 };
     world.run(&mut phase, &ops, &[turns]);
     assert_eq!(rt; world.step(&mut phase, &ops, 1), Turn::Finished);
+    assert_eq!(rt; world.mm_stat().same, 2);
     Ok(())
 }

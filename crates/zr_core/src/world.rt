@@ -1,79 +1,98 @@
-//! The world of a disk: its row of entries, which the actors of a phase work on by turns.
+//! The world of a disk: its row of locks, on whose values the actors of a phase work by turns.
 //!
 //! `prepare` sets a phase up; its workers then stand before their first turns, and the row and they
-//! are the
-//! phase's start. `step` makes one turn of one actor, and `run` all turns of a schedule and then
-//! rounds until all
-//! actors are finished. Between any two turns the phase can go on (`CanGoOn`): each worker is fit
-//! for its
-//! operations, and the joint rule holds for the phase's start. Each call says so for every start
-//! that the rule
-//! holds for, and of every start from which the state is reached.
+//! are the phase's start. `step` makes one turn of one actor, and `run` all turns of a schedule and
+//! then rounds until all actors are finished. Between any two turns the phase can go on (`CanGoOn`):
+//! each worker is fit for its operations, and the joint rule holds. Each call says so for every
+//! phase's beginning for which the rule holds, and of every start from which the state is reached.
 
-ghost use Rattle.std.specs.Prelude.{◌≡◌, ℕ, ◌*◌, ◌<◌, ◌≤◌, ◌++◌, length, vec_len, replicate, slice_get, Some, IfOk, OnErr};
+ghost use Rattle.std.specs.Prelude.{◌≡◌, ℕ, ◌<◌, ◌≤◌, ◌++◌, [], length, vec_len, replicate, slice_get, Some, IfOk, OnErr};
 ghost use Rattle.std.specs.Bool.{OnTrue, OnFalse};
 ghost use Rattle.std.specs.List.{range_with_len};
 ghost use Rattle.zr_base.specs.declared.limits.TheConstants.{MOST_ACTORS};
-ghost use Rattle.plain_disk.specs.Phases.{IsPhase};
-ghost use Rattle.zr_core.specs.Machines.{rounds_of, sector_in, PhaseSteps};
-ghost use Rattle.zr_core.specs.Places.{IsWork};
-ghost use Rattle.zr_core.specs.Playing.{playing, lines_shown};
+ghost use Rattle.actor_steps.specs.Places.{IsWork};
+ghost use Rattle.joint_rule.specs.Begins.{Begin};
+ghost use Rattle.zr_core.specs.Machines.{rounds_of, KeepsValues, PhaseSteps};
+ghost use Rattle.zr_core.specs.Playing.{playing, lines_shown, HasEndedAs};
+ghost use Rattle.zr_core.specs.Rests.{IsAtRest, RestsAs, begun};
 ghost use Rattle.zr_core.specs.Runs.{turns_of, Plays, RunsOut, IsBusy, AllOver, left_of};
-ghost use Rattle.zr_core.specs.States.{given_on, IsAtRest, IsPrepared, AreKept, CanGoOn, HasJoint, IsReachedFrom, TurnsOnce};
+ghost use Rattle.zr_core.specs.States.{AreKept, CanGoOn, HasRule, IsPrepared, IsReachedFrom, IsSetUpOn, TurnsOnce};
 
 use crate::disk::World;
-use crate::laws::{phases_are_legal, turns_keep};
+use crate::limits::MOST_CHAIN;
 use crate::phase::Phase;
-use crate::prepare::{count_pieces, new_workers, noted_pages, reserve_all};
-use crate::worker::{DiskHeld, Turn};
-use lock_row::sums_move;
+use crate::prepare::{noted_pages, reserve_all};
+use actor_steps::{Turn, count_pieces, new_workers};
+use joint_rule::{
+    disks_begin, locks_are_of_the_disk, phases_go_on, rule_keeps, turns_go_on, values_fit,
+};
+use lock_row::{names_have_places, sums_move};
+use page_steps::DiskHeld;
 use std::alloc::AllocError;
 use zr_base::{ActorOps, Turns};
 
 impl World {
-    /// Sets a phase up: empties the orders, makes their room for the phase's calls, and takes the
-    /// memory for what its reads will tell. On Err the contents are as before, and the orders are
-    /// unspecified until a call that succeeds.
-    pub fn prepare(&mut self, actors: &[ActorOps]) -> Result<Phase, AllocError>
+    /// Sets a phase up, at this time: empties the orders, makes their room for the phase's calls, and
+    /// takes the memory for what its reads will tell. On Err every order is unspecified until a call
+    /// that succeeds, and all else is as before.
+    pub fn prepare(&mut self, actors: &[ActorOps], now: u64) -> Result<Phase, AllocError>
         requires rest { IsAtRest self.old.pages self.old.noted.items self.old.row.cells }
         requires work { IsWork actors.now }
+        requires none { self.old.pages ≡ 0 → actors.now ≡ [] }
         ensures pages { self.new.pages ≡ self.old.pages }
+        ensures limit { self.new.limit ≡ self.old.limit }
+        ensures clock { IfOk result (λ phase. phase.clock ≡ now) }
         ensures can { IfOk result (λ phase. CanGoOn (playing self.new phase actors.now)) }
-        ensures start { IfOk result (λ phase. IsPrepared (given_on self.old.pages actors.now self.old.row.cells)
-            self.new.row.cells phase.workers.items) }
+        ensures set_up { IfOk result (λ phase. IsSetUpOn self.old.row.cells (playing self.new phase actors.now)) }
+
+        // What the phase begins with is the disk as it rests, whatever it is known as.
+        ensures start { IfOk result (λ phase. (g : Begin) → RestsAs g self.old.pages self.old.row.cells
+            → IsPrepared (begun g actors.now now) (playing self.new phase actors.now)) }
         ensures rest { OnErr result (IsAtRest self.new.pages self.new.noted.items self.new.row.cells) }
-        ensures contents { OnErr result ((s : ℕ) → s < 8 * self.old.pages
-            → sector_in self.new.row.cells s ≡ sector_in self.old.row.cells s) }
+        ensures same { OnErr result (KeepsValues self.old.row.cells self.new.row.cells) }
+        ensures rests_as { OnErr result ((g : Begin) → RestsAs g self.old.pages self.old.row.cells
+            → RestsAs g self.new.pages self.new.row.cells) }
     {
-        turns_keep();
+        rule_keeps();
+        phases_go_on();
+        disks_begin();
         let counts = count_pieces(self.alloc, self.pages, actors)?;
-        let workers = new_workers(self.alloc, self.pages, actors)?;
+        let workers = new_workers(self.alloc, self.pages, MOST_CHAIN, actors)?;
         let noted = noted_pages(self.alloc, self.pages, &counts)?;
         reserve_all(&mut self.row, self.pages, &counts, &self.noted, &noted)?;
         self.noted = noted;
-        Ok(Phase { workers })
+        Ok(Phase {
+            clock: now,
+            workers,
+        })
     }
 
     /// One turn of an actor.
     pub fn step(&mut self, phase: &mut Phase, actors: &[ActorOps], actor: u32) -> Turn
         requires actor { actor < length actors.now }
         requires can { CanGoOn (playing self.old phase.old actors.now) }
-        ensures pages { self.new.pages ≡ self.old.pages }
+        ensures same { (playing self.new phase.new actors.now).terms ≡ (playing self.old phase.old actors.now).terms }
         ensures can { CanGoOn (playing self.new phase.new actors.now) }
         ensures turn { (dones : _) → AreKept phase.old.workers.items dones
             → TurnsOnce actor (playing self.old phase.old actors.now) (playing self.new phase.new actors.now) result dones }
-
-        // For the same start.
-        ensures joint { (g : _) → HasJoint g (playing self.old phase.old actors.now)
-            → HasJoint g (playing self.new phase.new actors.now) }
+        ensures rule { (g : Begin) → HasRule g (playing self.old phase.old actors.now)
+            → HasRule g (playing self.new phase.new actors.now) }
         ensures reached { (start : _) → IsReachedFrom start (playing self.old phase.old actors.now)
             → IsReachedFrom start (playing self.new phase.new actors.now) }
     {
-        turns_keep();
-        sums_move::<DiskHeld>();
+        rule_keeps();
+        values_fit();
+        locks_are_of_the_disk();
+        names_have_places();
+        let now = phase.clock;
         let worker = &mut phase.workers[actor as usize];
         let mut hand = self.row.hand(actor);
-        worker.advance(self.pages, actors[actor as usize].as_slice(), &mut hand)
+        worker.advance(
+            self.pages,
+            now,
+            actors[actor as usize].as_slice(),
+            &mut hand,
+        )
     }
 
     // Whether some actor of the phase isn't finished.
@@ -97,9 +116,10 @@ impl World {
         ensures plays { Plays (range_with_len 0 (length actors.now)) (playing self.old phase.old actors.now)
             (playing self.new phase.new actors.now) }
         ensures falls { IsBusy actors.now phase.old.workers.items
-            → left_of self.new.pages actors.now phase.new.workers.items
-            < left_of self.old.pages actors.now phase.old.workers.items }
+            → left_of (playing self.new phase.new actors.now)
+            < left_of (playing self.old phase.old actors.now) }
     {
+        turns_go_on();
         sums_move::<DiskHeld>();
         for actor in 0..actors.len() as u32 {
             let _turn = self.step(phase, actors, actor);
@@ -154,30 +174,29 @@ impl World {
         requires few { length actors.now ≤ MOST_ACTORS }
         requires actors { (k : ℕ) (t : _) → slice_get schedule.now k ≡ Some t → t.actor < length actors.now }
         requires can { CanGoOn (playing self.old phase.old actors.now) }
-        ensures pages { self.new.pages ≡ self.old.pages }
+        ensures same { (playing self.new phase.new actors.now).terms ≡ (playing self.old phase.old actors.now).terms }
         ensures can { CanGoOn (playing self.new phase.new actors.now) }
         ensures runs { (dones : _) → AreKept phase.old.workers.items dones
             → RunsOut (turns_of schedule.now) (playing self.old phase.old actors.now)
             (playing self.new phase.new actors.now) dones }
         ensures over { AllOver actors.now phase.new.workers.items }
         ensures rest { IsAtRest self.new.pages self.new.noted.items self.new.row.cells }
-
-        // For the same start.
-        ensures joint { (g : _) → HasJoint g (playing self.old phase.old actors.now)
-            → HasJoint g (playing self.new phase.new actors.now) }
+        ensures rule { (g : Begin) → HasRule g (playing self.old phase.old actors.now)
+            → HasRule g (playing self.new phase.new actors.now) }
         ensures reached { (start : _) → IsReachedFrom start (playing self.old phase.old actors.now)
             → IsReachedFrom start (playing self.new phase.new actors.now) }
 
-        // What the phase prints is what the machine's run and the plain disk have.
-        ensures steps { (g : _) → g.size ≡ self.old.pages → g.actors ≡ actors.now
-            → IsPrepared g self.old.row.cells phase.old.workers.items
-            → (rounds : ℕ) × PhaseSteps g (turns_of schedule.now ++ rounds_of (length actors.now) rounds)
+        // From the phase's start: what it prints is what the machine's run does.
+        ensures steps { (before : _) → IsSetUpOn before (playing self.old phase.old actors.now)
+            → (rounds : ℕ) × PhaseSteps (playing self.old phase.old actors.now).terms actors.now before
+            (turns_of schedule.now ++ rounds_of (length actors.now) rounds)
             (lines_shown (playing self.new phase.new actors.now)) self.new.row.cells }
-        ensures legal { (g : _) → HasJoint g (playing self.old phase.old actors.now)
-            → IsPhase g (lines_shown (playing self.new phase.new actors.now)) (sector_in self.new.row.cells) }
+        ensures ended { (g : Begin) → HasRule g (playing self.old phase.old actors.now)
+            → HasEndedAs g (playing self.new phase.new actors.now) }
     {
-        turns_keep();
-        phases_are_legal();
+        rule_keeps();
+        phases_go_on();
+        disks_begin();
         self.play(phase, actors, schedule);
         self.finish(phase, actors);
     }

@@ -10,7 +10,8 @@ syntax match zramsimError /[^ \t\r#]\+/
 " a line's first word, and what may stand behind it
 syntax match zramsimActor /^[ \t]*\zsactor\ze[ \t\r]*\(#.*\)\?$/
 syntax match zramsimRun /^[ \t]*\zsrun\ze[ \t\r]*\(#.*\)\?$/
-syntax match zramsimAttribute /^[ \t]*\zsdisksize\ze[ \t]/ nextgroup=zramsimSize skipwhite
+syntax match zramsimAttribute /^[ \t]*\zs\(disksize\|mem_limit\)\ze[ \t]/ nextgroup=zramsimSize skipwhite
+syntax match zramsimReport /^[ \t]*\zs\(mm_stat\|io_stat\|states\|classes\)\ze[ \t\r]*\(#.*\)\?$/
 syntax match zramsimOperation /^[ \t]*\zswrite\ze[ \t]/ nextgroup=zramsimWriteStart skipwhite
 syntax match zramsimOperation /^[ \t]*\zs\(read\|discard\)\ze[ \t]/ nextgroup=zramsimStart skipwhite
 syntax match zramsimSchedule /^[ \t]*\zsschedule\ze[ \t]/ nextgroup=zramsimTurn skipwhite
@@ -33,6 +34,7 @@ syntax match zramsimComment /#.*$/ contains=@Spell
 
 highlight default link zramsimComment Comment
 highlight default link zramsimAttribute PreProc
+highlight default link zramsimReport PreProc
 highlight default link zramsimActor Structure
 highlight default link zramsimRun Structure
 highlight default link zramsimOperation Statement

@@ -1,5 +1,10 @@
-use Rattle.call_history.proofs.Phases.{is_phase}
+use Rattle.call_history.proofs.Phases.{is_phase, stats_are}
 use Rattle.call_history.proofs.laws.histories_tell.Goals as goal
 
-pub returns : goal.returns
-returns c g dones orders after some agree held = is_phase g dones orders some agree after held
+pub returns-clause-phase : goal.returns-clause-phase
+returns-clause-phase c form r actors dones orders k m some agree told =
+    is_phase form r actors dones orders some agree k m told
+
+pub returns-clause-account : goal.returns-clause-account
+returns-clause-account c form r actors dones orders k m told =
+    stats_are form r actors dones orders k m told

@@ -1,8 +1,22 @@
-use Rattle.job_session.proofs.Jobs.{legal_by}
+use Rattle.job_session.proofs.Legal.{Laws, legal_by}
 use Rattle.job_session.proofs.laws.jobs_are_legal.Goals as goal
 
 pub returns : goal.returns
-returns c = record {
-  legal = λ u d job turns lines last may s. legal_by c.phases_are_legal.ensures.steps u job d turns
-      lines last may s;
-}
+returns c =
+    let laws : Laws = record {
+      starts = c.rule_keeps.ensures.start;
+      reached = c.rule_keeps.ensures.reached;
+      begin = c.phases_begin.ensures.start;
+      proper = c.phases_begin.ensures.proper;
+      prints = c.phases_end.ensures.prints;
+      leaves = c.phases_end.ensures.leaves;
+      new = c.disks_begin.ensures;
+      limits = c.rows_stand.ensures.limit;
+      reports = c.rows_print.ensures.reports;
+      account = c.rows_print.ensures.account;
+      nothing = c.rows_print.ensures.nothing;
+    } in
+    record {
+      legal = λ u r d job turns lines last may bare s steps. legal_by laws u job r d turns lines last
+          may bare s steps;
+    }

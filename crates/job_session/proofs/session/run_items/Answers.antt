@@ -1,11 +1,11 @@
-use Rattle.std.proofs.Common.{◌≡◌, ℕ, ◌+◌, ◌<◌, List, [], ◌∷◌, ◌++◌, length, get_or, take, drop, Ok, Err, sym, ap, ◌∙◌, subst, append_assoc}
+use Rattle.std.proofs.Common.{◌≡◌, ℕ, ◌+◌, ◌<◌, List, [], ◌∷◌, ◌++◌, length, get_or, take, drop, Ok, Err, refl, sym, ap, ◌∙◌, subst, append_assoc}
 use Rattle.std.proofs.lemmas.List.{take-append-drop, take_more, drop_more}
 use Rattle.std.proofs.lemmas.Result.{err_from_is_err_and}
 use Rattle.job_text.specs.declared.job.Item.{Item}
 use Rattle.job_text.specs.Jobs.{nothing_used}
 use Rattle.job_session.specs.Stepped.{Disk, disk_of, without_pages}
 use Rattle.job_session.specs.Telling.{MayStand, ItemsTold}
-use Rattle.job_session.proofs.Jobs.{items_none, items_more, items_cut, phase_size}
+use Rattle.job_session.proofs.Jobs.{items_none, items_more, items_cut, item_keeps}
 use Rattle.job_session.proofs.Lawful.{stand_first, stand_on}
 use Rattle.job_session.proofs.session.run_items.Goals as goal
 
@@ -14,10 +14,16 @@ loop-item-init g c = record {
   told = subst (λ (x : Disk). ItemsTold without_pages [] x c.args.out.now c.args.out.now (Ok tt))
       (λ i. record {
         size = sym c.new-world.ensures.pages i;
+        limit = sym c.new-world.ensures.limit i;
         row = sym c.new-world.ensures.cells i;
       })
       (items_none without_pages c.args.out.now);
-  may = record { used = nothing_used; bare = λ bare. c.new-world.ensures.pages; may = c.requires };
+  may = record {
+    used = nothing_used;
+    bare = λ bare. c.new-world.ensures.pages;
+    sized = λ none. refl;
+    may = c.requires;
+  };
   rest = c.new-world.ensures.rest;
 }
 
@@ -76,7 +82,7 @@ loop-item-preserved g c =
           c.run_item.new.out (Ok tt)) (sym taken)
           (items_more front (item ∷ []) without_pages d n _ _ _ _ c.loop-item.invariant.told
           c.in_ok-run_item.ensures.item);
-      may = stand_on d.size n.size item back (phase_size d n item _ _ c.in_ok-run_item.ensures.item)
+      may = stand_on d.size n.size item back (item_keeps d n item _ _ c.in_ok-run_item.ensures.item)
           (subst (MayStand c.loop-item.world.pages) left c.loop-item.invariant.may);
       rest = c.in_ok-run_item.ensures.rest;
     }

@@ -1,5 +1,5 @@
 use Rattle.std.proofs.Common.{take, drop, Ok}
-use Rattle.zr_core.specs.States.{IsAtRest}
+use Rattle.zr_core.specs.Rests.{IsAtRest}
 use Rattle.job_session.specs.Stepped.{disk_of, without_pages}
 use Rattle.job_session.specs.Telling.{MayStand, ItemsTold}
 use Rattle.job_session.proofs.session.run_items.Given as goal

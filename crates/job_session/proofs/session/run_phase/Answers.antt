@@ -1,12 +1,12 @@
-use Rattle.std.proofs.Common.{◌≡◌, ℕ, ◌<◌, List, length, Some, slice_get, refl, sym, ◌∙◌, subst}
+use Rattle.std.proofs.Common.{◌≡◌, ℕ, ◌<◌, List, length, Some, slice_get, refl, sym, ap, ◌∙◌, subst}
 use Rattle.std.proofs.lemmas.Result.{err_from_is_err_and}
 use Rattle.zr_base.specs.declared.op.Op.{Op}
 use Rattle.zr_base.specs.declared.op.Turns.{Turns}
-use Rattle.zr_core.specs.Places.{IsWork}
-use Rattle.zr_core.specs.States.{given_on}
+use Rattle.page_steps.specs.Steps.{Terms}
+use Rattle.actor_steps.specs.Places.{IsWork}
 use Rattle.job_session.specs.Stepped.{disk_of}
-use Rattle.job_session.proofs.Jobs.{items_stop, phase_told}
-use Rattle.job_session.proofs.Lawful.{work_by, named}
+use Rattle.job_session.proofs.Jobs.{items_stop, steps_on, phase_told}
+use Rattle.job_session.proofs.Lawful.{work_by, none_without, named}
 use Rattle.job_session.proofs.session.run_phase.Goals as goal
 
 pub prepare-requires-clause-work : goal.prepare-requires-clause-work
@@ -14,6 +14,12 @@ prepare-requires-clause-work g c =
     let may = c.requires.may.may.0 in
     subst IsWork (sym c.as_slice-actors.ensures)
     (work_by _ c.args.text.now.actors may.few_actors may.may_act)
+
+pub prepare-requires-clause-none : goal.prepare-requires-clause-none
+prepare-requires-clause-none g c = λ none.
+    c.as_slice-actors.ensures
+    ∙ none_without c.requires.may.used c.args.text.now.actors c.requires.may.may.0.has_disk
+    (c.requires.may.sized none)
 
 pub returns-in_err-phase-clause-item : goal.returns-in_err-phase-clause-item
 returns-in_err-phase-clause-item g c =
@@ -32,11 +38,14 @@ run-requires-clause-actors g c =
 pub returns-clause-item : goal.returns-clause-item
 returns-clause-item g c =
     let d = disk_of c.args.world.now in
-    let steps = c.run.ensures.steps (given_on d.size c.as_slice-actors.result.now d.row)
-    (sym c.in_ok-phase.ensures.pages) refl c.in_ok-phase.ensures.start in
+    let ready = c.in_ok-phase.ensures in
+    let steps = c.run.ensures.steps d.row ready.set_up in
     phase_told d (disk_of c.run.new.self) c.args.text.now c.as_slice-actors.result.now
     c.as_slice-schedule.result.now
     _ _ c.args.out.now c.tell_phase.new.out c.tell_phase.result
-    c.as_slice-actors.ensures c.as_slice-schedule.ensures (c.run.ensures.pages
-    ∙ c.in_ok-phase.ensures.pages)
-    (steps.0, refl) steps.1 c.tell_phase.ensures
+    c.as_slice-actors.ensures c.as_slice-schedule.ensures
+    (ap (λ (t : Terms). t.size) c.run.ensures.same ∙ ready.pages)
+    (c.run.ensures.limit ∙ ready.limit)
+    (steps.0, refl)
+    (steps_on d _ _ _ _ _ _ ready.pages ready.clock steps.1)
+    c.tell_phase.ensures

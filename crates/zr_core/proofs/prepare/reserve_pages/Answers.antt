@@ -2,7 +2,7 @@ use Rattle.std.proofs.Common.{List, ℕ, take, refl, sym, ◌∙◌, subst}
 use Rattle.std.proofs.lemmas.List.{take_more}
 use Rattle.zr_core.specs.Noted.{is_in}
 use Rattle.zr_core.specs.Preparing.{AreReserved}
-use Rattle.zr_core.proofs.Prepared.{reserved_rest, reserved_none, reserved_more}
+use Rattle.zr_core.proofs.Prepared.{reserved_entries, reserved_none, reserved_more, page_low}
 use Rattle.zr_core.proofs.prepare.reserve_pages.Goals as goal
 
 pub loop-page-init : goal.loop-page-init
@@ -11,9 +11,12 @@ loop-page-init c = record {
   reserved = reserved_none c.args.size c.args.counts.now c.args.row.now.cells c.requires.rest;
 }
 
+pub reserve-requires-clause-names : goal.reserve-requires-clause-names
+reserve-requires-clause-names c = c.loop-page.invariant.names ∙ c.requires.names
+
 pub reserve-requires-clause-rest : goal.reserve-requires-clause-rest
 reserve-requires-clause-rest c =
-    reserved_rest c.args.size _ c.args.counts.now c.args.row.now.cells c.loop-page.row.cells
+    reserved_entries c.args.size _ c.args.counts.now c.args.row.now.cells c.loop-page.row.cells
     c.requires.rest
     c.loop-page.invariant.reserved
 
@@ -22,10 +25,12 @@ loop-page-preserved c = let i = c.loop-page.invariant in record {
   names = c.reserve.ensures.names ∙ i.names;
   reserved = subst
       (λ (xs : List ℕ). AreReserved
-      (is_in xs) c.args.counts.now c.args.row.now.cells c.reserve.new.row.cells)
+      (is_in xs) c.args.counts.now c.args.size c.args.row.now.cells c.reserve.new.row.cells)
       (sym (take_more c.args.pages.now c.loop-page.page-index 0 c.loop-page-test.true))
       (reserved_more c.args.counts.now
-      (take c.loop-page.page-index c.args.pages.now) _ _ c.args.row.now.cells
+      (take c.loop-page.page-index c.args.pages.now) c.args.size _ _
+      (page_low c.args.size c.args.pages.now c.loop-page.page-index 0 c.requires.pages.within
+      c.loop-page-test.true) c.args.row.now.cells
       c.loop-page.row.cells c.reserve.new.row.cells refl i.reserved
       c.in_ok-reserve.ensures.reserved);
 }

@@ -7,5 +7,5 @@ abbrev pub invariant-loop-page : goal.invariant-loop-page
 invariant-loop-page l = record {
   names : l.row.names ≡ l.initial.row.names;
   reserved : AreReserved
-      (is_in (take l.page-index l.pages)) l.counts l.initial.row.cells l.row.cells;
+      (is_in (take l.page-index l.pages)) l.counts l.size l.initial.row.cells l.row.cells;
 }

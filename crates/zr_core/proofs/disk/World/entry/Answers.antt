@@ -1,19 +1,37 @@
-use Rattle.std.proofs.Common.{◌≡◌, Some, None, sym, ap, ◌∙◌}
+use Rattle.std.proofs.Common.{◌≡◌, Some, None, slice_get, sym, ap, ◌∙◌, arith}
 use Rattle.std.specs.Option.{option_copied}
 use Rattle.lock_row.specs.declared.names.Held.TheVariants as holds
-use Rattle.zr_core.proofs.Blank.{value_at}
+use Rattle.lock_row.specs.Rows.{at_home, cell}
+use Rattle.page_steps.specs.Steps.{slot}
+use Rattle.zr_core.proofs.Names.{cell_at, names_some}
 use Rattle.zr_core.proofs.disk.World.entry.Goals as goal
+use Rattle.zr_core.proofs.disk.World.entry.Goals.{After-value}
+
+-- the value of the page's slot
+value_at : (c : After-value)
+    → option_copied c.value.result ≡ Some (holds.Slot c.requires.home.0)
+value_at c = c.value.ensures ∙ ap at_home (cell_at c.args.self.now.pages
+    c.names_have_places.ensures.there (slot c.args.page.0) c.requires.page c.args.self.now.row
+    (c.args.self.now.names ∙ names_some c.args.self.now.pages
+    (let q = c.requires.page in omega arith)) ∙ c.requires.home.1)
 
 pub unreachable-requires : goal.unreachable-requires
 unreachable-requires c =
-    let v = value_at c.args.self.now.row c.args.self.now.pages c.args.page.0 c.args.self.now.slots
-    c.requires.page (Some (holds.Slot c.requires.home.0)) c.requires.home.1 in
+    let v = value_at (goal.at.unreachable-requires c).After-value in
     let none : None ≡ Some (holds.Slot c.requires.home.0) = sym (ap option_copied c.in_default.is)
-    ∙ c.value.ensures ∙ v in cc
+    ∙ v in cc
+
+pub entry_in-requires : goal.entry_in-requires
+entry_in-requires c =
+    let v = value_at (goal.at.entry_in-requires c).After-value in (
+      c.requires.home.0,
+      (let q : Some c.in-Some.value.now ≡ Some (holds.Slot c.requires.home.0) =
+          sym (ap option_copied c.in-Some.is) ∙ v in
+          let r : c.in-Some.value.now ≡ holds.Slot c.requires.home.0 = cc in r),
+    )
 
 pub returns : goal.returns
 returns c =
-    let v = value_at c.args.self.now.row c.args.self.now.pages c.args.page.0 c.args.self.now.slots
-    c.requires.page (Some (holds.Slot c.requires.home.0)) c.requires.home.1 in
-    c.requires.home.1 ∙ ap Some (sym v ∙ sym c.value.ensures ∙ ap option_copied c.in-Some.is
+    let v = value_at (goal.at.returns c).After-value in
+    c.requires.home.1 ∙ ap Some (sym v ∙ ap option_copied c.in-Some.is
     ∙ ap Some c.entry_in.ensures)

@@ -9,4 +9,4 @@ invariant-loop-self l = (rounds : ℕ) × Plays (rounds_of (length l.actors) rou
     (playing l.initial.self l.initial.phase l.actors) (playing l.self l.phase l.actors)
 
 abbrev pub decreases-loop-self : goal.decreases-loop-self
-decreases-loop-self l = left_of l.self.pages l.actors l.phase.workers.items
+decreases-loop-self l = left_of (playing l.self l.phase l.actors)

@@ -1,7 +1,7 @@
 use Rattle.std.proofs.Common.{◌≡◌, ◌<◌, length, Some, slice_get, sym, ap, ◌∙◌, arith}
 use Rattle.std.proofs.lemmas.Bool.{leb-true, leb-false}
 use Rattle.std.proofs.lemmas.Option.{slice_get_within}
-use Rattle.zr_core.proofs.Places.{at_index}
+use Rattle.zr_core.proofs.Lists.{at_index}
 use Rattle.zr_core.proofs.Runs.{more_over}
 use Rattle.zr_core.proofs.disk.World.is_busy.Goals as goal
 use Rattle.zr_core.proofs.disk.World.is_busy.Goals.{After-as_slice}

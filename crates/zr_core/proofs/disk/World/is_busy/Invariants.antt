@@ -1,6 +1,6 @@
 use Rattle.std.proofs.Common.{◌≡◌, ◌<◌, ◌≤◌, ℕ, List, length, Some, slice_get}
 use Rattle.zr_base.specs.declared.op.Op.{Op}
-use Rattle.zr_core.specs.declared.worker.Worker.{Worker}
+use Rattle.actor_steps.specs.declared.worker.Worker.{Worker}
 use Rattle.zr_core.proofs.disk.World.is_busy.Given as goal
 
 abbrev pub invariant-loop-actor : goal.invariant-loop-actor

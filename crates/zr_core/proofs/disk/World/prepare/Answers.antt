@@ -1,40 +1,85 @@
-use Rattle.std.proofs.Common.{ℕ, true, List, sym, subst}
+use Rattle.std.proofs.Common.{◌≡◌, ℕ, true, List, Some, sym, refl, subst}
+use Rattle.page_steps.specs.Steps.{Terms}
+use Rattle.zr_core.specs.declared.limits.TheConstants.{MOST_CHAIN}
 use Rattle.zr_core.specs.Noted.{AreCounted}
 use Rattle.zr_core.specs.Preparing.{AreReserved}
-use Rattle.zr_core.specs.States.{IsAtRest}
 use Rattle.zr_core.proofs.Preparing.{on_err_any}
-use Rattle.zr_core.proofs.Prepared.{prepared, may_go_on, reserved_orders, reserved_holds}
+use Rattle.zr_core.proofs.Prepared.{keeps_same, keeps_values, still_rests, no_entry, set_up_on, prepared, may_go_on}
+use Rattle.zr_core.proofs.Rests.{rests_on}
 use Rattle.zr_core.proofs.disk.World.prepare.Goals as goal
+use Rattle.zr_core.proofs.disk.World.prepare.Goals.{After-reserve_all}
+
+-- ---- want of memory
+
+pub returns-in_err-counts-clause-same : goal.returns-in_err-counts-clause-same
+returns-in_err-counts-clause-same c = on_err_any c.from_residual.result
+    (keeps_same c.args.self.now.row.cells)
+
+pub returns-in_err-workers-clause-same : goal.returns-in_err-workers-clause-same
+returns-in_err-workers-clause-same c = on_err_any c.from_residual-in_err-workers.result
+    (keeps_same c.args.self.now.row.cells)
+
+pub returns-in_err-noted-clause-same : goal.returns-in_err-noted-clause-same
+returns-in_err-noted-clause-same c = on_err_any c.from_residual-in_err-noted.result
+    (keeps_same c.args.self.now.row.cells)
+
+pub returns-in_err-reserve_all-clause-same : goal.returns-in_err-reserve_all-clause-same
+returns-in_err-reserve_all-clause-same c = on_err_any c.from_residual-in_err-reserve_all.result
+    (keeps_values c.args.self.now.pages c.reserve_all.ensures.kept.0 _ c.args.self.now.row.cells
+    c.reserve_all.new.row.cells c.reserve_all.ensures.kept.1)
 
 pub returns-in_err-reserve_all-clause-rest : goal.returns-in_err-reserve_all-clause-rest
 returns-in_err-reserve_all-clause-rest c = on_err_any c.from_residual-in_err-reserve_all.result
-    (reserved_orders c.args.self.now.pages c.reserve_all.ensures.kept.0 _
-    c.args.self.now.noted.items
-    c.args.self.now.row.cells c.reserve_all.new.row.cells c.requires.rest
+    (still_rests c.args.self.now.pages c.args.self.now.noted.items c.args.self.now.row.cells
+    c.reserve_all.new.row.cells c.requires.rest c.reserve_all.ensures.kept.0 _
     c.reserve_all.ensures.kept.1)
 
-pub returns-in_err-reserve_all-clause-contents : goal.returns-in_err-reserve_all-clause-contents
-returns-in_err-reserve_all-clause-contents c = on_err_any c.from_residual-in_err-reserve_all.result
-    (reserved_holds c.args.self.now.pages c.reserve_all.ensures.kept.0 _ c.args.self.now.row.cells
-    c.reserve_all.new.row.cells c.requires.rest.entries c.reserve_all.ensures.kept.1)
+pub returns-in_err-reserve_all-clause-rests_as : goal.returns-in_err-reserve_all-clause-rests_as
+returns-in_err-reserve_all-clause-rests_as c = on_err_any c.from_residual-in_err-reserve_all.result
+    (λ g rests. rests_on g c.args.self.now.pages c.args.self.now.row.cells rests
+    c.reserve_all.new.row.cells
+    (keeps_values c.args.self.now.pages c.reserve_all.ensures.kept.0 _ c.args.self.now.row.cells
+    c.reserve_all.new.row.cells c.reserve_all.ensures.kept.1))
+
+-- ---- the phase that is set up
+
+abbrev terms : After-reserve_all → Terms
+terms c = record { size = c.args.self.now.pages; chain = MOST_CHAIN; clock = c.args.now }
+
+pub returns-clause-set_up : goal.returns-clause-set_up
+returns-clause-set_up c =
+    let a = (goal.at.returns-clause-set_up c).After-reserve_all in
+    set_up_on (terms a) c.args.actors.now c.args.self.now.row.cells c.reserve_all.new.row.cells
+    c.in_ok-workers.workers.items c.in_ok-counts.counts.items c.in_ok-noted.noted.items
+    c.in_ok-workers.ensures c.in_ok-counts.ensures.counted (subst (λ (cs : List ℕ). AreReserved (λ p. true) cs c.args.self.now.pages
+    c.args.self.now.row.cells c.reserve_all.new.row.cells)
+    c.deref-2.ensures.value c.in_ok-reserve_all.ensures.reserved)
+    (no_entry c.args.self.now.pages c.args.self.now.noted.items c.args.self.now.row.cells
+    c.requires.rest)
+
+pub returns-clause-start : goal.returns-clause-start
+returns-clause-start c g rests =
+    let a = (goal.at.returns-clause-start c).After-reserve_all in
+    prepared (terms a) c.args.actors.now c.args.self.now.row.cells c.reserve_all.new.row.cells
+    c.in_ok-workers.workers.items c.in_ok-counts.counts.items c.in_ok-noted.noted.items
+    c.in_ok-workers.ensures c.in_ok-counts.ensures.counted (subst (λ (cs : List ℕ). AreReserved (λ p. true) cs c.args.self.now.pages
+    c.args.self.now.row.cells c.reserve_all.new.row.cells)
+    c.deref-2.ensures.value c.in_ok-reserve_all.ensures.reserved)
+    (no_entry c.args.self.now.pages c.args.self.now.noted.items c.args.self.now.row.cells
+    c.requires.rest)
+    g rests c.requires.work refl c.phases_go_on.ensures.next c.disks_begin.ensures.proper
 
 pub returns-clause-can : goal.returns-clause-can
 returns-clause-can c =
-    may_go_on c.args.self.now.pages c.args.actors.now c.args.self.now.row.cells
-    c.reserve_all.new.row.cells c.in_ok-workers.workers.items c.in_ok-counts.counts.items
-    c.in_ok-workers.ensures c.in_ok-counts.ensures.counted c.requires.rest.entries
-    (subst (λ (cs : List ℕ). AreReserved
-    (λ p. true) cs c.args.self.now.row.cells c.reserve_all.new.row.cells)
+    let a = (goal.at.returns-clause-can c).After-reserve_all in
+    may_go_on (terms a) c.args.actors.now c.args.self.now.row.cells c.reserve_all.new.row.cells
+    c.in_ok-workers.workers.items c.in_ok-counts.counts.items c.in_ok-noted.noted.items
+    c.in_ok-workers.ensures c.in_ok-counts.ensures.counted (subst (λ (cs : List ℕ). AreReserved (λ p. true) cs c.args.self.now.pages
+    c.args.self.now.row.cells c.reserve_all.new.row.cells)
     c.deref-2.ensures.value c.in_ok-reserve_all.ensures.reserved)
-    c.turns_keep.ensures.start c.in_ok-noted.noted.items
+    (no_entry c.args.self.now.pages c.args.self.now.noted.items c.args.self.now.row.cells
+    c.requires.rest)
+    c.args.self.now.noted.items c.requires.rest c.requires.none c.requires.work refl
     (subst (λ (cs : List ℕ). AreCounted c.args.self.now.pages cs c.in_ok-noted.noted.items)
     c.deref.ensures.value c.in_ok-noted.ensures)
-
-pub returns-clause-start : goal.returns-clause-start
-returns-clause-start c =
-    prepared c.args.self.now.pages c.args.actors.now c.args.self.now.row.cells
-    c.reserve_all.new.row.cells c.in_ok-workers.workers.items c.in_ok-counts.counts.items
-    c.in_ok-workers.ensures c.in_ok-counts.ensures.counted c.requires.rest.entries
-    (subst (λ (cs : List ℕ). AreReserved
-    (λ p. true) cs c.args.self.now.row.cells c.reserve_all.new.row.cells)
-    c.deref-2.ensures.value c.in_ok-reserve_all.ensures.reserved)
+    c.rule_keeps.ensures.start c.phases_go_on.ensures.next c.disks_begin.ensures.proper

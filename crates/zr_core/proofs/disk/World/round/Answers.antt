@@ -3,13 +3,13 @@ use Rattle.std.specs.List.{range_with_len}
 use Rattle.zr_core.specs.Playing.{playing}
 use Rattle.zr_core.specs.Runs.{Plays}
 use Rattle.zr_core.specs.States.{state_of}
-use Rattle.zr_core.proofs.Runs.{plays_none, plays_once, then_turn, turn_more, round_none, round_left}
+use Rattle.zr_core.proofs.Runs.{plays_none, plays_once, then_turn, turn_more, round_none, rule, round_left}
 use Rattle.zr_core.proofs.disk.World.round.Goals as goal
 
 pub loop-actor-init : goal.loop-actor-init
 loop-actor-init c = record {
   plays = plays_none _ c.requires.can;
-  falls = λ dones kept. (dones, kept, refl, round_none _);
+  falls = λ dones kept. (dones, kept, refl, round_none (playing c.args.self.now c.args.phase.now c.args.actors.now).terms _);
 }
 
 pub loop-actor-preserved : goal.loop-actor-preserved
@@ -17,11 +17,12 @@ loop-actor-preserved c =
     let i = c.loop-actor.invariant in
     let t = c.step-turn.ensures in record {
       plays = then_turn _ _ _ c.loop-actor.actor i.plays
-          (plays_once c.loop-actor.actor _ _ c.step-turn.result t.pages t.can t.turn);
+          (plays_once c.loop-actor.actor _ _ c.step-turn.result t.same t.can t.turn);
       falls = λ dones kept. turn_more c.sums_move.ensures.moves
           (state_of (playing c.args.self.now c.args.phase.now c.args.actors.now) dones)
           (playing c.loop-actor.self c.loop-actor.phase c.args.actors.now)
-          (playing c.step-turn.new.self c.step-turn.new.phase c.args.actors.now) c.loop-actor.actor
+          (playing c.step-turn.new.self c.step-turn.new.phase c.args.actors.now) t.same
+          c.loop-actor.actor
           c.step-turn.result
           (i.falls dones kept) t.turn;
     }
@@ -38,9 +39,10 @@ returns-clause-plays c =
 pub returns-clause-falls : goal.returns-clause-falls
 returns-clause-falls c busy =
     let i = c.loop-actor.invariant in
-    let j = c.requires.can.joint in
-    round_left (playing c.args.self.now c.args.phase.now c.args.actors.now) c.requires.can busy
+    let x = playing c.args.self.now c.args.phase.now c.args.actors.now in
+    let j = (rule c.turns_go_on.ensures.free x c.requires.can busy).1 in
+    round_left c.turns_go_on.ensures.free x c.requires.can busy
     c.sums_move.ensures.moves
-    (playing c.loop-actor.self c.loop-actor.phase c.args.actors.now) i.plays.pages refl
+    (playing c.loop-actor.self c.loop-actor.phase c.args.actors.now) i.plays.same refl
     c.loop-actor.actor
     (let t = c.loop-actor-test.false in omega arith) (i.falls j.dones j.kept)

@@ -1,0 +1,51 @@
+-- The call of a piece before its first event.
+use Rattle.std.proofs.Common.{◌≡◌, ℕ, ◌+◌, ◌≤◌, true, false, List, Some, slice_get, refl, sym, ◌∙◌, subst}
+use Rattle.zr_base.specs.declared.op.Op.{Op}
+use Rattle.zr_base.specs.declared.op.Tag.{Tag}
+use Rattle.zr_base.specs.declared.op.Piece.{Piece}
+use Rattle.zr_base.specs.Plain.{is_beyond}
+use Rattle.page_steps.specs.declared.call.PageCall.{PageCall}
+use Rattle.page_steps.specs.declared.stage.Work.{Work}
+use Rattle.page_steps.specs.Calls.{is_count, Asks, started, counting}
+use Rattle.actor_steps.specs.Workers.{IsBegun}
+
+module _ (size now : ℕ) (tag : Tag) (op : Op) (page : ℕ) (fresh : List ℕ) where
+  pub begun_count : is_beyond size op ≡ true → IsBegun size now tag op page fresh counting
+  begun_count on = record {
+    going = tt;
+    fit = λ r. refl;
+    start = λ x r. refl;
+    work = λ x r s n c o p t f. record {
+      chain = c;
+      beyond = (λ i. is_beyond (s i) (o i)) ∙ on;
+      call = λ (off : true ≡ false). absurd (cc);
+    };
+  }
+
+  pub begun_as : (w : Work) (p : Piece) → is_beyond size op ≡ false → is_count w ≡ false
+      → p.page.0 ≡ page → p.first + p.count ≤ 8 → Asks w p fresh op
+      → IsBegun size now tag op page fresh (started w p tag now)
+  begun_as w p off piece at within asks = record {
+    going = tt;
+    fit = λ r. (piece, within);
+    start = λ x r. refl;
+    work = λ x r s n c o q t f. record {
+      chain = c;
+      beyond = (λ i. is_beyond (s i) (o i)) ∙ off ∙ sym piece;
+      call = λ e. record {
+        tag = t;
+        page = at ∙ sym q;
+        clock = sym n;
+        asks = subst (λ (y : List ℕ × Op). Asks w p y.0 y.1) (λ i. (sym f i, sym o i)) asks;
+      };
+    };
+  }
+
+-- for the operation that is the nr-th
+pub begun_for : (size now : ℕ) (tag : Tag) (page : ℕ) (fresh : List ℕ) (ops : List Op) (nr : ℕ)
+    (op : Op) → slice_get ops nr ≡ Some op → (c d : PageCall) → d ≡ c
+    → IsBegun size now tag op page fresh d → (o : Op) → slice_get ops nr ≡ Some o
+    → IsBegun size now tag o page fresh c
+begun_for size now tag page fresh ops nr op at c d is begins o named =
+    subst (λ (y : Op × PageCall). IsBegun size now tag y.0 page fresh y.1)
+    (λ i. ((let q : op ≡ o = (let h : Some op ≡ Some o = sym at ∙ named in cc) in q) i, is i)) begins

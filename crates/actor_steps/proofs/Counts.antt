@@ -1,0 +1,190 @@
+-- The pieces of a page, counted.
+use Rattle.std.proofs.Common.{◌≡◌, ℕ, zero, suc, ◌+◌, ◌*◌, ◌<◌, ◌≤◌, Bool, false, cond, eqb, List, [], ◌∷◌, ◌++◌, length, drop, get_or, Some, slice_get, slice_set, refl, sym, ap, ◌∙◌, arith, inl, inr}
+use mathlib.Core.Logic.{dite}
+use native.Mathlib.Decide.{ℕ_discrete}
+use Rattle.std.proofs.lemmas.Bool.{cases_Bool, eq-eqb, ne_eqb, ltb-false}
+use Rattle.std.proofs.lemmas.List.{get_or-set_same, get_or-set_other}
+use Rattle.zr_base.specs.declared.op.Op.{Op}
+use Rattle.zr_base.specs.declared.op.Piece.{Piece}
+use Rattle.zr_base.specs.Plain.{start_of, count_of, has_event, IsRequest}
+use Rattle.plain_disk.specs.Ends.{is_single}
+use Rattle.call_history.specs.declared.part.Part.{Part}
+use Rattle.zr_base.specs.Pieces.{first_page, pages_of, pieces_from, pieces_of}
+use Rattle.std.specs.List.{AllByRecursion}
+use Rattle.call_history.specs.Parts.{parts_from, parts, program}
+use Rattle.actor_steps.specs.Counts.{piece_on, pieces_on, pieces_each, count_at}
+use Rattle.actor_steps.specs.Places.{AreRequests, IsWork, operations}
+use Rattle.actor_steps.proofs.Places.{drop_cons, few_pages, pages_some, in_bounds}
+
+-- the piece of one page
+abbrev one : ℕ → Op → ℕ → ℕ → ℕ
+one size op page p =
+    cond (has_event op page) (piece_on size p (record { nr = 0; op = op; page = page })) 0
+
+pieces_append : (size p : ℕ) (xs ys : List Part)
+    → pieces_on size p (xs ++ ys) ≡ pieces_on size p xs + pieces_on size p ys
+pieces_append size p [] ys = omega arith
+pieces_append size p (x ∷ xs) ys = let q = pieces_append size p xs ys in omega arith
+
+pieces_next : (size nr p : ℕ) (op : Op) (page n : ℕ)
+    → pieces_on size p (parts_from nr op page (suc n))
+    ≡ one size op page p + pieces_on size p (parts_from nr op (page + 1) n)
+pieces_next size nr p op page n = elim (cases_Bool (has_event op page)) [
+  | inl on ↦ rw on refl
+  | inr off ↦ rw off (omega arith)
+]
+
+-- the pieces with events on a page, among those of a walk
+abbrev pub carried_on : ℕ → Op → ℕ → List Piece → ℕ
+carried_on size op p [] = 0
+carried_on size op p (piece ∷ more) = one size op piece.page.0 p + carried_on size op p more
+
+-- the first piece of an operation on the disk, and then the others
+pub carried_first : (size : ℕ) (op : Op) → is_single size op ≡ false → (p : ℕ) (piece : Piece)
+    (pieces more : List Piece) (b : Bool) → pieces ≡ piece ∷ more → has_event op piece.page.0 ≡ b
+    → carried_on size op p pieces
+    ≡ cond b (cond (eqb piece.page.0 p) 1 0) 0 + carried_on size op p more
+carried_first size op inside p piece pieces more b is e =
+    ap (carried_on size op p) is
+    ∙ (λ i. cond (e i) (cond (inside i) 0 (cond (eqb piece.page.0 p) 1 0)) 0
+    + carried_on size op p more)
+
+carried_from : (size p : ℕ) (op : Op) (page n : ℕ)
+    → carried_on size op p (pieces_from (start_of op) (count_of op) page n)
+    ≡ pieces_on size p (parts_from 0 op page n)
+carried_from size p op page zero = refl
+carried_from size p op page (suc n) =
+    let q = pieces_next size 0 p op page n in
+    let r = carried_from size p op (page + 1) n in omega arith
+
+-- the number of the operation does not matter
+nr_from : (size nr m p : ℕ) (op : Op) (page n : ℕ)
+    → pieces_on size p (parts_from nr op page n) ≡ pieces_on size p (parts_from m op page n)
+nr_from size nr m p op page zero = refl
+nr_from size nr m p op page (suc n) = pieces_next size nr p op page n
+    ∙ ap (λ (k : ℕ). one size op page p + k) (nr_from size nr m p op (page + 1) n)
+    ∙ sym (pieces_next size m p op page n)
+
+nr_parts : (size nr m p : ℕ) (op : Op)
+    → pieces_on size p (parts size nr op) ≡ pieces_on size p (parts size m op)
+nr_parts size nr m p op = elim (cases_Bool (is_single size op)) [
+  | inl on ↦ rw on refl
+  | inr off ↦ rw off (nr_from size nr m p op (first_page op) (pages_of op))
+]
+
+nr_program : (size nr m p : ℕ) (ops : List Op)
+    → pieces_on size p (program size nr ops) ≡ pieces_on size p (program size m ops)
+nr_program size nr m p [] = refl
+nr_program size nr m p (op ∷ ops) =
+    pieces_append size p (parts size nr op) (program size (nr + 1) ops)
+    ∙ (λ i. nr_parts size nr m p op i + nr_program size (nr + 1) (m + 1) p ops i)
+    ∙ sym (pieces_append size p (parts size m op) (program size (m + 1) ops))
+
+-- the first operation, and then the later ones
+pub program_next : (size p i : ℕ) (ops : List Op) (op : Op) → slice_get ops i ≡ Some op
+    → pieces_on size p (program size 0 (drop i ops))
+    ≡ pieces_on size p (parts size 0 op) + pieces_on size p (program size 0 (drop (i + 1) ops))
+program_next size p i ops op at =
+    ap (λ (os : List Op). pieces_on size p (program size 0 os)) (drop_cons ops i op at
+    ∙ ap (λ (j : ℕ). op ∷ drop j ops) (let q : suc i ≡ i + 1 = omega arith in q))
+    ∙ pieces_append size p (parts size 0 op) (program size 1 (drop (i + 1) ops))
+    ∙ ap (λ (k : ℕ). pieces_on size p (parts size 0 op) + k) (nr_program size 1 0 p (drop (i + 1) ops))
+
+pub each_next : (size p i : ℕ) (actors : List (List Op)) (ops : List Op)
+    → slice_get actors i ≡ Some ops
+    → pieces_each size (drop i actors) p
+    ≡ pieces_on size p (program size 0 ops) + pieces_each size (drop (i + 1) actors) p
+each_next size p i actors ops at =
+    ap (λ (os : List (List Op)). pieces_each size os p)
+    (drop_cons actors i ops at
+    ∙ ap (λ (j : ℕ). ops ∷ drop j actors) (let q : suc i ≡ i + 1 = omega arith in q))
+
+-- the walk over an operation on the disk: its pieces are on pages of the disk, and are all counted
+module _ (size : ℕ) (op : Op) (inside : is_single size op ≡ false) where
+  pub carried_of : (p : ℕ)
+      → carried_on size op p (pieces_of (start_of op) (count_of op)) ≡ pieces_on size p (parts size 0 op)
+  carried_of p =
+      carried_from size p op (first_page op) (pages_of op)
+      ∙ sym (ap (λ (b : Bool). pieces_on size p
+      (cond b (record { nr = 0; op = op; page = first_page op } ∷ [])
+      (parts_from 0 op (first_page op) (pages_of op)))) inside)
+
+  pub pages_below : IsRequest op
+      → AllByRecursion (λ (piece : Piece). piece.page.0 < size)
+      (pieces_of (start_of op) (count_of op))
+  pages_below r =
+      let end = ltb-false (8 * size) (start_of op + count_of op) inside in
+      let n = pages_some op r in
+      let some = (in_bounds op r).1 in
+      below_from (first_page op) (pages_of op) (omega arith)
+    where
+      below_from : (page n : ℕ) → page + n ≤ size
+          → AllByRecursion (λ (piece : Piece). piece.page.0 < size)
+          (pieces_from (start_of op) (count_of op) page n)
+      below_from page zero fits = tt
+      below_from page (suc n) fits = (omega arith, below_from (page + 1) n (omega arith))
+
+pub counts_itself : (page : ℕ) → let n : ℕ = cond (eqb page page) 1 0 in n ≡ 1
+counts_itself page = ap (λ (b : Bool). cond b 1 0) (eq-eqb page page refl)
+
+-- one page more is counted
+pub count_more : (counts : List ℕ) (page p : ℕ) → page < length counts
+    → count_at (slice_set counts page (get_or counts page 0 + 1)) p
+    ≡ count_at counts p + cond (eqb page p) 1 0
+count_more counts page p lt = dite (ℕ_discrete p page)
+    (λ s. ap (λ (q : ℕ). count_at (slice_set counts page (get_or counts page 0 + 1)) q) s
+    ∙ get_or-set_same counts page (get_or counts page 0 + 1) 0 lt
+    ∙ sym (ap (λ (b : Bool). count_at counts p + cond b 1 0) (eq-eqb page p (sym s))
+    ∙ ap (λ (q : ℕ). count_at counts q + 1) s))
+    (λ ne. get_or-set_other counts page p (get_or counts page 0 + 1) 0 ne
+    ∙ sym (ap (λ (b : Bool). count_at counts p + cond b 1 0) (ne_eqb page p (λ s. ne (sym s)))
+    ∙ (let q : count_at counts p + 0 ≡ count_at counts p = omega arith in q)))
+
+-- ---- there are not many
+
+few_from : (size nr p : ℕ) (op : Op) (page n : ℕ) → pieces_on size p (parts_from nr op page n) ≤ n
+few_from size nr p op page zero = omega arith
+few_from size nr p op page (suc n) = let q = pieces_next size nr p op page n in
+    let r = few_from size nr p op (page + 1) n in
+    let s = few_one in omega arith where
+      few_one : one size op page p ≤ 1
+      few_one = elim (cases_Bool (has_event op page)) [
+        | inl on ↦ rw on
+            (elim (cases_Bool (is_single size op)) [
+              | inl single ↦ rw single (omega arith)
+              | inr many ↦ rw many
+                  (elim (cases_Bool (eqb page p)) [
+                    | inl same ↦ rw same (omega arith)
+                    | inr other ↦ rw other (omega arith)
+                  ])
+            ])
+        | inr off ↦ rw off (omega arith)
+      ]
+
+few_parts : (size nr p : ℕ) (op : Op) → IsRequest op → pieces_on size p (parts size nr op) ≤ 1000
+few_parts size nr p op r = elim (cases_Bool (is_single size op)) [
+  | inl on ↦ rw on (rw on (omega arith))
+  | inr off ↦ rw off
+      (let q = few_from size nr p op (first_page op) (pages_of op) in let f = few_pages op r in
+      omega arith)
+]
+
+pub few_program : (size nr p : ℕ) (ops : List Op) → AreRequests ops
+    → pieces_on size p (program size nr ops) ≤ 1000 * length ops
+few_program size nr p [] r = omega arith
+few_program size nr p (op ∷ ops) r =
+    let q = pieces_append size p (parts size nr op) (program size (nr + 1) ops) in
+    let f = few_parts size nr p op (r 0 op refl) in
+    let g = few_program size (nr + 1) p ops (λ k o e. r (suc k) o e) in omega arith
+
+few_each : (size p : ℕ) (actors : List (List Op))
+    → ((a : ℕ) (ops : List Op) → slice_get actors a ≡ Some ops
+    → AreRequests ops) → pieces_each size actors p ≤ 1000 * operations actors
+few_each size p [] r = omega arith
+few_each size p (ops ∷ more) r = let f = few_program size 0 p ops (r 0 ops refl) in
+    let g = few_each size p more (λ a os e. r (suc a) os e) in omega arith
+
+pub few_pieces : (size p : ℕ) (actors : List (List Op)) → IsWork actors
+    → pieces_each size actors p ≤ 1000000000
+few_pieces size p actors w = let f = few_each size p actors w.requests in let m = w.most in
+    omega arith

@@ -1,0 +1,10 @@
+pub mod Places
+pub mod Counts
+pub mod Sectors
+pub mod Lists
+pub mod Begun
+pub mod Histories
+pub mod Singles
+pub mod Turns
+pub mod Overs
+pub mod Beginners

@@ -1,0 +1,242 @@
+-- The places of an actor among its operations.
+use Rattle.std.proofs.Common.{◌≡◌, ℕ, zero, suc, ◌+◌, ◌-◌, ◌/◌, ◌^◌, ◌<◌, ◌≤◌, Bool, true, false, ◌||◌, cond, eqb, List, [], ◌∷◌, ◌++◌, length, drop, get_or, Some, slice_get, refl, sym, ap, ◌∙◌, subst, arith, inl, inr}
+use Rattle.std.proofs.lemmas.Bool.{cases_Bool, eq-eqb, ne_eqb}
+use Rattle.std.proofs.lemmas.List.{append-nil}
+use Rattle.std.proofs.lemmas.Option.{slice_get-get_or}
+use Rattle.zr_base.specs.declared.op.Op.{Op}
+use Rattle.zr_base.specs.declared.op.Op.TheVariants.{Write, Read, Discard}
+use Rattle.zr_base.specs.Plain.{start_of, count_of, has_event, IsRequest, InBounds}
+use Rattle.zr_base.specs.Pieces.{first_page, pages_of}
+use Rattle.plain_disk.specs.Ends.{is_single}
+use Rattle.call_history.specs.declared.part.Part.{Part}
+use Rattle.call_history.specs.Parts.{parts_from, parts, program, without}
+use Rattle.actor_steps.specs.declared.place.Place.{Place}
+use Rattle.actor_steps.specs.Places.{is_part, left_from, pages_to_do, todo_by, todo_at, part_at, behind, AreRequests, IsOn, IsPlaceBy, IsPlace, IsSettledBy, IsSettled}
+use Rattle.actor_steps.specs.Work.{Touches}
+
+module _ {A : Type 0} where
+  pub at_index : (xs : List A) (i : ℕ) (x : A) → i < length xs → x ≡ get_or xs i x
+      → slice_get xs i ≡ Some x
+  at_index xs i x lt e = slice_get-get_or xs i x lt ∙ ap Some (sym e)
+
+  pub there_is : (xs : List A) (i : ℕ) → i < length xs → (x : A) × (slice_get xs i ≡ Some x)
+  there_is [] i h = absurd (omega arith)
+  there_is (x ∷ xs) zero h = (x, refl)
+  there_is (x ∷ xs) (suc i) h = there_is xs i (omega arith)
+
+  pub drop_cons : (xs : List A) (i : ℕ) (x : A) → slice_get xs i ≡ Some x
+      → drop i xs ≡ x ∷ drop (suc i) xs
+  drop_cons [] i x e = absurd (cc)
+  drop_cons (y ∷ ys) zero x e = let q : y ≡ x = (let h : Some y ≡ Some x = e in cc) in
+      ap (λ (z : A). z ∷ ys) q
+  drop_cons (y ∷ ys) (suc i) x e = drop_cons ys i x e
+
+  drop_out : (xs : List A) (i : ℕ) → length xs ≤ i → drop i xs ≡ []
+  drop_out [] zero le = refl
+  drop_out [] (suc i) le = refl
+  drop_out (y ∷ ys) zero le = absurd (omega arith)
+  drop_out (y ∷ ys) (suc i) le = drop_out ys i (omega arith)
+
+pub in_bounds : (op : Op) → IsRequest op → InBounds (start_of op) (count_of op)
+in_bounds (Write start count stuff) r = r.0
+in_bounds (Read start count) r = r
+in_bounds (Discard start count) r = r
+
+pub pages_some : (op : Op) → IsRequest op
+    → pages_of op ≡ (start_of op + count_of op - 1) / 8 + 1 - start_of op / 8
+pages_some op r =
+    ap (λ (b : Bool). cond b 0 ((start_of op + count_of op - 1) / 8 + 1 - start_of op / 8))
+    (ne_eqb (count_of op) 0 (λ z. let b = (in_bounds op r).1 in omega arith))
+
+pub few_pages : (op : Op) → IsRequest op → pages_of op < 1000
+few_pages op r = let n = pages_some op r in let b = in_bounds op r in let b₀ = b.0 in
+    let b₁ = b.2 in
+    omega arith
+
+pub low_page : (op : Op) → IsRequest op → first_page op < 2 ^ 29
+low_page op r = let b = (in_bounds op r).0 in omega arith
+
+-- ---- the pieces of an operation
+
+-- on the disk they are those of its pages
+left_is : (size nr : ℕ) (op : Op) → is_single size op ≡ false → (page n : ℕ)
+    → left_from size nr op page n ≡ parts_from nr op page n
+left_is size nr op off page zero = refl
+left_is size nr op off page (suc n) =
+    λ i. cond (off i || has_event op page) (record { nr = nr; op = op; page = page } ∷ []) []
+    ++ left_is size nr op off (page + 1) n i
+
+-- the whole operation
+left_all : (size nr : ℕ) (op : Op)
+    → left_from size nr op (first_page op) (pages_to_do size op) ≡ parts size nr op
+left_all size nr op = elim (cases_Bool (is_single size op)) [
+  | inl on ↦ ap (λ (b : Bool). left_from size nr op (first_page op) (cond b 1 (pages_of op))) on
+      ∙ ap (λ (b : Bool). cond (b || has_event op (first_page op))
+      (record { nr = nr; op = op; page = first_page op } ∷ []) [] ++ []) on
+      ∙ sym (ap (λ (b : Bool). cond b (record { nr = nr; op = op; page = first_page op } ∷ [])
+      (parts_from nr op (first_page op) (pages_of op))) on)
+  | inr off ↦ ap (λ (b : Bool). left_from size nr op (first_page op) (cond b 1 (pages_of op))) off
+      ∙ left_is size nr op off (first_page op) (pages_of op)
+      ∙ sym (ap (λ (b : Bool). cond b (record { nr = nr; op = op; page = first_page op } ∷ [])
+      (parts_from nr op (first_page op) (pages_of op))) off)
+]
+
+-- ---- without the pieces of an operation
+
+without_append : (nr : ℕ) (xs ys : List Part)
+    → without nr (xs ++ ys) ≡ without nr xs ++ without nr ys
+without_append nr [] ys = refl
+without_append nr (x ∷ xs) ys = elim (cases_Bool (eqb x.nr nr)) [
+  | inl on ↦ rw on (without_append nr xs ys)
+  | inr off ↦ rw off (ap (λ (zs : List Part). x ∷ zs) (without_append nr xs ys))
+]
+
+-- its own are gone
+without_own : (size nr : ℕ) (op : Op) (page n : ℕ) → without nr (left_from size nr op page n) ≡ []
+without_own size nr op page zero = refl
+without_own size nr op page (suc n) = elim (cases_Bool (is_part size op page)) [
+  | inl on ↦ rw on
+      (ap (λ (b : Bool). cond b (without nr (left_from size nr op (page + 1) n))
+      (record { nr = nr; op = op; page = page } ∷ without nr (left_from size nr op (page + 1) n)))
+      (eq-eqb nr nr refl) ∙ without_own size nr op (page + 1) n)
+  | inr off ↦ rw off (without_own size nr op (page + 1) n)
+]
+
+-- and those of a later one stay
+without_left : (size nr m : ℕ) (op : Op) → nr < m → (page n : ℕ)
+    → without nr (left_from size m op page n) ≡ left_from size m op page n
+without_left size nr m op lt page zero = refl
+without_left size nr m op lt page (suc n) = elim (cases_Bool (is_part size op page)) [
+  | inl on ↦ rw on
+      (ap (λ (b : Bool). cond b (without nr (left_from size m op (page + 1) n))
+      (record { nr = m; op = op; page = page } ∷ without nr (left_from size m op (page + 1) n)))
+      (ne_eqb m nr (λ e. let none : ⊥ = omega arith in none))
+      ∙ ap (λ (zs : List Part). record { nr = m; op = op; page = page } ∷ zs)
+      (without_left size nr m op lt (page + 1) n))
+  | inr off ↦ rw off (without_left size nr m op lt (page + 1) n)
+]
+
+without_program : (size nr m : ℕ) (ops : List Op) → nr < m
+    → without nr (program size m ops) ≡ program size m ops
+without_program size nr m [] lt = refl
+without_program size nr m (op ∷ ops) lt =
+    without_append nr (parts size m op) (program size (m + 1) ops)
+    ∙ (λ i. one i ++ without_program size nr (m + 1) ops (omega arith) i) where
+      one : without nr (parts size m op) ≡ parts size m op
+      one = ap (without nr) (sym (left_all size m op))
+          ∙ without_left size nr m op lt (first_page op) (pages_to_do size op)
+          ∙ left_all size m op
+
+-- ---- an actor's place
+
+module _ (size : ℕ) (ops : List Op) (nr : ℕ) (op : Op) (at : slice_get ops nr ≡ Some op) where
+  abbrev pub later : List Op
+  later = drop (suc nr) ops
+
+  pub todo_here : (page n : ℕ)
+      → todo_by size nr page n (drop nr ops)
+      ≡ left_from size nr op page n ++ program size (nr + 1) later
+  todo_here page n = ap (todo_by size nr page n) (drop_cons ops nr op at)
+
+  pub place_here : (page n : ℕ) → IsOn op page n → IsPlaceBy page n (drop nr ops)
+  place_here page n on = subst (IsPlaceBy page n) (sym (drop_cons ops nr op at)) on
+
+  pub on_here : (page n : ℕ) → IsPlaceBy page n (drop nr ops) → IsOn op page n
+  on_here page n on = subst (IsPlaceBy page n) (drop_cons ops nr op at) on
+
+  pub has_settled : (page n : ℕ) → IsSettledBy size page n (drop nr ops)
+      → (1 ≤ n) × (is_part size op page ≡ true)
+  has_settled page n s = subst (IsSettledBy size page n) (drop_cons ops nr op at) s
+
+  -- the first page of an operation
+  module _ (page n : ℕ) (first : page ≡ first_page op) (all : n ≡ pages_to_do size op) where
+    pub todo_first : todo_by size nr page n (drop nr ops) ≡ program size nr (drop nr ops)
+    todo_first = todo_here page n
+        ∙ (λ i. left_from size nr op (first i) (all i) ++ program size (nr + 1) later)
+        ∙ ap (λ (ps : List Part). ps ++ program size (nr + 1) later) (left_all size nr op)
+        ∙ sym (ap (program size nr) (drop_cons ops nr op at))
+
+    few_to_do : IsRequest op → pages_to_do size op ≤ pages_of op
+    few_to_do r = elim (cases_Bool (is_single size op)) [
+      | inl on ↦ (let s = pages_some op r in let b = (in_bounds op r).1 in rw on (omega arith))
+      | inr off ↦ rw off (omega arith)
+    ]
+
+    pub place_first : IsRequest op → IsPlaceBy page n (drop nr ops)
+    place_first r = let f = few_to_do r in
+        place_here page n (record { first = omega arith; last = omega arith })
+
+    pub few_first : IsRequest op → n < 1000
+    few_first r = let f = few_to_do r in let g = few_pages op r in omega arith
+
+  -- a page without a piece is passed
+  module _ (page n : ℕ) (some : 1 ≤ n) where
+    next_left : left_from size nr op page n
+        ≡ cond (is_part size op page) (record { nr = nr; op = op; page = page } ∷ []) []
+        ++ left_from size nr op (page + 1) (n - 1)
+    next_left = ap (left_from size nr op page) (let q : n ≡ suc (n - 1) = omega arith in q)
+
+    pub pass_todo : is_part size op page ≡ false
+        → todo_by size nr (page + 1) (n - 1) (drop nr ops) ≡ todo_by size nr page n (drop nr ops)
+    pass_todo off = todo_here (page + 1) (n - 1)
+        ∙ sym (ap (λ (xs : List Part). xs ++ program size (nr + 1) later) (next_left
+        ∙ ap (λ (b : Bool). cond b (record { nr = nr; op = op; page = page } ∷ []) []
+        ++ left_from size nr op (page + 1) (n - 1)) off))
+        ∙ sym (todo_here page n)
+
+    pub pass_place : IsPlaceBy page n (drop nr ops) → IsPlaceBy (page + 1) (n - 1) (drop nr ops)
+    pass_place on = let o = on_here page n on in
+        place_here (page + 1) (n - 1)
+        (record { first = (let f = o.first in omega arith); last = (let l = o.last in omega arith) })
+
+    -- and one with a piece is the next
+    pub next_todo : is_part size op page ≡ true
+        → todo_by size nr page n (drop nr ops)
+        ≡ record { nr = nr; op = op; page = page } ∷ todo_by size nr (page + 1) (n - 1) (drop nr ops)
+    next_todo on = todo_here page n
+        ∙ ap (λ (xs : List Part). xs ++ program size (nr + 1) later) (next_left
+        ∙ ap (λ (b : Bool). cond b (record { nr = nr; op = op; page = page } ∷ []) []
+        ++ left_from size nr op (page + 1) (n - 1)) on)
+        ∙ sym (ap (λ (ps : List Part). record { nr = nr; op = op; page = page } ∷ ps)
+        (todo_here (page + 1) (n - 1)))
+
+  -- an operation with no page left is passed
+  pub last_todo : (page : ℕ)
+      → program size (nr + 1) (drop (nr + 1) ops) ≡ todo_by size nr page 0 (drop nr ops)
+  last_todo page =
+      ap (λ (k : ℕ). program size (nr + 1) (drop k ops))
+      (let q : nr + 1 ≡ suc nr = omega arith in q) ∙ sym (todo_here page 0)
+
+  -- an operation that ended is left out
+  pub without_rest : (page n : ℕ)
+      → program size (nr + 1) (drop (nr + 1) ops)
+      ≡ without nr (todo_by size nr page n (drop nr ops))
+  without_rest page n =
+      ap (λ (k : ℕ). program size (nr + 1) (drop k ops))
+      (let q : nr + 1 ≡ suc nr = omega arith in q)
+      ∙ sym (ap (without nr) (todo_here page n)
+      ∙ without_append nr (left_from size nr op page n) (program size (nr + 1) later)
+      ∙ (λ i. without_own size nr op page n i
+      ++ without_program size nr (nr + 1) later (omega arith) i))
+
+pub no_todo : (size nr : ℕ) (ops : List Op) (page n : ℕ) → length ops ≤ nr
+    → todo_by size nr page n (drop nr ops) ≡ []
+no_todo size nr ops page n le = ap (todo_by size nr page n) (drop_out ops nr le)
+
+-- the next piece, and those behind it
+pub todo_next : (size : ℕ) (ops : List Op) (pl : Place) (op : Op) → slice_get ops pl.nr ≡ Some op
+    → IsSettled size ops pl → todo_at size ops pl ≡ part_at pl op ∷ todo_at size ops (behind pl)
+todo_next size ops pl op at s =
+    let h = has_settled size ops pl.nr op at pl.page pl.left s in
+    next_todo size ops pl.nr op at pl.page pl.left h.0 h.1
+
+-- the operation at a place touches its page
+pub touches_here : (size : ℕ) (ops : List Op) (pl : Place) (op : Op) → slice_get ops pl.nr ≡ Some op
+    → AreRequests ops → IsPlace ops pl → IsSettled size ops pl → Touches op pl.page
+touches_here size ops pl op at requests place settled =
+    let on = on_here size ops pl.nr op at pl.page pl.left place in
+    let some = (has_settled size ops pl.nr op at pl.page pl.left settled).0 in record {
+      request = requests pl.nr op at;
+      first = on.first;
+      last = (let l = on.last in omega arith);
+    }

@@ -1,0 +1,261 @@
+-- A worker's turns are those of its call.
+use Rattle.std.proofs.Common.{◌≡◌, ℕ, ◌<◌, ◌≤◌, List, [], ◌∷◌, length, drop, Some, None, slice_get, refl, sym, ap, ◌∙◌, subst}
+use Rattle.zr_base.specs.declared.op.Op.{Op}
+use Rattle.call_history.specs.declared.part.Part.{Part}
+use Rattle.call_history.specs.declared.part.Done.{Done}
+use Rattle.lock_row.specs.declared.names.LockNo.{LockNo}
+use Rattle.lock_row.specs.declared.names.Plan.{Plan}
+use Rattle.lock_row.specs.declared.names.Plan.TheVariants.{Finished, Take, Give}
+use Rattle.page_steps.specs.declared.call.PageCall.{PageCall}
+use Rattle.page_steps.specs.declared.stage.Head.{Head}
+use Rattle.page_steps.specs.declared.stage.Scratch.{Scratch}
+use Rattle.page_steps.specs.declared.stage.Stage.{Stage}
+use Rattle.page_steps.specs.declared.stage.Progress.{Progress}
+use Rattle.page_steps.specs.Steps.{Terms, DiskHeld, Here, plan, plan_by, took}
+use Rattle.page_steps.specs.Nexts.{Next}
+use Rattle.page_steps.specs.Givings.{Works}
+use Rattle.page_steps.specs.Fits.{StageFits}
+use Rattle.page_steps.specs.Calls.{Frame, at_of, held_of, fresh_of, cell_in, owed_of, ahead_of, behind_of, page_of, fail_of, IsGoing, IsWork}
+use Rattle.page_steps.specs.Calls.{here as call_here, next_event as call_event, IsFit as IsCallFit}
+use Rattle.page_steps.specs.Turns.{Allows as CallAllows, Turned as CallTurned, TakesAs as CallTakesAs, GivesAs as CallGivesAs}
+use Rattle.actor_steps.specs.declared.worker.Worker.{Worker}
+use Rattle.actor_steps.specs.declared.worker.Turn.{Turn}
+use Rattle.actor_steps.specs.declared.worker.Turn.TheVariants as turn
+use Rattle.actor_steps.specs.Places.{todo_at, part_at, behind}
+use Rattle.actor_steps.specs.Workers.{stage_of, here, next_event, with_call, frame, Keeps, IsBegun, IsFit, TakesAs, GivesAs, Allows, finished, turned, turn_of, Turned, Advanced}
+use Rattle.actor_steps.proofs.Places.{todo_next, no_todo}
+
+-- the worker after a turn in which its call goes on
+abbrev pub gone_on : Worker → Scratch → PageCall → Worker
+gone_on v r c = record {
+  actor = v.actor;
+  place = v.place;
+  carried = v.carried;
+  call = Some c;
+  scratch = r;
+  replies = v.replies;
+}
+
+-- nothing is left
+module _ {X : Type 0} (takes : X → LockNo → Next → DiskHeld → X → Type 0)
+    (misses : X → LockNo → X → Type 0) (gives : X → LockNo → Next → DiskHeld → X → Type 0)
+    (t : Terms) (ops : List Op) (w : Worker) (h : X) where
+  pub at_end : (done : List Done) → length ops ≤ w.place.nr → Keeps w done
+      → Advanced takes misses gives t ops w h w h turn.Finished done
+  at_end done le keeps = (
+    done,
+    keeps,
+    finished
+        (ap (λ (ps : List Part). plan t (record (here t.size ops w done) { todo = ps }))
+        (no_todo t.size w.place.nr ops w.place.page w.place.left le)) refl refl refl,
+  )
+
+module _ (t : Terms) (ops : List Op) (v : Worker) (c : PageCall)
+    (fit : IsFit t ops (with_call v (Some c))) (op : Op)
+    (at : slice_get ops v.place.nr ≡ Some op) where
+  abbrev pub rest : List Part
+  rest = todo_at t.size ops (behind v.place)
+
+  abbrev pub x : List Done → Frame
+  x done = frame t v op rest done
+
+  todo_is : todo_at t.size ops v.place ≡ part_at v.place op ∷ rest
+  todo_is = todo_next t.size ops v.place op at fit.settled
+
+  -- the call's local is the worker's
+  pub here_is : (r : Scratch) (d : PageCall) (done : List Done)
+      → call_here (x done) r d.stage ≡ here t.size ops (gone_on v r d) done
+  here_is r d done = λ i. record {
+    actor = v.actor;
+    at = at_of d.stage;
+    todo = sym todo_is i;
+    held = held_of v.place.page d.stage;
+    done = done;
+    fresh = fresh_of r d.stage;
+    pin = cell_in d.stage;
+    owed = owed_of d.stage;
+    ahead = ahead_of d.stage;
+    behind = behind_of d.stage;
+    page = page_of r d.stage;
+    fail = fail_of d.stage;
+  }
+
+  work : (done : List Done) → IsWork c.head v.scratch (x done)
+  work done = fit.call.work op rest done at
+
+  abbrev w : Worker
+  w = with_call v (Some c)
+
+  -- what the hand allows the worker, it allows its call
+  module _ {X : Type 0} (can_take : X → LockNo → Next → Type 0)
+      (takes : X → LockNo → Next → DiskHeld → X → Type 0)
+      (can_give : X → LockNo → Next → DiskHeld → Type 0) (h : X)
+      (plans : (c : Head) (r : Scratch) (s : Stage) (y : Frame) → IsCallFit c r s → IsGoing s
+      → IsWork c r y → plan y.terms (call_here y r s) ≡ call_event c s)
+      (allows : Allows can_take takes can_give t ops w h) where
+    next_is : (p : Plan) → call_event c.head c.stage ≡ p → next_event t ops w ≡ p
+    next_is p e = sym (ap (plan t) (here_is v.scratch c []))
+        ∙ plans c.head v.scratch c.stage (x []) fit.call.fit fit.call.going (work []) ∙ e
+
+    takes_as : (f : Next) → CallTakesAs c.head v.scratch c.stage f → TakesAs t ops w f
+    takes_as f says done u = subst (λ (l : Here). f l u ≡ took t l u) (here_is v.scratch c done)
+        (says (x done) u (work done))
+
+    gives_as : (f : Next) (u : DiskHeld) → CallGivesAs c.head v.scratch c.stage f u
+        → GivesAs t ops w f u
+    gives_as f u says done = subst (λ (l : Here). Works t l u (f l u)) (here_is v.scratch c done)
+        (says (x done) (work done))
+
+    pub call_allows : CallAllows can_take takes can_give c.head v.scratch c.stage h
+    call_allows = record {
+      take = λ k f what says. allows.take k f (next_is (Take k) what) (takes_as f says);
+      fits = λ k f u g what says take. (
+        x [],
+        work [],
+        subst (λ (l : Here). StageFits t l u) (sym (here_is v.scratch c []))
+            (allows.fits k f u g (next_is (Take k) what) (takes_as f says) take),
+      );
+      give = λ k f u what says. allows.give k f u (next_is (Give k) what) (gives_as f u says);
+    }
+
+  -- a turn after which the call goes on
+  module _ {X : Type 0} (takes : X → LockNo → Next → DiskHeld → X → Type 0)
+      (misses : X → LockNo → X → Type 0) (gives : X → LockNo → Next → DiskHeld → X → Type 0)
+      (h g : X) (r : Scratch) (d : PageCall) (p : Progress)
+      (turns : (y : Frame) → IsWork c.head v.scratch y
+      → CallTurned takes misses gives y.terms (call_here y v.scratch c.stage) h
+      (call_here y r d.stage) g p) where
+    pub goes_on : (done : List Done) → Keeps v done
+        → Advanced takes misses gives t ops w h (gone_on v r d) g (turn_of p) done
+    goes_on done keeps = (
+      done,
+      record {
+        ends = keeps.ends;
+        sectors = keeps.sectors;
+        count = keeps.count;
+        carried = keeps.carried;
+        later = keeps.later;
+      },
+      turned p
+          (subst (λ (y : Here × Here). CallTurned takes misses gives t y.0 h y.1 g p)
+          (λ i. (here_is v.scratch c done i, here_is r d done i)) (turns (x done) (work done)))
+          refl,
+    )
+
+  pub still_fit : (r : Scratch) (d : PageCall) → d.head ≡ c.head → IsGoing d.stage
+      → IsCallFit c.head r d.stage
+      → ((y : Frame) → IsWork c.head v.scratch y → IsWork c.head r y)
+      → r.table ≡ v.scratch.table → IsFit t ops (gone_on v r d)
+  still_fit r d same going fits works table = record {
+    requests = fit.requests;
+    few = fit.few;
+    place = fit.place;
+    settled = fit.settled;
+    chain = table ∙ fit.chain;
+    carried = fit.carried;
+    call = record {
+      going = going;
+      fit = subst (λ (k : Head). IsCallFit k r d.stage) (sym same) fits;
+      work = λ o ps done named. subst (λ (k : Head). IsWork k r (frame t v o ps done)) (sym same)
+          (works (frame t v o ps done) (fit.call.work o ps done named));
+    };
+    replies = fit.replies;
+    reads = fit.reads;
+  }
+
+-- ---- workers with one local
+
+-- the worker with the call that was in work
+pub same_worker : (w : Worker) (c : PageCall) → Some c ≡ w.call → with_call w (Some c) ≡ w
+same_worker w c is = ap (with_call w) is
+
+module _ (t : Terms) (ops : List Op) (w w' : Worker)
+    (same : (done : List Done) → here t.size ops w done ≡ here t.size ops w' done) where
+  -- what the hand allows one of them, it allows the other
+  pub allows_too : {X : Type 0} (can_take : X → LockNo → Next → Type 0)
+      (takes : X → LockNo → Next → DiskHeld → X → Type 0)
+      (can_give : X → LockNo → Next → DiskHeld → Type 0) (h : X)
+      → Allows can_take takes can_give t ops w h → Allows can_take takes can_give t ops w' h
+  allows_too can_take takes can_give h allows = record {
+    take = λ k f what says. allows.take k f (ap (plan t) (same []) ∙ what) (takes_too f says);
+    fits = λ k f u g what says take. subst (λ (l : Here). StageFits t l u) (same [])
+        (allows.fits k f u g (ap (plan t) (same []) ∙ what) (takes_too f says) take);
+    give = λ k f u what says. allows.give k f u (ap (plan t) (same []) ∙ what)
+        (λ done. subst (λ (l : Here). Works t l u (f l u)) (sym (same done)) (says done));
+  } where
+    takes_too : (f : Next) → TakesAs t ops w' f → TakesAs t ops w f
+    takes_too f says done u = subst (λ (l : Here). f l u ≡ took t l u) (sym (same done))
+        (says done u)
+
+  -- and a turn of one is that of the other
+  pub advanced_too : {X : Type 0} (takes : X → LockNo → Next → DiskHeld → X → Type 0)
+      (misses : X → LockNo → X → Type 0) (gives : X → LockNo → Next → DiskHeld → X → Type 0)
+      (h : X) (n : Worker) (g : X) (p : Turn) (done : List Done)
+      → Advanced takes misses gives t ops w' h n g p done
+      → Advanced takes misses gives t ops w h n g p done
+  advanced_too takes misses gives h n g p done turns = (
+    turns.0,
+    turns.1,
+    subst (λ (l : Here). Turned takes misses gives t l h (here t.size ops n turns.0) g p)
+        (sym (same done)) turns.2,
+  )
+
+-- ---- a piece that begins
+
+-- the worker with the page that a write makes
+abbrev pub with_fresh : Worker → List ℕ → Worker
+with_fresh v fresh = record {
+  actor = v.actor;
+  place = v.place;
+  carried = v.carried;
+  call = None;
+  scratch = record {
+    page = v.scratch.page;
+    fresh = fresh;
+    packed = v.scratch.packed;
+    table = v.scratch.table;
+  };
+  replies = v.replies;
+}
+
+module _ (t : Terms) (ops : List Op) (v : Worker) (empty : None ≡ v.call) (fit : IsFit t ops v)
+    (op : Op) (at : slice_get ops v.place.nr ≡ Some op) (fresh : List ℕ) (c : PageCall)
+    (begins : IsBegun t.size t.clock (record { actor = v.actor; op = v.place.nr }) op v.place.page
+    fresh c) where
+  abbrev now : Worker
+  now = with_call (with_fresh v fresh) (Some c)
+
+  pub begun_fit : IsFit t ops now
+  begun_fit = record {
+    requests = fit.requests;
+    few = fit.few;
+    place = fit.place;
+    settled = fit.settled;
+    chain = fit.chain;
+    carried = fit.carried;
+    call = record {
+      going = begins.going;
+      fit = begins.fit now.scratch;
+      work = λ o ps done named. begins.work (frame t now o ps done) now.scratch refl refl fit.chain
+          (let q : Some o ≡ Some op = sym named ∙ at in cc) refl refl refl;
+    };
+    replies = fit.replies;
+    reads = fit.reads;
+  }
+
+  pub begun_here : (done : List Done) → here t.size ops v done ≡ here t.size ops now done
+  begun_here done = (λ i. record {
+    actor = v.actor;
+    at = at_of (stage_of (sym empty i));
+    todo = todo_is t ops now c begun_fit op at i;
+    held = held_of v.place.page (stage_of (sym empty i));
+    done = done;
+    fresh = fresh_of v.scratch (stage_of (sym empty i));
+    pin = cell_in (stage_of (sym empty i));
+    owed = owed_of (stage_of (sym empty i));
+    ahead = ahead_of (stage_of (sym empty i));
+    behind = behind_of (stage_of (sym empty i));
+    page = page_of v.scratch (stage_of (sym empty i));
+    fail = fail_of (stage_of (sym empty i));
+  }) ∙ sym (begins.start (x t ops now c begun_fit op at done) now.scratch)
+      ∙ here_is t ops now c begun_fit op at now.scratch c done

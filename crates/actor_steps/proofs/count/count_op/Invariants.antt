@@ -1,0 +1,16 @@
+use Rattle.std.proofs.Common.{◌≡◌, ℕ, ◌+◌, ◌<◌, length}
+use Rattle.std.specs.List.{AllByRecursion}
+use Rattle.call_history.specs.Parts.{parts}
+use Rattle.actor_steps.specs.Counts.{pieces_on}
+use Rattle.actor_steps.specs.Counts.{count_at}
+use Rattle.actor_steps.proofs.Counts.{carried_on}
+use Rattle.actor_steps.proofs.count.count_op.Given as goal
+
+abbrev pub invariant-loop-piece : goal.invariant-loop-piece
+invariant-loop-piece l = record {
+  size : length l.counts ≡ l.size;
+  below : AllByRecursion (λ piece. piece.page.0 < l.size) l.piece-iterator;
+  counted : (p : ℕ) → p < l.size
+      → count_at l.counts p + carried_on l.size l.op p l.piece-iterator
+      ≡ count_at l.initial.counts p + pieces_on l.size p (parts l.size 0 l.op);
+}

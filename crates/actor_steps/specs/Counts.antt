@@ -1,0 +1,25 @@
+-- The pieces with events on a page, counted.
+use Rattle.std.specs.Prelude.{ℕ, ◌+◌, ◌==◌, List, [], ◌∷◌, get_or, if◌then◌else◌}
+use Rattle.zr_base.specs.declared.op.Op.{Op}
+use Rattle.plain_disk.specs.Ends.{is_single}
+use Rattle.call_history.specs.declared.part.Part.{Part}
+use Rattle.call_history.specs.Parts.{program}
+
+-- 1 for a piece on a page; one beyond the disk is on none
+abbrev pub piece_on : ℕ → ℕ → Part → ℕ
+piece_on size page p = if is_single size p.op then 0 else if p.page == page then 1 else 0
+
+-- the pieces on a page
+abbrev pub pieces_on : ℕ → ℕ → List Part → ℕ
+pieces_on size page [] = 0
+pieces_on size page (p ∷ ps) = piece_on size page p + pieces_on size page ps
+
+-- the pieces of all actors on a page
+abbrev pub pieces_each : ℕ → List (List Op) → ℕ → ℕ
+pieces_each size [] page = 0
+pieces_each size (ops ∷ more) page =
+    pieces_on size page (program size 0 ops) + pieces_each size more page
+
+-- what is counted for a page
+abbrev pub count_at : List ℕ → ℕ → ℕ
+count_at counts page = get_or counts page 0

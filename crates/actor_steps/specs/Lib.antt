@@ -1,0 +1,6 @@
+pub mod Places
+pub mod Counts
+pub mod Work
+pub mod Replies
+pub mod Workers
+pub mod Preparing

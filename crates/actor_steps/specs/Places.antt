@@ -1,0 +1,88 @@
+-- Where an actor is among the pieces of its operations.
+use Rattle.std.specs.Prelude.{◌≡◌, ◌⊎◌, ℕ, zero, suc, ◌+◌, ◌-◌, ◌*◌, ◌<◌, ◌≤◌, Bool, true, ◌||◌, List, [], ◌∷◌, ◌++◌, length, drop, Some, slice_get, if◌then◌else◌, ⊤}
+use Rattle.zr_base.specs.declared.limits.TheConstants.{MOST_ACTORS, MOST_OPERATIONS}
+use Rattle.zr_base.specs.declared.op.Op.{Op}
+use Rattle.zr_base.specs.Plain.{has_event, IsRequest}
+use Rattle.zr_base.specs.Pieces.{first_page, pages_of}
+use Rattle.plain_disk.specs.Ends.{is_single}
+use Rattle.call_history.specs.declared.part.Part.{Part}
+use Rattle.call_history.specs.Parts.{program}
+use Rattle.actor_steps.specs.declared.place.Place.{Place}
+
+-- each operation is a request within its bounds
+abbrev pub AreRequests : List Op → Type 0
+AreRequests ops = (k : ℕ) (op : Op) → slice_get ops k ≡ Some op → IsRequest op
+
+-- how many operations all actors have
+abbrev pub operations : List (List Op) → ℕ
+operations [] = 0
+operations (ops ∷ more) = length ops + operations more
+
+-- What a phase may have to do: at most so many actors, with at most so many requests in all.
+pub record IsWork (actors : List (List Op)) : Type 0 where
+  pub few : length actors ≤ MOST_ACTORS
+  pub most : operations actors ≤ MOST_OPERATIONS
+  pub requests : (a : ℕ) (ops : List Op) → slice_get actors a ≡ Some ops → AreRequests ops
+
+-- whether an operation has a piece with events on a page; one beyond the disk is such a piece
+abbrev pub is_part : ℕ → Op → ℕ → Bool
+is_part size op page = is_single size op || has_event op page
+
+-- the pieces with events of an operation on so many pages, from a page on
+abbrev pub left_from : ℕ → ℕ → Op → ℕ → ℕ → List Part
+left_from size nr op page zero = []
+left_from size nr op page (suc n) =
+    (if is_part size op page then record { nr = nr; op = op; page = page } ∷ [] else [])
+    ++ left_from size nr op (page + 1) n
+
+-- how many pages an operation has pieces on; one beyond the disk has one, whose page says nothing
+abbrev pub pages_to_do : ℕ → Op → ℕ
+pages_to_do size op = if is_single size op then 1 else pages_of op
+
+-- so many pages of the first operation are left, from a page on, and then the later operations
+abbrev pub todo_by : ℕ → ℕ → ℕ → ℕ → List Op → List Part
+todo_by size nr page n [] = []
+todo_by size nr page n (op ∷ later) = left_from size nr op page n ++ program size (nr + 1) later
+
+-- the pieces that are left
+abbrev pub todo_at : ℕ → List Op → Place → List Part
+todo_at size ops pl = todo_by size pl.nr pl.page pl.left (drop pl.nr ops)
+
+-- the piece of an operation at a place
+abbrev pub part_at : Place → Op → Part
+part_at pl op = record { nr = pl.nr; op = op; page = pl.page }
+
+-- the place behind the piece
+abbrev pub behind : Place → Place
+behind pl = record { nr = pl.nr; page = pl.page + 1; left = pl.left - 1 }
+
+-- The pages that are left are some of the operation's last ones.
+pub record IsOn (op : Op) (page n : ℕ) : Type 0 where
+  pub first : first_page op ≤ page
+  pub last : page + n ≤ first_page op + pages_of op
+
+-- so many pages of the first operation are left, from a page on, where there is one
+abbrev pub IsPlaceBy : ℕ → ℕ → List Op → Type 0
+IsPlaceBy page n [] = ⊤
+IsPlaceBy page n (op ∷ later) = IsOn op page n
+
+-- a place among an actor's operations
+abbrev pub IsPlace : List Op → Place → Type 0
+IsPlace ops pl = IsPlaceBy pl.page pl.left (drop pl.nr ops)
+
+-- the next page has a piece with events, or no operation is left
+abbrev pub IsSettledBy : ℕ → ℕ → ℕ → List Op → Type 0
+IsSettledBy size page n [] = ⊤
+IsSettledBy size page n (op ∷ later) = (1 ≤ n) × (is_part size op page ≡ true)
+
+-- the place is at a piece with events, or past all operations
+abbrev pub IsSettled : ℕ → List Op → Place → Type 0
+IsSettled size ops pl = IsSettledBy size pl.page pl.left (drop pl.nr ops)
+
+-- the second place isn't before the first
+abbrev pub IsOnward : Place → Place → Type 0
+IsOnward from to = (from.nr < to.nr) ⊎ ((from.nr ≡ to.nr) × (from.page ≤ to.page))
+
+-- falls with each page and each operation that is passed; no operation has 1000 pages
+abbrev pub steps_left : List Op → Place → ℕ
+steps_left ops pl = (length ops - pl.nr) * 1000 + pl.left

@@ -1,0 +1,242 @@
+-- A worker, which has an actor's place and replies and its call in work, and the local that it
+-- stands for.
+use Rattle.std.specs.Prelude.{◌≡◌, ℕ, ◌+◌, ◌-◌, ◌*◌, ◌<◌, ◌≤◌, ◌^◌, ◌==◌, max, Bool, true, false, List, [], ◌∷◌, length, Option, Some, None, slice_get, vec_len, vec_capacity, if◌then◌else◌, ⊤}
+use Rattle.zr_base.specs.declared.op.Op.{Op}
+use Rattle.zr_base.specs.declared.op.Op.TheVariants.{Write, Read, Discard}
+use Rattle.plain_disk.specs.Ends.{is_single}
+use Rattle.call_history.specs.declared.part.Part.{Part}
+use Rattle.call_history.specs.declared.part.Done.{Done}
+use Rattle.call_history.specs.Parts.{is_carried, left_by, got_of, op_end, end_of}
+use Rattle.lock_row.specs.declared.names.LockNo.{LockNo}
+use Rattle.lock_row.specs.declared.names.Plan.{Plan}
+use Rattle.lock_row.specs.declared.names.Plan.TheVariants.{Finished, Take, Give}
+use Rattle.page_steps.specs.declared.call.PageCall.{PageCall}
+use Rattle.page_steps.specs.declared.stage.Stage.{Stage}
+use Rattle.page_steps.specs.declared.stage.Stage.TheVariants as stage
+use Rattle.page_steps.specs.Steps.{Terms, DiskHeld, Here, plan, took}
+use Rattle.page_steps.specs.Nexts.{Next}
+use Rattle.page_steps.specs.Givings.{Works}
+use Rattle.page_steps.specs.Fits.{StageFits}
+use Rattle.page_steps.specs.Calls.{Frame, at_of, held_of, fresh_of, cell_in, owed_of, ahead_of, behind_of, page_of, fail_of, IsWork, IsGoing}
+use Rattle.page_steps.specs.declared.stage.Scratch.{Scratch}
+use Rattle.zr_base.specs.declared.op.Tag.{Tag}
+use Rattle.call_history.specs.Shows.{tag_by}
+use Rattle.page_steps.specs.Calls.{here as call_here, IsFit as IsCallFit, end_of as ending, got_of as got_of_piece}
+use Rattle.page_steps.specs.declared.stage.PieceEnd.{PieceEnd}
+use Rattle.page_steps.specs.declared.stage.Progress.{Progress}
+use Rattle.page_steps.specs.declared.stage.Progress.TheVariants as progress
+use Rattle.page_steps.specs.Turns.{Turned as CallTurned}
+use Rattle.actor_steps.specs.declared.place.Place.{Place}
+use Rattle.actor_steps.specs.declared.reply.Reply.{Reply}
+use Rattle.actor_steps.specs.declared.worker.Worker.{Worker}
+use Rattle.actor_steps.specs.declared.worker.Turn.{Turn}
+use Rattle.actor_steps.specs.declared.worker.Turn.TheVariants as turn
+use Rattle.actor_steps.specs.Places.{AreRequests, todo_at, part_at, behind, IsPlace, IsSettled, IsOnward}
+use Rattle.actor_steps.specs.Work.{reads}
+use Rattle.actor_steps.specs.Replies.{HasRoomFor, HasMore}
+
+-- ---- the local
+
+-- the stage of the call in work; a piece without one is before its first event
+abbrev pub stage_of : Option PageCall → Stage
+stage_of None = stage.Start
+stage_of (Some c) = c.stage
+
+-- the local, where these pieces are over
+abbrev pub here : ℕ → List Op → Worker → List Done → Here
+here size ops w done = record {
+  actor = w.actor;
+  at = at_of (stage_of w.call);
+  todo = todo_at size ops w.place;
+  held = held_of w.place.page (stage_of w.call);
+  done = done;
+  fresh = fresh_of w.scratch (stage_of w.call);
+  pin = cell_in (stage_of w.call);
+  owed = owed_of (stage_of w.call);
+  ahead = ahead_of (stage_of w.call);
+  behind = behind_of (stage_of w.call);
+  page = page_of w.scratch (stage_of w.call);
+  fail = fail_of (stage_of w.call);
+}
+
+-- what it does next, whatever is over
+abbrev pub next_event : Terms → List Op → Worker → Plan
+next_event t ops w = plan t (here t.size ops w [])
+
+-- what the terms of a phase are to a worker, by the disk's pages and the time
+abbrev pub terms_of : ℕ → ℕ → Worker → Terms
+terms_of size now w = record { size = size; chain = w.scratch.table; clock = now }
+
+-- the worker with this call in work
+abbrev pub with_call : Worker → Option PageCall → Worker
+with_call w o = record {
+  actor = w.actor;
+  place = w.place;
+  carried = w.carried;
+  call = o;
+  scratch = w.scratch;
+  replies = w.replies;
+}
+
+-- ---- the pieces that are over
+
+-- how many pieces of an operation are over
+abbrev pub over_of : ℕ → List Done → ℕ
+over_of nr [] = 0
+over_of nr (d ∷ ds) = if d.part.nr == nr then 1 + over_of nr ds else over_of nr ds
+
+-- each piece of an operation that is over was carried out
+abbrev pub AllCarried : ℕ → List Done → Type 0
+AllCarried nr [] = ⊤
+AllCarried nr (d ∷ ds) = (d.part.nr ≡ nr → is_carried d.end ≡ true) × AllCarried nr ds
+
+-- The replies have the ends of the operations by the pieces that are over, and what these have
+-- read; of the operation in work so many pieces are over, all carried out, and none of a later one.
+pub record Keeps (w : Worker) (done : List Done) : Type 0 where
+  pub ends : (k : ℕ) (r : Reply) → slice_get w.replies.items k ≡ Some r → r.end ≡ end_of k done
+  pub sectors : (k : ℕ) (r : Reply) → slice_get w.replies.items k ≡ Some r
+      → r.sectors.items ≡ got_of k done
+  pub count : over_of w.place.nr done ≡ w.carried
+  pub carried : AllCarried w.place.nr done
+  pub later : (k : ℕ) → w.place.nr < k → over_of k done ≡ 0
+
+-- ---- what a worker has to have
+
+-- A reply has room for the sectors that are left to read, where the operation is the k-th.
+pub record ReadFits (size : ℕ) (pl : Place) (k start count len room : ℕ) : Type 0 where
+  pub later : pl.nr < k → is_single size (Read start count) ≡ false → len + count ≤ room
+  pub here : pl.nr ≡ k → is_single size (Read start count) ≡ false
+      → len + (start + count - max start (8 * pl.page)) ≤ room
+
+-- the reply of the k-th operation has room for what is left to read; only reads on the disk have
+-- sectors
+abbrev pub ReplyFits : ℕ → Place → ℕ → Op → Reply → Type 0
+ReplyFits size pl k (Write start count stuff) r = r.sectors.items ≡ []
+ReplyFits size pl k (Read start count) r =
+    ReadFits size pl k start count (vec_len r.sectors) (vec_capacity r.sectors)
+    × (is_single size (Read start count) ≡ true → r.sectors.items ≡ [])
+ReplyFits size pl k (Discard start count) r = r.sectors.items ≡ []
+
+-- what the call in work doesn't know of its actor, where these pieces follow and these are over
+abbrev pub frame : Terms → Worker → Op → List Part → List Done → Frame
+frame t w op rest done = record {
+  terms = t;
+  actor = w.actor;
+  part = part_at w.place op;
+  rest = rest;
+  done = done;
+}
+
+-- The call does the worker's piece, and goes on.
+pub record IsCallOf (t : Terms) (ops : List Op) (w : Worker) (c : PageCall) : Type 0 where
+  pub going : IsGoing c.stage
+  pub fit : IsCallFit c.head w.scratch c.stage
+  pub work : (op : Op) (rest : List Part) (done : List Done) → slice_get ops w.place.nr ≡ Some op
+      → IsWork c.head w.scratch (frame t w op rest done)
+
+-- the call in work does the worker's piece, if there is one
+abbrev pub HasCall : Terms → List Op → Worker → Option PageCall → Type 0
+HasCall t ops w None = ⊤
+HasCall t ops w (Some c) = IsCallOf t ops w c
+
+-- The worker is at a piece with events, or past all of them, with room for what is left to do.
+pub record IsFit (t : Terms) (ops : List Op) (w : Worker) : Type 0 where
+  pub requests : AreRequests ops
+  pub few : length ops < 2 ^ 32
+  pub place : IsPlace ops w.place
+  pub settled : IsSettled t.size ops w.place
+  pub chain : w.scratch.table ≡ t.chain
+  pub carried : w.carried ≤ w.place.page
+  pub call : HasCall t ops w w.call
+  pub replies : length w.replies.items ≡ length ops
+  pub reads : (k : ℕ) (op : Op) (r : Reply) → slice_get ops k ≡ Some op
+      → slice_get w.replies.items k ≡ Some r → ReplyFits t.size w.place k op r
+
+-- ---- pieces that begin
+
+-- The call of an operation's piece on a page before its first event. With the page that stands in
+-- the scratch it does the work of each actor at this piece.
+pub record IsBegun (size now : ℕ) (tag : Tag) (op : Op) (page : ℕ) (fresh : List ℕ) (c : PageCall)
+    : Type 0 where
+  pub going : IsGoing c.stage
+  pub fit : (r : Scratch) → IsCallFit c.head r c.stage
+  pub start : (x : Frame) (r : Scratch) → call_here x r c.stage ≡ call_here x r stage.Start
+  pub work : (x : Frame) (r : Scratch) → x.terms.size ≡ size → x.terms.clock ≡ now
+      → r.table ≡ x.terms.chain → x.part.op ≡ op → x.part.page ≡ page → tag ≡ tag_by x.actor x.part
+      → r.fresh ≡ fresh → IsWork c.head r x
+
+-- ---- ends of pieces
+
+-- What a worker needs where its piece is over with this end.
+pub record CanFinish (size : ℕ) (ops : List Op) (end : PieceEnd) (w : Worker) : Type 0 where
+  pub requests : AreRequests ops
+  pub more : w.place.nr < length ops
+  pub place : IsPlace ops w.place
+  pub settled : IsSettled size ops w.place
+  pub carried : w.carried ≤ w.place.page
+  pub replies : length w.replies.items ≡ length ops
+  pub room : (op : Op) (r : Reply) → slice_get ops w.place.nr ≡ Some op
+      → slice_get w.replies.items w.place.nr ≡ Some r
+      → HasRoomFor end (vec_len r.sectors + reads op w.place.page) (vec_capacity r.sectors)
+
+-- The worker's piece is over with this end: its reply has that, and the place goes on.
+pub record Finishes (size : ℕ) (ops : List Op) (end : PieceEnd) (w w' : Worker) : Type 0 where
+  pub actor : w'.actor ≡ w.actor
+  pub call : w'.call ≡ w.call
+  pub scratch : w'.scratch ≡ w.scratch
+  pub place : IsPlace ops w'.place
+  pub settled : IsSettled size ops w'.place
+  pub onward : IsOnward (behind w.place) w'.place
+  pub todo : todo_at size ops w'.place
+      ≡ left_by (ending end) w.place.nr (todo_at size ops (behind w.place))
+  pub later : is_carried (ending end) ≡ false → w.place.nr < w'.place.nr
+  pub carried : w'.carried ≡ (if w'.place.nr == w.place.nr then w.carried + 1 else 0)
+  pub replies : (op : Op) → slice_get ops w.place.nr ≡ Some op
+      → HasMore w.place.nr (op_end (ending end) w.carried)
+      (got_of_piece end w.scratch.page (part_at w.place op)) (reads op w.place.page)
+      w.replies.items w'.replies.items
+
+-- ---- turns
+
+-- an event that takes a value may be told so, whatever is over
+abbrev pub TakesAs : Terms → List Op → Worker → Next → Type 0
+TakesAs t ops w f = (done : List Done) (v : DiskHeld)
+    → f (here t.size ops w done) v ≡ took t (here t.size ops w done) v
+
+-- an event that gives this value may be told so, whatever is over
+abbrev pub GivesAs : Terms → List Op → Worker → Next → DiskHeld → Type 0
+GivesAs t ops w f v = (done : List Done)
+    → Works t (here t.size ops w done) v (f (here t.size ops w done) v)
+
+module _ {X : Type 0} (can_take : X → LockNo → Next → Type 0)
+    (takes : X → LockNo → Next → DiskHeld → X → Type 0)
+    (can_give : X → LockNo → Next → DiskHeld → Type 0) where
+  -- The hand allows the next event of a worker, and what it gives to a take fits.
+  pub record Allows (t : Terms) (ops : List Op) (w : Worker) (h : X) : Type 0 where
+    pub take : (k : LockNo) (f : Next) → next_event t ops w ≡ Take k → TakesAs t ops w f
+        → can_take h k f
+    pub fits : (k : LockNo) (f : Next) (v : DiskHeld) (g : X) → next_event t ops w ≡ Take k
+        → TakesAs t ops w f → takes h k f v g → StageFits t (here t.size ops w []) v
+    pub give : (k : LockNo) (f : Next) (v : DiskHeld) → next_event t ops w ≡ Give k
+        → GivesAs t ops w f v → can_give h k f v
+
+-- what a turn of its call is to an actor
+abbrev pub turn_of : Progress → Turn
+turn_of progress.Moved = turn.Went
+turn_of (progress.Waits k) = turn.Waited k
+turn_of (progress.Done end) = turn.Went
+
+module _ {X : Type 0} (takes : X → LockNo → Next → DiskHeld → X → Type 0)
+    (misses : X → LockNo → X → Type 0)
+    (gives : X → LockNo → Next → DiskHeld → X → Type 0) where
+  -- One turn of an actor by a hand leads from l to m: nothing where it is finished, or else a turn of
+  -- its call.
+  pub data Turned (t : Terms) (l : Here) (h : X) (m : Here) (g : X) (n : Turn) : Type 0 where
+    finished : plan t l ≡ Finished → m ≡ l → g ≡ h → n ≡ turn.Finished → Turned t l h m g n
+    turned : (p : Progress) → CallTurned takes misses gives t l h m g p → n ≡ turn_of p
+        → Turned t l h m g n
+
+  -- that of a worker, where these pieces are over before it
+  abbrev pub Advanced : Terms → List Op → Worker → X → Worker → X → Turn → List Done → Type 0
+  Advanced t ops w h w' g n done = (done' : List Done) × Keeps w' done'
+      × Turned t (here t.size ops w done) h (here t.size ops w' done') g n

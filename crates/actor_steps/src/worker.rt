@@ -1,0 +1,174 @@
+//! An actor of a phase: its place among its operations, the call of its piece in work, and its
+//! replies. Its steps are written for any hand.
+
+ghost use Rattle.std.specs.Prelude.{◌≡◌, ◌<◌, ◌^◌, nat_le, List, length, Some, None, slice_get};
+ghost use Rattle.zr_base.specs.declared.op.Op.{Op};
+ghost use Rattle.call_history.specs.declared.part.Done.{Done};
+ghost use Rattle.actor_steps.specs.Places.{AreRequests, IsPlace, IsSettled};
+ghost use Rattle.actor_steps.specs.Workers.{IsFit, terms_of, with_call, IsBegun, CanFinish, Finishes, Keeps, Allows, Advanced};
+
+use crate::place::{Place, next_place};
+use crate::reply::{Reply, goes_on, keep};
+use crate::work::bring;
+use call_history::histories_go_on;
+use lock_row::{Hand, LockNo};
+use page_steps::{DiskHeld, PageCall, PieceEnd, Progress, Scratch, calls_are_events};
+use zr_base::{Op, Page, Tag};
+
+/// What a turn was.
+#[derive(Clone, Copy, PartialEq, Eq, Debug)]
+pub enum Turn {
+    /// One event.
+    Went,
+    /// A miss: this lock was held.
+    Waited(LockNo),
+    /// Nothing: the actor had no operation left.
+    Finished,
+}
+
+/// An actor of a phase. Nothing else changes its scratch while the phase lasts.
+#[derive(Drop)]
+pub struct Worker {
+    pub actor: u32,
+    pub place: Place,
+    /// how many pieces of the operation in work were carried out
+    pub carried: u32,
+    /// the call of the piece in work, from the turn of its first event on
+    pub call: Option<PageCall>,
+    pub scratch: Scratch,
+    pub replies: Vec<Reply>,
+}
+
+// The call of the next piece before its first event. The sectors of a write are put into `fresh`.
+fn begun(size: u32, now: u64, actor: u32, place: Place, ops: &[Op], fresh: &mut Page) -> PageCall
+    requires requests { AreRequests ops.now }
+    requires few { length ops.now < 2 ^ 32 }
+    requires more { place.nr < length ops.now }
+    requires place { IsPlace ops.now place }
+    requires settled { IsSettled size ops.now place }
+    ensures { (op : Op) → slice_get ops.now place.nr ≡ Some op
+        → IsBegun size now (record { actor = actor; op = place.nr }) op place.page fresh.new result }
+{
+    let Place { nr, page, .. } = place;
+    let tag = Tag {
+        actor,
+        op: nr as u32,
+    };
+    let op = &ops[nr];
+    if op.is_beyond(size) {
+        return PageCall::out_of_range();
+    }
+    let piece = op.piece_on(page);
+    match op {
+        Op::Write {
+            start,
+            count,
+            stuff,
+        } => {
+            bring(*start, *count, stuff, piece, fresh);
+            PageCall::write(piece, tag, now)
+        }
+        Op::Read { .. } => PageCall::read(piece, tag, now),
+        Op::Discard { .. } => PageCall::discard(piece, tag, now),
+    }
+}
+
+impl Worker {
+    /// Whether the actor has no piece left.
+    pub fn is_done(&self, ops: &[Op]) -> bool
+        ensures { result ≡ nat_le (length ops.now) self.now.place.nr }
+    {
+        self.place.nr >= ops.len()
+    }
+
+    // The piece in work is over: its reply has its end and its sectors, and the place goes on.
+    fn finish(&mut self, size: u32, ops: &[Op], end: PieceEnd)
+        requires { CanFinish size ops.now end self.old }
+        ensures { Finishes size ops.now end self.old self.new }
+    {
+        let Place { nr, page, .. } = self.place;
+        keep(
+            &mut self.replies,
+            nr,
+            &ops[nr],
+            page,
+            end,
+            self.carried,
+            &self.scratch.page,
+        );
+        self.place = next_place(size, ops, self.place, goes_on(end));
+        self.carried = if self.place.nr == nr {
+            self.carried + 1
+        } else {
+            0
+        };
+    }
+
+    // One turn of the call of the piece in work.
+    fn go_on<H: Hand<Value = DiskHeld>>(
+        &mut self,
+        size: u32,
+        now: u64,
+        ops: &[Op],
+        call: PageCall,
+        hand: &mut H,
+    ) -> Turn
+        requires more { self.old.place.nr < length ops.now }
+        requires none { self.old.call ≡ None }
+        requires fit { IsFit (terms_of size now self.old) ops.now (with_call self.old (Some call)) }
+        requires allows { Allows H.can_take H.takes H.can_give (terms_of size now self.old) ops.now
+            (with_call self.old (Some call)) hand.old }
+        ensures fit { IsFit (terms_of size now self.old) ops.now self.new }
+        ensures turn { (done : List Done) → Keeps self.old done
+            → Advanced H.takes H.misses H.gives (terms_of size now self.old) ops.now
+            (with_call self.old (Some call)) hand.old self.new hand.new result done }
+    {
+        calls_are_events();
+        histories_go_on();
+        let mut going = call;
+        match going.advance(hand, &mut self.scratch) {
+            Progress::Moved => {
+                self.call.insert(going);
+                Turn::Went
+            }
+            Progress::Waits(lock) => {
+                self.call.insert(going);
+                Turn::Waited(lock)
+            }
+            Progress::Done(end) => {
+                drop(going);
+                self.finish(size, ops, end);
+                Turn::Went
+            }
+        }
+    }
+
+    /// One turn of the actor, by this hand, on a disk of `size` pages at the time `now`.
+    pub fn advance<H: Hand<Value = DiskHeld>>(
+        &mut self,
+        size: u32,
+        now: u64,
+        ops: &[Op],
+        hand: &mut H,
+    ) -> Turn
+        requires fit { IsFit (terms_of size now self.old) ops.now self.old }
+        requires allows { Allows H.can_take H.takes H.can_give (terms_of size now self.old) ops.now
+            self.old hand.old }
+        ensures fit { IsFit (terms_of size now self.old) ops.now self.new }
+        ensures turn { (done : List Done) → Keeps self.old done
+            → Advanced H.takes H.misses H.gives (terms_of size now self.old) ops.now
+            self.old hand.old self.new hand.new result done }
+    {
+        if self.is_done(ops) {
+            return Turn::Finished;
+        }
+        match self.call.take() {
+            Some(call) => self.go_on(size, now, ops, call, hand),
+            None => {
+                let fresh = &mut self.scratch.fresh;
+                let call = begun(size, now, self.actor, self.place, ops, fresh);
+                self.go_on(size, now, ops, call, hand)
+            }
+        }
+    }
+}

@@ -1,0 +1,119 @@
+-- Counts by pieces are counts by ends.
+use Rattle.std.proofs.Common.{◌≡◌, ℕ, suc, ◌+◌, Bool, true, false, cond, List, [], ◌∷◌, ◌++◌, length, Some, slice_get, refl, sym, ap, ◌∙◌, arith, zero-add, add-zero}
+use Rattle.std.specs.List.{AllByRecursion}
+use Rattle.std.proofs.lemmas.Bool.{eq-eqb}
+use Rattle.zr_base.specs.declared.op.Op.{Op}
+use Rattle.zr_base.specs.declared.op.Op.TheVariants.{Write}
+use Rattle.zr_base.specs.declared.op.OpEnd.{OpEnd}
+use Rattle.zr_base.specs.declared.op.OpEnd.TheVariants as ends
+use Rattle.plain_disk.specs.Ends.{ops_sum, ends_sum, failed_write, beyond}
+use Rattle.call_history.specs.declared.part.Part.{Part}
+use Rattle.call_history.specs.declared.part.PartEnd.{PartEnd}
+use Rattle.call_history.specs.declared.part.PartEnd.TheVariants as over
+use Rattle.call_history.specs.declared.part.Done.{Done}
+use Rattle.call_history.specs.Parts.{parts, program, Follows, is_carried, op_end, end_by, ends_from, piece_gives, done_sum, dones_sum}
+use Rattle.call_history.specs.Histories.{ends_each}
+use Rattle.call_history.proofs.Told.{every_parts}
+use Rattle.call_history.proofs.Ends.{Mine, mine_on, none_left}
+use Rattle.call_history.proofs.Actors.{cut, front_end, back_ends}
+
+-- ---- steady counts
+
+-- A count by ends that doesn't ask how many pieces were carried out, and that `ok` doesn't move.
+pub record IsSteady (g : Op → OpEnd → ℕ) : Type 0 where
+  pub whole : (op : Op) → g op ends.Ok ≡ 0
+  pub steady : (op : Op) (x : PartEnd) (n : ℕ) → g op (op_end x n) ≡ g op (op_end x 0)
+
+failed_write-whole : (op : Op) → failed_write op ends.Ok ≡ 0
+failed_write-whole (Write start count stuff) = refl
+failed_write-whole _ = refl
+
+failed_write-steady : (op : Op) (x : PartEnd) (n : ℕ)
+    → failed_write op (op_end x n) ≡ failed_write op (op_end x 0)
+failed_write-steady (Write start count stuff) over.Carried n = refl
+failed_write-steady (Write start count stuff) _ n = refl
+failed_write-steady _ x n = refl
+
+pub failed_write-is : IsSteady failed_write
+failed_write-is = record { whole = failed_write-whole; steady = failed_write-steady }
+
+beyond-steady : (op : Op) (x : PartEnd) (n : ℕ) → beyond op (op_end x n) ≡ beyond op (op_end x 0)
+beyond-steady op over.Carried n = refl
+beyond-steady op _ n = refl
+
+pub beyond-is : IsSteady beyond
+beyond-is = record { whole = λ op. refl; steady = beyond-steady }
+
+-- ---- sums
+
+pub sum_append : (g : Op → OpEnd → ℕ) (xs ys : List Done)
+    → done_sum g (xs ++ ys) ≡ done_sum g xs + done_sum g ys
+sum_append g [] ys = sym (zero-add (done_sum g ys))
+sum_append g (x ∷ xs) ys = let q = sum_append g xs ys in omega arith
+
+-- a piece of this operation
+abbrev OfOp : ℕ → Op → Part → Type 0
+OfOp nr op p = (p.nr ≡ nr) × (p.op ≡ op)
+
+module _ (So : Part → PartEnd → Type 0) (g : Op → OpEnd → ℕ) (w : IsSteady g) where
+  -- of one operation
+  front_sum : (nr c : ℕ) (op : Op) (ps : List Part) (front : List Done)
+      → AllByRecursion (OfOp nr op) ps → Mine So ps front
+      → done_sum g front ≡ g op (end_by nr c front)
+  front_sum nr c op ps [] of m = sym (w.whole op)
+  front_sum nr c op [] (d ∷ ds) of m = absurd m
+  front_sum nr c op (p ∷ ps) (d ∷ ds) of m =
+      by_end (λ k. front_sum nr (c + 1) op ps ds of.1 k) (is_carried d.end) refl where
+        here : (b : Bool) → is_carried d.end ≡ b
+            → end_by nr c (d ∷ ds) ≡ cond b (end_by nr (c + 1) ds) (op_end d.end c)
+        here b e = ap (λ (x : Bool). cond x (cond (is_carried d.end) (end_by nr (c + 1) ds)
+            (op_end d.end c)) (end_by nr c ds))
+            (eq-eqb d.part.nr nr (ap (λ (x : Part). x.nr) m.0 ∙ of.0.0))
+            ∙ ap (λ (x : Bool). cond x (end_by nr (c + 1) ds) (op_end d.end c)) e
+
+        gives : (b : Bool) → is_carried d.end ≡ b
+            → piece_gives g d.part.op d.end ≡ cond b 0 (g d.part.op (op_end d.end 0))
+        gives b e = ap (λ (x : Bool). cond x 0 (g d.part.op (op_end d.end 0))) e
+
+        by_end : (Mine So ps ds → done_sum g ds ≡ g op (end_by nr (c + 1) ds)) → (b : Bool)
+            → is_carried d.end ≡ b → done_sum g (d ∷ ds) ≡ g op (end_by nr c (d ∷ ds))
+        by_end again true e =
+            ap (λ (n : ℕ). n + done_sum g ds) (gives true e) ∙ zero-add (done_sum g ds)
+            ∙ again (mine_on So d ps ds true e m.2) ∙ sym (ap (g op) (here true e))
+        by_end again false e =
+            ap (λ (xs : List Done). piece_gives g d.part.op d.end + done_sum g xs)
+            (none_left So ds (mine_on So d ps ds false e m.2))
+            ∙ add-zero (piece_gives g d.part.op d.end) ∙ gives false e
+            ∙ sym (w.steady d.part.op d.end c)
+            ∙ ap (λ (o : Op). g o (op_end d.end c)) (ap (λ (x : Part). x.op) m.0 ∙ of.0.1)
+            ∙ sym (ap (g op) (here false e))
+
+  -- of an actor
+  actor_sum : (pages : ℕ) (nr : ℕ) (ops : List Op) (done : List Done)
+      → Follows So (program pages nr ops) done []
+      → done_sum g done ≡ ops_sum g ops (ends_from nr ops done)
+  actor_sum pages nr [] [] f = refl
+  actor_sum pages nr [] (d ∷ ds) f = absurd f
+  actor_sum pages nr (op ∷ ops) done f =
+      let c = cut So pages nr op ops done f in
+      let each = every_parts (OfOp nr op) pages nr op (λ q. (refl, refl)) in
+      ap (done_sum g) c.is ∙ sum_append g c.front c.back
+      ∙ (λ i. front_sum nr 0 op (parts pages nr op) c.front each c.mine i
+      + actor_sum pages (nr + 1) ops c.back c.later i)
+      ∙ sym (λ i. g op (front_end So pages nr op ops done c i)
+      + ops_sum g ops (back_ends So pages nr op ops done c i))
+
+  -- of all actors
+  pub all_sum : (pages : ℕ) (actors : List (List Op)) (dones : List (List Done))
+      → length dones ≡ length actors
+      → ((a : ℕ) (ops : List Op) (done : List Done) → slice_get actors a ≡ Some ops
+      → slice_get dones a ≡ Some done → Follows So (program pages 0 ops) done [])
+      → dones_sum g dones ≡ ends_sum g actors (ends_each actors dones)
+  all_sum pages [] [] e h = refl
+  all_sum pages [] (done ∷ ds) e h =
+      absurd (let q : suc (length ds) ≡ 0 = e in let none : ⊥ = omega arith in none)
+  all_sum pages (ops ∷ more) [] e h =
+      absurd (let q : 0 ≡ suc (length more) = e in let none : ⊥ = omega arith in none)
+  all_sum pages (ops ∷ more) (done ∷ ds) e h =
+      λ i. actor_sum pages 0 ops done (h 0 ops done refl refl) i
+      + all_sum pages more ds (omega arith) (λ j os d x y. h (suc j) os d x y) i

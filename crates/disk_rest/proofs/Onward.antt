@@ -1,0 +1,233 @@
+-- A row that stands for a rest, and what may follow: a phase, or another limit.
+use Rattle.std.proofs.Common.{◌≡◌, ◌≢◌, ℕ, ◌+◌, ◌<◌, List, [], length, Some, None, slice_get, slice_set, get_or-set_same, get_or-set_other, length-set, refl, sym, ap, ◌∙◌, subst, arith, inl, inr}
+use Rattle.std.proofs.lemmas.Bool.{cases_eq}
+use Rattle.std.proofs.lemmas.Option.{slice_get_within}
+use Rattle.zr_base.specs.declared.op.Op.{Op}
+use Rattle.mem_account.specs.Counters.{Counters}
+use Rattle.plain_disk.specs.Rests.{Rest, stats}
+use Rattle.plain_disk.specs.Legal.{sets}
+use Rattle.lock_row.specs.declared.names.Held.TheVariants as holds
+use Rattle.lock_row.specs.declared.names.State.{State}
+use Rattle.slot_entry.specs.Entries.{EntryState}
+use Rattle.page_steps.specs.Steps.{DiskHeld}
+use Rattle.slot_entry.specs.Forms.{page_weight}
+use Rattle.joint_rule.specs.Begins.{Begin}
+use Rattle.joint_rule.specs.Joint.{AtHome}
+use Rattle.joint_rule.specs.Laws.{GoesToNext}
+use Rattle.joint_rule.specs.Starts.{AtRest, IsStart, Renewed, slots, accounts, stays}
+use Rattle.disk_rest.specs.Rows.{Row, value_at, used_in, used_at, counters_in, account_at, without_calls, without_orders, IsKept, KeepsValues}
+use Rattle.disk_rest.specs.Resting.{begin_of, StandsFor, IsSetUp}
+use Rattle.disk_rest.proofs.Places.{value_is}
+use Rattle.disk_rest.proofs.Matches.{matched, value_there, was_at, was_slot, emptied_long, emptied_at}
+use Rattle.disk_rest.proofs.Reports.{pool_tells, account_tells}
+
+-- the rest at another limit
+abbrev at_limit : Rest → ℕ → Rest
+at_limit r n = sets r (record r.set { limit = n })
+
+-- ---- values that are kept
+
+self_kept : (v : DiskHeld) → IsKept v v
+self_kept (holds.Slot e) = (e, refl, refl, refl)
+self_kept (holds.Class x) = refl
+self_kept (holds.Account x) = refl
+self_kept (holds.Blocks x) = refl
+self_kept (holds.Device x) = refl
+
+-- without its order a value is kept too
+kept_still : (v u : DiskHeld) → IsKept v u → IsKept v (without_calls u)
+kept_still (holds.Slot e) u is = (
+  record { kept = is.0.kept; order = []; room = 0; touched = is.0.touched },
+  ap without_calls is.1,
+  is.2,
+  is.3,
+)
+kept_still (holds.Class x) u is = ap without_calls is
+kept_still (holds.Account x) u is = ap without_calls is
+kept_still (holds.Blocks x) u is = ap without_calls is
+kept_still (holds.Device x) u is = ap without_calls is
+
+-- the value's order, if it has one, is empty
+abbrev NoCalls : DiskHeld → Type 0
+NoCalls u = (f : EntryState) → u ≡ holds.Slot f → f.order ≡ []
+
+no_calls : (u : DiskHeld) → NoCalls (without_calls u)
+no_calls u f e = (was_slot u f (sym e)).order
+
+account_kept : (v : DiskHeld) (c : Counters) → IsKept v (holds.Account c) → v ≡ holds.Account c
+account_kept (holds.Slot e) c is = absurd (let q = is.1 in cc)
+account_kept (holds.Class x) c is = absurd (cc)
+account_kept (holds.Account x) c is = sym is
+account_kept (holds.Blocks x) c is = absurd (cc)
+account_kept (holds.Device x) c is = absurd (cc)
+
+-- ---- rows that go on from one that stands for a rest
+
+module _ (r : Rest) (n : ℕ) (actors : List (List Op)) where
+  abbrev g : Begin
+  g = begin_of r []
+
+  abbrev h : Begin
+  h = begin_of (at_limit r n) actors
+
+  -- a value that is kept, with an empty order, is one with which the next phase begins
+  renews : (k : ℕ) (v u : DiskHeld) → IsKept v u → NoCalls u → AtHome g k (without_calls v)
+      → Renewed g h k (without_calls v) u
+  renews k (holds.Slot e) u is none home =
+      slots (record { kept = e.kept; order = []; room = 0; touched = e.touched }) is.0 refl is.1
+      (record {
+        kept = is.2;
+        order = none is.0 is.1;
+        touched = is.3;
+        time = sym home.sound.touched;
+        blank = refl;
+        before = λ j lt. refl;
+      })
+  renews k (holds.Class x) u is none home = stays tt is
+  renews k (holds.Account x) u is none home = accounts x x refl is refl
+  renews k (holds.Blocks x) u is none home = stays tt is
+  renews k (holds.Device x) u is none home = stays tt is
+
+  goes_on : (row ys : Row) → GoesToNext → AtRest g (without_orders row) → length ys ≡ length row
+      → ((k : ℕ) (v : DiskHeld) → slice_get row k ≡ Some (Some v) → AtHome g k (without_calls v)
+      → (u : DiskHeld) × (slice_get ys k ≡ Some (Some u)) × Renewed g h k (without_calls v) u)
+      → AtRest h ys
+  goes_on row ys next rest long each =
+      next g h (without_orders row) ys (record { size = refl; chain = refl })
+      (matched (Renewed g h) (without_orders row) ys (let e = emptied_long row in omega arith)
+      (λ k lt. let v = rest.whole k lt in let was = was_at row k v.0 v.1 in
+      let u = each k was.value was.at (subst (AtHome g k) was.is (rest.home k v.0 v.1)) in record {
+        old = without_calls was.value;
+        new = u.0;
+        was = emptied_at row k was.value was.at;
+        is = u.1;
+        so = u.2;
+      })) rest
+
+-- ---- the next phase
+
+module _ (r : Rest) (actors : List (List Op)) (row : Row) (w : State DiskHeld)
+    (next : GoesToNext) (st : StandsFor r row) (up : IsSetUp r actors row w) where
+  next_rest : AtRest (begin_of r actors) w.row
+  next_rest = goes_on r r.set.limit actors row w.row next st.rest up.row.size
+      (λ k v at home. let u = up.row.each k v at in (
+        u.0,
+        u.1,
+        renews r r.set.limit actors k v u.0 u.2
+            (λ f e. (up.orders k f (u.1 ∙ ap (λ (x : DiskHeld). Some (Some x)) e)).0) home,
+      ))
+
+  account_is : (k : ℕ) (c : Counters) → slice_get w.row k ≡ Some (Some (holds.Account c))
+      → c ≡ stats page_weight r
+  account_is k c e =
+      let place : k ≡ r.size + 255 = (next_rest.home k (holds.Account c) e).sound in
+      let now : slice_get w.row (r.size + 255) ≡ Some (Some (holds.Account c)) =
+      subst (λ (j : ℕ). slice_get w.row j ≡ Some (Some (holds.Account c))) place e in
+      let u = up.row.each (r.size + 255) _ (account_tells r row st) in
+      let a = u.1 in let b = u.2 in cc
+
+  pub starts : IsStart (begin_of r actors) w
+  starts = record {
+    rest = next_rest;
+    orders = up.orders;
+    account = account_is;
+    actors = up.starts;
+    count = up.count;
+  }
+
+-- ---- other orders
+
+module _ (r : Rest) (row ys : Row) (next : GoesToNext) (st : StandsFor r row)
+    (keeps : KeepsValues row ys) where
+  used_still : (k : ℕ) → k < 255 → used_at r.size ys k ≡ r.used k
+  used_still k lt =
+      let q = pool_tells r row st k lt in
+      let u = keeps.each (r.size + k) (holds.Class q.pool) q.at in
+      ap used_in (value_is ys (r.size + k) u.0 u.1) ∙ ap (λ (v : DiskHeld). used_in (Some v)) u.2
+      ∙ q.used
+
+  account_still : account_at r.size ys ≡ stats page_weight r
+  account_still =
+      let u = keeps.each (r.size + 255) _ (account_tells r row st) in
+      ap counters_in (value_is ys (r.size + 255) u.0 u.1)
+      ∙ ap (λ (v : DiskHeld). counters_in (Some v)) u.2
+
+  pub stands_still : StandsFor r ys
+  stands_still = record {
+    plain = st.plain;
+    rest = goes_on r r.set.limit [] row (without_orders ys) next st.rest
+        (emptied_long ys ∙ keeps.size)
+        (λ k v at home. let u = keeps.each k v at in (
+          without_calls u.0,
+          emptied_at ys k u.0 u.1,
+          renews r r.set.limit [] k v (without_calls u.0) (kept_still v u.0 u.2) (no_calls u.0) home,
+        ));
+    used = used_still;
+    account = account_still;
+  }
+
+-- ---- another limit
+
+module _ (r : Rest) (row : Row) (n : ℕ) (c : Counters) (next : GoesToNext) (st : StandsFor r row)
+    (at : slice_get row (r.size + 255) ≡ Some (Some (holds.Account c))) where
+  -- the account with the limit
+  abbrev limited : Counters
+  limited = record c { limit = n }
+
+  abbrev ys : Row
+  ys = slice_set row (r.size + 255) (Some (holds.Account limited))
+
+  at_account : slice_get ys (r.size + 255) ≡ Some (Some (holds.Account limited))
+  at_account = value_there ys (r.size + 255) (holds.Account limited)
+      (get_or-set_same row (r.size + 255) (Some (holds.Account limited)) None
+      (slice_get_within row (r.size + 255) (Some (holds.Account c)) at))
+
+  value_else : (k : ℕ) → k ≢ r.size + 255 → value_at ys k ≡ value_at row k
+  value_else k ne = get_or-set_other row (r.size + 255) k (Some (holds.Account limited)) None ne
+
+  limit_each : (k : ℕ) (v : DiskHeld) → slice_get row k ≡ Some (Some v)
+      → AtHome (begin_of r []) k (without_calls v)
+      → (u : DiskHeld) × (slice_get (without_orders ys) k ≡ Some (Some u))
+      × Renewed (begin_of r []) (begin_of (at_limit r n) []) k (without_calls v) u
+  limit_each k v e home = elim (cases_eq k (r.size + 255)) [
+    | inl here ↦
+        let there : slice_get row k ≡ Some (Some (holds.Account c)) =
+        ap (slice_get row) here ∙ at in
+        let is : v ≡ holds.Account c = cc in (
+          holds.Account limited,
+          emptied_at ys k (holds.Account limited) (ap (slice_get ys) here ∙ at_account),
+          accounts c limited (ap without_calls is) refl refl,
+        )
+    | inr else ↦ (
+      without_calls v,
+      emptied_at ys k v
+          (value_there ys k v (value_else k else ∙ value_is row k v e)),
+      renews r n [] k v (without_calls v)
+          (kept_still v v (self_kept v)) (no_calls v) home,
+    )
+  ]
+
+  used_same : (k : ℕ) → k < 255 → used_at r.size ys k ≡ r.used k
+  used_same k lt =
+      ap used_in (value_else (r.size + k) (λ e. let none : ⊥ = omega arith in none))
+      ∙ st.used k lt
+
+  account_same : account_at r.size ys ≡ stats page_weight (at_limit r n)
+  account_same = ap counters_in (value_is ys (r.size + 255) (holds.Account limited) at_account)
+      ∙ ap (λ (k : Counters). record k { limit = n })
+      (sym (ap counters_in (value_is row (r.size + 255) (holds.Account c) at)) ∙ st.account)
+
+  pub limit_stands : StandsFor (at_limit r n) ys
+  limit_stands = record {
+    plain = record {
+      sectors = st.plain.sectors;
+      blanks = st.plain.blanks;
+      least = st.plain.least;
+      most = st.plain.most;
+    };
+    rest = goes_on r n [] row (without_orders ys) next st.rest
+        (emptied_long ys ∙ length-set row (r.size + 255) (Some (holds.Account limited)))
+        limit_each;
+    used = used_same;
+    account = account_same;
+  }

@@ -1,0 +1,28 @@
+use Rattle.std.proofs.Common.{◌<◌, ℕ, arith, subst}
+use Rattle.disk_rest.proofs.Bare.{nothing_counted, no_states, no_classes}
+use Rattle.disk_rest.proofs.Reports.{prints, entry_tells, pool_tells, account_tells}
+use Rattle.disk_rest.proofs.laws.rows_print.Goals as goal
+
+pub returns-clause-reports : goal.returns-clause-reports
+returns-clause-reports c r row q st = prints r row st q
+
+pub returns-clause-entries : goal.returns-clause-entries
+returns-clause-entries c r row p st lt =
+    let e = entry_tells r row st p lt in (e.entry, e.at, e.weight, e.touched)
+
+pub returns-clause-pools : goal.returns-clause-pools
+returns-clause-pools c r row k st lt =
+    let q = pool_tells r row st k lt in (q.pool, q.at, q.class, q.fits, q.used)
+
+pub returns-clause-account : goal.returns-clause-account
+returns-clause-account c r row st = account_tells r row st
+
+pub returns-clause-nothing : goal.returns-clause-nothing
+returns-clause-nothing c r empty unused = (
+  nothing_counted r unused (λ p lt. absurd (not_below p (subst (λ (n : ℕ). p < n) empty lt))),
+  no_states r unused empty,
+  no_classes r unused,
+)
+  where
+    not_below : (p : ℕ) → p < 0 → ⊥
+    not_below p lt = omega arith

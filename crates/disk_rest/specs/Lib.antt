@@ -1,0 +1,4 @@
+pub mod Rows
+pub mod Resting
+pub mod Printed
+pub mod Laws

@@ -1,0 +1,55 @@
+//! What the row of a disk tells between two items of a job. Each law is a function whose body calls
+//! the laws that it rests on: who wants it calls it, and has its clauses.
+
+ghost use Rattle.disk_rest.specs.Laws.{PrintsPhase, LeavesRest, PrintsReports, PrintsNothing, EntriesTell, PoolsTell, AccountTells, CountsTell, BeginsPhase, BeginsProper, BeginsDisk, StandsStill, SetsLimit};
+
+use call_history::histories_tell;
+use joint_rule::phases_go_on;
+
+/// A phase in which all actors are finished is one that the plain disk allows, and its row stands
+/// for the rest that it leaves.
+pub fn phases_end()
+    ensures prints { PrintsPhase }
+    ensures leaves { LeavesRest }
+{
+    histories_tell();
+    phases_go_on();
+}
+
+/// A row that stands for a rest prints its reports, by the values of the account, of entries and of
+/// pools. Before there is a disk, all is none but the limit.
+pub fn rows_print()
+    ensures reports { PrintsReports }
+    ensures entries { EntriesTell }
+    ensures pools { PoolsTell }
+    ensures account { AccountTells }
+    ensures nothing { PrintsNothing }
+{}
+
+/// The used counts of a pool's zspages add up to what its statistics say.
+pub fn pools_count()
+    ensures { CountsTell }
+{}
+
+/// A phase that is set up on a row that stands for a rest begins as the joint rule wants it.
+pub fn phases_begin()
+    ensures start { BeginsPhase }
+    ensures proper { BeginsProper }
+{
+    phases_go_on();
+}
+
+/// The row of a new disk stands for it.
+pub fn disks_begin()
+    ensures { BeginsDisk }
+{
+    phases_go_on();
+}
+
+/// Orders are no part of a rest; and another limit of the account is another limit of the rest.
+pub fn rows_stand()
+    ensures kept { StandsStill }
+    ensures limit { SetsLimit }
+{
+    phases_go_on();
+}

@@ -1,0 +1,9 @@
+mod Digits
+mod Filled
+mod LineLaws
+mod Marks
+mod Numbers
+mod Steps
+mod Summaries
+mod TextLaws
+mod WordLaws

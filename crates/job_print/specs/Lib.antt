@@ -1,0 +1,4 @@
+pub mod Texts
+pub mod Proper
+pub mod Reading
+pub mod Outputs

@@ -1,0 +1,22 @@
+//! The lines of an output, and their text, both ways.
+#![tactic(auto)]
+
+mod laws;
+mod line;
+mod lines;
+mod number;
+mod put;
+mod reader;
+mod text;
+mod words;
+
+pub use laws::equal_words_fill;
+pub use line::{OutLine, OutText, TagList};
+pub use put::{
+    put_calls, put_class, put_fault, put_memory, put_op, put_order, put_state, put_usage,
+};
+pub use reader::{OutFault, read_output};
+pub use text::print;
+
+#[cfg(test)]
+mod tests;

@@ -1,0 +1,194 @@
+//! The words of a line, read back.
+
+ghost use Rattle.std.specs.Prelude.{◌≡◌, ◌+◌, ◌*◌, ◌++◌, [], ◌∷◌, ◌==◌, length, map, position, Some, None, OnOk, IfOk, if◌then◌else◌};
+ghost use Rattle.job_print.specs.Reading.{digit_in, byte_in, bytes_in, tag_in, all_in, limit_in, limit_end_in, memory_end_in, plain_end_in, end_in, letters_in, is_letter, cause_in};
+
+use crate::line::TagList;
+use crate::number::{numbers, short};
+use job_text::Cause;
+use std::alloc::{AllocError, Global};
+use zr_base::{List, OpEnd, Tag};
+
+/// Puts an item last. Err says that memory was refused.
+pub(crate) fn push<T: Drop>(list: &mut List<T>, item: T) -> Result<(), AllocError>
+    ensures { OnOk result (list.new ≡ list.old ++ item ∷ []) }
+{
+    match list.push(item) {
+        Ok(()) => Ok(()),
+        Err(_) => Err(AllocError),
+    }
+}
+
+fn digit(c: u8) -> Option<u8>
+    ensures { result ≡ digit_in c }
+{
+    match c {
+        b'0'..=b'9' => Some(c - b'0'),
+        b'a'..=b'f' => Some(c - 87),
+        _ => None,
+    }
+}
+
+#[tactic(auto, unfolding(crate::specs::Reading::byte_in))]
+fn byte(high: u8, low: u8) -> Option<u8>
+    ensures { result ≡ byte_in high low }
+{
+    let high = digit(high)?;
+    let low = digit(low)?;
+    Some(16 * high + low)
+}
+
+/// Bytes by two lower-case digits each.
+pub(crate) fn bytes(digits: &[u8], into: &mut [u8]) -> bool
+    requires { length digits.now ≡ 2 * length into.old }
+    ensures { bytes_in digits.now ≡ (if result then Some into.new else None) }
+{
+    for k in 0..into.len() {
+        match byte(digits[2 * k], digits[2 * k + 1]) {
+            Some(b) => into[k] = b,
+            None => return false,
+        }
+    }
+    true
+}
+
+fn colon(word: &[u8]) -> Option<usize>
+    ensures { result ≡ position (λ c. c == 58) word.now }
+{
+    word.iter().position(|c| *c == b':')
+}
+
+#[tactic(auto, unfolding(crate::specs::Reading::tag_in))]
+fn tag(word: &[u8]) -> Option<Tag>
+    ensures { result ≡ tag_in word.now }
+{
+    let colon = colon(word)?;
+    let actor = short(&word[..colon])?;
+    let op = short(&word[colon + 1..])?;
+    Some(Tag { actor, op })
+}
+
+/// The calls of an order.
+pub(crate) fn tags(alloc: Global, words: &[&[u8]]) -> Result<Option<TagList>, AllocError>
+    ensures { IfOk result (λ o. o ≡ all_in tag_in (map (λ word. word.now) words.now)) }
+{
+    let mut tags = TagList::new(alloc);
+    for word in words {
+        let Some(tag) = tag(word) else {
+            return Ok(None);
+        };
+        push(&mut tags, tag)?;
+    }
+    Ok(Some(tags))
+}
+
+fn at_limit(amounts: &[&[u8]; 3], done: &[u8]) -> Option<OpEnd>
+    ensures { result ≡ limit_in (map (λ word. word.now) amounts.now) done.now }
+{
+    let mut ns = [0; 3];
+    if !numbers(amounts, &mut ns) {
+        return None;
+    }
+    let done = short(done)?;
+    Some(OpEnd::AtLimit {
+        pages: ns[0],
+        need: ns[1],
+        limit: ns[2],
+        done,
+    })
+}
+
+#[tactic(auto, unfolding(crate::specs::Reading::limit_end_in))]
+fn limit_end(word: &[u8], amounts: &[&[u8]; 3], name: &[u8], done: &[u8]) -> Option<OpEnd>
+    ensures { result ≡ limit_end_in word.now (map (λ word. word.now) amounts.now) name.now
+        done.now }
+{
+    if word == b"limit".as_slice() && name == b"done".as_slice() {
+        at_limit(amounts, done)
+    } else {
+        None
+    }
+}
+
+#[tactic(auto, unfolding(crate::specs::Reading::memory_end_in))]
+fn memory_end(word: &[u8], name: &[u8], done: &[u8]) -> Option<OpEnd>
+    ensures { result ≡ memory_end_in word.now name.now done.now }
+{
+    if word == b"nomem".as_slice() && name == b"done".as_slice() {
+        let done = short(done)?;
+        Some(OpEnd::NoMemory { done })
+    } else {
+        None
+    }
+}
+
+#[tactic(auto, unfolding(crate::specs::Reading::plain_end_in))]
+fn plain_end(word: &[u8]) -> Option<OpEnd>
+    ensures { result ≡ plain_end_in word.now }
+{
+    if word == b"ok".as_slice() {
+        Some(OpEnd::Ok)
+    } else if word == b"range".as_slice() {
+        Some(OpEnd::Range)
+    } else {
+        None
+    }
+}
+
+/// The end of an operation.
+#[tactic(auto, unfolding(crate::specs::Reading::end_in))]
+pub(crate) fn end(words: &[&[u8]]) -> Option<OpEnd>
+    ensures { result ≡ end_in (map (λ word. word.now) words.now) }
+{
+    match words {
+        [word] => plain_end(word),
+        [word, name, done] => memory_end(word, name, done),
+        [word, pages, need, limit, name, done] => {
+            limit_end(word, &[*pages, *need, *limit], name, done)
+        }
+        _ => None,
+    }
+}
+
+fn is_letter(letter: u8, c: u8) -> bool
+    ensures { result ≡ is_letter letter c }
+{
+    c == letter || c == b'.'
+}
+
+/// The letters of a page.
+#[tactic(auto, unfolding(crate::specs::Reading::letters_in))]
+pub(crate) fn letters(word: &[u8]) -> Option<[u8; 4]>
+    ensures { result ≡ letters_in word.now }
+{
+    match word {
+        [s, w, h, i]
+            if is_letter(b's', *s)
+                && is_letter(b'w', *w)
+                && is_letter(b'h', *h)
+                && is_letter(b'i', *i) => { Some([*s, *w, *h, *i]) }
+        _ => None,
+    }
+}
+
+/// The cause of a fault.
+#[tactic(auto, unfolding(crate::specs::Reading::cause_in))]
+pub(crate) fn cause(word: &[u8]) -> Option<Cause>
+    ensures { result ≡ cause_in word.now }
+{
+    if word == b"word".as_slice() {
+        Some(Cause::Word)
+    } else if word == b"number".as_slice() {
+        Some(Cause::Number)
+    } else if word == b"range".as_slice() {
+        Some(Cause::Range)
+    } else if word == b"nodisk".as_slice() {
+        Some(Cause::NoDisk)
+    } else if word == b"toomany".as_slice() {
+        Some(Cause::TooMany)
+    } else if word == b"order".as_slice() {
+        Some(Cause::Order)
+    } else {
+        None
+    }
+}

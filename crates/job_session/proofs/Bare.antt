@@ -1,0 +1,109 @@
+-- A disk without pages: nothing is printed, and nothing changes but the limit.
+use Rattle.std.proofs.Common.{◌≡◌, ℕ, ◌<◌, ◌≤◌, List, [], ◌∷◌, length, Option, Some, slice_get, refl, sym, ap, ◌∙◌, subst, arith}
+use Rattle.std.proofs.lemmas.Option.{slice_get_within}
+use Rattle.plain_disk.specs.Output.{OutLine}
+use Rattle.plain_disk.specs.Rests.{Rest, nothing_yet, frames_of, IsUsed}
+use Rattle.plain_disk.specs.Phases.{IsPhase}
+use Rattle.plain_disk.specs.Legal.{IsUnused}
+use Rattle.lock_row.specs.Machine.Turn.{finished, missed, taken, given}
+use Rattle.lock_row.specs.declared.names.State.{State}
+use Rattle.page_steps.specs.Steps.{DiskHeld, Terms}
+use Rattle.slot_entry.specs.Forms.{page_weight}
+use Rattle.zr_core.specs.Machines.{OneTurn, Turns, PhaseSteps, printed}
+
+pub nothing_in : {A : Type 0} (xs : List A) → length xs ≡ 0 → xs ≡ []
+nothing_in [] none = refl
+nothing_in (x ∷ xs) none = absurd (omega (arith, none))
+
+-- ---- turns
+
+module _ (t : Terms) where
+  nobody : {A : Type 0} (ls : List A) (a : ℕ) (l : A) → length ls ≡ 0 → slice_get ls a ≡ Some l → ⊥
+  nobody ls a l none is =
+      let lt = slice_get_within ls a l is in
+      omega (arith, lt, none)
+
+  -- without actors there is no turn
+  no_turn : (a : ℕ) (w n : State DiskHeld) → length w.locals ≡ 0 → OneTurn t a w n → ⊥
+  no_turn a w n none (finished l is f same) = nobody w.locals a l none is
+  no_turn a w n none (missed l k is f there same) = nobody w.locals a l none is
+  no_turn a w n none (taken l k v e) = nobody w.locals a l none e.who
+  no_turn a w n none (given l k v m e) = nobody w.locals a l none e.who
+
+  no_run : (turns : List ℕ) (w n : State DiskHeld) → length w.locals ≡ 0 → Turns t turns w n
+      → n ≡ w
+  no_run [] w n none run = run
+  no_run (a ∷ turns) w n none run = absurd (no_turn a w run.0 none run.1)
+
+-- a phase without actors on a disk without pages prints nothing
+pub phase_nowhere : (t : Terms) (turns : List ℕ) (lines : List OutLine)
+    (after : List (Option DiskHeld))
+    → t.size ≡ 0 → PhaseSteps t [] [] turns lines after → (lines ≡ []) × (after ≡ [])
+phase_nowhere t turns lines after none s =
+    let same : s.last ≡ s.start =
+    no_run t turns s.start s.last s.is_set_up.count s.run in (
+      s.prints ∙ ap (λ (n : ℕ). printed n [] s.last) none,
+      s.leaves ∙ ap (λ (x : State DiskHeld). x.row) same
+          ∙ nothing_in s.start.row s.is_set_up.row.size,
+    )
+
+-- ---- the plain disk
+
+not_below : (n : ℕ) → n < 0 → ⊥
+not_below n lt = omega (arith, lt)
+
+least : (n : ℕ) → n ≡ 0 → n ≤ 0
+least n is = omega (arith, is)
+
+module _ (r : Rest) (none : r.size ≡ 0) (unused : IsUnused r)
+    (empty : frames_of r.set.chain r.used ≡ 0) where
+  -- the rest with what is known of it
+  abbrev known : Rest
+  known = record r { size = 0; most = 0; so_far = nothing_yet }
+
+  is_known : known ≡ r
+  is_known = λ i. record {
+    size = sym none i;
+    holds = r.holds;
+    blank = r.blank;
+    touched = r.touched;
+    used = r.used;
+    most = sym unused.most i;
+    set = r.set;
+    so_far = sym unused.so_far i;
+  }
+
+  used_none : (k : ℕ) → r.used k ≡ [] → IsUsed r.set.chain [] k (r.used k)
+  used_none k is = subst (IsUsed r.set.chain [] k) (sym is) (record { each = tt; all = refl })
+
+  known_phase : IsPhase page_weight known [] [] known
+  known_phase = record {
+    ends = [];
+    orders = [];
+    may = tt;
+    every_page = refl;
+    each = λ p lt. absurd (not_below _ lt);
+    lines_are = refl;
+    leaves = record {
+      pages = record {
+        size = refl;
+        holds = λ s lt. absurd (not_below _ lt);
+        blank = λ p lt. absurd (not_below _ lt);
+        touched = λ p lt. absurd (not_below _ lt);
+        used = λ k lt. used_none k (unused.used k lt);
+        most = record {
+          now = least _ empty;
+          before = least 0 refl;
+          within = λ rose. absurd (not_below _ rose);
+          few = λ rose. absurd (not_below _ rose);
+        };
+        set = refl;
+      };
+      so_far = refl;
+    };
+  }
+
+  pub phase_without : (lines : List OutLine) → lines ≡ [] → IsPhase page_weight r [] lines r
+  phase_without lines is =
+      subst (λ (x : Rest × List OutLine). IsPhase page_weight x.0 [] x.1 x.0)
+      (λ i. (is_known i, sym is i)) known_phase

@@ -1,0 +1,306 @@
+-- A job item by item: where the disk stands for a rest, each item's lines are legal.
+use Rattle.std.proofs.Common.{◌≡◌, ◌⊎◌, ℕ, ◌+◌, ◌≤◌, true, false, zero, suc, List, [], ◌∷◌, length, Option, Some, None, slice_get, slice_set, unwrap_or, refl, sym, ap, ◌∙◌, subst, inl, inr, arith}
+use Rattle.std.proofs.lemmas.Option.{get_or_from_slice_get}
+use Rattle.zr_base.specs.declared.limits.TheConstants.{MOST_PAGES, MOST_ACTORS}
+use Rattle.zr_base.specs.declared.op.Op.{Op}
+use Rattle.zr_base.specs.declared.op.Op.TheVariants.{Write, Read, Discard}
+use Rattle.zr_base.specs.Plain.{IsRequest, count_of}
+use Rattle.mem_account.specs.Counters.{Counters, no_counts}
+use Rattle.mem_account.specs.Stat.{mm_stat_of, io_stat_of}
+use Rattle.plain_disk.specs.Output.{OutLine, memory, calls}
+use Rattle.plain_disk.specs.Rests.{Rest, nothing_yet, stats, report, states, classes}
+use Rattle.plain_disk.specs.Phases.{IsPhase}
+use Rattle.plain_disk.specs.Legal.{IsNew, first_settings, sets}
+use Rattle.call_history.specs.Histories.{SomeEach, HasSomeEach}
+use Rattle.lock_row.specs.declared.names.Held.TheVariants as holds
+use Rattle.page_steps.specs.Steps.{DiskHeld, Terms}
+use Rattle.slot_entry.specs.Forms.{page_weight}
+use Rattle.joint_rule.specs.Begins.{terms}
+use Rattle.joint_rule.specs.Laws.{StartHasRule, ReachedHasRule}
+use Rattle.disk_rest.specs.Resting.{begin_of, rest_after, new_rest, StandsFor}
+use Rattle.disk_rest.specs.Printed.{row_report}
+use Rattle.disk_rest.specs.Laws.{PrintsPhase, LeavesRest, PrintsReports, PrintsNothing, AccountTells, BeginsPhase, BeginsProper, BeginsDisk, SetsLimit}
+use Rattle.zr_core.specs.declared.limits.TheConstants.{MOST_CHAIN}
+use Rattle.zr_core.specs.Machines.{PhaseSteps}
+use Rattle.zr_core.specs.Rests.{account_in, account_of}
+use Rattle.job_text.specs.declared.job.Attr.TheVariants.{DiskPages, LimitPages}
+use Rattle.job_text.specs.declared.job.Report.{Report}
+use Rattle.job_text.specs.declared.job.Report.TheVariants as reports
+use Rattle.job_text.specs.declared.job.Item.{Item}
+use Rattle.job_text.specs.declared.job.Item.TheVariants as items
+use Rattle.job_text.specs.Jobs.{Used, with_attr, with_phase, with_op, with_ops, with_text, MayOperate, MayAct, MayFollow}
+use Rattle.job_session.specs.Legal.{Legal, plain_report}
+use Rattle.job_session.specs.Stands.{IsBare, HasRow, Stands}
+use Rattle.job_session.specs.Stepped.{Disk, terms_of, report_of, IsNewDisk, IsLimited, Stepped}
+use Rattle.job_session.proofs.Bare.{phase_nowhere, phase_without}
+use Rattle.job_session.proofs.Lawful.{no_item, requests_each, work_by, few_operations, none_without, disk_by}
+use Rattle.job_session.proofs.Standing.{phase_on, disk_on}
+
+-- ---- requests
+
+some_of : (op : Op) → IsRequest op → 1 ≤ count_of op
+some_of (Write start count stuff) is = is.0.1
+some_of (Read start count) is = is.1
+some_of (Discard start count) is = is.1
+
+some_each : (u : Used) (ops : List Op) → MayOperate u ops → SomeEach ops
+some_each u [] may = tt
+some_each u (op ∷ ops) may = (some_of op may.0, some_each (with_op u op) ops may.2)
+
+has_some_each : (u : Used) (actors : List (List Op)) → MayAct u actors → HasSomeEach actors
+has_some_each u [] may a ops is = absurd (no_item a ops is)
+has_some_each u (mine ∷ more) may zero ops is = subst SomeEach (λ i. unwrap_or (is i) mine)
+    (some_each u mine may.0)
+has_some_each u (mine ∷ more) may (suc a) ops is = has_some_each
+    (with_ops u mine) more may.1 a ops is
+
+-- ---- the laws
+
+-- the account of a disk with pages is the one in its place
+account_some : (limit size : ℕ) (row : List (Option DiskHeld)) (c : Counters) → 1 ≤ size
+    → slice_get row (size + 255) ≡ Some (Some (holds.Account c)) → account_of limit size row ≡ c
+account_some limit zero row c some is = absurd (omega (arith, some))
+account_some limit (suc n) row c some is =
+    ap (account_in (record no_counts { limit = limit }))
+    (get_or_from_slice_get row (suc n + 255) (Some (holds.Account c)) None is)
+
+-- What is known of phases, of new disks, of limits and of reports.
+pub record Laws : Type 0 where
+  pub starts : StartHasRule
+  pub reached : ReachedHasRule
+  pub begin : BeginsPhase
+  pub proper : BeginsProper
+  pub prints : PrintsPhase
+  pub leaves : LeavesRest
+  pub new : BeginsDisk
+  pub limits : SetsLimit
+  pub reports : PrintsReports
+  pub account : AccountTells
+  pub nothing : PrintsNothing
+
+module _ (laws : Laws) where
+  -- ---- the disk's size
+
+  -- a new disk stands for a new rest
+  new_stands : (r : Rest) (d m : Disk) (n : ℕ) → 1 ≤ n → n ≤ MOST_PAGES → Stands r d
+      → IsNewDisk d n m
+      → IsNew r n (new_rest r n) × Stands (new_rest r n) m
+  new_stands r d m n some most s new =
+      let both = disk_on laws.new r n d.limit m.row s.chain s.limit new.row new.account in (
+        both.0,
+        record {
+          size = sym new.size;
+          most = omega (arith, most, new.size);
+          limit = s.limit ∙ sym new.limit;
+          clock = s.clock;
+          chain = s.chain;
+          row = inr (record { some = omega (arith, some, new.size); stands = both.1 });
+        },
+      )
+
+  -- ---- the limit
+
+  limited_row : (r : Rest) (d m : Disk) (n : ℕ) → Stands r d → IsLimited d n m
+      → IsBare r d ⊎ HasRow r d
+      → IsBare (sets r (record r.set { limit = n })) m
+      ⊎ HasRow (sets r (record r.set { limit = n })) m
+  limited_row r d m n s is (inl bare) = inl (record {
+    none = is.size ∙ bare.none;
+    empty = is.none bare.none ∙ bare.empty;
+    unused = record {
+      used = bare.unused.used;
+      most = bare.unused.most;
+      so_far = bare.unused.so_far;
+    };
+  })
+  limited_row r d m n s is (inr has) =
+      let c : Counters = stats page_weight r in
+      let there = laws.account r d.row has.stands in
+      let there_too = ap (λ (k : ℕ). slice_get d.row (k + 255)) (sym s.size) ∙ there in
+      let row = is.account c there_too
+      ∙ ap (λ (k : ℕ). slice_set d.row (k + 255) (Some (holds.Account (record c { limit = n }))))
+      (sym s.size) in
+      inr (record {
+        some = omega (arith, has.some, is.size);
+        stands = subst (StandsFor (sets r (record r.set { limit = n }))) (sym row)
+            (laws.limits r d.row n c has.stands there);
+      })
+
+  limit_stands : (r : Rest) (d m : Disk) (n : ℕ) → Stands r d → IsLimited d n m
+      → Stands (sets r (record r.set { limit = n })) m
+  limit_stands r d m n s is = record {
+    size = s.size ∙ sym is.size;
+    most = omega (arith, s.most, is.size);
+    limit = sym is.limit;
+    clock = s.clock;
+    chain = s.chain;
+    row = limited_row r d m n s is s.row;
+  }
+
+  -- ---- reports
+
+  -- the account of a rest's row
+  account_on : (r : Rest) (d : Disk) → r.size ≡ d.size → HasRow r d
+      → account_of d.limit d.size d.row ≡ stats page_weight r
+  account_on r d size has =
+      account_some d.limit d.size d.row (stats page_weight r) has.some
+      (ap (λ (k : ℕ). slice_get d.row (k + 255)) (sym size) ∙ laws.account r d.row has.stands)
+
+  account_without : (r : Rest) (d : Disk) → Stands r d → IsBare r d
+      → account_of d.limit d.size d.row ≡ stats page_weight r
+  account_without r d s bare =
+      (λ i. account_of (sym s.limit i) (bare.none i) (bare.empty i))
+      ∙ sym (laws.nothing r (s.size ∙ bare.none) bare.unused).0
+
+  -- the account and the row print what the rest does
+  account_is : (r : Rest) (d : Disk) → Stands r d → IsBare r d ⊎ HasRow r d
+      → account_of d.limit d.size d.row ≡ stats page_weight r
+  account_is r d s (inl bare) = account_without r d s bare
+  account_is r d s (inr has) = account_on r d s.size has
+
+  states_are : (r : Rest) (d : Disk) → Stands r d → IsBare r d ⊎ HasRow r d
+      → row_report d.size MOST_CHAIN d.row states ≡ report page_weight r states
+  states_are r d s (inl bare) =
+      ap (λ (n : ℕ). row_report n MOST_CHAIN d.row states) bare.none
+      ∙ sym (laws.nothing r (s.size ∙ bare.none) bare.unused).1
+  states_are r d s (inr has) =
+      (λ i. row_report (sym s.size i) (sym s.chain i) d.row states)
+      ∙ laws.reports r d.row states has.stands
+
+  classes_are : (r : Rest) (d : Disk) → Stands r d → IsBare r d ⊎ HasRow r d
+      → row_report d.size MOST_CHAIN d.row classes ≡ report page_weight r classes
+  classes_are r d s (inl bare) =
+      (λ i. row_report (bare.none i) MOST_CHAIN (bare.empty i) classes)
+      ∙ sym (laws.nothing r (s.size ∙ bare.none) bare.unused).2
+  classes_are r d s (inr has) =
+      (λ i. row_report (sym s.size i) (sym s.chain i) d.row classes)
+      ∙ laws.reports r d.row classes has.stands
+
+  report_is : (r : Rest) (d : Disk) (q : Report) → Stands r d
+      → report_of d q ≡ report page_weight r (plain_report q)
+  report_is r d reports.MmStat s =
+      ap (λ (c : Counters). memory (mm_stat_of c) ∷ []) (account_is r d s s.row)
+  report_is r d reports.IoStat s =
+      ap (λ (c : Counters). calls (io_stat_of c) ∷ []) (account_is r d s s.row)
+  report_is r d reports.States s = states_are r d s s.row
+  report_is r d reports.Classes s = classes_are r d s s.row
+
+  -- ---- phases
+
+  -- a phase that may run, on the disk d, which leaves the disk m
+  module _ (u : Used) (actors : List (List Op)) (few : length actors ≤ MOST_ACTORS)
+      (may : MayAct u actors) (d m : Disk) (size : m.size ≡ d.size) (limit : m.limit ≡ d.limit)
+      (turns : List ℕ) (lines : List OutLine)
+      (steps : PhaseSteps (terms_of d) actors d.row turns lines m.row) (r : Rest)
+      (s : Stands r d) where
+    -- the rest after it
+    abbrev After : Type 0
+    After = (n : Rest) × IsPhase page_weight r actors lines n × Stands n m
+
+    terms_are : terms_of d ≡ terms (begin_of r actors)
+    terms_are = λ i. record { size = sym s.size i; chain = sym s.chain i; clock = sym s.clock i }
+
+    phase_stands : HasRow r d → After
+    phase_stands has =
+        let both = phase_on r actors d.row laws.starts laws.reached laws.begin laws.prints laws.leaves
+        (laws.proper r actors d.row has.stands
+        (λ a ops k op is. requests_each u actors may a ops is k op)
+        (omega (arith, s.size, s.most, few))
+        (few_operations actors (work_by u actors few may)))
+        turns lines m.row has.stands (has_some_each u actors may)
+        (subst (λ (t : Terms). PhaseSteps t actors d.row turns lines m.row) terms_are steps) in (
+          rest_after r actors m.row,
+          both.0,
+          record {
+            size = s.size ∙ sym size;
+            most = omega (arith, s.most, size);
+            limit = s.limit ∙ sym limit;
+            clock = s.clock;
+            chain = s.chain;
+            row = inr (record { some = omega (arith, has.some, size); stands = both.1 });
+          },
+        )
+
+    phase_bare : IsBare r d → actors ≡ [] → After
+    phase_bare bare none =
+        let P : List (List Op) × List (Option DiskHeld) → Type 0 =
+        λ x. PhaseSteps (terms_of d) x.0 x.1 turns lines m.row in
+        let over = phase_nowhere (terms_of d) turns lines m.row bare.none
+        (subst P (λ i. (none i, bare.empty i)) steps) in
+        let no_size = s.size ∙ bare.none in
+        let empty = ap (λ (c : Counters). c.pages) (laws.nothing r no_size bare.unused).0 in (
+          r,
+          subst (λ (x : List (List Op)). IsPhase page_weight r x lines r) (sym none)
+              (phase_without r no_size bare.unused empty lines over.0),
+          record {
+            size = s.size ∙ sym size;
+            most = omega (arith, s.most, size);
+            limit = s.limit ∙ sym limit;
+            clock = s.clock;
+            chain = s.chain;
+            row = inl (record { none = size ∙ bare.none; empty = over.1; unused = bare.unused });
+          },
+        )
+
+    phase_after : IsBare r d ⊎ HasRow r d → (d.size ≡ 0 → actors ≡ []) → After
+    phase_after (inl bare) none = phase_bare bare (none bare.none)
+    phase_after (inr has) none = phase_stands has
+
+  -- ---- whole jobs
+
+  pub legal_by : (u : Used) (job : List Item) (r : Rest) (d : Disk) (turns : List (List ℕ))
+      (lines : List OutLine) (last : Disk) → MayFollow u job → (d.size ≡ 0 → u.disk ≡ false)
+      → Stands r d → Stepped d job turns lines last → (m : Rest) × Legal r job lines m × Stands m last
+  legal_by u [] r d turns lines last may bare s steps =
+      (r, (steps.1, refl), subst (Stands r) (sym steps.2) s)
+  legal_by u (items.Attr (DiskPages n) ∷ more) r d turns lines last may bare s steps =
+      let new = new_stands r d steps.0 n may.1.0 may.1.1 s steps.1 in
+      let some : 1 ≤ n = may.1.0 in
+      let is : steps.0.size ≡ n = steps.1.size in
+      let rest = legal_by (with_attr u (DiskPages n)) more (new_rest r n) steps.0 turns lines last
+      may.2 (λ none. absurd (omega (arith, none, some, is))) new.1 steps.2 in (
+        rest.0,
+        (new_rest r n, [], lines, (refl, new.0), rest.1, refl),
+        rest.2,
+      )
+  legal_by u (items.Attr (LimitPages n) ∷ more) r d turns lines last may bare s steps =
+      let next : Rest = sets r (record r.set { limit = n }) in
+      let rest = legal_by (with_attr u (LimitPages n)) more next steps.0 turns lines last may.2
+      (λ none. bare (sym steps.1.size ∙ none)) (limit_stands r d steps.0 n s steps.1) steps.2 in (
+        rest.0,
+        (next, [], lines, (refl, refl), rest.1, refl),
+        rest.2,
+      )
+  legal_by u (items.Report q ∷ more) r d turns lines last may bare s steps =
+      let rest = legal_by u more r d turns steps.0 last may bare s steps.1 in (
+        rest.0,
+        (r, report_of d q, steps.0, (report_is r d q s, refl), rest.1, steps.2),
+        rest.2,
+      )
+  legal_by u (items.Phase text ∷ more) r d turns lines last may bare s steps =
+      let run = may.0 in
+      let after = phase_after (with_phase u) text.actors run.few_actors run.may_act d steps.0 steps.5
+      steps.6 steps.1 steps.3 steps.7 r s s.row
+      (λ none. none_without u text.actors run.has_disk (bare none)) in
+      let rest = legal_by (with_text u text.actors text.schedule) more after.0 steps.0 steps.2
+      steps.4 last may.1
+      (λ none. disk_by (with_phase u) text.actors ∙ bare (sym steps.5 ∙ none)) after.2 steps.8 in (
+        rest.0,
+        (after.0, steps.3, steps.4, after.1, rest.1, steps.10),
+        rest.2,
+      )
+
+-- ---- before the first item
+
+-- the rest without a disk
+abbrev pub first_rest : Rest
+first_rest = record {
+  size = 0;
+  holds = λ s. [];
+  blank = λ p. true;
+  touched = λ p. 0;
+  used = λ k. [];
+  most = 0;
+  set = first_settings;
+  so_far = nothing_yet;
+}

@@ -1,0 +1,155 @@
+-- The lines of reports: a page's by its entry, a class's by its pool.
+use Rattle.std.proofs.Common.{◌≡◌, ◌⊎◌, ℕ, zero, suc, ◌+◌, ◌<◌, ◌≤◌, Bool, true, cond, List, [], ◌∷◌, length, get_or, Option, Some, None, slice_get, refl, sym, ap, ◌∙◌, subst, inl, inr, arith}
+use Rattle.std.specs.Prelude.{nat_lt, sum}
+use Rattle.std.specs.Option.{option_map}
+use Rattle.std.proofs.lemmas.Bool.Decides.{nat_tests}
+use Rattle.std.proofs.lemmas.Option.{get_or_from_slice_get, slice_get-map}
+use Rattle.mem_account.specs.declared.weight.Weight.{Weight}
+use Rattle.size_class.specs.declared.stat.ClassStat.{ClassStat}
+use Rattle.size_class.specs.Classes.{class_size, chain_of, per_of}
+use Rattle.class_pool.specs.Pool.{PoolState}
+use Rattle.plain_disk.specs.Output.{OutLine, class_of}
+use Rattle.plain_disk.specs.Rests.{state_line, class_line}
+use Rattle.lock_row.specs.declared.names.Held.TheVariants as holds
+use Rattle.slot_entry.specs.Entries.{EntryState, weight_of}
+use Rattle.page_steps.specs.Steps.{DiskHeld}
+use Rattle.joint_rule.specs.Begins.{Begin}
+use Rattle.joint_rule.specs.Joint.{PoolFits}
+use Rattle.disk_rest.specs.Rows.{value_at, used_counts, used_in, used_at}
+use Rattle.disk_rest.specs.Printed.{state_in}
+use Rattle.disk_rest.specs.Laws.{CountsTell}
+use Rattle.zr_core.specs.declared.limits.TheConstants.{MOST_CHAIN}
+use Rattle.zr_core.specs.Machines.{cell_without_calls}
+use Rattle.zr_core.specs.Rests.{pool_in, pool_of, IsBare, RestsAs}
+use Rattle.zr_core.specs.Stats.{zspages_of, HasStat}
+use Rattle.job_print.specs.Texts.{in_group, IsSummary}
+use Rattle.job_session.proofs.Bare.{nothing_in}
+
+-- ---- pages
+
+-- the lines of a page
+abbrev pub state_lines : List (Option DiskHeld) → ℕ → List OutLine
+state_lines row page = state_in page (value_at row page)
+
+pub state_by : (row : List (Option DiskHeld)) (page : ℕ) (e : EntryState) (w : Weight) (t : ℕ)
+    → slice_get row page ≡ Some (Some (holds.Slot e)) → w ≡ weight_of e.kept → t ≡ e.touched
+    → state_line page w t ≡ state_in page (value_at row page)
+state_by row page e w t there weighs touched =
+    (λ i. state_line page (weighs i) (touched i))
+    ∙ ap (state_in page) (sym (get_or_from_slice_get row page (Some (holds.Slot e)) None there))
+
+-- ---- classes
+
+-- the lines of a class
+abbrev pub class_lines : ℕ → List (Option DiskHeld) → ℕ → List OutLine
+class_lines pages row k = class_line MOST_CHAIN k (used_at pages row k)
+
+-- the pool in a place of the row is the value there
+pool_value : (x : Option DiskHeld) (p : PoolState) → pool_in x ≡ Some p → x ≡ Some (holds.Class p)
+pool_value None p is = absurd (let no : ⊥ = cc is in no)
+pool_value (Some (holds.Slot e)) p is = absurd (let no : ⊥ = cc is in no)
+pool_value (Some (holds.Class q)) p is =
+    let same : q ≡ p = cc is in ap (λ (y : PoolState). Some (holds.Class y)) same
+pool_value (Some (holds.Account c)) p is = absurd (let no : ⊥ = cc is in no)
+pool_value (Some (holds.Blocks y)) p is = absurd (let no : ⊥ = cc is in no)
+pool_value (Some (holds.Device y)) p is = absurd (let no : ⊥ = cc is in no)
+
+there_of : (row : List (Option DiskHeld)) (k : ℕ) (v : DiskHeld) → get_or row k None ≡ Some v
+    → slice_get row k ≡ Some (Some v)
+there_of [] k v is = absurd (let no : ⊥ = cc is in no)
+there_of (x ∷ row) zero v is = ap (λ (y : Option DiskHeld). Some y) is
+there_of (x ∷ row) (suc k) v is = there_of row k v is
+
+-- a disk without pages has no row
+place_there : (pages : ℕ) (row : List (Option DiskHeld))
+    → IsBare pages row ⊎ ((g : Begin) × RestsAs g pages row) → (1 ≤ pages) ⊎ (row ≡ [])
+place_there pages row (inl bare) = inr bare.1
+place_there pages row (inr there) = inl there.1.some
+
+-- the value of a class's place
+class_place : (pages : ℕ) (row : List (Option DiskHeld)) (k : ℕ) → k < 255
+    → (1 ≤ pages) ⊎ (row ≡ []) → pool_of pages row k ≡ pool_in (get_or row (pages + k) None)
+class_place zero row k lt (inl some) = absurd (omega (arith, some))
+class_place zero row k lt (inr none) =
+    ap (λ (xs : List (Option DiskHeld)). pool_in (get_or xs (0 + k) None)) (sym none)
+class_place (suc n) row k lt there =
+    let test : nat_lt k 255 ≡ true = grind (arith, nat_tests, lt) in
+    ap (λ (b : Bool). cond b (pool_in (get_or row (suc n + k) None)) None) test
+
+pool_used : (x : Option DiskHeld) → CountsTell → zspages_of (pool_in x) ≡ 0 → used_in x ≡ []
+pool_used None counts none = refl
+pool_used (Some (holds.Slot e)) counts none = refl
+pool_used (Some (holds.Class p)) counts none =
+    nothing_in (used_counts p.zspages) ((counts p).1 ∙ none)
+pool_used (Some (holds.Account c)) counts none = refl
+pool_used (Some (holds.Blocks y)) counts none = refl
+pool_used (Some (holds.Device y)) counts none = refl
+
+-- a class without zspages has no line
+pub class_without : (pages : ℕ) (row : List (Option DiskHeld)) (k : ℕ) → k < 255 → CountsTell
+    → IsBare pages row ⊎ ((g : Begin) × RestsAs g pages row)
+    → zspages_of (pool_of pages row k) ≡ 0 → class_line MOST_CHAIN k (used_at pages row k) ≡ []
+class_without pages row k lt counts rest none =
+    ap (class_line MOST_CHAIN k)
+    (pool_used (value_at row (pages + k)) counts
+    (ap zspages_of (sym (class_place pages row k lt (place_there pages row rest))) ∙ none))
+
+line_by : (chain k : ℕ) (used : List ℕ) → 1 ≤ length used
+    → class_of (record { class = k; chain = chain; used = used }) ∷ [] ≡ class_line chain k used
+line_by chain k [] some = absurd (omega (arith, some))
+line_by chain k (u ∷ us) some = refl
+
+-- a class with its pool, on a disk that rests
+module _ (pages : ℕ) (row : List (Option DiskHeld)) (k : ℕ) (lt : k < 255) (s : ClassStat)
+    (has : HasStat (pool_of pages row k) s) (counts : CountsTell)
+    (rest : IsBare pages row ⊎ ((g : Begin) × RestsAs g pages row)) where
+  value : value_at row (pages + k) ≡ Some (holds.Class has.pool)
+  value = pool_value (value_at row (pages + k)) has.pool
+      (sym (class_place pages row k lt (place_there pages row rest)) ∙ has.there)
+
+  used_is : used_at pages row k ≡ used_counts has.pool.zspages
+  used_is = ap used_in value
+
+  pub class_with : class_of (record { class = k; chain = MOST_CHAIN; used = used_at pages row k }) ∷ []
+      ≡ class_line MOST_CHAIN k (used_at pages row k)
+  class_with =
+      let long = ap length used_is ∙ (counts has.pool).1 ∙ sym has.stat.zspages in
+      line_by MOST_CHAIN k (used_at pages row k) (omega (arith, long, has.some))
+
+  -- a pool at home is one of its class
+  fits : (g : Begin) → RestsAs g pages row → (has.pool.class ≡ k) × PoolFits MOST_CHAIN has.pool
+  fits g at_rest =
+      let there = slice_get-map cell_without_calls row (pages + k)
+      ∙ ap (option_map cell_without_calls)
+      (there_of row (pages + k) (holds.Class has.pool) value) in
+      let home = at_rest.row.home (pages + k) (holds.Class has.pool) there in
+      let place = home.sound.0 in (
+        omega (arith, place, at_rest.size),
+        subst (λ (n : ℕ). PoolFits n has.pool) at_rest.chain home.sound.1,
+      )
+
+  rests : IsBare pages row ⊎ ((g : Begin) × RestsAs g pages row)
+      → (has.pool.class ≡ k) × PoolFits MOST_CHAIN has.pool
+  rests (inl bare) =
+      let none : ◌≡◌ {A = Option DiskHeld} None (Some (holds.Class has.pool)) =
+      ap (λ (xs : List (Option DiskHeld)). get_or xs (pages + k) None) (sym bare.1) ∙ value in
+      absurd (let no : ⊥ = cc none in no)
+  rests (inr there) = fits there.0 there.1
+
+  pub summary : IsSummary
+      (record { class = k; chain = MOST_CHAIN; used = used_at pages row k }) s
+  summary =
+      let of = rests rest in
+      let per : has.pool.per ≡ per_of MOST_CHAIN k = of.1.per ∙ ap (per_of MOST_CHAIN) of.0 in
+      let told = counts has.pool in
+      record {
+        class = has.stat.class ∙ of.0;
+        size = has.stat.size ∙ of.1.size ∙ ap class_size of.0;
+        chain = has.stat.chain ∙ of.1.frames ∙ ap (chain_of MOST_CHAIN) of.0;
+        per = has.stat.per ∙ per;
+        used = has.stat.used ∙ sym told.0 ∙ ap sum (sym used_is);
+        zspages = has.stat.zspages ∙ sym told.1 ∙ ap length (sym used_is);
+        all = has.stat.groups.0;
+        groups = λ g below. has.stat.groups.1 g below ∙ sym (told.2 (g + 1))
+            ∙ (λ i. in_group (per i) (sym used_is i) (g + 1));
+      }

@@ -1,0 +1,139 @@
+-- What each item does to a row that stands for a rest.
+use Rattle.std.proofs.Common.{◌≡◌, ℕ, ◌+◌, ◌<◌, List, [], Option, Some, slice_get, sym, ap, ◌∙◌, subst, arith}
+use Rattle.std.proofs.lemmas.List.FromFn.{length-map-range_with_len, get_or-map-range_with_len}
+use Rattle.std.proofs.lemmas.Option.{slice_get_within}
+use Rattle.zr_base.specs.declared.op.Op.{Op}
+use Rattle.mem_account.specs.Counters.{Counters, no_counts}
+use Rattle.plain_disk.specs.Output.{OutLine}
+use Rattle.plain_disk.specs.Rests.{Rest}
+use Rattle.plain_disk.specs.Phases.{IsPhase}
+use Rattle.plain_disk.specs.Legal.{IsNew as IsNewRest}
+use Rattle.call_history.specs.Histories.{HasSomeEach}
+use Rattle.lock_row.specs.declared.names.Held.TheVariants as holds
+use Rattle.lock_row.specs.declared.names.State.{State}
+use Rattle.page_steps.specs.Steps.{DiskHeld, Here}
+use Rattle.slot_entry.specs.Forms.{page_weight}
+use Rattle.joint_rule.specs.Begins.{Proper, terms}
+use Rattle.joint_rule.specs.Starts.{Starts, IsNew}
+use Rattle.joint_rule.specs.Laws.{StartHasRule, ReachedHasRule}
+use Rattle.disk_rest.specs.Rows.{AreOrders}
+use Rattle.disk_rest.specs.Resting.{begin_of, rest_after, new_rest, StandsFor, IsSetUp}
+use Rattle.disk_rest.specs.Laws.{PrintsPhase, LeavesRest, BeginsPhase, BeginsDisk}
+use Rattle.zr_core.specs.declared.limits.TheConstants.{MOST_CHAIN}
+use Rattle.zr_core.specs.Machines.{Begins, PhaseSteps, orders_of}
+use Rattle.zr_core.specs.Machines.{IsSetUp as IsSetUpOn}
+use Rattle.zr_core.specs.Rests.{new_disk}
+use Rattle.zr_core.specs.Rows.{AreNew}
+
+-- ---- a phase
+
+module _ (r : Rest) (actors : List (List Op)) (row : List (Option DiskHeld)) where
+  begins : (a : ℕ) (l : Here) → Begins r.size actors a l → Starts (begin_of r actors) a l
+  begins a l b = record {
+    who = b.who;
+    ops = b.ops;
+    named = b.named;
+    at = b.at;
+    todo = b.todo;
+    held = b.held;
+    done = b.done;
+    fresh = b.fresh;
+    pin = b.pin;
+    owed = b.owed;
+    ahead = b.ahead;
+    behind = b.behind;
+    page = b.page;
+    fail = b.fail;
+  }
+
+  set_up : (w : State DiskHeld) → IsSetUpOn r.size actors row w → IsSetUp r actors row w
+  set_up w s = record {
+    row = record { size = s.row.size; each = s.row.each };
+    orders = s.orders;
+    starts = λ a l is. begins a l (s.begin a l is);
+    count = s.count;
+  }
+
+  orders : (w : State DiskHeld) → AreOrders r.size w.row (orders_of r.size w.row)
+  orders w = record {
+    long = length-map-range_with_len _ 0 r.size;
+    each = λ p lt. get_or-map-range_with_len _ 0 r.size p p [] lt (omega arith);
+  }
+
+  module _ (starts : StartHasRule) (reached : ReachedHasRule) (begin : BeginsPhase)
+      (prints : PrintsPhase) (leaves : LeavesRest) (proper : Proper (begin_of r actors)) where
+    -- a phase prints what the plain disk allows, and the row stands for the rest that it leaves
+    pub phase_on : (turns : List ℕ) (lines : List OutLine) (after : List (Option DiskHeld))
+        → StandsFor r row → HasSomeEach actors
+        → PhaseSteps (terms (begin_of r actors)) actors row turns lines after
+        → IsPhase page_weight r actors lines (rest_after r actors after)
+        × StandsFor (rest_after r actors after) after
+    phase_on turns lines after stands some s =
+        let rule = reached (begin_of r actors) s.start s.last proper
+        (starts (begin_of r actors) s.start proper
+        (begin r actors row s.start stands (set_up s.start s.is_set_up))) (turns, s.run) in
+        let P : List OutLine × List (Option DiskHeld) → Type 0 =
+        λ x. IsPhase page_weight r actors x.0 (rest_after r actors x.1)
+        × StandsFor (rest_after r actors x.1) x.1 in
+        subst P (λ i. (sym s.prints i, sym s.leaves i)) (
+          prints r actors s.last (orders_of r.size s.last.row) proper rule s.finished some
+              (orders s.last),
+          leaves r actors s.last proper rule s.finished,
+        )
+
+-- ---- a new disk
+
+-- what a value of a new disk is doesn't lean on the row before
+new_value : (r : Rest) (n limit : ℕ) → r.set.chain ≡ MOST_CHAIN → (k : ℕ) (v : DiskHeld)
+    → IsNew (new_disk n limit) k v → IsNew (begin_of (new_rest r n) []) k v
+new_value r n limit chain k (holds.Slot e) is = is
+new_value r n limit chain k (holds.Class p) is =
+    subst (λ (c : ℕ). IsNew (record (new_disk n limit) { chain = c }) k (holds.Class p)) (sym chain)
+    is
+new_value r n limit chain k (holds.Account c) is = is
+new_value r n limit chain k (holds.Blocks x) is = is
+new_value r n limit chain k (holds.Device x) is = is
+
+-- the account of a new disk is in its place
+account_place : (n limit k : ℕ) (c : Counters) → IsNew (new_disk n limit) k (holds.Account c)
+    → k ≡ n + 255
+account_place n limit k c is = is.0
+
+some_some : (v u : DiskHeld) → (◌≡◌ {A = Option (Option DiskHeld)} (Some (Some v)) (Some (Some u)))
+    → v ≡ u
+some_some v u is = cc
+
+module _ (new : BeginsDisk) (r : Rest) (n limit : ℕ) (row : List (Option DiskHeld))
+    (chain : r.set.chain ≡ MOST_CHAIN) (same : r.set.limit ≡ limit)
+    (are : AreNew (new_disk n limit) (n + 258) row)
+    (account : slice_get row (n + 255)
+    ≡ Some (Some (holds.Account (record no_counts { limit = limit })))) where
+  limit_there : (k : ℕ) (c : Counters) → slice_get row k ≡ Some (Some (holds.Account c))
+      → k < n + 258 → c.limit ≡ r.set.limit
+  limit_there k c is lt =
+      let there = are.each k lt in
+      let v : there.0 ≡ holds.Account c = some_some there.0 (holds.Account c) (sym there.1 ∙ is) in
+      let place = account_place n limit k c
+      (subst (IsNew (new_disk n limit) k) v there.2) in
+      let d : Counters = record no_counts { limit = limit } in
+      let same_value = some_some (holds.Account c) (holds.Account d)
+      (sym is ∙ ap (slice_get row) place ∙ account) in
+      account_limit c d same_value ∙ sym same
+    where
+      account_limit : (c d : Counters) → (◌≡◌ {A = DiskHeld} (holds.Account c) (holds.Account d))
+          → c.limit ≡ d.limit
+      account_limit c d is = let e : c ≡ d = cc in ap (λ (x : Counters). x.limit) e
+
+  pub disk_on : IsNewRest r n (new_rest r n) × StandsFor (new_rest r n) row
+  disk_on =
+      new r n row (omega (arith, chain)) (omega (arith, chain)) are.size
+      (λ k lt.
+      let there = are.each k (omega (arith, lt, are.size)) in
+      (there.0, there.1, new_value r n limit chain k there.0 there.2))
+      (λ k c is. limit_there k c is (within k c is))
+    where
+      within : (k : ℕ) (c : Counters) → slice_get row k ≡ Some (Some (holds.Account c))
+          → k < n + 258
+      within k c is =
+          let lt = slice_get_within row k (Some (holds.Account c)) is in
+          omega (arith, lt, are.size)

@@ -1,0 +1,28 @@
+-- The rest of the plain disk that a disk stands for.
+use Rattle.std.specs.Prelude.{◌≡◌, ◌⊎◌, ◌≤◌, []}
+use Rattle.zr_base.specs.declared.limits.TheConstants.{MOST_PAGES}
+use Rattle.plain_disk.specs.Rests.{Rest}
+use Rattle.plain_disk.specs.Legal.{IsUnused}
+use Rattle.disk_rest.specs.Resting.{StandsFor}
+use Rattle.zr_core.specs.declared.limits.TheConstants.{MOST_CHAIN}
+use Rattle.job_session.specs.Stepped.{Disk}
+
+-- there is no disk yet, and nothing has happened
+pub record IsBare (r : Rest) (d : Disk) : Type 0 where
+  pub none : d.size ≡ 0
+  pub empty : d.row ≡ []
+  pub unused : IsUnused r
+
+-- The disk has pages, and its row stands for the rest.
+pub record HasRow (r : Rest) (d : Disk) : Type 0 where
+  pub some : 1 ≤ d.size
+  pub stands : StandsFor r d.row
+
+-- The disk has the pages and the settings of the rest, and its row stands for it, if there is one.
+pub record Stands (r : Rest) (d : Disk) : Type 0 where
+  pub size : r.size ≡ d.size
+  pub most : d.size ≤ MOST_PAGES
+  pub limit : r.set.limit ≡ d.limit
+  pub clock : r.set.clock ≡ 0
+  pub chain : r.set.chain ≡ MOST_CHAIN
+  pub row : IsBare r d ⊎ HasRow r d

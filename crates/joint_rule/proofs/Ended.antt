@@ -1,0 +1,571 @@
+-- What a finished phase tells: its histories agree with its orders, and the account with the rest.
+use Rattle.std.proofs.Common.{◌≡◌, ◌+◌, ◌*◌, ◌-◌, ◌/◌, ◌≤◌, ◌<◌, ◌∷◌, ◌++◌, ◌∙◌, ℕ, zero, suc, Bool, true, false, cond, eqb, List, [], length, sum_by, Option, Some, None, slice_get, refl, sym, ap, subst, arith, inl, inr, zero-add}
+use Rattle.call_history.specs.Histories.{Agree, history}
+use Rattle.call_history.specs.Parts.{EndsSo, Follows, KeepsTo, done_sum, dones_sum, noted_on, ops_of, program, stands_so}
+use Rattle.call_history.specs.Shows.{IsTold}
+use Rattle.call_history.specs.Tallies.{Tallies}
+use Rattle.call_history.specs.declared.part.Done.{Done}
+use Rattle.call_history.specs.declared.part.Part.{Part}
+use Rattle.class_pool.specs.Pool.{PoolState, used_cells, used_cells_in}
+use Rattle.class_pool.specs.Zspages.{Cells}
+use Rattle.joint_rule.proofs.Bounds.{one_of}
+use Rattle.joint_rule.proofs.Facts.{Known}
+use Rattle.joint_rule.proofs.Gets.{count_locals}
+use Rattle.joint_rule.proofs.Pages.{holds_after, kept_is}
+use Rattle.joint_rule.proofs.Pools.{sum_zero}
+use Rattle.joint_rule.proofs.Ranges.{range_by, range_lone, range_map, range_sum, row_part, weight_at}
+use Rattle.joint_rule.proofs.Rests.{at_rest, left, over}
+use Rattle.joint_rule.proofs.Starts.{account_at, account_sum}
+use Rattle.joint_rule.proofs.Sums.{total_split}
+use Rattle.joint_rule.proofs.Takes.{IsEntry, IsPoolOf, class_kind, entry_kind}
+use Rattle.joint_rule.specs.Begins.{Begin, ever, form_at, found_after, ground_of, image}
+use Rattle.joint_rule.specs.Ends.{AllFinished, account_in, account_of, begin_at, histories, order_in, orders_of, rest_after, used_each, used_in, value_at}
+use Rattle.joint_rule.specs.Joint.{AtHome}
+use Rattle.joint_rule.specs.Rule.{OfOrder, Rule, ShowsOrder, done_by, dones, reach_at}
+use Rattle.joint_rule.specs.Stages.{IsForm}
+use Rattle.joint_rule.specs.Starts.{AtRest}
+use Rattle.joint_rule.specs.Weights.{Backs, Compactions, Count, FailedReads, FailedWrites, Fixed, FreedPages, HugeWrites, Huges, Limit, News, OutOfRange, PackedBytes, Packs, Refusal, Sames, Weigh, cell_weight, claim_by, counter, ever_at, fixed, fixed_count, measure, mosts, news_count, news_counter, news_of, none, noted, on_account, on_entry, on_pool, one, order_news, pages, refusal_count, refusal_counter, refusal_of, refusals, refused_by, stored, told_ahead, told_at}
+use Rattle.lock_row.specs.Totals.{by_option, locals_sum, row_sum, total}
+use Rattle.lock_row.specs.declared.names.At.{At}
+use Rattle.lock_row.specs.declared.names.At.TheVariants.{Both, Freeing, Giving, Inside, Leaving, Made, Old, Owing, Pinned, Pinning, Ready, Refusing, Seen, Start, Unpinning, Wanting}
+use Rattle.lock_row.specs.declared.names.State.{State}
+use Rattle.mem_account.specs.Counters.{Counters, at_most_end}
+use Rattle.mem_account.specs.declared.weight.Weight.{Weight}
+use Rattle.page_steps.specs.Steps.{DiskHeld, Here, spot}
+use Rattle.plain_disk.specs.Calls.{after_all, calls_sum, ever_pooled, kept_as}
+use Rattle.plain_disk.specs.Forms.{of_class}
+use Rattle.plain_disk.specs.Phases.{IsMost, begun, bounds, held_after, nth_order, phase_sum, reach}
+use Rattle.plain_disk.specs.Rests.{AreUsed, Rest, frames_of, kept_at, kept_pages, page_of}
+use Rattle.size_class.specs.Classes.{chain_of, per_of, stands_of}
+use Rattle.slot_entry.specs.Entries.{EntryState, weight_of}
+use Rattle.slot_entry.specs.Forms.{Blank, PageForm, Pooled, Word, class_for, form_weight, object_class, page_weight}
+use Rattle.slot_entry.specs.declared.kept.Kept.{Kept}
+use Rattle.std.proofs.lemmas.Bool.{and_from, cases_eq, cases_lt, eq-eqb, ne_eqb}
+use Rattle.std.proofs.lemmas.List.{length-map}
+use Rattle.std.proofs.lemmas.List.FromFn.{get_or-map-range_with_len, length-map-range_with_len}
+use Rattle.std.proofs.lemmas.List.Sums.{count_by-le-length, sum_by-append, sum_by-cons}
+use Rattle.std.proofs.lemmas.Option.{get_or_from_slice_get}
+use Rattle.std.specs.List.{AllByRecursion, flat_map, range_with_len}
+use Rattle.std.specs.Prelude.{is_some}
+use Rattle.zr_base.specs.declared.op.Op.{Op}
+use Rattle.zr_base.specs.declared.op.OpEnd.{OpEnd}
+use Rattle.zr_base.specs.declared.op.Tag.{Tag}
+use Rattle.zspage.specs.Cells.{UsedCell, entry, used_of}
+use Rattle.lock_row.specs.declared.names.Held.TheVariants as holds
+use Rattle.slot_entry.specs.declared.kept.Kept.TheVariants as kept
+use Rattle.mem_account.specs.declared.weight.Weight.TheVariants as weight
+
+-- ---- lists
+
+history_at : (ls : List Here) (a : ℕ) → history (histories ls) a ≡ dones ls a
+history_at [] a = refl
+history_at (l ∷ ls) zero = refl
+history_at (l ∷ ls) (suc a) = history_at ls a
+
+history_is : (ls : List Here) (a : ℕ) (done : List Done) → slice_get (histories ls) a ≡ Some done
+    → (l : Here) × (slice_get ls a ≡ Some l) × (l.done ≡ done)
+history_is [] a done e = absurd (cc)
+history_is (l ∷ ls) zero done e = (l, refl, (let q : Some l.done ≡ Some done = e in cc))
+history_is (l ∷ ls) (suc a) done e = history_is ls a done e
+
+dones_are : (f : Op → OpEnd → ℕ) (ls : List Here) → dones_sum f (histories ls)
+    ≡ locals_sum (λ l. done_sum f l.done) ls
+dones_are f [] = refl
+dones_are f (l ∷ ls) = let r = dones_are f ls in omega arith
+
+locals_same : (f h : Here → ℕ) (ls : List Here) → ((a : ℕ) (l : Here) → slice_get ls a ≡ Some l
+    → f l ≡ h l) → locals_sum f ls ≡ locals_sum h ls
+locals_same f h [] e = refl
+locals_same f h (l ∷ ls) e = let r = locals_same f h ls (λ a. e (suc a)) in let q = e 0 l refl in
+    omega arith
+
+-- ---- zspages
+
+each_used : (chain class : ℕ) (p : PoolState) → p.per ≡ per_of chain class
+    → (zs : List (Option Cells))
+    → ((k : ℕ) (cells : Cells) → entry zs k ≡ Some cells → 1 ≤ used_of cells)
+    → ((k : ℕ) (cells : Cells) → entry zs k ≡ Some cells → length cells ≡ p.per)
+    → AllByRecursion (λ n. (1 ≤ n) × (n ≤ per_of chain class)) (used_each zs)
+each_used chain class p per [] filled whole = tt
+each_used chain class p per (None ∷ zs) filled whole = each_used chain class p per zs
+    (λ k. filled (suc k)) (λ k. whole (suc k))
+each_used chain class p per (Some cells ∷ zs) filled whole = (
+  (
+    filled 0 cells refl,
+    (let l = count_by-le-length is_some cells in let w = whole 0 cells refl in
+        omega arith),
+  ),
+  each_used chain class p per zs (λ k. filled (suc k)) (λ k. whole (suc k)),
+)
+
+ones_are : (f : UsedCell → ℕ) → ((u : UsedCell) → f u ≡ 1) → (cells : Cells)
+    → sum_by f (used_cells_in cells) ≡ used_of cells
+ones_are f e [] = refl
+ones_are f e (None ∷ cells) = omega (
+  arith,
+  ones_are f e cells,
+  sum_by-cons {X = Option UsedCell} one_of None cells,
+)
+ones_are f e (Some u ∷ cells) =
+    omega (
+      arith,
+      ones_are f e cells,
+      sum_by-cons f u (used_cells_in cells),
+      e u,
+      sum_by-cons one_of (Some u) cells,
+    )
+
+used_sum : (f : UsedCell → ℕ) → ((u : UsedCell) → f u ≡ 1) → (zs : List (Option Cells))
+    → sum_by (λ n. n) (used_each zs) ≡ sum_by f (used_cells zs)
+used_sum f e [] = refl
+used_sum f e (None ∷ zs) = used_sum f e zs
+used_sum f e (Some cells ∷ zs) =
+    omega (
+      arith,
+      used_sum f e zs,
+      sum_by-append f (used_cells_in cells) (used_cells zs),
+      ones_are f e cells,
+      sum_by-cons (λ n. n) (used_of cells) (used_each zs),
+    )
+
+used_length : (zs : List (Option Cells)) → length (used_each zs) ≡ used_of zs
+used_length [] = refl
+used_length (None ∷ zs) = omega (
+  arith,
+  used_length zs,
+  sum_by-cons {X = Option Cells} one_of None zs,
+)
+used_length (Some cells ∷ zs) = omega (arith, used_length zs, sum_by-cons one_of (Some cells) zs)
+
+-- ---- kept forms
+
+module _ (chain : ℕ) where
+  form_weight_is : (f : PageForm) (k : Kept) → IsForm chain f k → weight_of k ≡ form_weight f
+  form_weight_is Blank kept.Empty i = refl
+  form_weight_is Blank (kept.Same w) i = absurd i
+  form_weight_is Blank (kept.Obj o) i = absurd i
+  form_weight_is (Word v) kept.Empty i = absurd i
+  form_weight_is (Word v) (kept.Same w) i = refl
+  form_weight_is (Word v) (kept.Obj o) i = absurd i
+  form_weight_is (Pooled bytes huge) kept.Empty i = absurd i
+  form_weight_is (Pooled bytes huge) (kept.Same w) i = absurd i
+  form_weight_is (Pooled bytes huge) (kept.Obj o) i = λ j.
+      cond (i.2 j) weight.Huge (weight.Packed (i.1 j))
+
+  -- 1 for an object of class k
+  abbrev pub of_kind : ℕ → Weigh
+  of_kind k c h b = cond (eqb c k) 1 0
+
+  of_pooled : (k : ℕ) (bytes : List ℕ) (huge : Bool) → cond {A = ℕ}
+      (eqb (object_class chain bytes huge) k) 1 0 ≡ of_class chain k
+      (form_weight (Pooled bytes huge))
+  unfolding class_for
+  of_pooled k bytes true = refl
+  of_pooled k bytes false = ap (λ (m : ℕ). cond {A = ℕ} (eqb (stands_of chain (m / 16)) k) 1 0)
+      (let q : length bytes - 9 ≡ length bytes + 8 - 17 = omega arith in q)
+
+  claim_class : (k : ℕ) (f : PageForm) (x : Kept) (b : List ℕ) → IsForm chain f x
+      → claim_by (of_kind k) x b ≡ of_class chain k (form_weight f)
+  claim_class k Blank kept.Empty b i = refl
+  claim_class k Blank (kept.Same w) b i = absurd i
+  claim_class k Blank (kept.Obj o) b i = absurd i
+  claim_class k (Word v) kept.Empty b i = absurd i
+  claim_class k (Word v) (kept.Same w) b i = refl
+  claim_class k (Word v) (kept.Obj o) b i = absurd i
+  claim_class k (Pooled bytes huge) kept.Empty b i = absurd i
+  claim_class k (Pooled bytes huge) (kept.Same w) b i = absurd i
+  claim_class k (Pooled bytes huge) (kept.Obj o) b i = ap
+      (λ (c : ℕ). cond {A = ℕ} (eqb c k) 1 0) i.0 ∙ of_pooled k bytes huge
+
+bytes_same : (f h : ℕ → List ℕ) (a n : ℕ) → ((s : ℕ) → a ≤ s → s < a + n → f s ≡ h s)
+    → flat_map f (range_with_len a n) ≡ flat_map h (range_with_len a n)
+bytes_same f h a zero e = refl
+bytes_same f h a (suc n) e =
+    let x = e a (omega arith) (omega arith) in
+    let y = bytes_same f h (a + 1) n (λ s le lt. e s (omega arith) (omega arith)) in λ i. x i ++ y i
+
+-- ---- a finished phase
+
+module _ (r : Rest) (actors : List (List Op)) (ok : Known (begin_at r actors)) (w : State DiskHeld)
+    (rule : Rule (begin_at r actors) w) (fin : AllFinished (begin_at r actors) w) where
+  abbrev g : Begin
+  g = begin_at r actors
+
+  abbrev size : ℕ
+  size = r.size
+
+  abbrev row : List (Option DiskHeld)
+  row = w.row
+
+  abbrev orders : List (List Tag)
+  orders = orders_of size row
+
+  abbrev m : Rest
+  m = rest_after r actors row
+
+  rest : AtRest g row
+  rest = at_rest g w rule fin
+
+  -- ---- values
+
+  value_is : (k : ℕ) → k < size + 258 → (v : DiskHeld) × (value_at row k ≡ Some v) × AtHome g k v
+  value_is k lt =
+      let e = rest.size in let v = rest.whole k (omega arith) in
+      (v.0, get_or_from_slice_get row k (Some v.0) None v.1, rest.home k v.0 v.1)
+
+  to_slot : (v : DiskHeld) → IsEntry v → (e : EntryState) × (v ≡ holds.Slot e)
+  to_slot (holds.Slot e) i = (e, refl)
+  to_slot (holds.Class p) i = absurd i
+  to_slot (holds.Account c) i = absurd i
+  to_slot (holds.Blocks x) i = absurd i
+  to_slot (holds.Device x) i = absurd i
+
+  to_pool : (v : DiskHeld) → IsPoolOf v → (p : PoolState) × (v ≡ holds.Class p)
+  to_pool (holds.Slot e) i = absurd i
+  to_pool (holds.Class p) i = (p, refl)
+  to_pool (holds.Account c) i = absurd i
+  to_pool (holds.Blocks x) i = absurd i
+  to_pool (holds.Device x) i = absurd i
+
+  pub entries : (p : ℕ) → p < size → (e : EntryState) × (value_at row p ≡ Some (holds.Slot e))
+      × AtHome g p (holds.Slot e)
+  entries p lt =
+      let v = value_is p (omega arith) in
+      let e = to_slot v.0 (entry_kind g p lt v.0 v.2.sound) in
+      (e.0, v.1 ∙ ap (λ (x : DiskHeld). Some x) e.1, subst (AtHome g p) e.1 v.2)
+
+  pools : (k : ℕ) → k < 255 → (p : PoolState) × (value_at row (size + k) ≡ Some (holds.Class p))
+      × AtHome g (size + k) (holds.Class p)
+  pools k lt =
+      let v = value_is (size + k) (omega arith) in
+      let e = to_pool v.0 (class_kind g k lt v.0 v.2.sound) in
+      (e.0, v.1 ∙ ap (λ (x : DiskHeld). Some x) e.1, subst (AtHome g (size + k)) e.1 v.2)
+
+  account : (c : Counters) × (slice_get row (size + 255) ≡ Some (Some (holds.Account c)))
+  account = account_at g row rest.size rest.whole rest.home
+
+  account_value : value_at row (size + 255) ≡ Some (holds.Account account.0)
+  account_value = get_or_from_slice_get row (size + 255)
+      (Some (holds.Account account.0)) None account.1
+
+  abbrev c : Counters
+  c = account_of size row
+
+  account_is : c ≡ account.0
+  account_is = ap account_in account_value
+
+  -- the account's numbers are sums over the row
+  account_weighs : (f : Counters → ℕ) → row_sum (on_account f) row ≡ f c
+  unfolding account
+  account_weighs f = account_sum g row rest.size rest.whole rest.home f ∙ ap f (sym account_is)
+
+  left_over : (f : ℕ → DiskHeld → ℕ) (h : Here → ℕ) → ((a : ℕ) (l : Here)
+      → slice_get w.locals a ≡ Some l → h l ≡ 0) → total (spot size) f h w ≡ row_sum f row
+  left_over f h z = left g w rule fin f h z
+
+  -- ---- orders
+
+  pub order_is : (p : ℕ) (lt : p < size) → nth_order orders p ≡ (entries p lt).0.order
+  order_is p lt = get_or-map-range_with_len (λ i. order_in (value_at row i)) 0 size p p [] lt
+      (zero-add p) ∙ ap order_in (entries p lt).1
+
+  shows : (p : ℕ) (lt : p < size) → ShowsOrder g w.locals p (entries p lt).0.order
+      (entries p lt).0.room
+  shows p lt =
+      let v = rest.whole p (let e = rest.size in omega arith) in
+      let q : v.0 ≡ holds.Slot (entries p lt).0 = (let z : Some v.0
+      ≡ Some (holds.Slot (entries p lt).0) = sym (get_or_from_slice_get row p
+      (Some v.0) None v.1) ∙ (entries p lt).1 in cc) in
+      subst (OfOrder (ShowsOrder g w.locals) p) q (rule.told.in_row p v.0 v.1)
+
+  -- ---- sums over entries and over pools
+
+  others : (i : ℕ) → i < 3 → (f : ℕ → DiskHeld → ℕ) → ((x : Counters) (k : ℕ)
+      → f k (holds.Account x) ≡ 0) → ((x : Unit {0}) (k : ℕ) → f k (holds.Blocks x) ≡ 0)
+      → ((x : Unit {0}) (k : ℕ) → f k (holds.Device x) ≡ 0)
+      → ((k : ℕ) (e : EntryState) → size ≤ k → AtHome g k (holds.Slot e) → f k (holds.Slot e) ≡ 0)
+      → ((k : ℕ) (p : PoolState) → size + 255 ≤ k → AtHome g k (holds.Class p)
+      → f k (holds.Class p) ≡ 0)
+      → weight_at f row (size + (255 + i)) ≡ 0
+  others i lt f fa fb fd fs fc =
+      let v = value_is (size + (255 + i)) (omega arith) in
+      ap (by_option (f (size + (255 + i)))) v.1 ∙ by_value v.0 v.2 where
+        by_value : (v : DiskHeld) → AtHome g (size + (255 + i)) v → f (size + (255 + i)) v ≡ 0
+        by_value (holds.Slot e) h = fs _ e (omega arith) h
+        by_value (holds.Class p) h = fc _ p (omega arith) h
+        by_value (holds.Account x) h = fa x _
+        by_value (holds.Blocks x) h = fb x _
+        by_value (holds.Device x) h = fd x _
+
+  -- a weight of entries that is G of their pages
+  slots_sum : (f : ℕ → Kept → List Tag → ℕ) (G : ℕ → ℕ)
+      → ((p : ℕ) (lt : p < size) → f p (entries p lt).0.kept (entries p lt).0.order ≡ G p)
+      → row_sum (on_entry f) row ≡ range_sum G 0 size
+  slots_sum f G is = row_part (on_entry f) G row 0 size 258 (rest.size
+      ∙ ap (λ (n : ℕ). n + 258) (sym (zero-add size)))
+      (λ i lt. absurd (let no : ⊥ = omega arith in no))
+      (λ p lt. ap (weight_at (on_entry f) row) (zero-add p)
+      ∙ ap (by_option (on_entry f p)) (entries p lt).1 ∙ is p lt)
+      (λ i lt. elim (cases_lt i 255) [
+        | inl low ↦ ap (weight_at (on_entry f) row) (let q : 0 + size + i ≡ size + i =
+            omega arith in q)
+            ∙ ap (by_option (on_entry f (size + i))) (pools i low).1
+        | inr high ↦ ap (weight_at (on_entry f) row) (let q : 0 + size + i
+            ≡ size + (255 + (i - 255)) = omega arith in q)
+            ∙ others (i - 255) (omega arith) (on_entry f) (λ x k. refl) (λ x k. refl) (λ x k. refl)
+            (λ k e le h. absurd (let z = h.sound.page in let no : ⊥ = omega arith in no))
+            (λ k p le h. refl)
+      ])
+
+  -- a weight of pools that is G of their classes
+  pools_sum : (f : PoolState → ℕ) (G : ℕ → ℕ) → ((k : ℕ) (lt : k < 255) → f (pools k lt).0 ≡ G k)
+      → row_sum (on_pool f) row ≡ range_sum G 0 255
+  pools_sum f G is = row_part (on_pool f) G row size 255 3 (rest.size
+      ∙ (let q : size + 258 ≡ size + 255 + 3 = omega arith in q))
+      (λ p lt. ap (by_option (on_pool f p)) (entries p lt).1)
+      (λ k lt. ap (by_option (on_pool f (size + k))) (pools k lt).1 ∙ is k lt)
+      (λ i lt. ap (weight_at (on_pool f) row) (let q : size + 255 + i ≡ size + (255 + i) =
+      omega arith in q)
+      ∙ others i lt (on_pool f) (λ x k. refl) (λ x k. refl) (λ x k. refl) (λ k e le h. refl)
+      (λ k p le h. absurd (let z = h.sound.0 in let y = h.sound.1.class in
+      let no : ⊥ = omega arith in no)))
+
+  class_of_pool : (k : ℕ) (lt : k < 255) → (pools k lt).0.class ≡ k
+  class_of_pool k lt = let z = (pools k lt).2.sound.0 in omega arith
+
+  used_is : (k : ℕ) (lt : k < 255) → m.used k ≡ used_each (pools k lt).0.zspages
+  used_is k lt = ap used_in (pools k lt).1
+
+  -- ---- the pages of the rest
+
+  -- the page of the rest is the one that the calls leave
+  kept_same : (p : ℕ) → kept_as page_weight p (after_all actors (page_of r p) (nth_order orders p))
+      ≡ kept_as page_weight p (page_of m p)
+  kept_same p = ap (λ (bytes : List ℕ). cond (after_all actors (page_of r p)
+      (nth_order orders p)).blank weight.Empty (page_weight bytes))
+      (bytes_same (after_all actors (page_of r p) (nth_order orders p)).holds m.holds (8 * p) 8
+      (λ s le lt. holds_after g (page_of r p) (nth_order orders p) s
+      ∙ ap (λ (q : ℕ). held_after (begun r actors) (nth_order orders q) s)
+      (let q : p ≡ s / 8 = omega arith in q)))
+
+  form_weighs : (p : ℕ) (lt : p < size) → form_weight (form_at g p (entries p lt).0.order)
+      ≡ kept_at page_weight m p
+  form_weighs p lt = sym (kept_is g p (entries p lt).0.order)
+      ∙ ap (λ (order : List Tag). kept_as page_weight p (found_after g p order))
+      (sym (order_is p lt)) ∙ kept_same p
+
+  weight_is : (p : ℕ) (lt : p < size) → weight_of (entries p lt).0.kept ≡ kept_at page_weight m p
+  weight_is p lt = form_weight_is g.chain (form_at g p (entries p lt).0.order) (entries p lt).0.kept
+      (entries p lt).2.stands ∙ form_weighs p lt
+
+  -- a sum over entries by how they keep their pages is the sum over the rest's pages
+  kept_sum : (f : Weight → ℕ) → row_sum (on_entry (λ p k order. f (weight_of k))) row
+      ≡ sum_by f (kept_pages page_weight m)
+  kept_sum f = slots_sum (λ p k order. f (weight_of k)) (λ p. f (kept_at page_weight m p))
+      (λ p lt. ap f (weight_is p lt))
+      ∙ sym (range_map f (kept_at page_weight m) 0 size)
+
+  calls_are : (q : News) → row_sum (noted g q) row ≡ phase_sum
+      (λ p. calls_sum (news_of q p) actors) r orders
+  calls_are q = slots_sum (λ p k order. order_news g q p order)
+      (λ p. calls_sum (news_of q p) actors (page_of r p) (nth_order orders p))
+      (λ p lt. ap (order_news g q p) (sym (order_is p lt)))
+      ∙ sym (range_by (λ p. calls_sum (news_of q p) actors (page_of r p) (nth_order orders p)) 0
+      size)
+
+  -- ---- bounds
+
+  reach_is : (reach_at g w).reach ≡ reach page_weight r actors orders
+  reach_is =
+      let a = total_split size (ever_at g) one w in
+      let z = left_over (ever_at g) none (λ a l e. refl) in
+      let s = slots_sum (λ p k order. ever g p order) (λ p.
+      cond (ever_pooled page_weight p actors (page_of r p) (nth_order orders p)) 1 0)
+      (λ p lt. ap (ever g p) (sym (order_is p lt))) in
+      let b = range_by (λ p. cond (ever_pooled page_weight p actors (page_of r p)
+      (nth_order orders p)) 1 0) 0 size in
+      let d = count_locals w.locals in let h = rule.joint.actors in omega arith
+
+  pub agree : Agree (ground_of g) (bounds page_weight r actors orders) (begun r actors)
+      (histories w.locals) orders
+  agree = record {
+    count = length-map w.locals (λ (l : Here). l.done) ∙ rule.joint.actors;
+    follows = λ a ops done named_ops is.
+        let l = history_is w.locals a done is in let f = rule.joint.each.in_local a l.0 l.1 in
+        let same_ops : f.ops ≡ ops = (let q : Some f.ops ≡ Some ops = sym f.named ∙ named_ops in
+        cc) in
+        subst (λ (x : List Op × List Done × List Part).
+        Follows (EndsSo (ground_of g)) (program size 0 x.0) x.1 x.2)
+        (λ i. (same_ops i, l.2 i, over g w rule fin a l.0 l.1 i)) f.follows;
+    every_page = length-map-range_with_len (λ p. order_in (value_at row p)) 0 size;
+    turns = λ p a lt. ap (ops_of a) (order_is p lt) ∙ (shows p lt).shows.turns a
+        ∙ ap (noted_on p) (sym (history_at w.locals a));
+    reads = λ a i d at lt stands.
+        subst (IsTold (begun r actors) a d) (sym (order_is d.part.page lt))
+        ((shows d.part.page lt).shows.reads a i d (ap (λ (ds : List Done). slice_get ds i)
+        (sym (history_at w.locals a)) ∙ at)
+        (and_from (eqb d.part.page d.part.page) (stands_so d.part.op d.end)
+        (eq-eqb d.part.page d.part.page refl) stands));
+    keeps = λ a i d at. subst (λ (n : ℕ). KeepsTo (ground_of g) (record { reach = n }) d.end)
+        reach_is
+        (kept_limits a (slice_get w.locals a) refl i d (ap (λ (ds : List Done). slice_get ds i)
+        (sym (history_at w.locals a)) ∙ at));
+  } where
+    kept_limits : (a : ℕ) (o : Option Here) → slice_get w.locals a ≡ o → (i : ℕ) (d : Done)
+        → slice_get (dones w.locals a) i ≡ Some d → KeepsTo (ground_of g) (reach_at g w) d.end
+    kept_limits a None e i d at = absurd (let q : slice_get (let ds : List Done = [] in ds) i
+        ≡ Some d = subst (λ (o : Option Here). slice_get (done_by o) i ≡ Some d) e at in cc)
+    kept_limits a (Some l) e i d at = (rule.limits a l e).over i d
+        (subst (λ (o : Option Here). slice_get (done_by o) i ≡ Some d) e at)
+
+  -- ---- pools
+
+  lone_pool : (k : ℕ) (lt : k < 255) → row_sum (stored (of_kind g.chain k)) row
+      ≡ sum_by (λ n. n) (m.used k)
+  lone_pool k lt = pools_sum (λ p. sum_by (cell_weight (of_kind g.chain k p.class))
+      (used_cells p.zspages)) (λ j. cond (eqb j k) (sum_by (λ n. n) (m.used k)) 0) by_class
+      ∙ range_lone (λ j. cond (eqb j k) (sum_by (λ n. n) (m.used k)) 0) k 0 255 (omega arith)
+      (omega arith) (λ j ne. ap (λ (b : Bool). cond b (sum_by (λ n. n) (m.used k)) 0)
+      (ne_eqb j k ne))
+      ∙ ap (λ (b : Bool). cond b (sum_by (λ n. n) (m.used k)) 0) (eq-eqb k k refl) where
+        by_class : (j : ℕ) (lt' : j < 255) → sum_by (cell_weight
+            (of_kind g.chain k (pools j lt').0.class)) (used_cells (pools j lt').0.zspages)
+            ≡ cond (eqb j k) (sum_by (λ n. n) (m.used k)) 0
+        by_class j lt' = elim (cases_eq j k) [
+          | inl e ↦ rw (eq-eqb j k e) (
+              let one_each : (u : UsedCell) → cell_weight
+              (of_kind g.chain k (pools j lt').0.class) u ≡ 1 = λ u.
+              ap (λ (b : Bool). cond {A = ℕ} b 1 0)
+              (eq-eqb (pools j lt').0.class k (class_of_pool j lt' ∙ e)) in
+              sym (used_sum (cell_weight (of_kind g.chain k (pools j lt').0.class)) one_each
+              (pools j lt').0.zspages)
+              ∙ sym (ap (sum_by (λ n. n)) (ap m.used (sym e) ∙ used_is j lt')))
+          | inr ne ↦ rw (ne_eqb j k ne) (sum_zero (cell_weight
+              (of_kind g.chain k (pools j lt').0.class))
+              (λ u. ap (λ (b : Bool). cond {A = ℕ} b 1 0)
+              (ne_eqb (pools j lt').0.class k (λ s. ne (sym (class_of_pool j lt') ∙ s))))
+              (used_cells (pools j lt').0.zspages))
+        ]
+
+  used_right : AreUsed r.set.chain (kept_pages page_weight m) m.used
+  used_right k lt =
+      let f = (pools k lt).2.sound.1 in record {
+        each = subst (λ (us : List ℕ). AllByRecursion (λ n. (1 ≤ n)
+            × (n ≤ per_of r.set.chain k)) us) (sym (used_is k lt))
+            (each_used r.set.chain k (pools k lt).0 (f.per
+            ∙ ap (per_of r.set.chain) (class_of_pool k lt))
+            (pools k lt).0.zspages f.pool.filled f.pool.whole);
+        all = sym (lone_pool k lt) ∙ sym (rest.owners (of_kind g.chain k))
+            ∙ slots_sum (λ p x order. claim_by (of_kind g.chain k) x (image g p order))
+            (λ p. of_class r.set.chain k (kept_at page_weight m p))
+            (λ p lt'. claim_class g.chain k (form_at g p (entries p lt').0.order)
+            (entries p lt').0.kept (image g p (entries p lt').0.order) (entries p lt').2.stands
+            ∙ ap (of_class r.set.chain k) (form_weighs p lt'))
+            ∙ sym (range_map (of_class r.set.chain k) (kept_at page_weight m) 0 size);
+      }
+
+  frames_right : c.pages ≡ frames_of r.set.chain m.used
+  frames_right = sym (account_weighs (λ x. x.pages)) ∙ rest.frames
+      ∙ pools_sum (λ p. p.chain * used_of p.zspages) (λ k.
+      chain_of r.set.chain k * length (m.used k))
+      (λ k lt. λ i. ((pools k lt).2.sound.1.frames ∙ ap (chain_of r.set.chain) (class_of_pool k lt))
+      i * (sym (used_length (pools k lt).0.zspages) ∙ ap length (sym (used_is k lt))) i)
+      ∙ sym (range_by (λ k. chain_of r.set.chain k * length (m.used k)) 0 255)
+
+  -- ---- the account
+
+  fixed_is : (q : Fixed) → fixed_count q c ≡ fixed_count q g.was
+  fixed_is q = sym (account_weighs (fixed_count q)) ∙ sym (left_over (fixed q) none (λ a l e. refl))
+      ∙ rule.joint.stays q
+
+  refusals_are : (q : Refusal) → refusal_count q c ≡ at_most_end
+      (refusal_count q g.was + dones_sum (refusal_of q) (histories w.locals))
+  refusals_are q = sym (account_weighs (refusal_count q))
+      ∙ sym (left_over (refusal_counter q) none (λ a l e. refl)) ∙ rule.refusals q
+      ∙ ap (λ (n : ℕ). at_most_end (refusal_count q g.was + n)) (
+      locals_same (refusals q) (λ l. done_sum (refusal_of q) l.done) w.locals
+      (λ a l e. let z = ap (λ (ps : List Part). refused_by q ps l.fail)
+      (over g w rule fin a l e) in omega arith)
+      ∙ sym (dones_are (refusal_of q) w.locals))
+
+  news_are : (q : News) → news_count q c ≡ at_most_end (news_count q g.was + phase_sum
+      (λ p. calls_sum (news_of q p) actors) r orders)
+  news_are q = sym (account_weighs (news_count q)) ∙ sym
+      (left_over (news_counter q) none (λ a l e. refl)) ∙ rule.news q
+      ∙ ap (λ (n : ℕ). at_most_end (news_count q g.was + n)) (
+      left_over (noted g q) (told_ahead q) (λ a l e. told_over q l (over g w rule fin a l e))
+      ∙ calls_are q) where
+        told_end : (q : News) (at : At) (x : Option Weight) → told_at q at [] x ≡ 0
+        told_end q Ready x = refl
+        told_end q Start x = refl
+        told_end q Refusing x = refl
+        told_end q Seen x = refl
+        told_end q Pinning x = refl
+        told_end q Pinned x = refl
+        told_end q Unpinning x = refl
+        told_end q Leaving x = refl
+        told_end q Wanting x = refl
+        told_end q Inside x = refl
+        told_end q Both x = refl
+        told_end q Made x = refl
+        told_end q Old x = refl
+        told_end q Freeing x = refl
+        told_end q Owing x = refl
+        told_end q Giving x = refl
+
+        told_over : (q : News) (l : Here) → l.todo ≡ [] → told_ahead q l ≡ 0
+        told_over q l e = ap (λ (ps : List Part). told_at q l.at ps l.ahead) e
+            ∙ told_end q l.at l.ahead
+
+  most_weighs : total (spot size) mosts none w ≡ c.most
+  most_weighs = left_over mosts none (λ a l e. refl) ∙ account_weighs (λ x. x.most)
+
+  pages_weigh : total (spot size) pages none w ≡ frames_of r.set.chain m.used
+  pages_weigh = left_over pages none (λ a l e. refl) ∙ account_weighs (λ x. x.pages) ∙ frames_right
+
+  most_is : IsMost r (reach page_weight r actors orders) c.most m.used
+  most_is = record {
+    now = le_by pages_weigh most_weighs rule.most.now;
+    before = le_by refl most_weighs rule.most.before;
+    within = λ rose some. le_by most_weighs refl (rule.most.within (lt_by most_weighs rose) some);
+    few = λ rose. le_by most_weighs (ap (λ (x : ℕ). g.chain * x) reach_is)
+        (rule.most.few (lt_by most_weighs rose));
+  } where
+    le_by : {a b x y : ℕ} → a ≡ x → b ≡ y → a ≤ b → x ≤ y
+    le_by p q le = subst (λ (i : ℕ × ℕ). i.0 ≤ i.1) (λ i. (p i, q i)) le
+
+    lt_by : {a b x : ℕ} → b ≡ x → a < x → a < b
+    lt_by {a} p lt = subst (λ (i : ℕ). a < i) (sym p) lt
+
+  count_is : (q : Count) → counter q c ≡ sum_by (measure q) (kept_pages page_weight m)
+  count_is q = sym (account_weighs (counter q)) ∙ rest.counts q ∙ kept_sum (measure q)
+
+  pub tallies : Tallies page_weight r actors (histories w.locals) orders c m
+  tallies = record {
+    pages = record {
+      size = refl;
+      holds = λ s lt. refl;
+      blank = λ p lt. refl;
+      touched = λ p lt. refl;
+      used = used_right;
+      most = most_is;
+      set = refl;
+    };
+    so_far = refl;
+    tally = record {
+      same = count_is Sames;
+      packed = count_is Packs;
+      packed_bytes = count_is PackedBytes;
+      huge = count_is Huges;
+      back = count_is Backs;
+    };
+    frames = frames_right;
+    limit = fixed_is Limit;
+    most = refl;
+    huge_since = news_are HugeWrites;
+    compacted = fixed_is Compactions;
+    failed_reads = fixed_is FailedReads;
+    failed_writes = refusals_are FailedWrites;
+    invalid_io = refusals_are OutOfRange;
+    notify_free = news_are FreedPages;
+  }

@@ -1,0 +1,225 @@
+-- The givings of an actor, by what they do to sums over pools.
+use Rattle.std.proofs.Common.{◌≡◌, ◌∷◌, ◌∙◌, ℕ, Bool, true, false, List, [], Option, Some, None, refl, ap, subst}
+use Rattle.call_history.specs.Shows.{got_from, tag_by}
+use Rattle.call_history.specs.declared.part.Part.{Part}
+use Rattle.call_history.specs.declared.part.PartEnd.{PartEnd}
+use Rattle.call_history.specs.declared.part.PartEnd.TheVariants.{AtLimit, Carried, NoMemory, Whole}
+use Rattle.class_pool.specs.Pool.{PoolState}
+use Rattle.joint_rule.proofs.Facts.{Known}
+use Rattle.joint_rule.proofs.Pools.{Allocates, GivesUp, Swaps, adds_weigh, drops_weigh, lends_weigh, returns_weigh, some_cell}
+use Rattle.joint_rule.specs.Begins.{Begin, terms}
+use Rattle.joint_rule.specs.Facts.{Facts}
+use Rattle.joint_rule.specs.Joint.{Sound}
+use Rattle.joint_rule.specs.Weights.{HeldAll}
+use Rattle.lock_row.specs.declared.names.At.TheVariants.{Both, Freeing, Giving, Leaving, Made, Owing, Pinning, Ready, Refusing, Unpinning}
+use Rattle.lock_row.specs.declared.names.Pin.{Pin}
+use Rattle.mem_account.specs.Counters.{Counters, IsPastLimit, IsWithinLimit, charged, counted}
+use Rattle.page_steps.specs.Givings.{Notes, Works, kept_by, old_weight, settled}
+use Rattle.page_steps.specs.Nexts.{emptied, ending_by, failing_by, pin_at, pin_of, slot_by, tail_of}
+use Rattle.page_steps.specs.Pages.{next_form, page_in, page_in_cell}
+use Rattle.page_steps.specs.Pools.{DropsPinned, IsNeed, ReturnsBy}
+use Rattle.page_steps.specs.Steps.{DiskHeld, Here, entry_in, on, piece_over, pinned_at, quit_at, settle_at, slot}
+use Rattle.slot_entry.specs.Entries.{EntryState, weight_of}
+use Rattle.slot_entry.specs.Forms.{Pooled, form_weight, object_class}
+use Rattle.slot_entry.specs.declared.kept.Stored.{Stored}
+use Rattle.zspage.specs.Cells.{CellState, IsStored, UsedCell}
+use Rattle.lock_row.specs.declared.names.LockNo.TheVariants as lock
+use Rattle.lock_row.specs.declared.names.Held.TheVariants as holds
+use Rattle.slot_entry.specs.declared.kept.Kept.TheVariants as kept
+use Rattle.mem_account.specs.declared.weight.Delta.TheVariants as delta
+use Rattle.zr_base.specs.declared.op.OpEnd.TheVariants as ends
+use Rattle.page_steps.specs.Givings as work
+
+-- The pinned cell, if there is one, is back.
+abbrev pub BackBy : Option Pin → PoolState → PoolState → Type 0
+BackBy None p q = q ≡ p
+BackBy (Some x) p q = (u : UsedCell) × (v : UsedCell) × Swaps p q u v × (u.handle ≡ x.handle)
+    × (u.out ≡ true) × (v.out ≡ false)
+
+-- The object is unpinned where it was pinned, and gone.
+pub record FreesPinned (pin : Option Pin) (p q : PoolState) (handle frames : ℕ) : Type 0 where
+  pub between : PoolState
+  pub back : BackBy pin p between
+  pub object : UsedCell
+  pub gone : GivesUp between q object frames
+  pub named : object.handle ≡ handle
+  pub home : object.out ≡ false
+
+-- The giving of the value v, after which the local is m.
+pub data Event (g : Begin) (l : Here) (v : DiskHeld) (m : Here) : Type 0 where
+  refuses : (p : Part) (rest : List Part) (c : Counters) → l.todo ≡ p ∷ rest → l.at ≡ Refusing
+      → l.held ≡ (lock.Account, holds.Account c) ∷ []
+      → v ≡ holds.Account (counted c delta.InvalidIo)
+      → m ≡ piece_over l p (Whole ends.Range) [] rest → Event g l v m
+  pins : (p : Part) (rest : List Part) (e : EntryState) (o : Stored) (q q' : PoolState)
+      (u u' : UsedCell) (cell : CellState) → l.todo ≡ p ∷ rest → l.at ≡ Pinning
+      → l.held ≡ (lock.Class o.class, holds.Class q) ∷ (slot p.page, holds.Slot e) ∷ []
+      → e.kept ≡ kept.Obj o → Swaps q q' u u' → u.handle ≡ o.handle.0 → u.out ≡ false
+      → u'.out ≡ true → u.cell ≡ cell → IsStored o.handle.0 u.bytes cell
+      → v ≡ holds.Class q'
+      → m ≡ on l (pinned_at p.op (next_form p (Some (page_in_cell o cell)) e.kept) e.kept)
+      ((slot p.page, holds.Slot e) ∷ []) l.fresh (Some (pin_of o cell)) l.owed l.ahead l.behind
+      (Some (page_in_cell o cell)) l.fail
+      → Event g l v m
+  unpins : (p : Part) (rest : List Part) (e : EntryState) (o : Stored) (q q' : PoolState)
+      (u u' : UsedCell) → l.todo ≡ p ∷ rest → l.at ≡ Unpinning
+      → l.held ≡ (lock.Class o.class, holds.Class q) ∷ (slot p.page, holds.Slot e) ∷ []
+      → e.kept ≡ kept.Obj o → Swaps q q' u u' → u.handle ≡ o.handle.0 → u.out ≡ true
+      → u'.out ≡ false → v ≡ holds.Class q'
+      → m ≡ on l Leaving ((slot p.page, holds.Slot e) ∷ []) l.fresh None l.owed l.ahead l.behind
+      l.page l.fail
+      → Event g l v m
+  charges : (p : Part) (rest : List Part) (e : EntryState) (c : Counters) (q q' : PoolState)
+      (cl h need : ℕ) (bytes : List ℕ) (huge : Bool) → l.todo ≡ p ∷ rest → l.at ≡ Both
+      → l.held ≡ (lock.Account, holds.Account c) ∷ (lock.Class cl, holds.Class q)
+      ∷ (slot p.page, holds.Slot e) ∷ []
+      → next_form p l.page e.kept ≡ Pooled bytes huge → cl ≡ object_class g.chain bytes huge
+      → IsWithinLimit c need → Allocates q q' h bytes need → v ≡ holds.Account (charged c need)
+      → m ≡ on l Made ((lock.Class cl, holds.Class q') ∷ (slot p.page, holds.Slot e) ∷ [])
+      (Some (record { class = cl; handle = h; bytes = bytes })) l.pin l.owed l.ahead l.behind l.page
+      l.fail
+      → Event g l v m
+  limits : (p : Part) (rest : List Part) (e : EntryState) (c : Counters) (q : PoolState)
+      (cl need : ℕ) → l.todo ≡ p ∷ rest → l.at ≡ Both
+      → l.held ≡ (lock.Account, holds.Account c) ∷ (lock.Class cl, holds.Class q)
+      ∷ (slot p.page, holds.Slot e) ∷ []
+      → IsNeed q need → IsPastLimit c need → v ≡ holds.Account (counted c delta.FailedWrite)
+      → m ≡ on l Made ((lock.Class cl, holds.Class q) ∷ (slot p.page, holds.Slot e) ∷ []) l.fresh
+      l.pin l.owed l.ahead l.behind l.page (Some (AtLimit c.pages need c.limit))
+      → Event g l v m
+  starves : (p : Part) (rest : List Part) (e : EntryState) (c : Counters) (q : PoolState) (cl : ℕ)
+      → l.todo ≡ p ∷ rest → l.at ≡ Both
+      → l.held ≡ (lock.Account, holds.Account c) ∷ (lock.Class cl, holds.Class q)
+      ∷ (slot p.page, holds.Slot e) ∷ []
+      → v ≡ holds.Account (counted c delta.FailedWrite)
+      → m ≡ on l Made ((lock.Class cl, holds.Class q) ∷ (slot p.page, holds.Slot e) ∷ []) l.fresh
+      l.pin l.owed l.ahead l.behind l.page (Some NoMemory)
+      → Event g l v m
+  stows : (p : Part) (rest : List Part) (e : EntryState) (q : PoolState) (cl : ℕ)
+      → l.todo ≡ p ∷ rest → l.at ≡ Made
+      → l.held ≡ (lock.Class cl, holds.Class q) ∷ (slot p.page, holds.Slot e) ∷ []
+      → l.fail ≡ None → v ≡ holds.Class q
+      → m ≡ on l (settle_at e.kept) ((slot p.page, holds.Slot e) ∷ []) l.fresh l.pin l.owed l.ahead
+      l.behind l.page l.fail
+      → Event g l v m
+  quits : (p : Part) (rest : List Part) (e : EntryState) (q : PoolState) (cl : ℕ) (x : PartEnd)
+      → l.todo ≡ p ∷ rest → l.at ≡ Made
+      → l.held ≡ (lock.Class cl, holds.Class q) ∷ (slot p.page, holds.Slot e) ∷ []
+      → l.fail ≡ Some x → v ≡ holds.Class q
+      → m ≡ on l (quit_at l.pin) ((slot p.page, holds.Slot e) ∷ []) l.fresh l.pin l.owed l.ahead
+      l.behind l.page l.fail
+      → Event g l v m
+  frees : (p : Part) (rest : List Part) (e : EntryState) (o : Stored) (q q' : PoolState)
+      (frames : ℕ) → l.todo ≡ p ∷ rest → l.at ≡ Freeing
+      → l.held ≡ (lock.Class o.class, holds.Class q) ∷ (slot p.page, holds.Slot e) ∷ []
+      → e.kept ≡ kept.Obj o → FreesPinned l.pin q q' o.handle.0 frames → v ≡ holds.Class q'
+      → m ≡ on l Owing ((slot p.page, holds.Slot (emptied e)) ∷ []) l.fresh None frames
+      (Some (weight_of e.kept)) l.behind l.page l.fail
+      → Event g l v m
+  repays : (p : Part) (rest : List Part) (e : EntryState) (c : Counters) → l.todo ≡ p ∷ rest
+      → l.at ≡ Giving
+      → l.held ≡ (lock.Account, holds.Account c) ∷ (slot p.page, holds.Slot e) ∷ []
+      → v ≡ holds.Account (settled p.op l.owed (old_weight l.ahead e.kept)
+      (form_weight (next_form p l.page e.kept)) c)
+      → m ≡ on l Ready ((slot p.page, holds.Slot e) ∷ []) l.fresh l.pin 0
+      (Some (form_weight (next_form p l.page e.kept))) (Some (weight_of e.kept)) l.page l.fail
+      → Event g l v m
+  puts : (p : Part) (rest : List Part) (e f : EntryState) → l.todo ≡ p ∷ rest → l.at ≡ Ready
+      → l.held ≡ (slot p.page, holds.Slot e) ∷ []
+      → Notes g.clock e f (kept_by (next_form p l.page e.kept) l.fresh) (tag_by l.actor p)
+      → v ≡ holds.Slot f → m ≡ piece_over l p Carried [] rest → Event g l v m
+  reads : (p : Part) (rest : List Part) (e f : EntryState) → l.todo ≡ p ∷ rest → l.at ≡ Leaving
+      → l.held ≡ (slot p.page, holds.Slot e) ∷ [] → l.fail ≡ None
+      → Notes g.clock e f e.kept (tag_by l.actor p) → v ≡ holds.Slot f
+      → m ≡ piece_over l p Carried (got_from (page_in l.page e.kept) p) rest → Event g l v m
+  fails : (p : Part) (rest : List Part) (e : EntryState) (x : PartEnd) → l.todo ≡ p ∷ rest
+      → l.at ≡ Leaving
+      → l.held ≡ (slot p.page, holds.Slot e) ∷ [] → l.fail ≡ Some x → v ≡ holds.Slot e
+      → m ≡ piece_over l p x [] rest → Event g l v m
+
+module _ (facts : Facts) where
+  back_by : (pin : Option Pin) (p q : PoolState) → ReturnsBy pin p q → BackBy pin p q
+  back_by None p q r = r
+  back_by (Some x) p q r = (
+    r.object,
+    record r.object { out = false },
+    returns_weigh facts p q x.handle r,
+    r.place.handle_is,
+    r.lent,
+    refl,
+  )
+
+  frees_pinned : (pin : Option Pin) (p q : PoolState) (h n : ℕ) → DropsPinned pin p q h n
+      → FreesPinned pin p q h n
+  frees_pinned pin p q h n d = record {
+    between = d.between;
+    back = back_by pin p d.between d.back;
+    object = d.drops.object;
+    gone = drops_weigh facts d.between q h n d.drops;
+    named = d.drops.place.handle_is;
+    home = d.drops.home;
+  }
+
+module _ (g : Begin) (ok : Known g) (l : Here) (sound : HeldAll g.given.size (Sound g) l.held)
+    (v : DiskHeld) (m : Here) where
+  -- what the step of a giving says of pools
+  pub event_of : Works (terms g) l v m → Event g l v m
+  event_of (work.refuses p rest c todo at held v_is m_is) =
+      refuses p rest c todo at held v_is
+      (m_is ∙ ap (ending_by l (Whole ends.Range) (λ q. [])) todo)
+  event_of (work.pins p rest e o q q' cell todo at held is d v_is m_is) =
+      pins p rest e o q q' d.object (record d.object { out = true }) cell todo at held is
+      (lends_weigh ok.facts q q' o.handle.0 cell d) d.place.handle_is d.home refl d.is d.stored v_is
+      (m_is ∙ (λ i. on l (pin_at (todo i) (page_in_cell o cell) (entry_in (held i)).kept)
+      (tail_of (held i)) l.fresh (Some (pin_of o cell)) l.owed l.ahead l.behind
+      (Some (page_in_cell o cell)) l.fail))
+  event_of (work.unpins p rest e o q q' todo at held is d v_is m_is) =
+      unpins p rest e o q q' d.object (record d.object { out = false }) todo at held is
+      (returns_weigh ok.facts q q' o.handle.0 d) d.place.handle_is d.lent refl v_is
+      (m_is ∙ (λ i. on l Leaving (tail_of (held i)) l.fresh None l.owed l.ahead l.behind l.page
+      l.fail))
+  event_of (work.charges p rest e c q q' cl h need bytes huge todo at held form class within a v_is
+      m_is) =
+      let fits = (subst (HeldAll g.given.size (Sound g)) held sound).1.0.1 in
+      charges p rest e c q q' cl h need bytes huge todo at held form class within
+      (adds_weigh ok.facts q q' h bytes need (some_cell g.chain q fits) a) v_is
+      (m_is ∙ (λ i. on l Made ((lock.Class cl, holds.Class q') ∷ slot_by (todo i)
+      (entry_in (held i)))
+      (Some (record { class = cl; handle = h; bytes = bytes })) l.pin l.owed l.ahead l.behind l.page
+      l.fail))
+  event_of (work.limits p rest e c q cl need todo at held is past v_is m_is) =
+      limits p rest e c q cl need todo at held is past v_is
+      (m_is ∙ (λ i. on l Made (tail_of (held i)) l.fresh l.pin l.owed l.ahead l.behind l.page
+      (Some (AtLimit c.pages need c.limit))))
+  event_of (work.starves p rest e c q cl todo at held full within v_is m_is) =
+      starves p rest e c q cl todo at held v_is
+      (m_is ∙ (λ i. on l Made (tail_of (held i)) l.fresh l.pin l.owed l.ahead l.behind l.page
+      (Some NoMemory)))
+  event_of (work.stows p rest e q cl todo at held well v_is m_is) =
+      stows p rest e q cl todo at held well v_is
+      (m_is ∙ (λ i. on l (settle_at (entry_in (held i)).kept)
+      (tail_of (held i)) l.fresh l.pin l.owed
+      l.ahead l.behind l.page l.fail))
+  event_of (work.quits p rest e q cl x todo at held bad v_is m_is) =
+      quits p rest e q cl x todo at held bad v_is
+      (m_is ∙ (λ i. on l (quit_at l.pin) (tail_of (held i)) l.fresh l.pin l.owed l.ahead l.behind
+      l.page l.fail))
+  event_of (work.frees p rest e o q q' frames todo at held is d v_is m_is) =
+      frees p rest e o q q' frames todo at held is
+      (frees_pinned ok.facts l.pin q q' o.handle.0 frames d) v_is
+      (m_is ∙ (λ i. on l Owing (slot_by (todo i) (emptied (entry_in (held i)))) l.fresh None frames
+      (Some (weight_of (entry_in (held i)).kept)) l.behind l.page l.fail))
+  event_of (work.repays p rest e c todo at held v_is m_is) =
+      repays p rest e c todo at held v_is
+      (m_is ∙ (λ i. on l Ready (tail_of (held i)) l.fresh l.pin 0
+      (Some (form_weight (next_form p l.page e.kept))) (Some (weight_of (entry_in (held i)).kept))
+      l.page l.fail))
+  event_of (work.puts p rest e f todo at held notes v_is m_is) =
+      puts p rest e f todo at held notes v_is (m_is ∙ ap (ending_by l Carried (λ q. [])) todo)
+  event_of (work.reads p rest e f todo at held well notes v_is m_is) =
+      reads p rest e f todo at held well notes v_is
+      (m_is ∙ (λ i. ending_by l Carried
+      (λ q. got_from (page_in l.page (entry_in (held i)).kept) q) (todo i)))
+  event_of (work.fails p rest e x todo at held bad v_is m_is) =
+      fails p rest e x todo at held bad v_is
+      (m_is ∙ ap (failing_by l) bad ∙ ap (ending_by l x (λ q. [])) todo)

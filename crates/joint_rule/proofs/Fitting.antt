@@ -1,0 +1,648 @@
+-- What an actor takes fits it.
+use Rattle.std.proofs.Common.{◌≡◌, ◌+◌, ◌*◌, ◌-◌, ◌/◌, ◌≤◌, ◌<◌, ◌∷◌, ◌++◌, ◌∙◌, ℕ, zero, suc, Bool, true, false, cond, eqb, List, [], map, length, sum_by, Option, Some, None, get_or, slice_get, refl, sym, ap, subst, arith, inl, inr}
+use Rattle.call_history.specs.Parts.{EndsSo, Follows, program}
+use Rattle.call_history.specs.Shows.{tag_by}
+use Rattle.call_history.specs.declared.part.Part.{Part}
+use Rattle.call_history.specs.declared.part.PartEnd.{PartEnd}
+use Rattle.class_pool.specs.Pool.{IsAtHome, IsLent, PoolState, used_cells}
+use Rattle.joint_rule.proofs.Balances.{counted_count, same_repaid}
+use Rattle.joint_rule.proofs.Bounds.{bounded, scaled, times_both, times_le, total_scaled}
+use Rattle.joint_rule.proofs.Facts.{Known}
+use Rattle.joint_rule.proofs.Gets.{at_home, count_locals, few_objects, is_lower, low_at, some_use, total_low}
+use Rattle.joint_rule.proofs.Gifts.{all, is_named, next_small, old_is, stage}
+use Rattle.joint_rule.proofs.Keeps.{take_keeps}
+use Rattle.joint_rule.proofs.Lookups.{can_repay, has_counted, none_weight, object_is, pin_out}
+use Rattle.joint_rule.proofs.Pages.{content_page, ever_one, form_low, form_next, image_form, image_len}
+use Rattle.joint_rule.proofs.Pools.{bit, chain_low, same_pin_is}
+use Rattle.joint_rule.proofs.Stages.{OnDisk, old_low, on_disk, write_changes}
+use Rattle.joint_rule.proofs.Sums.{get_here, gone, locals_le, locals_mono, row_le, total_mono, total_split}
+use Rattle.joint_rule.proofs.Takes.{IsAccount, IsEntry, IsPoolOf, account_kind, class_kind, entry_kind}
+use Rattle.joint_rule.proofs.Tells.{once}
+use Rattle.joint_rule.specs.Begins.{Begin, content, form_at, form_by, ground_of, piece_on, pieces_on, terms}
+use Rattle.joint_rule.specs.Joint.{AtHome, IsActor, Joint, PoolFits, Sound}
+use Rattle.joint_rule.specs.Rule.{OfOrder, Rule, ShowsOrder, owed, owed_by}
+use Rattle.joint_rule.specs.Stages.{Changes, CountAt, GoneBy, IsForm, IsPinned, IsRight, IsSmall, MayPin, Names, NoneOf, Stage, StageBy, locks_at, locks_by}
+use Rattle.joint_rule.specs.Weights.{Backs, Count, HeldAll, Huges, PackedBytes, Packs, Sames, ahead, behind, cell_weight, counter, counters, each_one, ever_at, measure, none, one, out_weight, pages, pin_in, same_pin, shown, stored}
+use Rattle.lock_row.specs.Totals.{by_option, held_sum, locals_sum, total}
+use Rattle.lock_row.specs.declared.names.At.{At}
+use Rattle.lock_row.specs.declared.names.At.TheVariants.{Both, Freeing, Giving, Inside, Leaving, Made, Old, Owing, Pinned, Pinning, Ready, Refusing, Seen, Start, Unpinning, Wanting}
+use Rattle.lock_row.specs.declared.names.LockNo.{LockNo}
+use Rattle.lock_row.specs.declared.names.Object.{Object}
+use Rattle.lock_row.specs.declared.names.Pin.{Pin}
+use Rattle.lock_row.specs.declared.names.Plan.TheVariants.{Take}
+use Rattle.lock_row.specs.declared.names.State.{State}
+use Rattle.mem_account.specs.Counters.{Counters, IsCounted, counted}
+use Rattle.mem_account.specs.declared.weight.Weight.{Weight}
+use Rattle.page_steps.specs.Fits.{AsAccount, AsPool, AsSlot, CanCharge, CanPay, CanPin, CanStore, FitsAt, FitsBy, FreeFits, HasPlace, IsKept, PinFits, PinnedFits, StageFits, StartFits, StoreFits, cell_of}
+use Rattle.page_steps.specs.Givings.{old_weight, repaid}
+use Rattle.page_steps.specs.Pages.{new_class, next_form, page_in}
+use Rattle.page_steps.specs.Steps.{DiskHeld, Here, class_by, entry_in, lock_of, on, plan, plan_at, plan_by, slot, spot, start_plan, took}
+use Rattle.size_class.specs.Classes.{class_size, shares_next, stands_below}
+use Rattle.slot_entry.specs.Entries.{EntryState, weight_of}
+use Rattle.slot_entry.specs.Forms.{Blank, PageForm, Pooled, Word, class_for, class_in, form_of, form_weight, object_class}
+use Rattle.slot_entry.specs.declared.kept.Kept.{Kept}
+use Rattle.slot_entry.specs.declared.kept.Stored.{Stored}
+use Rattle.std.proofs.lemmas.Bool.{cases_Bool}
+use Rattle.std.proofs.lemmas.List.Sums.{sum_by-cons}
+use Rattle.std.specs.Prelude.{Contains, ⊤}
+use Rattle.zr_base.specs.Plain.{is_beyond}
+use Rattle.zr_base.specs.declared.op.Tag.{Tag}
+use Rattle.zspage.specs.Cells.{UsedCell, header_size}
+use Rattle.zspage.specs.Cells.{Fits as CellFits}
+use Rattle.lock_row.specs.declared.names.LockNo.TheVariants as lock
+use Rattle.lock_row.specs.declared.names.Held.TheVariants as holds
+use Rattle.slot_entry.specs.declared.kept.Kept.TheVariants as kept
+use Rattle.mem_account.specs.declared.weight.Weight.TheVariants as weight
+use Rattle.mem_account.specs.declared.weight.Delta.TheVariants as delta
+
+-- ---- kinds of values
+
+as_account : (P : Counters → Type 0) (v : DiskHeld) → IsAccount v
+    → ((c : Counters) → v ≡ holds.Account c → P c) → AsAccount P v
+as_account P (holds.Slot e) i f = absurd i
+as_account P (holds.Class p) i f = absurd i
+as_account P (holds.Account c) i f = f c refl
+as_account P (holds.Blocks x) i f = absurd i
+as_account P (holds.Device x) i f = absurd i
+
+as_slot : (P : EntryState → Type 0) (v : DiskHeld) → IsEntry v
+    → ((e : EntryState) → v ≡ holds.Slot e → P e) → AsSlot P v
+as_slot P (holds.Slot e) i f = f e refl
+as_slot P (holds.Class p) i f = absurd i
+as_slot P (holds.Account c) i f = absurd i
+as_slot P (holds.Blocks x) i f = absurd i
+as_slot P (holds.Device x) i f = absurd i
+
+as_pool : (P : PoolState → Type 0) (v : DiskHeld) → IsPoolOf v
+    → ((q : PoolState) → v ≡ holds.Class q → P q) → AsPool P v
+as_pool P (holds.Slot e) i f = absurd i
+as_pool P (holds.Class p) i f = f p refl
+as_pool P (holds.Account c) i f = absurd i
+as_pool P (holds.Blocks x) i f = absurd i
+as_pool P (holds.Device x) i f = absurd i
+
+is_slot : (v : DiskHeld) → IsEntry v → (e : EntryState) × (v ≡ holds.Slot e)
+is_slot (holds.Slot e) i = (e, refl)
+is_slot (holds.Class p) i = absurd i
+is_slot (holds.Account c) i = absurd i
+is_slot (holds.Blocks x) i = absurd i
+is_slot (holds.Device x) i = absurd i
+
+-- ---- cells
+
+count_le : (f : UsedCell → ℕ) (us : List UsedCell) (i : ℕ) (u d : UsedCell) → i < length us
+    → get_or us i d ≡ u → f u ≤ sum_by f us
+count_le f [] i u d lt e = absurd (omega arith)
+count_le f (x ∷ xs) zero u d lt e = let s = sum_by-cons f x xs in let q : f x ≡ f u = ap f e in
+    omega arith
+count_le f (x ∷ xs) (suc i) u d lt e = let s = sum_by-cons f x xs in
+    let r = count_le f xs i u d (omega arith) e in omega arith
+
+ones : (us : List UsedCell) (f : UsedCell → ℕ) → ((u : UsedCell) → f u ≡ 1)
+    → sum_by f us ≡ length us
+ones [] f e = refl
+ones (u ∷ us) f e = let s = sum_by-cons f u us in let r = ones us f e in let q = e u in omega arith
+
+-- ---- classes
+
+stands_high : (m d : ℕ) → d ≤ 254 → 254 ≤ stands_below m d + d
+unfolding stands_below
+stands_high m zero le = omega arith
+stands_high m (suc d) le = elim (cases_Bool (shares_next m (253 - d))) [
+  | inl on ↦ rw on (let r = stands_high m d (omega arith) in omega arith)
+  | inr off ↦ rw off (omega arith)
+]
+
+packed_fits : (chain len : ℕ) → len ≤ 3256 → len + 8 ≤ class_size (class_for chain len)
+unfolding class_for
+packed_fits chain len le = let r = stands_high chain (254 - (len - 9) / 16) (omega arith) in
+    omega arith
+
+header_small : (len : ℕ) → header_size len ≤ 8
+header_small len = elim (cases_Bool (eqb len 4096)) [
+  | inl on ↦ rw on
+      (omega arith)
+  | inr off ↦ rw off (omega arith)
+]
+
+-- ---- numbers
+
+measure_small : (q : Count) (w : Weight) → IsSmall w → measure q w ≤ 4096
+measure_small Sames weight.Empty s = omega arith
+measure_small Sames weight.Same s = omega arith
+measure_small Sames (weight.Packed n) s = omega arith
+measure_small Sames weight.Huge s = omega arith
+measure_small Sames weight.Back s = omega arith
+measure_small Packs weight.Empty s = omega arith
+measure_small Packs weight.Same s = omega arith
+measure_small Packs (weight.Packed n) s = omega arith
+measure_small Packs weight.Huge s = omega arith
+measure_small Packs weight.Back s = omega arith
+measure_small PackedBytes weight.Empty s = omega arith
+measure_small PackedBytes weight.Same s = omega arith
+measure_small PackedBytes (weight.Packed n) s = omega arith
+measure_small PackedBytes weight.Huge s = omega arith
+measure_small PackedBytes weight.Back s = omega arith
+measure_small Huges weight.Empty s = omega arith
+measure_small Huges weight.Same s = omega arith
+measure_small Huges (weight.Packed n) s = omega arith
+measure_small Huges weight.Huge s = omega arith
+measure_small Huges weight.Back s = omega arith
+measure_small Backs weight.Empty s = omega arith
+measure_small Backs weight.Same s = omega arith
+measure_small Backs (weight.Packed n) s = omega arith
+measure_small Backs weight.Huge s = omega arith
+measure_small Backs weight.Back s = omega arith
+
+is_counted : (c : Counters) (w : Weight) → ((q : Count) → measure q w ≤ counter q c) → IsCounted c w
+is_counted c weight.Empty f = tt
+is_counted c weight.Same f = f Sames
+is_counted c (weight.Packed n) f = (f Packs, f PackedBytes)
+is_counted c weight.Huge f = f Huges
+is_counted c weight.Back f = f Backs
+
+times_same : (size : ℕ) (n : ℕ) (ls : List Here) → locals_sum (λ l. n) ls ≡ n * length ls
+times_same size n [] = omega arith
+times_same size n (l ∷ ls) = let r = times_same size n ls in omega arith
+
+module _ (g : Begin) where
+  ever_low : (j : ℕ) (v : DiskHeld) → Sound g j v → ever_at g j v ≤ low_at g.given.size j v
+  ever_low j (holds.Slot e) s = let r = ever_one g j e.order in
+      let q = is_lower g.given.size j s.page in omega arith
+  ever_low j (holds.Class e) s = omega arith
+  ever_low j (holds.Account e) s = omega arith
+  ever_low j (holds.Blocks e) s = omega arith
+  ever_low j (holds.Device e) s = omega arith
+
+  shown_low : (q : Count) (j : ℕ) (v : DiskHeld) → Sound g j v
+      → shown q j v ≤ 4096 * low_at g.given.size j v
+  shown_low q j (holds.Slot e) s = let r = measure_small q (weight_of e.kept) s.small in
+      let l = is_lower g.given.size j s.page in omega arith
+  shown_low q j (holds.Class e) s = omega arith
+  shown_low q j (holds.Account e) s = omega arith
+  shown_low q j (holds.Blocks e) s = omega arith
+  shown_low q j (holds.Device e) s = omega arith
+
+  ahead_none : (q : Count) (x : Option Weight) → NoneOf x → by_option (measure q) x ≤ 4096
+  ahead_none q x i = let r = none_weight q x i in omega arith
+
+  ahead_gone : (q : Count) (x : Option Weight) (k : Kept) → GoneBy x k
+      → by_option (measure q) x ≤ 4096
+  ahead_gone q None k i = omega arith
+  ahead_gone q (Some w) k i = measure_small q w i.1
+
+  ahead_at : (q : Count) (at : At) (x y : Option Weight) (f : PageForm) (k : Kept)
+      → CountAt at x y f k → by_option (measure q) x ≤ 4096
+  ahead_at q Owing x y f k c = ahead_gone q x k c.0
+  ahead_at q Giving x y f k c = ahead_gone q x k c.0
+  ahead_at q Ready x y f k c = let r = c.ahead q in let s =
+      measure_small q (form_weight f) c.small in omega arith
+  ahead_at q Start x y f k c = ahead_none q x c.0
+  ahead_at q Refusing x y f k c = ahead_none q x c.0
+  ahead_at q Seen x y f k c = ahead_none q x c.0
+  ahead_at q Pinning x y f k c = ahead_none q x c.0
+  ahead_at q Pinned x y f k c = ahead_none q x c.0
+  ahead_at q Unpinning x y f k c = ahead_none q x c.0
+  ahead_at q Leaving x y f k c = ahead_none q x c.0
+  ahead_at q Wanting x y f k c = ahead_none q x c.0
+  ahead_at q Inside x y f k c = ahead_none q x c.0
+  ahead_at q Both x y f k c = ahead_none q x c.0
+  ahead_at q Made x y f k c = ahead_none q x c.0
+  ahead_at q Old x y f k c = ahead_none q x c.0
+  ahead_at q Freeing x y f k c = ahead_none q x c.0
+
+  ahead_by : (q : Count) (ps : List Part) (e : EntryState) (at : At) (fresh : Option Object)
+      (pin : Option Pin) (owed : ℕ) (x y : Option Weight) (page : Option (List ℕ))
+      (fail : Option PartEnd)
+      → StageBy g ps e at fresh pin owed x y page fail → by_option (measure q) x ≤ 4096
+  ahead_by q [] e at fresh pin owed x y page fail s = ahead_none q x s.more
+  ahead_by q (p ∷ ps) e at fresh pin owed x y page fail s =
+      ahead_at q at x y (next_form p page e.kept) e.kept s.counts
+
+module _ (g : Begin) (ok : Known g) (w : State DiskHeld) (j : Joint g w) where
+  -- pages that were in the pool, and actors, are few
+  reach_few : total (spot g.given.size) (ever_at g) one w ≤ g.given.size + length w.locals
+  reach_few =
+      let a = total_split g.given.size (ever_at g) one w in
+      let b = total_mono g.given.size (Sound g) (ever_at g) (low_at g.given.size) (ever_low g) w
+      (λ i v e. (j.each.in_row i v e).sound) (λ i m e. (j.each.in_local i m e).sound) in
+      let c = total_low g.given.size w j.alone g.given.size in let d = count_locals w.locals in
+      omega arith
+
+  -- so are the account's frames, and its counters
+  pub pages_few : total (spot g.given.size) pages none w ≤ 16 * (g.given.size + length w.locals)
+  pages_few =
+      let a = bounded g ok w j in let b = reach_few in
+      let c = times_le g.chain _ _ b in
+      let d = times_both g.chain (g.given.size + length w.locals) 16
+      (g.given.size + length w.locals) ok.proper.most (omega arith) in omega arith
+
+  pub counts_few : (q : Count) → total (spot g.given.size) (counters q) none w
+      ≤ 4096 * (g.given.size + length w.locals)
+  counts_few q =
+      let a = total_split g.given.size (counters q) (behind q) w in
+      let b = total_split g.given.size (shown q) (ahead q) w in
+      let c = total_mono g.given.size (Sound g) (shown q)
+      (scaled 4096 g.given.size (low_at g.given.size)) (shown_low g q) w
+      (λ i v e. (j.each.in_row i v e).sound) (λ i m e. (j.each.in_local i m e).sound) in
+      let d = total_scaled 4096 g.given.size (low_at g.given.size) w in
+      let e = total_low g.given.size w j.alone g.given.size in
+      let f = locals_mono g.given.size (ahead q) (λ m. 4096) w.locals
+      (λ i m at. ahead_by g q m.todo (entry_in m.held) m.at m.fresh m.pin m.owed m.ahead
+      m.behind m.page m.fail (j.each.in_local i m at).stage) in
+      let h = times_same g.given.size 4096 w.locals in
+      let k = j.counts q in omega arith
+
+-- ---- what is taken
+
+module _ (g : Begin) (ok : Known g) (w : State DiskHeld) (r : Rule g w) (a : ℕ) (l : Here)
+    (who : slice_get w.locals a ≡ Some l) (k : LockNo) (v : DiskHeld)
+    (there : slice_get w.row (spot g.given.size k) ≡ Some (Some v))
+    (what : plan (terms g) l ≡ Take k) where
+  abbrev n : ℕ
+  n = g.given.size
+
+  abbrev m : Here
+  m = took (terms g) l v
+
+  abbrev after : State DiskHeld
+  after = gone n w a l who k None m
+
+  fit : IsActor g a l
+  fit = r.joint.each.in_local a l who
+
+  home : AtHome g (spot n k) v
+  home = r.joint.each.in_row (spot n k) v there
+
+  joint : Joint g after
+  joint = take_keeps g ok w r.joint a l who k v what there
+
+  who_after : slice_get after.locals a ≡ Some m
+  who_after = get_here w.locals a m l who
+
+  held_after_it : m.held ≡ (k, v) ∷ l.held
+  held_after_it = ap (λ p. (lock_of p, v) ∷ l.held) what
+
+  same_actors : length w.locals ≡ length g.given.actors
+  same_actors = r.joint.actors
+
+  -- a value at home weighs no more than all
+  row_at_most : (f : ℕ → DiskHeld → ℕ) → f (spot n k) v ≤ total (spot n) f none w
+  row_at_most f = let x = row_le n f w.row (spot n k) (Some v) there in omega arith
+
+  module _ (p : Part) (rest : List Part) (todo : l.todo ≡ p ∷ rest) where
+    disk : OnDisk n p
+    disk = on_disk (EndsSo (ground_of g)) n fit.ops l.done p rest
+        (subst (Follows (EndsSo (ground_of g)) (program n 0 fit.ops) l.done) todo fit.follows)
+
+    plan_is : (at : At) (held : List (LockNo × DiskHeld)) → l.at ≡ at → l.held ≡ held
+        → plan_at n at p (class_by (entry_in held).kept)
+        (class_in g.chain (next_form p l.page (entry_in held).kept)) ≡ Take k
+    plan_is at held at_is held_is = subst (λ (x : List Part × List (LockNo × DiskHeld) × At).
+        plan_by n x.0 x.2 (class_by (entry_in x.1).kept)
+        (new_class g.chain x.0 l.page (entry_in x.1).kept) ≡ Take k)
+        (λ i. (todo i, held_is i, at_is i)) what
+
+    taken_lock : (x : LockNo) → Take x ≡ Take k → k ≡ x
+    taken_lock x e = cc
+
+    -- ---- the first lock
+
+    slot_fits : is_beyond n p.op ≡ false → k ≡ slot p.page → AsSlot HasPlace v
+    slot_fits off k_is = as_slot HasPlace v
+        (entry_kind g p.page (disk off).0 v (subst (λ (i : LockNo).
+        Sound g (spot n i) v) k_is home.sound))
+        (λ e v_is.
+        let o : ShowsOrder g w.locals p.page e.order e.room =
+        subst (λ (x : LockNo × DiskHeld). OfOrder (ShowsOrder g w.locals) (spot n x.0) x.1)
+        (λ i. (k_is i, v_is i)) (r.told.in_row (spot n k) v there) in
+        let one_piece = once n p off in
+        let mine : owed_by n p.page l ≡ piece_on n p.page p + pieces_on n p.page rest =
+        ap (pieces_on n p.page) todo in
+        let all = locals_le n (owed_by n p.page) w.locals a l who in
+        let s = o.spare in let f = o.few in let few = ok.proper.pieces p.page (disk off).0 in
+        record { room = omega arith; few = omega arith })
+
+    start_by : (b : Bool) → is_beyond n p.op ≡ b → start_plan b p ≡ Take k → StartFits b v
+    start_by true b what_is = as_account (λ c. ⊤) v (account_kind g v
+        (subst (λ (i : LockNo). Sound g (spot n i) v) (taken_lock lock.Account what_is) home.sound))
+        (λ c e. tt)
+    start_by false b what_is = slot_fits b (taken_lock (slot p.page) what_is)
+
+    -- ---- where the slot is held
+
+    module _ (at : At) (at_is : l.at ≡ at) (off : is_beyond n p.op ≡ false) (locks_is : (c d : ℕ)
+        → locks_at at p c d ≡ slot p.page ∷ []) where
+      names_slot : map (λ (x : LockNo × DiskHeld). x.0) l.held ≡ slot p.page ∷ []
+      names_slot = subst (λ (x : List Part × At). map (λ (y : LockNo × DiskHeld). y.0) l.held
+          ≡ locks_by x.0 x.1 (class_by (entry_in l.held).kept)
+          (new_class g.chain x.0 l.page (entry_in l.held).kept)) (λ i. (todo i, at_is i)) fit.locks
+          ∙ locks_is (class_by (entry_in l.held).kept) (new_class g.chain (p ∷ rest) l.page
+          (entry_in l.held).kept)
+
+      held_slot : (xs : List (LockNo × DiskHeld)) → map (λ (x : LockNo × DiskHeld). x.0) xs
+          ≡ slot p.page ∷ [] → HeldAll n (Sound g) xs
+          → (e : EntryState) × (xs ≡ (slot p.page, holds.Slot e) ∷ [])
+      held_slot [] e all = absurd (cc)
+      held_slot (x ∷ y ∷ ys) e all = absurd (cc)
+      held_slot (x ∷ []) e all =
+          let x_is : x.0 ≡ slot p.page = cc in
+          let s = is_slot x.1 (entry_kind g p.page (disk off).0 x.1
+          (subst (λ (i : LockNo). Sound g (spot n i) x.1) x_is all.0)) in
+          (s.0, λ i. (x_is i, s.1 i) ∷ [])
+
+      e : EntryState
+      e = (held_slot l.held names_slot fit.sound).0
+
+      held : l.held ≡ (slot p.page, holds.Slot e) ∷ []
+      unfolding e held_slot
+      held = (held_slot l.held names_slot fit.sound).1
+
+      st : Stage g p e at l.fresh l.pin l.owed l.ahead l.behind l.page l.fail
+      st = stage g ok w r.joint a l who p rest todo ((slot p.page, holds.Slot e) ∷ []) at held at_is
+
+      next_plan : plan_at n at p (class_by e.kept) (class_in g.chain (next_form p l.page e.kept))
+          ≡ Take k
+      next_plan = plan_is at ((slot p.page, holds.Slot e) ∷ []) at_is held
+
+      -- ---- a pool
+
+      module _ (c : ℕ) (low : c < 255) (k_is : k ≡ lock.Class c) where
+        pool_kind : IsPoolOf v
+        pool_kind = class_kind g c low v (subst (λ (i : LockNo).
+            Sound g (spot n i) v) k_is home.sound)
+
+        module _ (q : PoolState) (v_is : v ≡ holds.Class q) where
+          pool_sound : (n + c ≡ n + q.class) × PoolFits g.chain q
+          pool_sound = subst (λ (x : LockNo × DiskHeld). Sound g (spot n x.0) x.1)
+              (λ i. (k_is i, v_is i)) home.sound
+
+          both_held : m.held ≡ (lock.Class c, holds.Class q) ∷ (slot p.page, holds.Slot e) ∷ []
+          both_held = held_after_it ∙ (λ i. (k_is i, v_is i) ∷ held i)
+
+      -- the pool of the entry's object
+      module _ (o : Stored) (is : e.kept ≡ kept.Obj o) (form : IsForm g.chain
+          (form_at g p.page e.order) e.kept) (k_is : k ≡ lock.Class o.class) (q : PoolState)
+          (v_is : v ≡ holds.Class q) where
+        low : o.class < 255
+        low = let x = old_low g.chain (form_at g p.page e.order) e.kept form in
+            let y = ap class_by is in omega arith
+
+        two : m.held ≡ (lock.Class o.class, holds.Class q) ∷ (slot p.page, holds.Slot e) ∷ []
+        two = both_held o.class low k_is q v_is
+
+        is_home : NoneOf l.pin → IsAtHome q o.handle.0
+        is_home free = at_home g after joint a m who_after p.page o q e two is free
+
+        is_kept : (u : UsedCell) → Contains (used_cells q.zspages) u → u.handle ≡ o.handle.0
+            → IsKept o u.bytes
+        is_kept u in_it named_u =
+            let b = object_is g after joint a m who_after p.page o q e two is u
+            (λ f. count_le (cell_weight f) (used_cells q.zspages) in_it.0 u u
+            (omega (arith, in_it.1)) in_it.2) named_u in
+            let i = subst (IsForm g.chain (form_at g p.page e.order)) is form in record {
+              len = image_len g p.page e.order o i ∙ sym (ap length b);
+              page = content g p.page e.order;
+              is_page = content_page g ok p.page e.order;
+              form = image_form g p.page e.order o i ∙ ap (λ (x : List ℕ). Pooled x o.huge) (sym b);
+            }
+
+        is_lent : (x : Pin) → l.pin ≡ Some x → Names e.kept x → IsLent q x.handle (cell_of x)
+        is_lent x e_pin of =
+            let lt = pin_out g after joint a m who_after p.page o q e two is x e_pin of in
+            let u = some_use (out_weight (λ y. bit (same_pin x y)) q.class)
+            (used_cells q.zspages) lt in
+            let out = out_of u.0.out (bit (same_pin x (pin_in q.class u.0))) u.2 in
+            let same_one = same_pin_is x (pin_in q.class u.0)
+            (bit_is (same_pin x (pin_in q.class u.0)) out.1) in (
+              u.0,
+              u.1,
+              sym (ap (λ (y : Pin). y.handle) same_one),
+              out.0,
+              (λ i. cell_of (sym same_one i)),
+            ) where
+              out_of : (b : Bool) (i : ℕ) → 0 < cond b i 0 → (b ≡ true) × (0 < i)
+              out_of true i lt = (refl, lt)
+              out_of false i lt = absurd (omega arith)
+
+              bit_is : (b : Bool) → 0 < bit b → b ≡ true
+              bit_is true lt = refl
+              bit_is false lt = absurd (omega arith)
+
+      -- ---- by stages
+
+      module _ (form : IsForm g.chain (form_at g p.page e.order) e.kept) where
+        class_low : class_by e.kept < 255
+        class_low = old_low g.chain (form_at g p.page e.order) e.kept form
+
+        pin_fits : NoneOf l.pin → k ≡ lock.Class (class_by e.kept) → (x : Kept) → e.kept ≡ x
+            → PinFits x v
+        pin_fits free k_is kept.Empty is = tt
+        pin_fits free k_is (kept.Same i) is = tt
+        pin_fits free k_is (kept.Obj o) is =
+            let k_o = k_is ∙ ap (λ (x : Kept). lock.Class (class_by x)) is in
+            as_pool (CanPin o) v (pool_kind (class_by e.kept) class_low k_is)
+            (λ q v_is. record {
+              home = is_home o is form k_o q v_is free;
+              kept = is_kept o is form k_o q v_is;
+            })
+
+        lent_fits : k ≡ lock.Class (class_by e.kept) → (x : Pin) → l.pin ≡ Some x → Names e.kept x
+            → AsPool (λ q. IsLent q x.handle (cell_of x)) v
+        lent_fits k_is x e_pin of = as_pool (λ q. IsLent q x.handle (cell_of x)) v
+            (pool_kind (class_by e.kept) class_low k_is)
+            (λ q v_is. by_kept e.kept refl of q v_is) where
+              by_kept : (y : Kept) → e.kept ≡ y → Names y x → (q : PoolState) → v ≡ holds.Class q
+                  → IsLent q x.handle (cell_of x)
+              by_kept kept.Empty is of q v_is = absurd of
+              by_kept (kept.Same i) is of q v_is = absurd of
+              by_kept (kept.Obj o) is of q v_is = is_lent o is form (k_is
+                  ∙ ap (λ (z : Kept). lock.Class (class_by z)) is) q v_is x e_pin
+                  (subst (λ (z : Kept). Names z x) (sym is) of)
+
+        pinned_fits : k ≡ lock.Class (class_by e.kept) → (y : Option Pin) → l.pin ≡ y
+            → IsPinned e.kept y → PinnedFits y v
+        pinned_fits k_is None e_pin i = absurd i
+        pinned_fits k_is (Some x) e_pin i = lent_fits k_is x e_pin i
+
+        free_fits : k ≡ lock.Class (class_by e.kept) → (y : Option Pin) → l.pin ≡ y
+            → MayPin e.kept y → (x : Kept) → e.kept ≡ x → FreeFits x y v
+        free_fits k_is y e_pin i kept.Empty is = tt
+        free_fits k_is y e_pin i (kept.Same z) is = tt
+        free_fits k_is None e_pin i (kept.Obj o) is = as_pool (λ q. IsAtHome q o.handle.0) v
+            (pool_kind (class_by e.kept) class_low k_is)
+            (λ q v_is. is_home o is form (k_is ∙ ap (λ (x : Kept). lock.Class (class_by x)) is) q
+            v_is (subst NoneOf (sym e_pin) tt))
+        free_fits k_is (Some x) e_pin i (kept.Obj o) is = lent_fits k_is x e_pin i
+
+      -- the pool of the new object
+      module _ (right : IsRight p.op p.page (page_in l.page e.kept) (content g p.page e.order))
+          (changes : Changes p.op) where
+        order_now : List Tag
+        order_now = e.order ++ tag_by l.actor p ∷ []
+
+        form_is : form_at g p.page order_now ≡ next_form p l.page e.kept
+        unfolding order_now
+        form_is = form_next g ok p e.order (tag_by l.actor p)
+            (is_named g ok w r.joint a l who p rest todo) (page_in l.page e.kept) changes right
+
+        bytes_fit : (bytes : List ℕ) (huge : Bool) (c : ℕ)
+            → form_of (content g p.page order_now) ≡ Pooled bytes huge
+            → c ≡ object_class g.chain bytes huge
+            → CellFits (length bytes) (class_size c)
+        bytes_fit bytes true c f c_is =
+            let b = ok.facts.huge_page (content g p.page order_now) bytes
+            (content_page g ok p.page order_now) f in
+            let long : length bytes ≡ 4096 = ap length b ∙ (content_page g ok p.page order_now).0 in
+            let h : header_size (length bytes) ≡ 0 = ap header_size long in omega arith
+        bytes_fit bytes false c f c_is =
+            let s = ok.facts.packed_short (content g p.page order_now) bytes
+            (content_page g ok p.page order_now) f in
+            let h = header_small (length bytes) in let x = packed_fits g.chain (length bytes) s in
+            let y = ap class_size c_is in omega arith
+
+        written : (b : Bool) (f : PageForm) (bytes : List ℕ) (huge : Bool)
+            → form_by b f ≡ Pooled bytes huge → f ≡ Pooled bytes huge
+        written true f bytes huge i = absurd (let q : Blank ≡ Pooled bytes huge = i in cc)
+        written false f bytes huge i = i
+
+        form_there : (bytes : List ℕ) (huge : Bool) → form_at g p.page order_now ≡ Pooled bytes huge
+            → form_of (content g p.page order_now) ≡ Pooled bytes huge
+        unfolding form_at
+        form_there bytes huge i = written _ _ bytes huge i
+
+        store_fits : (f : PageForm) → next_form p l.page e.kept ≡ f
+            → k ≡ lock.Class (class_in g.chain f) → StoreFits g.chain f v
+        store_fits Blank f_is k_is = tt
+        store_fits (Word i) f_is k_is = tt
+        store_fits (Pooled bytes huge) f_is k_is = as_pool (CanStore g.chain (length bytes)) v
+            (pool_kind (object_class g.chain bytes huge)
+            (form_low g.chain (Pooled bytes huge)) k_is)
+            (λ q v_is.
+            let s = pool_sound (object_class g.chain bytes huge)
+            (form_low g.chain (Pooled bytes huge)) k_is q v_is in
+            let few = few_objects g w r.joint in
+            let mine = row_at_most (stored each_one) in
+            let is_q : stored each_one (spot n k) v ≡ sum_by (cell_weight (each_one q.class))
+            (used_cells q.zspages) = ap (stored each_one (spot n k)) v_is in
+            let len = ones (used_cells q.zspages) (cell_weight (each_one q.class)) (λ u. refl) in
+            let b = bytes_fit bytes huge q.class (form_there bytes huge (form_is ∙ f_is))
+            (let z = s.0 in omega arith) in
+            let lim = ok.proper.few in let acts = same_actors in record {
+              pool = s.1.pool;
+              few = omega arith;
+              fits = (let z = s.1.size in omega arith);
+              chain_fits = chain_low g.chain q s.1 ok.proper.least;
+            })
+        -- ---- the account
+
+      module _ (k_is : k ≡ lock.Account) where
+        account_is : IsAccount v
+        account_is = account_kind g v (subst (λ (i : LockNo). Sound g (spot n i) v) k_is home.sound)
+
+        -- the account and the slot are held
+        module _ (c : Counters) (v_is : v ≡ holds.Account c) where
+          with_account : m.held ≡ (lock.Account, holds.Account c) ∷ (slot p.page, holds.Slot e) ∷ []
+          with_account = held_after_it ∙ (λ i. (k_is i, v_is i) ∷ held i)
+
+          account_few : (q : Count) → counter q c ≤ 4096 * (n + length w.locals)
+          account_few q = let x = row_at_most (counters q) in
+              let y = ap (counters q (spot n k)) v_is in let z = counts_few g ok w r.joint q in
+              omega arith
+
+        pay_fits : Changes p.op → GoneBy l.ahead e.kept → NoneOf l.behind
+            → IsRight p.op p.page (page_in l.page e.kept) (content g p.page e.order)
+            → AsAccount (CanPay l.owed (old_weight l.ahead e.kept)
+            (form_weight (next_form p l.page e.kept))) v
+        pay_fits changes gone_by quiet right = as_account _ v account_is (λ c v_is.
+            let two = with_account c v_is in
+            let known : (q : Count) → measure q (old_weight l.ahead e.kept) ≤ counter q c = λ q.
+            (let x = has_counted g after joint a m who_after c
+            ((slot p.page, holds.Slot e) ∷ []) two (λ i. refl) quiet q in
+            let y = ap (held_sum (spot n) (shown q)) two in
+            let z = old_is e.kept l.ahead gone_by q in omega arith) in
+            let acts = same_actors in let lim = ok.proper.few in
+            let small = next_small g ok w r.joint a l who p rest todo e changes right in
+            let bound : (q : Count) → counter q (counted (repaid c l.owed)
+            (delta.Kept (old_weight l.ahead e.kept) (form_weight (next_form p l.page e.kept))))
+            ≤ 4096 * (n + length w.locals) + 4096 = λ q.
+            (let x = counted_count l.owed (old_weight l.ahead e.kept)
+            (form_weight (next_form p l.page e.kept)) c q (known q) in
+            let y = measure_small q (form_weight (next_form p l.page e.kept)) small in
+            let z = account_few c v_is q in omega arith) in
+            let b0 = bound Sames in let b1 = bound Packs in let b2 = bound PackedBytes in
+            let b3 = bound Huges in let b4 = bound Backs in record {
+              pays = can_repay g after joint a m who_after c
+                  ((slot p.page, holds.Slot e) ∷ []) two refl;
+              old_one = is_counted (repaid c l.owed) (old_weight l.ahead e.kept)
+                  (λ q. let x = known q in let y = same_repaid q c l.owed in omega arith);
+              sizes = (omega arith, omega arith);
+            })
+
+    -- the account is taken beside a pool
+    inside_fits : k ≡ lock.Account → AsAccount (CanCharge g.chain) v
+    inside_fits k_is = as_account (CanCharge g.chain) v
+        (account_kind g v (subst (λ (i : LockNo). Sound g (spot n i) v) k_is home.sound))
+        (λ c v_is. let x = row_at_most pages in let y = ap (pages (spot n k)) v_is in
+        let z = pages_few g ok w r.joint in let acts = same_actors in let lim = ok.proper.few in
+        let ch = ok.proper.most in omega arith)
+
+    -- ---- all stages
+
+    module _ (at : At) (at_is : l.at ≡ at) where
+      here : Stage g p (entry_in l.held) at l.fresh l.pin l.owed l.ahead l.behind l.page l.fail
+      here = stage g ok w r.joint a l who p rest todo l.held at refl at_is
+
+    abbrev FitsAs : At → EntryState → Type 0
+    FitsAs at x = FitsAt (terms g) at p x l.pin l.owed l.ahead l.page v
+
+    fits_at : (at : At) → l.at ≡ at → FitsAs at (entry_in l.held)
+    fits_at Start i = start_by (is_beyond n p.op) refl (plan_is Start l.held i refl)
+    fits_at Seen i =
+        let off = (here Seen i).begun in let s = st Seen i off (λ c d. refl) in
+        subst (λ (xs : List (LockNo × DiskHeld)). FitsAs Seen (entry_in xs))
+        (sym (held Seen i off (λ c d. refl)))
+        (pin_fits Seen i off (λ c d. refl) s.stands s.pins
+        (taken_lock _ (next_plan Seen i off (λ c d. refl))) _ refl)
+    fits_at Pinned i =
+        let off = (here Pinned i).begun in let s = st Pinned i off (λ c d. refl) in
+        subst (λ (xs : List (LockNo × DiskHeld)). FitsAs Pinned (entry_in xs))
+        (sym (held Pinned i off (λ c d. refl)))
+        (pinned_fits Pinned i off (λ c d. refl) s.stands
+        (taken_lock _ (next_plan Pinned i off (λ c d. refl))) l.pin refl s.pins)
+    fits_at Wanting i =
+        let off = (here Wanting i).begun in let s = st Wanting i off (λ c d. refl) in
+        subst (λ (xs : List (LockNo × DiskHeld)). FitsAs Wanting (entry_in xs))
+        (sym (held Wanting i off (λ c d. refl)))
+        (store_fits Wanting i off (λ c d. refl) s.right (write_changes p.op s.kind.0) _ refl
+        (taken_lock _ (next_plan Wanting i off (λ c d. refl))))
+    fits_at Inside i = inside_fits (taken_lock lock.Account (plan_is Inside l.held i refl))
+    fits_at Old i =
+        let off = (here Old i).begun in let s = st Old i off (λ c d. refl) in
+        subst (λ (xs : List (LockNo × DiskHeld)). FitsAs Old (entry_in xs))
+        (sym (held Old i off (λ c d. refl)))
+        (free_fits Old i off (λ c d. refl) s.stands (taken_lock _
+        (next_plan Old i off (λ c d. refl))) l.pin refl s.pins _ refl)
+    fits_at Owing i =
+        let off = (here Owing i).begun in let s = st Owing i off (λ c d. refl) in
+        subst (λ (xs : List (LockNo × DiskHeld)). FitsAs Owing (entry_in xs))
+        (sym (held Owing i off (λ c d. refl)))
+        (pay_fits Owing i off (λ c d. refl) (taken_lock lock.Account
+        (next_plan Owing i off (λ c d. refl))) s.kind.0 s.counts.0 s.counts.1 s.right)
+    fits_at Refusing i = tt
+    fits_at Pinning i = tt
+    fits_at Unpinning i = tt
+    fits_at Leaving i = tt
+    fits_at Both i = tt
+    fits_at Made i = tt
+    fits_at Freeing i = tt
+    fits_at Giving i = tt
+    fits_at Ready i = tt
+
+  fits_todo : (ps : List Part) → l.todo ≡ ps → FitsBy (terms g) l ps v
+  fits_todo [] todo = tt
+  fits_todo (p ∷ rest) todo = fits_at p rest todo l.at refl
+
+  -- what the actor takes fits its stage
+  pub stage_fits : StageFits (terms g) l v
+  stage_fits = fits_todo l.todo refl

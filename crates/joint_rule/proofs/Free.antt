@@ -1,0 +1,325 @@
+-- Takings go from slots to classes to the account, so some actor can always move.
+use Rattle.std.proofs.Common.{◌≡◌, ◌+◌, ◌≤◌, ◌<◌, ◌∷◌, ◌∙◌, ℕ, zero, suc, Bool, true, false, List, [], map, length, Option, Some, None, slice_get, refl, sym, ap, subst, arith, ⊎_elim}
+use Rattle.call_history.specs.Parts.{EndsSo, Follows, program}
+use Rattle.call_history.specs.declared.part.Part.{Part}
+use Rattle.joint_rule.proofs.Facts.{Known}
+use Rattle.joint_rule.proofs.Gifts.{all, stage}
+use Rattle.joint_rule.proofs.Pages.{form_low}
+use Rattle.joint_rule.proofs.Pools.{same_is, same_self}
+use Rattle.joint_rule.proofs.Rests.{no_todo}
+use Rattle.joint_rule.proofs.Stages.{OnDisk, old_low, on_disk}
+use Rattle.joint_rule.proofs.Starts.{none_first}
+use Rattle.joint_rule.proofs.Sums.{locals_le, row_le, some_local}
+use Rattle.joint_rule.specs.Begins.{Begin, ground_of, terms}
+use Rattle.joint_rule.specs.Joint.{IsActor, Joint, Sound}
+use Rattle.joint_rule.specs.Laws.{CanMove, gives, takes}
+use Rattle.joint_rule.specs.Stages.{Stage, locks_at, locks_by}
+use Rattle.joint_rule.specs.Weights.{HeldAll, at_place, none, same}
+use Rattle.lock_row.specs.Totals.{held_sum, locals_sum, mass, row_sum}
+use Rattle.lock_row.specs.declared.names.At.{At}
+use Rattle.lock_row.specs.declared.names.At.TheVariants.{Both, Freeing, Giving, Inside, Leaving, Made, Old, Owing, Pinned, Pinning, Ready, Refusing, Seen, Start, Unpinning, Wanting}
+use Rattle.lock_row.specs.declared.names.LockNo.{LockNo}
+use Rattle.lock_row.specs.declared.names.Plan.{Plan}
+use Rattle.lock_row.specs.declared.names.Plan.TheVariants.{Finished, Give, Take}
+use Rattle.lock_row.specs.declared.names.State.{State}
+use Rattle.page_steps.specs.Pages.{new_class, next_form}
+use Rattle.page_steps.specs.Steps.{DiskHeld, Here, class_by, entry_in, plan, plan_at, plan_by, slot, spot, start_plan}
+use Rattle.slot_entry.specs.Forms.{class_in}
+use Rattle.zr_base.specs.Plain.{is_beyond}
+use Rattle.lock_row.specs.declared.names.LockNo.TheVariants as lock
+use Rattle.lock_row.specs.declared.names.Held.TheVariants as holds
+
+-- ---- places
+
+same_one : (a b : ℕ) → 1 ≤ same a b → a ≡ b
+same_one a b le = ⊎_elim (λ z. absurd (omega arith)) (λ s. s.1) (same_is a b)
+
+-- the places of some locks
+abbrev places_sum : ℕ → ℕ → List LockNo → ℕ
+places_sum size j [] = 0
+places_sum size j (k ∷ ks) = same j (spot size k) + places_sum size j ks
+
+held_places : (size j : ℕ) (xs : List (LockNo × DiskHeld))
+    → held_sum (spot size) (at_place j) xs ≡ places_sum size j
+    (map (λ (x : LockNo × DiskHeld). x.0) xs)
+held_places size j [] = refl
+held_places size j (x ∷ xs) = let r = held_places size j xs in omega arith
+
+sound_low : (g : Begin) (j : ℕ) (v : DiskHeld) → Sound g j v → j < g.given.size + 258
+sound_low g j (holds.Slot e) s = let z = s.page in omega arith
+sound_low g j (holds.Class p) s = let z = s.0 in let c = s.1.class in omega arith
+sound_low g j (holds.Account c) s = omega arith
+sound_low g j (holds.Blocks x) s = omega arith
+sound_low g j (holds.Device x) s = omega arith
+
+-- a place that is out
+none_home : (k : ℕ) (row : List (Option DiskHeld)) → slice_get row k ≡ Some None
+    → row_sum (at_place k) row ≡ 0
+none_home k [] e = absurd (cc)
+none_home zero (None ∷ xs) e = let r = none_first xs in omega arith
+none_home zero (Some x ∷ xs) e = absurd (cc)
+none_home (suc k) (None ∷ xs) e = let r = none_home k xs e in omega arith
+none_home (suc k) (Some x ∷ xs) e = let r = none_home k xs e in omega arith
+
+cell_at_place : (row : List (Option DiskHeld)) (k : ℕ) → k < length row
+    → (x : Option DiskHeld) × (slice_get row k ≡ Some x)
+cell_at_place [] k lt = absurd (omega arith)
+cell_at_place (x ∷ xs) zero lt = (x, refl)
+cell_at_place (x ∷ xs) (suc k) lt = cell_at_place xs k (omega arith)
+
+-- ---- stages
+
+-- what an actor gives it took last
+gives_last : (size : ℕ) (at : At) (p : Part) (c d : ℕ) (k : LockNo) → plan_at size at p c d ≡ Give k
+    → (ks : List LockNo) × (locks_at at p c d ≡ k ∷ ks)
+gives_last size Start p c d k e = absurd (started (is_beyond size p.op) e) where
+  started : (b : Bool) → start_plan b p ≡ Give k → ⊥
+  started true x = cc
+  started false x = cc
+gives_last size Refusing p c d k e = (
+  [],
+  (let q : lock.Account ≡ k = cc in
+      ap (λ (x : LockNo). x ∷ []) q),
+)
+gives_last size Seen p c d k e = absurd (cc)
+gives_last size Pinning p c d k e = (
+  slot p.page ∷ [],
+  (let q : lock.Class c ≡ k = cc in
+      ap (λ (x : LockNo). x ∷ slot p.page ∷ []) q),
+)
+gives_last size Pinned p c d k e = absurd (cc)
+gives_last size Unpinning p c d k e = (
+  slot p.page ∷ [],
+  (let q : lock.Class c ≡ k = cc in ap (λ (x : LockNo). x ∷ slot p.page ∷ []) q),
+)
+gives_last size Leaving p c d k e = (
+  [],
+  (let q : slot p.page ≡ k = cc in
+      ap (λ (x : LockNo). x ∷ []) q),
+)
+gives_last size Wanting p c d k e = absurd (cc)
+gives_last size Inside p c d k e = absurd (cc)
+gives_last size Both p c d k e = (
+  lock.Class d ∷ slot p.page ∷ [],
+  (let q : lock.Account ≡ k = cc in ap (λ (x : LockNo). x ∷ lock.Class d ∷ slot p.page ∷ []) q),
+)
+gives_last size Made p c d k e = (
+  slot p.page ∷ [],
+  (let q : lock.Class d ≡ k = cc in
+      ap (λ (x : LockNo). x ∷ slot p.page ∷ []) q),
+)
+gives_last size Old p c d k e = absurd (cc)
+gives_last size Freeing p c d k e = (
+  slot p.page ∷ [],
+  (let q : lock.Class c ≡ k = cc in
+      ap (λ (x : LockNo). x ∷ slot p.page ∷ []) q),
+)
+gives_last size Owing p c d k e = absurd (cc)
+gives_last size Giving p c d k e = (
+  slot p.page ∷ [],
+  (let q : lock.Account ≡ k = cc in
+      ap (λ (x : LockNo). x ∷ slot p.page ∷ []) q),
+)
+gives_last size Ready p c d k e = (
+  [],
+  (let q : slot p.page ≡ k = cc in
+      ap (λ (x : LockNo). x ∷ []) q),
+)
+
+module _ (size : ℕ) (p : Part) (c d : ℕ) (k : LockNo) where
+  -- What an actor takes lies in the row, behind all that it holds.
+  abbrev IsAbove : At → Type 0
+  IsAbove at = (spot size k < size + 258) × ((j : ℕ) → 1 ≤ places_sum size j (locks_at at p c d)
+      → j < spot size k)
+
+  above_class : (at : At) (x : ℕ) → lock.Class x ≡ k → x < 255 → p.page < size
+      → locks_at at p c d ≡ slot p.page ∷ [] → IsAbove at
+  above_class at x e low lt is =
+      let q : size + x ≡ spot size k = ap (spot size) e in (
+        omega arith,
+        (λ j le. let s = ap (places_sum size j) is in
+            let r = same_one j p.page (omega arith) in omega arith),
+      )
+
+  above_account : (at : At) → lock.Account ≡ k → p.page < size
+      → locks_at at p c d ≡ slot p.page ∷ [] → IsAbove at
+  above_account at e lt is =
+      let q : size + 255 ≡ spot size k = ap (spot size) e in (
+        omega arith,
+        (λ j le. let s = ap (places_sum size j) is in
+            let r = same_one j p.page (omega arith) in omega arith),
+      )
+
+  above_both : lock.Account ≡ k → p.page < size → d < 255 → IsAbove Inside
+  above_both e lt low =
+      let q : size + 255 ≡ spot size k = ap (spot size) e in (
+        omega arith,
+        (λ j le. ⊎_elim
+            (λ z. let r = same_one j p.page (omega arith) in omega arith)
+            (λ s. let r = s.1 in omega arith)
+            (same_is j (size + d))),
+      )
+
+module _ (g : Begin) (ok : Known g) (w : State DiskHeld) (j : Joint g w) where
+  abbrev n : ℕ
+  n = g.given.size
+
+  module _ (a : ℕ) (l : Here) (who : slice_get w.locals a ≡ Some l) where
+    fit : IsActor g a l
+    fit = j.each.in_local a l who
+
+    module _ (p : Part) (rest : List Part) (todo : l.todo ≡ p ∷ rest) where
+      disk : OnDisk n p
+      disk = on_disk (EndsSo (ground_of g)) n fit.ops l.done p rest
+          (subst (Follows (EndsSo (ground_of g)) (program n 0 fit.ops) l.done) todo fit.follows)
+
+      abbrev c : ℕ
+      c = class_by (entry_in l.held).kept
+
+      abbrev d : ℕ
+      d = class_in g.chain (next_form p l.page (entry_in l.held).kept)
+
+      here : (at : At) → l.at ≡ at → Stage g p (entry_in l.held) at l.fresh l.pin l.owed l.ahead
+          l.behind l.page l.fail
+      here at is = stage g ok w j a l who p rest todo l.held at refl is
+
+      plan_here : plan (terms g) l ≡ plan_at n l.at p c d
+      plan_here = ap (λ (ps : List Part). plan_by n ps l.at c
+          (new_class g.chain ps l.page (entry_in l.held).kept)) todo
+
+      locks_here : map (λ (x : LockNo × DiskHeld). x.0) l.held ≡ locks_at l.at p c d
+      locks_here = fit.locks ∙ ap (λ (ps : List Part). locks_by ps l.at c
+          (new_class g.chain ps l.page (entry_in l.held).kept)) todo
+
+      above_start : (k : LockNo) (b : Bool) → is_beyond n p.op ≡ b → start_plan b p ≡ Take k
+          → IsAbove n p c d k Start
+      above_start k true b e =
+          let q : n + 255 ≡ spot n k = ap (spot n) (let z : lock.Account ≡ k = cc in z) in
+          (omega arith, (λ i le. absurd (omega arith)))
+      above_start k false b e =
+          let lt = (disk b).0 in let q : p.page ≡ spot n k =
+          ap (spot n) (let z : slot p.page ≡ k = cc in z) in
+          (omega arith, (λ i le. absurd (omega arith)))
+
+      above : (k : LockNo) (at : At) → l.at ≡ at → plan_at n at p c d ≡ Take k
+          → IsAbove n p c d k at
+      above k Start is e = above_start k (is_beyond n p.op) refl e
+      above k Seen is e = let s = here Seen is in above_class n p c d k Seen c
+          (let q : lock.Class c ≡ k = cc in q) (old_low g.chain _ _ s.stands) (disk s.begun).0 refl
+      above k Pinned is e = let s = here Pinned is in above_class n p c d k Pinned c
+          (let q : lock.Class c ≡ k = cc in q) (old_low g.chain _ _ s.stands) (disk s.begun).0 refl
+      above k Wanting is e = let s = here Wanting is in
+          above_class n p c d k Wanting d (let q : lock.Class d ≡ k = cc in
+          q) (form_low g.chain _) (disk s.begun).0 refl
+      above k Inside is e = let s = here Inside is in above_both n p c d k
+          (let q : lock.Account ≡ k = cc in q) (disk s.begun).0 (form_low g.chain _)
+      above k Old is e = let s = here Old is in above_class n p c d k Old c
+          (let q : lock.Class c ≡ k = cc in q) (old_low g.chain _ _ s.stands) (disk s.begun).0 refl
+      above k Owing is e = let s = here Owing is in above_account n p c d k Owing
+          (let q : lock.Account ≡ k = cc in q) (disk s.begun).0 refl
+      above k Refusing is e = absurd (cc)
+      above k Pinning is e = absurd (cc)
+      above k Unpinning is e = absurd (cc)
+      above k Leaving is e = absurd (cc)
+      above k Both is e = absurd (cc)
+      above k Made is e = absurd (cc)
+      above k Freeing is e = absurd (cc)
+      above k Giving is e = absurd (cc)
+      above k Ready is e = absurd (cc)
+
+    todo_of : (ps : List Part) → l.todo ≡ ps → (plan (terms g) l ≡ Finished → ⊥)
+        → (p : Part) × (rest : List Part) × (l.todo ≡ p ∷ rest)
+    todo_of [] todo go = absurd (go (ap (λ (ps : List Part).
+        plan_by n ps l.at (class_by (entry_in l.held).kept)
+        (new_class g.chain ps l.page (entry_in l.held).kept)) todo))
+    todo_of (p ∷ rest) todo go = (p, rest, todo)
+
+    -- what it takes lies behind what it holds
+    rises : (k : LockNo) → plan (terms g) l ≡ Take k → (spot n k < n + 258)
+        × ((i : ℕ) → 1 ≤ held_sum (spot n) (at_place i) l.held → i < spot n k)
+    rises k what =
+        let t = todo_of l.todo refl (λ fin. let z : Finished ≡ Take k = sym fin ∙ what in cc) in
+        let u = above t.0 t.1 t.2 k l.at refl (sym (plan_here t.0 t.1 t.2) ∙ what) in (
+          u.0,
+          (λ i le. u.1 i (let h = held_places n i l.held in
+              let s = ap (places_sum n i) (locks_here t.0 t.1 t.2) in omega arith)),
+        )
+
+    -- what it gives is out
+    given_out : (k : LockNo) → plan (terms g) l ≡ Give k → slice_get w.row (spot n k) ≡ Some None
+    given_out k what =
+        let t = todo_of l.todo refl (λ fin. let z : Finished ≡ Give k = sym fin ∙ what in cc) in
+        let u = gives_last n l.at t.0 (c t.0 t.1 t.2) (d t.0 t.1 t.2) k (sym (plan_here t.0 t.1 t.2)
+        ∙ what) in
+        let names : map (λ (x : LockNo × DiskHeld). x.0) l.held ≡ k ∷ u.0 = locks_here t.0 t.1 t.2
+        ∙ u.1 in
+        out_of l.held u.0 names fit.sound refl where
+          out_of : (xs : List (LockNo × DiskHeld)) (ks : List LockNo)
+              → map (λ (x : LockNo × DiskHeld). x.0) xs ≡ k ∷ ks → HeldAll n (Sound g) xs
+              → l.held ≡ xs → slice_get w.row (spot n k) ≡ Some None
+          out_of [] ks e all is = absurd (cc)
+          out_of (x ∷ xs) ks e all is =
+              let x_is : x.0 ≡ k = cc in
+              let low = sound_low g (spot n x.0) x.1 all.0 in
+              let q : spot n x.0 ≡ spot n k = ap (spot n) x_is in
+              let mine : held_sum (spot n) (at_place (spot n k)) l.held
+              ≡ same (spot n k) (spot n x.0) + held_sum (spot n) (at_place (spot n k)) xs =
+              ap (held_sum (spot n) (at_place (spot n k))) is in
+              let one_there : same (spot n k) (spot n x.0) ≡ 1 = ap (same (spot n k)) q
+              ∙ same_self (spot n k) in
+              let cell = cell_at_place w.row (spot n k) (let r = j.row in omega arith) in
+              by_cell cell.0 cell.1 (let m = locals_le n
+              (mass (spot n) (at_place (spot n k)) none) w.locals a l who in omega arith) where
+                by_cell : (y : Option DiskHeld) → slice_get w.row (spot n k) ≡ Some y
+                    → 1 ≤ locals_sum (mass (spot n) (at_place (spot n k)) none) w.locals
+                    → slice_get w.row (spot n k) ≡ Some None
+                by_cell None e le = e
+                by_cell (Some v) e le = absurd (let r =
+                    row_le n (at_place (spot n k)) w.row (spot n k) (Some v) e in
+                    let s = same_self (spot n k) in let al = j.alone (spot n k) in
+                    let no : ⊥ = omega arith in no)
+
+  -- who holds what is out
+  holder : (k : ℕ) → slice_get w.row k ≡ Some None → k < n + 258
+      → (b : ℕ) × (m : Here) × (slice_get w.locals b ≡ Some m)
+      × (0 < mass (spot n) (at_place k) none m)
+  holder k e lt = let z = none_home k w.row e in let f = j.found k (let r = j.row in omega arith) in
+      some_local n (mass (spot n) (at_place k) none) w.locals (omega arith)
+
+  busy : (b : ℕ) (m : Here) → slice_get w.locals b ≡ Some m → (k : ℕ)
+      → 0 < mass (spot n) (at_place k) none m → plan (terms g) m ≡ Finished → ⊥
+  busy b m who k lt fin =
+      let t = no_todo n m.todo m.at _ _ fin in
+      let e = (j.each.in_local b m who).locks ∙ ap (λ (ps : List Part).
+      locks_by ps m.at (class_by (entry_in m.held).kept)
+      (new_class g.chain ps m.page (entry_in m.held).kept)) t in
+      let h = held_places n k m.held in let s = ap (places_sum n k) e in omega arith
+
+  taken_or : (a : ℕ) (l : Here) → slice_get w.locals a ≡ Some l → (k : LockNo)
+      → plan (terms g) l ≡ Take k
+      → (y : Option DiskHeld) → slice_get w.row (spot n k) ≡ Some y
+      → (slice_get w.row (spot n k) ≡ Some None → CanMove g w) → CanMove g w
+  taken_or a l who k what (Some v) e or_else = takes a l k v who what e
+  taken_or a l who k what None e or_else = or_else e
+
+  -- who waits for a place waits for somebody who waits for a place behind it, if for any
+  by_plan : (fuel : ℕ) (a : ℕ) (l : Here) → slice_get w.locals a ≡ Some l → (x : Plan)
+      → plan (terms g) l ≡ x → (x ≡ Finished → ⊥)
+      → ((k : LockNo) → x ≡ Take k → n + 258 ≤ fuel + spot n k) → CanMove g w
+  by_plan fuel a l who Finished what go le = absurd (go refl)
+  by_plan fuel a l who (Give k) what go le = gives a l k who what (given_out a l who k what)
+  by_plan zero a l who (Take k) what go le = absurd (let r = (rises a l who k what).0 in
+      let s = le k refl in omega arith)
+  by_plan (suc fuel) a l who (Take k) what go le =
+      let low = (rises a l who k what).0 in
+      let cell = cell_at_place w.row (spot n k) (let r = j.row in omega arith) in
+      taken_or a l who k what cell.0 cell.1 (λ e.
+      let h = holder (spot n k) e low in
+      by_plan fuel h.0 h.1 h.2 (plan (terms g) h.1) refl (busy h.0 h.1 h.2 (spot n k) h.3)
+      (λ k' is. let up = (rises h.0 h.1 h.2 k' is).1 (spot n k) (let z = h.3 in omega arith) in
+      let s = le k refl in omega arith))
+
+  -- where some actor isn't finished, some actor can move
+  pub free : (a : ℕ) (l : Here) → slice_get w.locals a ≡ Some l → (plan (terms g) l ≡ Finished → ⊥)
+      → CanMove g w
+  free a l who go = by_plan (n + 258) a l who (plan (terms g) l) refl go (λ k is. omega arith)

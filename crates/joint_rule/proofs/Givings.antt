@@ -1,0 +1,106 @@
+-- What each giving does: the law of its event.
+use Rattle.std.proofs.Common.{◌≡◌, ◌∷◌, ◌∙◌, ℕ, List, Some, slice_get, sym, ap, subst}
+use Rattle.call_history.specs.declared.part.Part.{Part}
+use Rattle.call_history.specs.declared.part.PartEnd.TheVariants.{AtLimit, NoMemory}
+use Rattle.joint_rule.proofs.Events.{Event}
+use Rattle.joint_rule.proofs.Facts.{Known}
+use Rattle.joint_rule.proofs.Gifts.{Gift, give_fails, give_puts, give_reads, give_refuses, locks}
+use Rattle.joint_rule.proofs.Objects.{give_charges, give_frees, give_pins, give_quits, give_refused, give_repays, give_stows, give_unpins, limit_refusal, memory_refusal}
+use Rattle.joint_rule.specs.Begins.{Begin, terms}
+use Rattle.joint_rule.specs.Joint.{Joint}
+use Rattle.lock_row.specs.declared.names.At.{At}
+use Rattle.lock_row.specs.declared.names.At.TheVariants.{Both, Freeing, Giving, Leaving, Made, Pinning, Ready, Refusing, Unpinning}
+use Rattle.lock_row.specs.declared.names.LockNo.{LockNo}
+use Rattle.lock_row.specs.declared.names.Plan.TheVariants.{Give}
+use Rattle.lock_row.specs.declared.names.State.{State}
+use Rattle.page_steps.specs.Pages.{new_class, next_form}
+use Rattle.page_steps.specs.Steps.{DiskHeld, Here, class_by, entry_in, plan, plan_at, plan_by, slot}
+use Rattle.slot_entry.specs.Forms.{class_in}
+use Rattle.slot_entry.specs.declared.kept.Kept.{Kept}
+use Rattle.slot_entry.specs.declared.kept.Stored.{Stored}
+use Rattle.joint_rule.proofs.Events as event
+use Rattle.lock_row.specs.declared.names.LockNo.TheVariants as lock
+use Rattle.slot_entry.specs.declared.kept.Kept.TheVariants as kept
+
+module _ (g : Begin) (ok : Known g) (w : State DiskHeld) (j : Joint g w) (a : ℕ) (l : Here)
+    (who : slice_get w.locals a ≡ Some l) (k : LockNo) (v : DiskHeld) (m : Here)
+    (what : plan (terms g) l ≡ Give k) where
+  at_lock : (m₀ : Here) (k₀ : LockNo) (v₀ : DiskHeld) → k₀ ≡ k → v ≡ v₀ → m ≡ m₀
+      → Gift g a l k₀ v₀ m₀ → Gift g a l k v m
+  at_lock m₀ k₀ v₀ e f h t = subst (λ (x : LockNo × DiskHeld × Here). Gift g a l x.0 x.1 x.2)
+      (λ i. (e i, sym f i, sym h i)) t
+
+  pub event_is : (p : Part) (rest : List Part) (held : List (LockNo × DiskHeld)) (at : At)
+      → l.todo ≡ p ∷ rest → l.held ≡ held → l.at ≡ at
+      → plan_at g.given.size at p (class_by (entry_in held).kept)
+      (class_in g.chain (next_form p l.page (entry_in held).kept)) ≡ Give k
+  event_is p rest held at todo held_is at_is = subst (λ (x : List Part × List (LockNo × DiskHeld)
+      × At). plan_by g.given.size x.0 x.2 (class_by (entry_in x.1).kept)
+      (new_class g.chain x.0 l.page (entry_in x.1).kept) ≡ Give k)
+      (λ i. (todo i, held_is i, at_is i)) what
+
+  pub given_lock : (x : LockNo) → Give x ≡ Give k → x ≡ k
+  given_lock x e = cc
+
+  old_lock : (x : Kept) (o : Stored) → x ≡ kept.Obj o → Give (lock.Class (class_by x)) ≡ Give k
+      → lock.Class o.class ≡ k
+  old_lock x o e f = sym (ap (λ (y : Kept). lock.Class (class_by y)) e)
+      ∙ given_lock (lock.Class (class_by x)) f
+
+  new_lock : (c d : ℕ) (xs ys : List LockNo) → lock.Class c ∷ xs ≡ lock.Class d ∷ ys
+      → Give (lock.Class d) ≡ Give k → lock.Class c ≡ k
+  new_lock c d xs ys e f = (let q : lock.Class c ≡ lock.Class d = cc in q)
+      ∙ given_lock (lock.Class d) f
+
+  pub gift : Event g l v m → Gift g a l k v m
+  gift (event.refuses p rest c todo at held v_is m_is) =
+      at_lock _ lock.Account _ (given_lock lock.Account (event_is p rest _ Refusing todo held at))
+      v_is m_is (give_refuses g ok w j a l who p rest todo c at held)
+  gift (event.pins p rest e o q q' u u' cell todo at held is sw named_u free taken is_cell in_cell
+      v_is m_is) =
+      at_lock _ (lock.Class o.class) _ (old_lock e.kept o is
+      (event_is p rest _ Pinning todo held at)) v_is m_is
+      (give_pins g ok w j a l who p rest todo e o q held is q' u u' sw named_u cell at free
+      taken is_cell in_cell)
+  gift (event.unpins p rest e o q q' u u' todo at held is sw named_u taken free v_is m_is) =
+      at_lock _ (lock.Class o.class) _ (old_lock e.kept o is
+      (event_is p rest _ Unpinning todo held at)) v_is m_is
+      (give_unpins g ok w j a l who p rest todo e o q held is q' u u' sw named_u at taken free)
+  gift (event.charges p rest e c q q' cl h need bytes huge todo at held is_form is_class within al
+      v_is m_is) =
+      at_lock _ lock.Account _ (given_lock lock.Account (event_is p rest _ Both todo held at)) v_is
+      m_is (give_charges g ok w j a l who p rest todo e c q cl at held q' h need bytes huge
+      is_form is_class within al)
+  gift (event.limits p rest e c q cl need todo at held is_need past v_is m_is) =
+      at_lock _ lock.Account _ (given_lock lock.Account (event_is p rest _ Both todo held at)) v_is
+      m_is (give_refused g ok w j a l who p rest todo e c q cl at held
+      (AtLimit c.pages need c.limit) (limit_refusal g ok w j a l who p rest todo e c q cl at
+      held need is_need past))
+  gift (event.starves p rest e c q cl todo at held v_is m_is) =
+      at_lock _ lock.Account _ (given_lock lock.Account (event_is p rest _ Both todo held at)) v_is
+      m_is (give_refused g ok w j a l who p rest todo e c q cl at held NoMemory
+      (memory_refusal g ok w j a l who p rest todo e c q cl at held))
+  gift (event.stows p rest e q cl todo at held well v_is m_is) =
+      at_lock _ (lock.Class cl) _ (new_lock cl _ _ _ (locks g ok w j a l who p rest todo _ Made held
+      at) (event_is p rest _ Made todo held at)) v_is m_is
+      (give_stows g ok w j a l who p rest todo e q cl at held well)
+  gift (event.quits p rest e q cl x todo at held bad v_is m_is) =
+      at_lock _ (lock.Class cl) _ (new_lock cl _ _ _ (locks g ok w j a l who p rest todo _ Made held
+      at) (event_is p rest _ Made todo held at)) v_is m_is
+      (give_quits g ok w j a l who p rest todo e q cl at held x bad)
+  gift (event.frees p rest e o q q' frames todo at held is fp v_is m_is) =
+      at_lock _ (lock.Class o.class) _ (old_lock e.kept o is
+      (event_is p rest _ Freeing todo held at)) v_is m_is
+      (give_frees g ok w j a l who p rest todo e o q held is q' frames fp at)
+  gift (event.repays p rest e c todo at held v_is m_is) =
+      at_lock _ lock.Account _ (given_lock lock.Account (event_is p rest _ Giving todo held at))
+      v_is m_is (give_repays g ok w j a l who p rest todo e c at held)
+  gift (event.puts p rest e f todo at held notes v_is m_is) =
+      at_lock _ (slot p.page) _ (given_lock (slot p.page) (event_is p rest _ Ready todo held at))
+      v_is m_is (give_puts g ok w j a l who p rest todo e f held at notes)
+  gift (event.reads p rest e f todo at held well notes v_is m_is) =
+      at_lock _ (slot p.page) _ (given_lock (slot p.page) (event_is p rest _ Leaving todo held at))
+      v_is m_is (give_reads g ok w j a l who p rest todo e f held at well notes)
+  gift (event.fails p rest e x todo at held bad v_is m_is) =
+      at_lock _ (slot p.page) _ (given_lock (slot p.page) (event_is p rest _ Leaving todo held at))
+      v_is m_is (give_fails g ok w j a l who p rest todo e e held at x bad)

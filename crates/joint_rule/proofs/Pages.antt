@@ -1,0 +1,531 @@
+-- What a page has after the calls of an order.
+use Rattle.std.proofs.Common.{◌≡◌, ◌+◌, ◌*◌, ◌-◌, ◌/◌, ◌≤◌, ◌<◌, ◌∷◌, ◌++◌, ◌∙◌, ◌||◌, ℕ, zero, suc, Bool, true, false, cond, leb, ltb, List, [], length, take, drop, replicate, Option, Some, None, refl, sym, ap, subst, arith, inl, inr, ⊎_elim, length-append}
+use Rattle.bdi_page.specs.Packing.{IsPage, packed}
+use Rattle.call_history.specs.Shows.{Carries, tag_by}
+use Rattle.call_history.specs.declared.part.Part.{Part}
+use Rattle.joint_rule.proofs.Facts.{Known}
+use Rattle.joint_rule.specs.Begins.{AreCarried, Begin, HasEvent, content, ever, form_at, form_by, found, found_after, image}
+use Rattle.joint_rule.specs.Stages.{Changes, IsForm, IsNothing, IsPooled, IsRight, IsSmall, NoObj}
+use Rattle.mem_account.specs.declared.weight.Weight.{Weight}
+use Rattle.page_steps.specs.Pages.{join, next_by, page_after}
+use Rattle.page_steps.specs.Steps.{on}
+use Rattle.plain_disk.specs.Calls.{Found, after, after_all, blank_by, ever_pooled, kept_as}
+use Rattle.plain_disk.specs.Ends.{page_put}
+use Rattle.plain_disk.specs.Forms.{in_class, is_pooled, page_bytes}
+use Rattle.plain_disk.specs.Phases.{held_after}
+use Rattle.size_class.specs.Classes.{shares_next, stands_below, stands_of}
+use Rattle.slot_entry.specs.Entries.{plain_page, weight_of}
+use Rattle.slot_entry.specs.Forms.{Blank, PageForm, Pooled, Word, bytes_in, class_for, class_in, form_of, form_weight, object_class, page_weight, pooled, zero_page}
+use Rattle.slot_entry.specs.declared.kept.Kept.{Kept}
+use Rattle.slot_entry.specs.declared.kept.Stored.{Stored}
+use Rattle.std.proofs.Math.Seq.{drop-append-add}
+use Rattle.std.proofs.lemmas.Bool.{and_from, and_parts, cases_Bool, eq-eqb, le-leb, leb-true, lt-ltb}
+use Rattle.std.proofs.lemmas.List.{take_at}
+use Rattle.std.proofs.lemmas.List.Elements.{All-append}
+use Rattle.std.specs.List.{flat_map, range_with_len}
+use Rattle.std.specs.Prelude.{All}
+use Rattle.zr_base.specs.Plain.{content as sectors, covers, has_whole, named, sector_after, sector_after_named, stuff_sector, zero_sector}
+use Rattle.zr_base.specs.Sectors.{page_sector}
+use Rattle.zr_base.specs.declared.op.Op.{Op}
+use Rattle.zr_base.specs.declared.op.Op.TheVariants.{Discard, Read, Write}
+use Rattle.zr_base.specs.declared.op.Stuff.{Stuff}
+use Rattle.zr_base.specs.declared.op.Tag.{Tag}
+use Rattle.slot_entry.specs.declared.kept.Kept.TheVariants as kept
+use Rattle.mem_account.specs.declared.weight.Weight.TheVariants as weight
+
+-- ---- lists
+
+content_append : (actors : List (List Op)) (s : ℕ) (old : List ℕ) (xs ys : List Tag)
+    → sectors actors s old (xs ++ ys) ≡ sectors actors s (sectors actors s old xs) ys
+content_append actors s old [] ys = refl
+content_append actors s old (x ∷ xs) ys =
+    content_append actors s (sector_after_named (named actors x) s old) xs ys
+
+pub join_same : (f h : ℕ → List ℕ) (a n : ℕ) → ((k : ℕ) → a ≤ k → k < a + n → f k ≡ h k)
+    → join f a n ≡ join h a n
+join_same f h a zero e = refl
+join_same f h a (suc n) e = (let r = join_same f h (a + 1) n
+    (λ k low high. e k (omega arith) (omega arith)) in
+    ap (λ (xs : List ℕ). xs ++ join f (a + 1) n) (e a (omega arith) (omega arith))
+    ∙ ap (λ (xs : List ℕ). h a ++ xs) r)
+
+join_sector : (f : ℕ → List ℕ) → ((k : ℕ) → length (f k) ≡ 512) → (a n k : ℕ) → k < n
+    → take 512 (drop (512 * k) (join f a n)) ≡ f (a + k)
+join_sector f long a zero k lt = absurd (omega arith)
+join_sector f long a (suc n) zero lt = take_at (f a) (join f (a + 1) n) 512 (long a)
+    ∙ ap f (let q : a ≡ a + 0 = omega arith in q)
+join_sector f long a (suc n) (suc k) lt =
+    ap (λ (m : ℕ). take 512 (drop m (f a ++ join f (a + 1) n)))
+    (let q : 512 * suc k ≡ length (f a) + 512 * k = (let r = long a in omega arith) in q)
+    ∙ ap (take 512) (drop-append-add (f a) (join f (a + 1) n) (512 * k))
+    ∙ join_sector f long (a + 1) n k (omega arith)
+    ∙ ap f (let q : a + 1 + k ≡ a + suc k = omega arith in q)
+
+join_long : (f : ℕ → List ℕ) → ((k : ℕ) → length (f k) ≡ 512) → (a n : ℕ)
+    → length (join f a n) ≡ 512 * n
+join_long f long a zero = refl
+join_long f long a (suc n) = let r = join_long f long (a + 1) n in let s = long a in
+    let t = length-append (f a) (join f (a + 1) n) in omega arith
+
+-- a page's sectors, one after the other
+flat_join : (f h : ℕ → List ℕ) (a b n : ℕ) → ((k : ℕ) → f (a + k) ≡ h (b + k))
+    → flat_map f (range_with_len a n) ≡ join h b n
+flat_join f h a b zero e = refl
+flat_join f h a b (suc n) e =
+    let here : f a ≡ h b = ap f (let q : a ≡ a + 0 = omega arith in q) ∙ e 0
+    ∙ ap h (let q : b + 0 ≡ b = omega arith in q) in
+    let more : flat_map f (range_with_len (a + 1) n) ≡ join h (b + 1) n =
+    flat_join f h (a + 1) (b + 1) n (λ k. ap f (let q : a + 1 + k ≡ a + suc k = omega arith in q)
+    ∙ e (suc k) ∙ ap h (let q : b + suc k ≡ b + 1 + k = omega arith in q)) in
+    λ i. here i ++ more i
+
+-- ---- pages
+
+module _ (g : Begin) where
+  pub holds_after : (f : Found) (order : List Tag) (s : ℕ)
+      → (after_all g.given.actors f order).holds s ≡ sectors g.given.actors s (f.holds s) order
+  holds_after f [] s = refl
+  holds_after f (t ∷ ts) s = holds_after (after (named g.given.actors t) f) ts s
+
+  after_push : (f : Found) (order : List Tag) (t : Tag)
+      → after_all g.given.actors f (order ++ t ∷ [])
+      ≡ after (named g.given.actors t) (after_all g.given.actors f order)
+  after_push f [] t = refl
+  after_push f (x ∷ xs) t = after_push (after (named g.given.actors x) f) xs t
+
+  abbrev of_page : ℕ → List Tag → ℕ → List ℕ
+  of_page p order k = held_after g.given order (8 * p + k)
+
+  -- a page as its eight sectors
+  pub content_join : (p : ℕ) (order : List Tag) → content g p order ≡ join (of_page p order) 0 8
+  unfolding content
+  content_join p order = flat_join (found_after g p order).holds (of_page p order) (8 * p) 0 8
+      (λ k. holds_after (found g p) order (8 * p + k)
+      ∙ ap (of_page p order) (let q : k ≡ 0 + k = omega arith in q))
+
+module _ (g : Begin) (ok : Known g) where
+  pub content_sector : (p : ℕ) (order : List Tag) (k : ℕ) → k < 8
+      → page_sector (content g p order) k ≡ held_after g.given order (8 * p + k)
+  content_sector p order k lt = ap (λ page. page_sector page k) (content_join g p order)
+      ∙ join_sector (of_page g p order) (λ i. (ok.proper.sectors order (8 * p + i)).0) 0 8 k lt
+      ∙ ap (of_page g p order) (let q : 0 + k ≡ k = omega arith in q)
+
+  pub content_long : (p : ℕ) (order : List Tag) → length (content g p order) ≡ 4096
+  content_long p order = ap length (content_join g p order)
+      ∙ join_long (of_page g p order) (λ i. (ok.proper.sectors order (8 * p + i)).0) 0 8
+
+  held_on : (order : List Tag) (t : Tag) (s : ℕ) → held_after g.given (order ++ t ∷ []) s
+      ≡ sector_after_named (named g.given.actors t) s (held_after g.given order s)
+  held_on order t s = content_append g.given.actors s (g.given.before s) order (t ∷ [])
+
+  module _ (p : Part) (order : List Tag) (t : Tag) (is : named g.given.actors t ≡ Some p.op) where
+    pub content_on : content g p.page (order ++ t ∷ []) ≡ page_after p (content g p.page order)
+    unfolding page_after
+    content_on = content_join g p.page (order ++ t ∷ [])
+        ∙ join_same (of_page g p.page (order ++ t ∷ []))
+        (λ k. sector_after p.op (8 * p.page + k) (page_sector (content g p.page order) k)) 0 8
+        (λ k low high. held_on order t (8 * p.page + k)
+        ∙ ap (λ (o : Option Op). sector_after_named o (8 * p.page + k)
+        (held_after g.given order (8 * p.page + k))) is
+        ∙ ap (sector_after p.op (8 * p.page + k)) (sym (content_sector p.page order k
+        (omega arith))))
+
+    pub blank_on : (found_after g p.page (order ++ t ∷ [])).blank
+        ≡ blank_by (Some p.op) (found_after g p.page order).blank
+    blank_on = ap (λ (f : Found). f.blank) (after_push g (found g p.page) order t)
+        ∙ ap (λ (o : Option Op). blank_by o (found_after g p.page order).blank) is
+
+    pub form_on : form_at g p.page (order ++ t ∷ []) ≡ form_by
+        (blank_by (Some p.op) (found_after g p.page order).blank)
+        (form_of (page_after p (content g p.page order)))
+    unfolding form_at
+    form_on = λ i. form_by (blank_on i) (form_of (content_on i))
+
+    -- a read leaves the page and its form
+    pub form_read : (start count : ℕ) → p.op ≡ Read start count
+        → form_at g p.page (order ++ t ∷ []) ≡ form_at g p.page order
+    unfolding form_at
+    form_read start count e =
+        let b : (found_after g p.page (order ++ t ∷ [])).blank
+        ≡ (found_after g p.page order).blank =
+        blank_on ∙ ap (λ (o : Op). blank_by (Some o) (found_after g p.page order).blank) e in
+        let c : content g p.page (order ++ t ∷ []) ≡ content g p.page order =
+        content_join g p.page (order ++ t ∷ []) ∙ join_same (of_page g p.page (order ++ t ∷ []))
+        (of_page g p.page order) 0 8
+        (λ k low high. held_on order t (8 * p.page + k)
+        ∙ ap (λ (o : Option Op). sector_after_named o (8 * p.page + k)
+        (held_after g.given order (8 * p.page + k))) (is ∙ ap (λ (o : Op). Some o) e))
+        ∙ sym (content_join g p.page order) in
+        λ i. form_by (b i) (form_of (c i))
+
+  -- zeros where nothing stands
+  blank_step : (o : Option Op) (p k : ℕ) → k < 8 → HasEvent p o → (b : Bool) (old : List ℕ)
+      → (b ≡ true → old ≡ zero_sector) → blank_by o b ≡ true
+      → sector_after_named o (8 * p + k) old ≡ zero_sector
+  blank_step None p k lt ev b old zeros e = zeros e
+  blank_step (Some (Read start count)) p k lt ev b old zeros e = zeros e
+  blank_step (Some (Write start count stuff)) p k lt ev b old zeros e = absurd (cc)
+  blank_step (Some (Discard start count)) p k lt ev b old zeros e =
+      let q : (8 * p + k) / 8 ≡ p = omega arith in
+      ap (λ (n : ℕ). cond (has_whole start count n) zero_sector old) q
+      ∙ ap (λ (c : Bool). cond c zero_sector old) ev
+
+  pub blank_zero : (order : List Tag) (p k : ℕ) → k < 8 → AreCarried g p order → (f : Found)
+      → (f.blank ≡ true → f.holds (8 * p + k) ≡ zero_sector)
+      → (after_all g.given.actors f order).blank ≡ true
+      → (after_all g.given.actors f order).holds (8 * p + k) ≡ zero_sector
+  blank_zero [] p k lt evs f zeros e = zeros e
+  blank_zero (t ∷ ts) p k lt evs f zeros e = blank_zero ts p k lt evs.1
+      (after (named g.given.actors t) f) (blank_step (named g.given.actors t) p k lt evs.0 f.blank
+      (f.holds (8 * p + k)) zeros) e
+
+  zeros : ℕ → List ℕ
+  zeros n = replicate n 0
+
+  zeros_more : (a b : ℕ) → zeros a ++ zeros b ≡ zeros (a + b)
+  unfolding zeros
+  zeros_more zero b = ap (λ (n : ℕ). replicate n zero) (let q : b ≡ 0 + b = omega arith in q)
+  zeros_more (suc a) b = ap (λ (xs : List ℕ). 0 ∷ xs) (zeros_more a b)
+      ∙ ap (λ (n : ℕ). replicate n zero) (let q : suc (a + b) ≡ suc a + b = omega arith in q)
+
+  zero_join : (n a : ℕ) → join (λ k. zero_sector) a n ≡ zeros (512 * n)
+  unfolding zero_sector zeros
+  zero_join zero a = refl
+  zero_join (suc n) a = ap (λ (xs : List ℕ). zero_sector ++ xs) (zero_join n (a + 1))
+      ∙ zeros_more 512 (512 * n) ∙ ap zeros (let q : 512 + 512 * n ≡ 512 * suc n = omega arith in q)
+
+  blank_page : (p : ℕ) (order : List Tag) → AreCarried g p order
+      → (found_after g p order).blank ≡ true → zero_page ≡ content g p order
+  unfolding zero_page zeros
+  blank_page p order evs e = sym (content_join g p order
+      ∙ join_same (of_page g p order) (λ k. zero_sector) 0 8
+      (λ k low high. sym (holds_after g (found g p) order (8 * p + k))
+      ∙ blank_zero order p k (omega arith) evs (found g p)
+      (λ b. ok.proper.blanks p k (omega arith) b) e) ∙ zero_join 8 0)
+
+-- ---- forms
+
+no_blank : (b c : Bool) (w : ℕ) (bytes page : List ℕ)
+    → cond b (Word w) (cond c (Pooled bytes false) (Pooled page true)) ≡ Blank → ⊥
+no_blank true c w bytes page e = let q : Word w ≡ Blank = e in cc
+no_blank false true w bytes page e = let q : Pooled bytes false ≡ Blank = e in cc
+no_blank false false w bytes page e = let q : Pooled page true ≡ Blank = e in cc
+
+pub is_blank : (b : Bool) (page : List ℕ) → form_by b (form_of page) ≡ Blank → b ≡ true
+unfolding form_of
+is_blank true page e = refl
+is_blank false page e = absurd (no_blank _ _ _ (packed page) page e)
+
+of_word : (b : Bool) (page : List ℕ) (v : ℕ) → form_by b (form_of page) ≡ Word v
+    → form_of page ≡ Word v
+of_word true page v e = absurd (let q : Blank ≡ Word v = e in cc)
+of_word false page v e = e
+
+below_class : (m d : ℕ) → stands_below m d ≤ 254
+unfolding stands_below
+below_class m zero = omega arith
+below_class m (suc d) = elim (cases_Bool (shares_next m (253 - d))) [
+  | inl on ↦ rw on (below_class m d)
+  | inr off ↦ rw off (omega arith)
+]
+
+object_low : (chain : ℕ) (bytes : List ℕ) (huge : Bool) → object_class chain bytes huge < 255
+unfolding class_for
+object_low chain bytes true = omega arith
+object_low chain bytes false = let r = below_class chain (254 - (length bytes - 9) / 16) in
+    omega arith
+
+pub form_low : (chain : ℕ) (f : PageForm) → class_in chain f < 255
+form_low chain Blank = omega arith
+form_low chain (Word w) = omega arith
+form_low chain (Pooled bytes huge) = object_low chain bytes huge
+
+pub form_empty : (chain : ℕ) (f : PageForm) → IsForm chain f kept.Empty → f ≡ Blank
+form_empty chain Blank i = refl
+form_empty chain (Word w) i = absurd i
+form_empty chain (Pooled b h) i = absurd i
+
+form_word : (chain : ℕ) (f : PageForm) (w : ℕ) → IsForm chain f (kept.Same w) → f ≡ Word w
+form_word chain Blank w i = absurd i
+form_word chain (Word v) w i = ap Word (sym i)
+form_word chain (Pooled b h) w i = absurd i
+
+module _ (g : Begin) (ok : Known g) where
+  all_join : (f : ℕ → List ℕ) → ((k : ℕ) → All (λ b. b < 256) (f k)) → (a n : ℕ)
+      → All (λ b. b < 256) (join f a n)
+  all_join f all a zero = λ k d lt. absurd (let none : ⊥ = omega arith in none)
+  all_join f all a (suc n) = All-append (λ b. b < 256) (f a) (join f (a + 1) n) (all a)
+      (all_join f all (a + 1) n)
+
+  pub content_page : (p : ℕ) (order : List Tag) → IsPage (content g p order)
+  content_page p order = (
+    content_long g ok p order,
+    subst (All (λ b. b < 256))
+        (sym (content_join g p order)) (all_join (of_page g p order)
+        (λ k. (ok.proper.sectors order (8 * p + k)).1) 0 8),
+  )
+
+  -- a form with no object tells the page
+  pub plain_right : (p : ℕ) (order : List Tag) (k : Kept) → AreCarried g p order → NoObj k
+      → IsForm g.chain (form_at g p order) k → plain_page k ≡ content g p order
+  unfolding form_at
+  plain_right p order kept.Empty evs free i = blank_page g ok p order evs
+      (is_blank _ (content g p order) (form_empty g.chain _ i))
+  plain_right p order (kept.Same w) evs free i = ok.facts.word_page (content g p order) w
+      (content_page p order) (of_word _ (content g p order) w (form_word g.chain _ w i))
+  plain_right p order (kept.Obj o) evs free i = absurd free
+
+module _ (g : Begin) (p : ℕ) (order : List Tag) where
+  -- a page that is kept as nothing is blank
+  pub blank_empty : IsForm g.chain (form_at g p order) kept.Empty
+      → (found_after g p order).blank ≡ true
+  unfolding form_at
+  blank_empty i = is_blank _ (content g p order) (form_empty g.chain _ i)
+
+  is_written : (b : Bool) (f : PageForm) (k : Kept) → (IsNothing k → ⊥)
+      → IsForm g.chain (form_by b f) k → b ≡ false
+  is_written false f k some i = refl
+  is_written true f kept.Empty some i = absurd (some tt)
+  is_written true f (kept.Same w) some i = absurd i
+  is_written true f (kept.Obj o) some i = absurd i
+
+  -- one that is kept as something isn't
+  pub blank_some : (k : Kept) → (IsNothing k → ⊥) → IsForm g.chain (form_at g p order) k
+      → (found_after g p order).blank ≡ false
+  unfolding form_at
+  blank_some k some i = is_written (found_after g p order).blank
+      (form_of (content g p order)) k some i
+
+-- ---- a whole page
+
+covered : (start count p k : ℕ) → k < 8 → has_whole start count p ≡ true
+    → covers start count (8 * p + k) ≡ true
+covered start count p k lt e =
+    let h = and_parts (leb start (8 * p)) (leb (8 * p + 8) (start + count)) e in
+    let x = leb-true start (8 * p) h.0 in let y = leb-true (8 * p + 8) (start + count) h.1 in
+    and_from (leb start (8 * p + k)) (ltb (8 * p + k) (start + count))
+    (le-leb start (8 * p + k) (omega arith)) (lt-ltb (8 * p + k) (start + count) (omega arith))
+
+pub whole_same : (p : Part) (start count : ℕ) (stuff : Stuff) (x y : List ℕ)
+    → p.op ≡ Write start count stuff → has_whole start count p.page ≡ true
+    → page_after p x ≡ page_after p y
+unfolding page_after
+whole_same p start count stuff x y e whole = join_same _ _ 0 8 (λ k low high.
+    ap (λ (o : Op). sector_after o (8 * p.page + k) (page_sector x k)) e
+    ∙ ap (λ (b : Bool). cond b (stuff_sector stuff (8 * p.page + k - start)) (page_sector x k))
+    (covered start count p.page k (omega arith) whole)
+    ∙ sym (ap (λ (o : Op). sector_after o (8 * p.page + k) (page_sector y k)) e
+    ∙ ap (λ (b : Bool). cond b (stuff_sector stuff (8 * p.page + k - start)) (page_sector y k))
+    (covered start count p.page k (omega arith) whole)))
+
+-- what a whole write puts is the page after it
+pub put_page : (p : Part) (start count : ℕ) (stuff : Stuff) (x : List ℕ)
+    → p.op ≡ Write start count stuff → has_whole start count p.page ≡ true
+    → page_put start stuff p.page ≡ page_after p x
+unfolding page_after
+put_page p start count stuff x e whole =
+    flat_join (λ s. stuff_sector stuff (s - start)) (λ k.
+    stuff_sector stuff (8 * p.page + k - start)) (8 * p.page) 0 8
+    (λ k. ap (λ (i : ℕ). stuff_sector stuff (8 * p.page + i - start))
+    (let q : k ≡ 0 + k = omega arith in q))
+    ∙ join_same (λ k. stuff_sector stuff (8 * p.page + k - start))
+    (λ k. sector_after p.op (8 * p.page + k) (page_sector x k)) 0 8
+    (λ k low high. sym (ap (λ (o : Op). sector_after o (8 * p.page + k) (page_sector x k)) e
+    ∙ ap (λ (b : Bool). cond b (stuff_sector stuff (8 * p.page + k - start)) (page_sector x k))
+    (covered start count p.page k (omega arith) whole)))
+
+-- ---- weights of forms
+
+pub pooled_weight : (f : PageForm) → IsPooled f → is_pooled (form_weight f) ≡ true
+pooled_weight Blank i = absurd i
+pooled_weight (Word w) i = absurd i
+pooled_weight (Pooled bytes true) i = refl
+pooled_weight (Pooled bytes false) i = refl
+
+pub class_weight : (chain k : ℕ) (f : PageForm) → IsPooled f → k ≡ class_in chain f
+    → in_class chain k (form_weight f) ≡ true
+unfolding class_for
+class_weight chain k Blank i e = absurd i
+class_weight chain k (Word w) i e = absurd i
+class_weight chain k (Pooled bytes true) i e = eq-eqb 254 k (sym e)
+class_weight chain k (Pooled bytes false) i e =
+    eq-eqb (stands_of chain ((length bytes + 8 - 17) / 16)) k
+    (ap (λ (m : ℕ). stands_of chain (m / 16)) (let q : length bytes + 8 - 17 ≡ length bytes - 9 =
+    omega arith in q) ∙ sym e)
+
+module _ (g : Begin) (ok : Known g) (p : Part) (order : List Tag) (t : Tag)
+    (is : named g.given.actors t ≡ Some p.op) where
+  -- the form after a piece
+  abbrev told : Op → List ℕ → PageForm
+  told o page = form_by (blank_by (Some o) (found_after g p.page order).blank)
+      (form_of (page_after p page))
+
+  next_is : (o : Op) (page : List ℕ) → p.op ≡ o → Changes o
+      → IsRight o p.page page (content g p.page order) → told o (content g p.page order)
+      ≡ next_by o p page
+  next_is (Write start count stuff) page e c r = ap form_of
+      (⊎_elim (λ w. whole_same p start count stuff (content g p.page order) page e w)
+      (λ s. ap (page_after p) (sym s)) r)
+  next_is (Read start count) page e c r = absurd c
+  next_is (Discard start count) page e c r = refl
+
+  pub form_next : (page : List ℕ) → Changes p.op → IsRight p.op p.page page (content g p.page order)
+      → form_at g p.page (order ++ t ∷ []) ≡ next_by p.op p page
+  form_next page c r = form_on g ok p order t is ∙ next_is p.op page refl c r
+
+-- ---- pages that were in the pool
+
+module _ (g : Begin) (p : ℕ) where
+  weight_by : (b : Bool) (page : List ℕ) → cond b weight.Empty (page_weight page)
+      ≡ form_weight (form_by b (form_of page))
+  weight_by true page = refl
+  weight_by false page = refl
+
+  -- what the account counts of a page is the weight of its form
+  pub kept_is : (order : List Tag) → kept_as page_weight p (found_after g p order)
+      ≡ form_weight (form_at g p order)
+  unfolding form_at content
+  kept_is order = weight_by (found_after g p order).blank
+      (page_bytes (found_after g p order).holds p)
+
+  pooled_by_huge : (bytes : List ℕ) (huge : Bool) → is_pooled (form_weight (Pooled bytes huge))
+      ≡ true
+  pooled_by_huge bytes true = refl
+  pooled_by_huge bytes false = refl
+
+  pooled_bit : (f : PageForm) → pooled f ≡ cond (is_pooled (form_weight f)) 1 0
+  pooled_bit Blank = refl
+  pooled_bit (Word w) = refl
+  pooled_bit (Pooled bytes huge) = sym (ap (λ (b : Bool). cond {A = ℕ} b 1 0)
+      (pooled_by_huge bytes huge))
+
+  bit : Bool → ℕ
+  bit b = cond b 1 0
+
+  bit_one : (b : Bool) → bit b ≤ 1
+  unfolding bit
+  bit_one true = omega arith
+  bit_one false = omega arith
+
+  pub ever_one : (order : List Tag) → ever g p order ≤ 1
+  unfolding bit
+  ever_one order = bit_one (ever_pooled page_weight p g.given.actors (found g p) order)
+
+  or_left : (a b : Bool) → bit a ≤ bit (a || b)
+  unfolding bit
+  or_left true b = omega arith
+  or_left false b = let r = bit_one b in omega arith
+
+  or_right : (a b c : Bool) → bit b ≤ bit c → bit b ≤ bit (a || c)
+  unfolding bit
+  or_right true b c h = bit_one b
+  or_right false b c h = h
+
+  or_up : (a b c : Bool) → bit b ≤ bit c → bit (a || b) ≤ bit (a || c)
+  unfolding bit
+  or_up true b c h = omega arith
+  or_up false b c h = h
+
+  abbrev ever_by : Found → List Tag → Bool
+  ever_by f order = ever_pooled page_weight p g.given.actors f order
+
+  up_by : (f : Found) (ts : List Tag) (t : Tag) → bit (ever_by f ts)
+      ≤ bit (ever_by f (ts ++ t ∷ []))
+  up_by f [] t = or_left (is_pooled (kept_as page_weight p f))
+      (ever_by (after (named g.given.actors t) f) [])
+  up_by f (x ∷ ts) t = or_up (is_pooled (kept_as page_weight p f))
+      (ever_by (after (named g.given.actors x) f) ts) (ever_by (after (named g.given.actors x) f)
+      (ts ++ t ∷ [])) (up_by (after (named g.given.actors x) f) ts t)
+
+  -- it only rises
+  pub ever_up : (order : List Tag) (t : Tag) → ever g p order ≤ ever g p (order ++ t ∷ [])
+  unfolding bit
+  ever_up order t = up_by (found g p) order t
+
+  now_by : (f : Found) (ts : List Tag) → bit (is_pooled
+      (kept_as page_weight p (after_all g.given.actors f ts))) ≤ bit (ever_by f ts)
+  now_by f [] = omega arith
+  now_by f (x ∷ ts) = or_right (is_pooled (kept_as page_weight p f))
+      (is_pooled (kept_as page_weight p (after_all g.given.actors
+      (after (named g.given.actors x) f) ts))) (ever_by (after (named g.given.actors x) f) ts)
+      (now_by (after (named g.given.actors x) f) ts)
+
+  pub ever_now : (order : List Tag) → pooled (form_at g p order) ≤ ever g p order
+  unfolding bit
+  ever_now order =
+      let e = pooled_bit (form_at g p order) in
+      let k = ap (λ (x : Weight). bit (is_pooled x)) (kept_is order) in
+      let r = now_by (found g p) order in omega arith
+
+-- ---- the page of an object
+
+of_object : (b : Bool) (f : PageForm) (chain : ℕ) (o : Stored)
+    → IsForm chain (form_by b f) (kept.Obj o)
+    → f ≡ Pooled (bytes_in (form_by b f)) o.huge
+of_object true f chain o i = absurd i
+of_object false Blank chain o i = absurd i
+of_object false (Word w) chain o i = absurd i
+of_object false (Pooled b h) chain o i = ap (Pooled b) (sym i.2)
+
+-- the content of a page that is kept as an object has its image's form
+pub image_form : (g : Begin) (p : ℕ) (order : List Tag) (o : Stored)
+    → IsForm g.chain (form_at g p order) (kept.Obj o)
+    → form_of (content g p order) ≡ Pooled (image g p order) o.huge
+unfolding form_at
+image_form g p order o i = of_object (found_after g p order).blank
+    (form_of (content g p order)) g.chain o i
+
+form_len : (chain : ℕ) (f : PageForm) (o : Stored) → IsForm chain f (kept.Obj o)
+    → o.len ≡ length (bytes_in f)
+form_len chain Blank o i = absurd i
+form_len chain (Word w) o i = absurd i
+form_len chain (Pooled b h) o i = i.1
+
+pub image_len : (g : Begin) (p : ℕ) (order : List Tag) (o : Stored)
+    → IsForm g.chain (form_at g p order) (kept.Obj o)
+    → o.len ≡ length (image g p order)
+image_len g p order o i = form_len g.chain (form_at g p order) o i
+
+module _ (g : Begin) (ok : Known g) (p : Part) (order : List Tag) (actor : ℕ)
+    (is : named g.given.actors (tag_by actor p) ≡ Some p.op) where
+  -- the piece is carried out on the content
+  pub content_carries : Carries actor p (content g p.page order) order
+      (content g p.page (order ++ tag_by actor p ∷ [])) (order ++ tag_by actor p ∷ [])
+  content_carries = record {
+    notes = refl;
+    holds = λ k lt. content_sector g ok p.page (order ++ tag_by actor p ∷ []) k lt
+        ∙ held_on g ok order (tag_by actor p) (8 * p.page + k)
+        ∙ ap (λ (o : Option Op). sector_after_named o (8 * p.page + k)
+        (held_after g.given order (8 * p.page + k))) is
+        ∙ ap (sector_after p.op (8 * p.page + k)) (sym (content_sector g ok p.page order k lt));
+  }
+
+-- ---- small weights
+
+module _ (g : Begin) (ok : Known g) (p : ℕ) (order : List Tag) where
+  form_small_by : (b : Bool) (f : PageForm) → form_of (content g p order) ≡ f
+      → IsSmall (form_weight (form_by b f))
+  form_small_by true f e = omega arith
+  form_small_by false Blank e = omega arith
+  form_small_by false (Word w) e = omega arith
+  form_small_by false (Pooled bytes true) e = omega arith
+  form_small_by false (Pooled bytes false) e = ok.facts.packed_short (content g p order) bytes
+      (content_page g ok p order) e
+
+  -- what a page weighs is small
+  pub form_small : IsSmall (form_weight (form_at g p order))
+  unfolding form_at
+  form_small = form_small_by (found_after g p order).blank (form_of (content g p order)) refl
+
+  kept_small_by : (f : PageForm) (k : Kept) → IsForm g.chain f k → IsSmall (form_weight f)
+      → IsSmall (weight_of k)
+  kept_small_by f kept.Empty i s = omega arith
+  kept_small_by f (kept.Same w) i s = omega arith
+  kept_small_by Blank (kept.Obj o) i s = absurd i
+  kept_small_by (Word w) (kept.Obj o) i s = absurd i
+  kept_small_by (Pooled bytes huge) (kept.Obj o) i s =
+      subst (λ (x : Bool × ℕ). IsSmall (cond x.0 weight.Huge (weight.Packed x.1)))
+      (λ j. (sym i.2 j, sym i.1 j)) s
+
+  pub kept_small : (k : Kept) → IsForm g.chain (form_at g p order) k → IsSmall (weight_of k)
+  kept_small k i = kept_small_by (form_at g p order) k i form_small

@@ -1,0 +1,210 @@
+-- The rest that a phase leaves is the one with which the next begins.
+use Rattle.std.proofs.Common.{◌≡◌, ◌+◌, ◌*◌, ◌<◌, ◌∷◌, ◌∙◌, ℕ, zero, suc, List, [], length, Option, Some, None, slice_get, refl, sym, ap, subst, arith}
+use Rattle.joint_rule.proofs.Pages.{content_join, join_same}
+use Rattle.joint_rule.specs.Begins.{AreCarried, Begin, content, form_at, form_by, found_after}
+use Rattle.joint_rule.specs.Joint.{AtHome, PoolFits}
+use Rattle.joint_rule.specs.Stages.{IsForm, IsSmall}
+use Rattle.joint_rule.specs.Starts.{AtRest, IsNextDisk, IsOther, IsRenewed, Matched, Renewed}
+use Rattle.joint_rule.specs.Weights.{Backs, Count, FailedWrites, FreedPages, HugeWrites, Huges, News, OutOfRange, PackedBytes, Packs, Refusal, Sames, Weigh, chains, claim_by, claims, counter, counters, measure, mosts, news_count, news_counter, outs, pages, refusal_count, refusal_counter, shown, stored}
+use Rattle.lock_row.specs.Totals.{row_sum}
+use Rattle.mem_account.specs.Counters.{Counters}
+use Rattle.page_steps.specs.Steps.{DiskHeld}
+use Rattle.plain_disk.specs.Phases.{held_after, touched_by}
+use Rattle.slot_entry.specs.Entries.{EntryState, weight_of}
+use Rattle.slot_entry.specs.Forms.{PageForm, bytes_in, form_of}
+use Rattle.slot_entry.specs.declared.kept.Kept.{Kept}
+use Rattle.zr_base.specs.declared.op.Tag.{Tag}
+use Rattle.lock_row.specs.declared.names.Held.TheVariants as holds
+use Rattle.joint_rule.specs.Starts as renewed
+
+module _ (R : ℕ → DiskHeld → DiskHeld → Type 0) where
+  pub match_at : (xs ys : List (Option DiskHeld)) → Matched R xs ys → (k : ℕ) (u : DiskHeld)
+      → slice_get ys k ≡ Some (Some u) → (v : DiskHeld) × (slice_get xs k ≡ Some (Some v)) × R k v u
+  match_at = walk R where
+    walk : (R : ℕ → DiskHeld → DiskHeld → Type 0) (xs ys : List (Option DiskHeld)) → Matched R xs ys
+        → (k : ℕ) (u : DiskHeld) → slice_get ys k ≡ Some (Some u)
+        → (v : DiskHeld) × (slice_get xs k ≡ Some (Some v)) × R k v u
+    walk R [] [] m k u e = absurd (cc)
+    walk R [] (y ∷ ys) m k u e = absurd m
+    walk R (x ∷ xs) [] m k u e = absurd m
+    walk R (None ∷ xs) (y ∷ ys) m k u e = absurd m
+    walk R (Some v ∷ xs) (None ∷ ys) m k u e = absurd m
+    walk R (Some v ∷ xs) (Some y ∷ ys) m zero u e = (
+      v,
+      refl,
+      subst (R 0 v) (let q : y ≡ u = cc in q) m.0,
+    )
+    walk R (Some v ∷ xs) (Some y ∷ ys) m (suc k) u e = walk (λ j. R (suc j)) xs ys m.1 k u e
+
+  match_size : (xs ys : List (Option DiskHeld)) → Matched R xs ys → (k : ℕ) → k < length ys
+      → (u : DiskHeld) × (slice_get ys k ≡ Some (Some u))
+  match_size = walk R where
+    walk : (R : ℕ → DiskHeld → DiskHeld → Type 0) (xs ys : List (Option DiskHeld)) → Matched R xs ys
+        → (k : ℕ) → k < length ys → (u : DiskHeld) × (slice_get ys k ≡ Some (Some u))
+    walk R [] [] m k lt = absurd (omega arith)
+    walk R [] (y ∷ ys) m k lt = absurd m
+    walk R (x ∷ xs) [] m k lt = absurd m
+    walk R (None ∷ xs) (y ∷ ys) m k lt = absurd m
+    walk R (Some v ∷ xs) (None ∷ ys) m k lt = absurd m
+    walk R (Some v ∷ xs) (Some y ∷ ys) m zero lt = (y, refl)
+    walk R (Some v ∷ xs) (Some y ∷ ys) m (suc k) lt = walk (λ j. R (suc j)) xs ys m.1 k
+        (omega arith)
+
+match_length : (R : ℕ → DiskHeld → DiskHeld → Type 0) (xs ys : List (Option DiskHeld))
+    → Matched R xs ys → length ys ≡ length xs
+match_length R [] [] m = refl
+match_length R [] (y ∷ ys) m = absurd m
+match_length R (x ∷ xs) [] m = absurd m
+match_length R (None ∷ xs) (y ∷ ys) m = absurd m
+match_length R (Some v ∷ xs) (None ∷ ys) m = absurd m
+match_length R (Some v ∷ xs) (Some u ∷ ys) m = let r = match_length (λ j. R (suc j)) xs ys m.1 in
+    omega arith
+
+-- weights that match add up alike
+row_match : (R : ℕ → DiskHeld → DiskHeld → Type 0) (f h : ℕ → DiskHeld → ℕ)
+    → ((j : ℕ) (v u : DiskHeld) → R j v u → f j v ≡ h j u) → (xs ys : List (Option DiskHeld))
+    → Matched R xs ys → row_sum f xs ≡ row_sum h ys
+row_match R f h e [] [] m = refl
+row_match R f h e [] (y ∷ ys) m = absurd m
+row_match R f h e (x ∷ xs) [] m = absurd m
+row_match R f h e (None ∷ xs) (y ∷ ys) m = absurd m
+row_match R f h e (Some v ∷ xs) (None ∷ ys) m = absurd m
+row_match R f h e (Some v ∷ xs) (Some u ∷ ys) m = let a = e 0 v u m.0 in
+    let r = row_match (λ j. R (suc j)) (λ j. f (suc j)) (λ j. h (suc j))
+    (λ j. e (suc j)) xs ys m.1 in omega arith
+
+module _ (g h : Begin) where
+  module _ (j : ℕ) (e f : EntryState) (r : IsRenewed g h j e f) where
+    same_content : content h j [] ≡ content g j e.order
+    same_content = content_join h j [] ∙ join_same (λ k. held_after h.given [] (8 * j + k))
+        (λ k. held_after g.given e.order (8 * j + k)) 0 8 (λ k low high. r.before k (omega arith))
+        ∙ sym (content_join g j e.order)
+
+    same_form : form_at h j f.order ≡ form_at g j e.order
+    unfolding form_at
+    same_form = ap (λ (ts : List Tag). form_by (found_after h j ts).blank
+        (form_of (content h j ts))) r.order ∙ (λ i. form_by (r.blank i) (form_of (same_content i)))
+
+  no_claims : (w : Weigh) (j : ℕ) (v : DiskHeld) → IsOther v → claims g w j v ≡ claims h w j v
+  no_claims w j (holds.Slot e) f = absurd f
+  no_claims w j (holds.Class e) f = refl
+  no_claims w j (holds.Account e) f = absurd f
+  no_claims w j (holds.Blocks e) f = refl
+  no_claims w j (holds.Device e) f = refl
+
+  claims_same : (w : Weigh) (j : ℕ) (v u : DiskHeld) → Renewed g h j v u
+      → claims g w j v ≡ claims h w j u
+  claims_same w j v u (renewed.slots e f is_v is_u r) = ap (claims g w j) is_v
+      ∙ (λ i. claim_by w (sym r.kept i) (bytes_in (sym (same_form j e f r) i)))
+      ∙ ap (claims h w j) (sym is_u)
+  claims_same w j v u (renewed.accounts c d is_v is_u e) = ap (claims g w j) is_v
+      ∙ ap (claims h w j) (sym is_u)
+  claims_same w j v u (renewed.stays free e) = no_claims w j v free ∙ ap (claims h w j) (sym e)
+
+  plain_same : (f : ℕ → DiskHeld → ℕ) → ((j : ℕ) (e d : EntryState) → d.kept ≡ e.kept
+      → f j (holds.Slot e) ≡ f j (holds.Slot d))
+      → ((j : ℕ) (c : Counters) (limit : ℕ) → f j (holds.Account c)
+      ≡ f j (holds.Account (record c { limit = limit }))) → (j : ℕ) (v u : DiskHeld)
+      → Renewed g h j v u → f j v ≡ f j u
+  plain_same f each acc j v u (renewed.slots e d is_v is_u r) = ap (f j) is_v ∙ each j e d r.kept
+      ∙ ap (f j) (sym is_u)
+  plain_same f each acc j v u (renewed.accounts c d is_v is_u e) = ap (f j) is_v ∙ acc j c d.limit
+      ∙ ap (λ (x : Counters). f j (holds.Account x)) (sym e) ∙ ap (f j) (sym is_u)
+  plain_same f each acc j v u (renewed.stays free e) = ap (f j) (sym e)
+
+  module _ (on_it : IsNextDisk g h) where
+    other_home : (j : ℕ) (v : DiskHeld) → IsOther v → AtHome g j v → AtHome h j v
+    other_home j (holds.Slot e) f x = absurd f
+    other_home j (holds.Account e) f x = absurd f
+    other_home j (holds.Class e) f x = record {
+      sound = (
+        (let q = x.sound.0 in let s = on_it.size in omega arith),
+        subst (λ (y : ℕ). PoolFits y e) (sym on_it.chain) x.sound.1,
+      );
+      stands = tt;
+    }
+    other_home j (holds.Blocks e) f x = record {
+      sound = (let q = x.sound in let s = on_it.size in
+          omega arith);
+      stands = tt;
+    }
+    other_home j (holds.Device e) f x = record {
+      sound = (let q = x.sound in let s = on_it.size in
+          omega arith);
+      stands = tt;
+    }
+
+    slot_home : (j : ℕ) (e d : EntryState) → IsRenewed g h j e d → AtHome g j (holds.Slot e)
+        → AtHome h j (holds.Slot d)
+    slot_home j e d r x = record {
+      sound = record {
+        page = (let q = x.sound.page in let s = on_it.size in omega arith);
+        calls = subst (AreCarried h j) (sym r.order) tt;
+        touched = r.touched ∙ sym r.time ∙ sym (ap (λ (ts : List Tag).
+            touched_by ts h.clock (h.touched j)) r.order);
+        small = subst (λ (k : Kept). IsSmall (weight_of k)) (sym r.kept) x.sound.small;
+      };
+      stands = subst (λ (y : ℕ × PageForm × Kept). IsForm y.0 y.1 y.2)
+          (λ i. (sym on_it.chain i, sym (same_form j e d r) i, sym r.kept i)) x.stands;
+    }
+
+    home_same : (j : ℕ) (v u : DiskHeld) → Renewed g h j v u → AtHome g j v → AtHome h j u
+    home_same j v u (renewed.slots e d is_v is_u r) x =
+        subst (AtHome h j) (sym is_u) (slot_home j e d r (subst (AtHome g j) is_v x))
+    home_same j v u (renewed.accounts c d is_v is_u e) x =
+        subst (AtHome h j) (sym is_u) (record {
+          sound =
+              (let q = (subst (AtHome g j) is_v x).sound in let s = on_it.size in omega arith);
+          stands = tt;
+        })
+    home_same j v u (renewed.stays free e) x = subst (AtHome h j) (sym e) (other_home j v free x)
+
+    pub rest_goes_on : (xs ys : List (Option DiskHeld)) → Matched (Renewed g h) xs ys → AtRest g xs
+        → AtRest h ys
+    rest_goes_on xs ys m a =
+        let same : (f : ℕ → DiskHeld → ℕ) → ((j : ℕ) (e d : EntryState) → d.kept ≡ e.kept
+        → f j (holds.Slot e) ≡ f j (holds.Slot d)) → ((j : ℕ) (c : Counters) (limit : ℕ)
+        → f j (holds.Account c) ≡ f j (holds.Account (record c { limit = limit })))
+        → row_sum f xs ≡ row_sum f ys = λ f e c. row_match (Renewed g h) f f
+        (plain_same f e c) xs ys m in
+        record {
+          size = (let x = match_length (Renewed g h) xs ys m in let y = a.size in
+              let s = on_it.size in omega arith);
+          whole = match_size (Renewed g h) xs ys m;
+          home = λ k u e. let r = match_at (Renewed g h) xs ys m k u e in
+              home_same k r.0 u r.2 (a.home k r.0 r.1);
+          owners = λ f. let x = row_match (Renewed g h) (claims g f) (claims h f)
+              (claims_same f) xs ys m in let y = same (stored f) (λ j e d r. refl)
+              (λ j c n. refl) in let z = a.owners f in omega arith;
+          pins = λ f. let x = same (outs f) (λ j e d r. refl) (λ j c n. refl) in let z = a.pins f in
+              omega arith;
+          frames = let x = same pages (λ j e d r. refl) (λ j c n. refl) in
+              let y = same chains (λ j e d r. refl) (λ j c n. refl) in let z = a.frames in
+              omega arith;
+          counts = λ q. let x = same (counters q) (λ j e d r. refl) (λ j c n. any_limit q c n) in
+              let y = same (shown q) (λ j e d r. ap (λ (k : Kept). measure q (weight_of k)) (sym r))
+              (λ j c n. refl) in let z = a.counts q in omega arith;
+          most = let x = same pages (λ j e d r. refl) (λ j c n. refl) in
+              let y = same mosts (λ j e d r. refl) (λ j c n. refl) in let z = a.most in omega arith;
+          refusals = λ q. let x = same (refusal_counter q) (λ j e d r. refl)
+              (λ j c n. any_refusals q c n) in let z = a.refusals q in omega arith;
+          news = λ q. let x = same (news_counter q) (λ j e d r. refl) (λ j c n. any_news q c n) in
+              let z = a.news q in omega arith;
+        } where
+          any_limit : (q : Count) (c : Counters) (n : ℕ)
+              → counter q c ≡ counter q (record c { limit = n })
+          any_limit Sames c n = refl
+          any_limit Packs c n = refl
+          any_limit PackedBytes c n = refl
+          any_limit Huges c n = refl
+          any_limit Backs c n = refl
+
+          any_refusals : (q : Refusal) (c : Counters) (n : ℕ)
+              → refusal_count q c ≡ refusal_count q (record c { limit = n })
+          any_refusals FailedWrites c n = refl
+          any_refusals OutOfRange c n = refl
+
+          any_news : (q : News) (c : Counters) (n : ℕ) → news_count q c
+              ≡ news_count q (record c { limit = n })
+          any_news HugeWrites c n = refl
+          any_news FreedPages c n = refl

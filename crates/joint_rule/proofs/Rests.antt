@@ -1,0 +1,122 @@
+-- What a finished phase leaves is at rest.
+use Rattle.std.proofs.Common.{◌≡◌, ◌≤◌, ◌<◌, ◌∷◌, ◌∙◌, ◌^◌, ℕ, zero, suc, Bool, true, false, List, [], map, length, Option, Some, None, slice_get, refl, ap, subst, arith}
+use Rattle.call_history.specs.declared.part.Part.{Part}
+use Rattle.joint_rule.proofs.Starts.{no_locals, none_first}
+use Rattle.joint_rule.proofs.Sums.{row_nothing}
+use Rattle.joint_rule.specs.Begins.{Begin}
+use Rattle.joint_rule.specs.Ends.{AllFinished}
+use Rattle.joint_rule.specs.Joint.{IsActor, Joint}
+use Rattle.joint_rule.specs.Rule.{Rule}
+use Rattle.joint_rule.specs.Stages.{NoneOf, StageBy, locks_by}
+use Rattle.joint_rule.specs.Starts.{AtRest}
+use Rattle.joint_rule.specs.Weights.{ahead, at_place, behind, chains, claims, counters, fresh_claim, measure, mosts, news_counter, none, nothing, object_weight, outs, owing, pages, pinned, refusal_counter, shown, stored}
+use Rattle.lock_row.specs.Totals.{by_option, row_sum, total}
+use Rattle.lock_row.specs.declared.names.At.{At}
+use Rattle.lock_row.specs.declared.names.At.TheVariants.{Both, Freeing, Giving, Inside, Leaving, Made, Old, Owing, Pinned, Pinning, Ready, Refusing, Seen, Start, Unpinning, Wanting}
+use Rattle.lock_row.specs.declared.names.LockNo.{LockNo}
+use Rattle.lock_row.specs.declared.names.Plan.TheVariants.{Finished}
+use Rattle.lock_row.specs.declared.names.State.{State}
+use Rattle.mem_account.specs.Counters.{at_most_end}
+use Rattle.page_steps.specs.Pages.{new_class}
+use Rattle.page_steps.specs.Steps.{DiskHeld, Here, class_by, entry_in, plan_at, plan_by, spot, start_plan}
+use Rattle.zr_base.specs.Plain.{is_beyond}
+
+-- ---- a finished phase
+
+pub none_weigh : {X : Type 0} (f : X → ℕ) (x : Option X) → NoneOf x → by_option f x ≡ 0
+none_weigh f None e = refl
+none_weigh f (Some x) e = absurd e
+
+never_finished : (size : ℕ) (at : At) (p : Part) (c d : ℕ) → plan_at size at p c d ≡ Finished → ⊥
+never_finished size Start p c d e = started (is_beyond size p.op) e where
+  started : (b : Bool) → start_plan b p ≡ Finished → ⊥
+  started true x = cc
+  started false x = cc
+never_finished size Refusing p c d e = cc
+never_finished size Seen p c d e = cc
+never_finished size Pinning p c d e = cc
+never_finished size Pinned p c d e = cc
+never_finished size Unpinning p c d e = cc
+never_finished size Leaving p c d e = cc
+never_finished size Wanting p c d e = cc
+never_finished size Inside p c d e = cc
+never_finished size Both p c d e = cc
+never_finished size Made p c d e = cc
+never_finished size Old p c d e = cc
+never_finished size Freeing p c d e = cc
+never_finished size Owing p c d e = cc
+never_finished size Giving p c d e = cc
+never_finished size Ready p c d e = cc
+
+-- a counter stands still at its end
+within_end : (a b : ℕ) → a ≡ at_most_end b → a < 2 ^ 64
+within_end a b e = omega arith
+
+pub no_todo : (size : ℕ) (ps : List Part) (at : At) (c d : ℕ) → plan_by size ps at c d ≡ Finished
+    → ps ≡ []
+no_todo size [] at c d e = refl
+no_todo size (p ∷ ps) at c d e = absurd (never_finished size at p c d e)
+
+module _ (g : Begin) (w : State DiskHeld) (r : Rule g w) (fin : AllFinished g w) where
+  abbrev j : Joint g w
+  j = r.joint
+
+  pub over : (a : ℕ) (l : Here) → slice_get w.locals a ≡ Some l → l.todo ≡ []
+  over a l e = no_todo g.given.size l.todo l.at _ _ (fin a l e)
+
+  ended : (a : ℕ) (l : Here) → slice_get w.locals a ≡ Some l → IsActor g a l
+  ended a l e = j.each.in_local a l e
+
+  no_held : (xs : List (LockNo × DiskHeld)) → map (λ (x : LockNo × DiskHeld). x.0) xs ≡ [] → xs ≡ []
+  no_held [] e = refl
+  no_held (x ∷ xs) e = absurd (cc)
+
+  pub held_none : (a : ℕ) (l : Here) → slice_get w.locals a ≡ Some l → l.held ≡ []
+  held_none a l e = let f = ended a l e in no_held l.held (f.locks
+      ∙ ap (λ (t : List Part). locks_by t l.at (class_by (entry_in l.held).kept)
+      (new_class g.chain t l.page (entry_in l.held).kept)) (over a l e))
+
+  pub quiet : (a : ℕ) (l : Here) → slice_get w.locals a ≡ Some l
+      → StageBy g [] (entry_in l.held) l.at l.fresh l.pin l.owed l.ahead l.behind l.page l.fail
+  quiet a l e = subst (λ (t : List Part). StageBy g t (entry_in l.held) l.at l.fresh l.pin l.owed
+      l.ahead l.behind l.page l.fail) (over a l e) (ended a l e).stage
+
+  pub left : (f : ℕ → DiskHeld → ℕ) (h : Here → ℕ) → ((a : ℕ) (l : Here)
+      → slice_get w.locals a ≡ Some l → h l ≡ 0) → total (spot g.given.size) f h w ≡ row_sum f w.row
+  left f h none = let r = no_locals g.given.size f h w.locals
+      (λ a l e. (held_none a l e, none a l e)) in omega arith
+
+  cell_there : (row : List (Option DiskHeld)) (k : ℕ) → k < length row
+      → 1 ≤ row_sum (at_place k) row → (v : DiskHeld) × (slice_get row k ≡ Some (Some v))
+  cell_there [] k lt some = absurd (omega arith)
+  cell_there (None ∷ xs) zero lt some = absurd (let r = none_first xs in omega arith)
+  cell_there (Some x ∷ xs) zero lt some = (x, refl)
+  cell_there (None ∷ xs) (suc k) lt some = cell_there xs k (omega arith) (omega arith)
+  cell_there (Some x ∷ xs) (suc k) lt some = cell_there xs k (omega arith) (omega arith)
+
+  -- all values are at home, and the account's numbers are those of pools and entries
+  pub at_rest : AtRest g w.row
+  at_rest = record {
+    whole = λ k lt. let r = left (at_place k) none (λ a l e. refl) in let q = j.found k lt in
+        cell_there w.row k lt (omega arith);
+    home = j.each.in_row;
+    owners = λ f. let x = left (claims g f) (fresh_claim f)
+        (λ a l e. none_weigh (object_weight f) l.fresh (quiet a l e).made) in
+        let y = left (stored f) none (λ a l e. refl) in let z = j.owners f in omega arith;
+    pins = λ f. let x = left (outs f) none (λ a l e. refl) in
+        let y = left nothing (pinned f) (λ a l e. none_weigh f l.pin (quiet a l e).pins) in
+        let z = j.pins f in let r = row_nothing g.given.size w.row in omega arith;
+    frames = let x = left pages none (λ a l e. refl) in
+        let y = left chains owing (λ a l e. (quiet a l e).owes) in let z = j.frames in omega arith;
+    counts = λ q. let x = left (counters q) (behind q) (λ a l e.
+        none_weigh (measure q) l.behind (quiet a l e).less) in
+        let y = left (shown q) (ahead q) (λ a l e. none_weigh (measure q) l.ahead
+        (quiet a l e).more) in let z = j.counts q in omega arith;
+    size = j.row;
+    most = let x = left mosts none (λ a l e. refl) in let y = left pages none (λ a l e. refl) in
+        let z = r.most.now in omega arith;
+    refusals = λ q. let x = left (refusal_counter q) none (λ a l e. refl) in
+        let z = within_end _ _ (r.refusals q) in omega arith;
+    news = λ q. let x = left (news_counter q) none (λ a l e. refl) in
+        let z = within_end _ _ (r.news q) in omega arith;
+  }

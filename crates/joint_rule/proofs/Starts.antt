@@ -1,0 +1,299 @@
+-- A prepared start has the rule.
+use Rattle.std.proofs.Common.{◌≡◌, ◌≢◌, ◌+◌, ◌≤◌, ◌<◌, ◌∷◌, ◌∙◌, ◌^◌, ℕ, zero, suc, List, [], map, length, Option, Some, None, slice_get, refl, sym, ap, subst, arith}
+use Rattle.call_history.specs.Parts.{EndsSo, Follows, done_sum, noted_on, ops_of, program}
+use Rattle.call_history.specs.declared.part.Done.{Done}
+use Rattle.call_history.specs.declared.part.Part.{Part}
+use Rattle.call_history.specs.declared.part.PartEnd.{PartEnd}
+use Rattle.joint_rule.proofs.Facts.{Known}
+use Rattle.joint_rule.proofs.Gifts.{start_locks, start_stage}
+use Rattle.joint_rule.proofs.Pages.{content_sector}
+use Rattle.joint_rule.proofs.Sums.{row_nothing}
+use Rattle.joint_rule.proofs.Takes.{IsAccount, account_kind}
+use Rattle.joint_rule.specs.Begins.{Begin, ground_of, pieces_each, pieces_on}
+use Rattle.joint_rule.specs.Joint.{AtHome, IsActor, Joint, Sound}
+use Rattle.joint_rule.specs.Rule.{FailKeeps, OfOrder, Rule, ShowsOrder, done_by, dones, owed, owed_by, reach_at}
+use Rattle.joint_rule.specs.Stages.{StageBy, locks_by}
+use Rattle.joint_rule.specs.Starts.{IsStart}
+use Rattle.joint_rule.specs.Weights.{HeldAll, News, Refusal, ahead, at_place, behind, chains, claims, counters, each_one, ever_at, fixed, fixed_count, fresh_claim, measure, mosts, news_count, news_counter, none, noted, nothing, object_weight, on_account, order_news, outs, owing, pages, pinned, refusal_count, refusal_counter, refusal_of, refusals, refused_by, same, shown, some_of, stored, told_ahead, told_at}
+use Rattle.lock_row.specs.Totals.{by_option, held_sum, locals_sum, mass, row_sum, total}
+use Rattle.lock_row.specs.declared.names.At.{At}
+use Rattle.lock_row.specs.declared.names.At.TheVariants.{Start}
+use Rattle.lock_row.specs.declared.names.LockNo.{LockNo}
+use Rattle.lock_row.specs.declared.names.Object.{Object}
+use Rattle.lock_row.specs.declared.names.Pin.{Pin}
+use Rattle.lock_row.specs.declared.names.State.{State}
+use Rattle.mem_account.specs.Counters.{Counters, at_most_end}
+use Rattle.mem_account.specs.declared.weight.Weight.{Weight}
+use Rattle.page_steps.specs.Pages.{new_class}
+use Rattle.page_steps.specs.Steps.{DiskHeld, Here, class_by, entry_in, spot}
+use Rattle.zr_base.specs.declared.op.Op.{Op}
+use Rattle.zr_base.specs.declared.op.Tag.{Tag}
+use Rattle.lock_row.specs.declared.names.Held.TheVariants as holds
+
+-- ---- rows with all values at home
+
+pub none_first : (row : List (Option DiskHeld)) → row_sum (λ j v. same 0 (suc j)) row ≡ 0
+none_first row = row_nothing 0 row
+
+pub place_most : (k : ℕ) (row : List (Option DiskHeld)) → row_sum (at_place k) row ≤ 1
+place_most k [] = omega arith
+place_most zero (None ∷ xs) = let r = none_first xs in omega arith
+place_most zero (Some x ∷ xs) = let r = none_first xs in omega arith
+place_most (suc k) (None ∷ xs) = let r = place_most k xs in omega arith
+place_most (suc k) (Some x ∷ xs) = let r = place_most k xs in omega arith
+
+pub place_least : (k : ℕ) (row : List (Option DiskHeld)) (v : DiskHeld)
+    → slice_get row k ≡ Some (Some v) → 1 ≤ row_sum (at_place k) row
+place_least k [] v e = absurd (cc)
+place_least zero (x ∷ xs) v e = let q : x ≡ Some v = cc in
+    let r : by_option (at_place 0 0) x ≡ 1 = ap (by_option (at_place 0 0)) q in omega arith
+place_least (suc k) (x ∷ xs) v e = let r = place_least k xs v e in omega arith
+
+-- a row in which one value weighs something
+pub row_none : (f : ℕ → DiskHeld → ℕ) (row : List (Option DiskHeld))
+    → ((i : ℕ) (u : DiskHeld) → slice_get row i ≡ Some (Some u) → f i u ≡ 0) → row_sum f row ≡ 0
+row_none f [] z = refl
+row_none f (None ∷ xs) z = let r = row_none (λ j. f (suc j)) xs (λ i. z (suc i)) in omega arith
+row_none f (Some x ∷ xs) z = let r = row_none (λ j. f (suc j)) xs (λ i. z (suc i)) in
+    let s = z 0 x refl in omega arith
+
+row_lone : (f : ℕ → DiskHeld → ℕ) (row : List (Option DiskHeld)) (k : ℕ) (v : DiskHeld)
+    → slice_get row k ≡ Some (Some v)
+    → ((i : ℕ) (u : DiskHeld) → slice_get row i ≡ Some (Some u) → i ≢ k → f i u ≡ 0)
+    → row_sum f row ≡ f k v
+row_lone f [] k v e z = absurd (cc)
+row_lone f (x ∷ xs) zero v e z =
+    let q : x ≡ Some v = cc in let h : by_option (f 0) x ≡ f 0 v = ap (by_option (f 0)) q in
+    let r = row_none (λ j. f (suc j)) xs (λ i u at. z (suc i) u at (λ s. let no : ⊥ = omega arith in
+    no)) in omega arith
+row_lone f (None ∷ xs) (suc k) v e z = let r = row_lone (λ j. f (suc j)) xs k v e
+    (λ i u at ne. z (suc i) u at (λ s. ne (let q : i ≡ k = omega arith in q))) in omega arith
+row_lone f (Some x ∷ xs) (suc k) v e z =
+    let r = row_lone (λ j. f (suc j)) xs k v e (λ i u at ne.
+    z (suc i) u at (λ s. ne (let q : i ≡ k = omega arith in q))) in
+    let h = z 0 x refl (λ s. let no : ⊥ = omega arith in no) in omega arith
+
+-- the account of a row with all values at home
+module _ (g : Begin) (row : List (Option DiskHeld)) (size : length row ≡ g.given.size + 258)
+    (whole : (k : ℕ) → k < length row → (v : DiskHeld) × (slice_get row k ≡ Some (Some v)))
+    (home : (k : ℕ) (v : DiskHeld) → slice_get row k ≡ Some (Some v) → AtHome g k v) where
+  is_account : (v : DiskHeld) → IsAccount v → (c : Counters) × (v ≡ holds.Account c)
+  is_account (holds.Slot e) i = absurd i
+  is_account (holds.Class p) i = absurd i
+  is_account (holds.Account c) i = (c, refl)
+  is_account (holds.Blocks x) i = absurd i
+  is_account (holds.Device x) i = absurd i
+
+  pub account_at : (c : Counters) × (slice_get row (g.given.size + 255)
+      ≡ Some (Some (holds.Account c)))
+  account_at =
+      let v = whole (g.given.size + 255) (omega arith) in
+      let c = is_account v.0 (account_kind g v.0 (home (g.given.size + 255) v.0 v.1).sound) in
+      (c.0, v.1 ∙ ap (λ (x : DiskHeld). Some (Some x)) c.1)
+
+  not_there : (f : Counters → ℕ) (i : ℕ) (u : DiskHeld) → Sound g i u → i ≢ g.given.size + 255
+      → on_account f i u ≡ 0
+  not_there f i (holds.Slot e) s ne = refl
+  not_there f i (holds.Class p) s ne = refl
+  not_there f i (holds.Account c) s ne = absurd (ne s)
+  not_there f i (holds.Blocks x) s ne = refl
+  not_there f i (holds.Device x) s ne = refl
+
+  pub account_sum : (f : Counters → ℕ) → row_sum (on_account f) row ≡ f account_at.0
+  account_sum f = row_lone (on_account f) row (g.given.size + 255)
+      (holds.Account account_at.0) account_at.1
+      (λ i u at ne. not_there f i u (home i u at).sound ne)
+
+module _ (size : ℕ) where
+  pub no_locals : (f : ℕ → DiskHeld → ℕ) (h : Here → ℕ) (ls : List Here)
+      → ((a : ℕ) (l : Here) → slice_get ls a ≡ Some l → (l.held ≡ []) × (h l ≡ 0))
+      → locals_sum (mass (spot size) f h) ls ≡ 0
+  no_locals f h [] each = refl
+  no_locals f h (l ∷ ls) each =
+      let r = no_locals f h ls (λ a. each (suc a)) in let q = each 0 l refl in
+      let s : held_sum (spot size) f l.held ≡ 0 = ap (held_sum (spot size) f) q.0 in let t = q.1 in
+      omega arith
+
+module _ (g : Begin) (ok : Known g) (w : State DiskHeld) (s : IsStart g w) where
+  abbrev n : ℕ
+  n = g.given.size
+
+  only : (f : ℕ → DiskHeld → ℕ) (h : Here → ℕ) → ((a : ℕ) (l : Here) → slice_get w.locals a ≡ Some l
+      → h l ≡ 0) → total (spot n) f h w ≡ row_sum f w.row
+  only f h none = let r = no_locals n f h w.locals (λ a l e. ((s.actors a l e).held, none a l e)) in
+      omega arith
+
+  actor_fits : (a : ℕ) (l : Here) → slice_get w.locals a ≡ Some l → IsActor g a l
+  actor_fits a l e = let h = s.actors a l e in record {
+    who = h.who;
+    ops = h.ops;
+    named = h.named;
+    follows = subst (λ (c : List Done × List Part). Follows (EndsSo (ground_of g))
+        (program n 0 h.ops) c.0 c.1) (λ i. (sym h.done i, sym h.todo i)) refl;
+    locks = ap (map (λ (x : LockNo × DiskHeld). x.0)) h.held
+        ∙ start_locks l.todo (class_by (entry_in l.held).kept)
+        (new_class g.chain l.todo l.page (entry_in l.held).kept)
+        ∙ ap (λ (at : At). locks_by l.todo at (class_by (entry_in l.held).kept)
+        (new_class g.chain l.todo l.page (entry_in l.held).kept)) (sym h.at);
+    sound = subst (HeldAll n (Sound g)) (sym h.held) tt;
+    stage = subst (λ (x : At × Option Object × Option Pin × ℕ × Option Weight × Option Weight
+        × Option (List ℕ) × Option PartEnd). StageBy g l.todo
+        (entry_in l.held) x.0 x.1 x.2 x.3 x.4 x.5 x.6 x.7)
+        (λ i. (
+          sym h.at i,
+          sym h.fresh i,
+          sym h.pin i,
+          sym h.owed i,
+          sym h.ahead i,
+          sym h.behind i,
+          sym h.page i,
+          sym h.fail i,
+        )) (start_stage g l.todo (entry_in l.held));
+    lean = let x = ap (held_sum (spot n) (claims g each_one)) h.held in
+        let y = ap (held_sum (spot n) (ever_at g)) h.held in let z = ap some_of h.owed in
+        let f = ap (by_option (object_weight each_one)) h.fresh in omega arith;
+  }
+
+  -- the account is as the phase finds it
+  account_of : (f : Counters → ℕ) → row_sum (on_account f) w.row ≡ f g.was
+  account_of f =
+      let c = account_at g w.row s.rest.size s.rest.whole s.rest.home in
+      account_sum g w.row s.rest.size s.rest.whole s.rest.home f
+      ∙ ap f (s.account (n + 255) c.0 c.1)
+
+  pub start_joint : Joint g w
+  start_joint = record {
+    each = record { in_row = s.rest.home; in_local = actor_fits };
+    row = s.rest.size;
+    actors = s.count;
+    stays = λ q. only (fixed q) none (λ a l e. refl) ∙ account_of (fixed_count q);
+    alone = λ k. let r = only (at_place k) none (λ a l e. refl) in let q = place_most k w.row in
+        omega arith;
+    found = λ k lt. let r = only (at_place k) none (λ a l e. refl) in let v = s.rest.whole k lt in
+        let q = place_least k w.row v.0 v.1 in omega arith;
+    owners = λ f. let x = only (claims g f) (fresh_claim f)
+        (λ a l e. ap (by_option (object_weight f)) (s.actors a l e).fresh) in
+        let y = only (stored f) none (λ a l e. refl) in let z = s.rest.owners f in omega arith;
+    pins = λ f. let x = only (outs f) none (λ a l e. refl) in
+        let y = only nothing (pinned f) (λ a l e. ap (by_option f) (s.actors a l e).pin) in
+        let z = s.rest.pins f in let r = row_nothing n w.row in omega arith;
+    frames = let x = only pages none (λ a l e. refl) in
+        let y = only chains owing (λ a l e. (s.actors a l e).owed) in let z = s.rest.frames in
+        omega arith;
+    counts = λ q. let x = only (counters q) (behind q) (λ a l e.
+        ap (by_option (measure q)) (s.actors a l e).behind) in
+        let y = only (shown q) (ahead q) (λ a l e. ap (by_option (measure q))
+        (s.actors a l e).ahead) in let z = s.rest.counts q in omega arith;
+  }
+
+  -- ---- orders
+
+  no_done : (a : ℕ) (o : Option Here) → slice_get w.locals a ≡ o → done_by o ≡ []
+  no_done a None e = refl
+  no_done a (Some l) e = (s.actors a l e).done
+
+  nothing_done : (a : ℕ) → dones w.locals a ≡ []
+  nothing_done a = no_done a (slice_get w.locals a) refl
+
+  owed_each : (p : ℕ) (ls : List Here) (actors : List (List Op))
+      → ((a : ℕ) (l : Here) → slice_get ls a ≡ Some l
+      → (ops : List Op) × (slice_get actors a ≡ Some ops) × (l.todo ≡ program n 0 ops))
+      → owed n ls p ≤ pieces_each n actors p
+  owed_each p [] actors each = omega arith
+  owed_each p (l ∷ ls) [] each = absurd (let q = (each 0 l refl).1 in cc)
+  owed_each p (l ∷ ls) (ops ∷ actors) each =
+      let r = owed_each p ls actors (λ a. each (suc a)) in
+      let q = each 0 l refl in let o : ops ≡ q.0 = (let z = q.1 in cc) in
+      let t : owed_by n p l ≡ pieces_on n p (program n 0 ops) =
+      ap (pieces_on n p) (q.2 ∙ ap (program n 0) (sym o)) in omega arith
+
+  empty_order : (k : ℕ) (order : List Tag) (room : ℕ) → order ≡ [] → owed n w.locals k ≤ room
+      → ShowsOrder g w.locals k order room
+  empty_order k order room is le = record {
+    shows = record {
+      holds = λ i lt. content_sector g ok k order i lt;
+      turns = λ a. ap (ops_of a) is ∙ sym (ap (noted_on k) (nothing_done a));
+      reads = λ a i d at on. absurd (let q : slice_get (let ds : List Done = [] in ds) i ≡ Some d =
+          subst (λ (ds : List Done). slice_get ds i ≡ Some d) (nothing_done a) at in cc);
+    };
+    spare = le;
+    few = let z = ap length is in let r = owed_each k w.locals g.given.actors
+        (λ a l e. let h = s.actors a l e in (h.ops, h.named, h.todo)) in omega arith;
+  }
+
+  start_order : (k : ℕ) (v : DiskHeld) → slice_get w.row k ≡ Some (Some v)
+      → OfOrder (ShowsOrder g w.locals) k v
+  start_order k (holds.Slot e) at = let o = s.orders k e at in empty_order k e.order e.room o.0 o.1
+  start_order k (holds.Class p) at = tt
+  start_order k (holds.Account p) at = tt
+  start_order k (holds.Blocks p) at = tt
+  start_order k (holds.Device p) at = tt
+
+  -- ---- counters
+
+  no_news : (q : News) (k : ℕ) (v : DiskHeld) → slice_get w.row k ≡ Some (Some v)
+      → noted g q k v ≡ 0
+  no_news q k (holds.Slot e) at = ap (order_news g q k) (s.orders k e at).0
+  no_news q k (holds.Class p) at = refl
+  no_news q k (holds.Account p) at = refl
+  no_news q k (holds.Blocks p) at = refl
+  no_news q k (holds.Device p) at = refl
+
+  none_refused : (q : Refusal) (ps : List Part) → refused_by q ps None ≡ 0
+  none_refused q [] = refl
+  none_refused q (p ∷ ps) = refl
+
+  locals_none : (h : Here → ℕ) (ls : List Here) → ((a : ℕ) (l : Here) → slice_get ls a ≡ Some l
+      → h l ≡ 0) → locals_sum h ls ≡ 0
+  locals_none h [] z = refl
+  locals_none h (l ∷ ls) z = let r = locals_none h ls (λ a. z (suc a)) in let q = z 0 l refl in
+      omega arith
+
+  told_start : (q : News) (l : Here) → l.at ≡ Start → told_ahead q l ≡ 0
+  told_start q l is = ap (λ (at : At). told_at q at l.todo l.ahead) is
+
+  within_end : (a : ℕ) → a < 2 ^ 64 → a ≡ at_most_end (a + 0)
+  within_end a lt = omega arith
+
+  pub start_rule : Rule g w
+  start_rule = record {
+    joint = start_joint;
+    told = record {
+      in_row = start_order;
+      in_local = λ a l e. subst (HeldAll n (OfOrder (ShowsOrder g w.locals)))
+          (sym (s.actors a l e).held) tt;
+    };
+    most =
+        let m = only mosts none (λ a l e. refl) in let p = only pages none (λ a l e. refl) in
+        let c = account_of (λ c. c.most) in let r = s.rest.most in record {
+          now = omega arith;
+          before = omega arith;
+          within = λ rose some. absurd (omega arith);
+          few = λ rose. absurd (omega arith);
+        };
+    refusals = λ q.
+        let c = account_of (refusal_count q) in
+        let z = locals_none (refusals q) w.locals (λ a l e. let h = s.actors a l e in
+        let ds : List Done = [] in
+        let x : refusals q l ≡ done_sum (refusal_of q) ds + refused_by q l.todo None =
+        (λ i. done_sum (refusal_of q) (h.done i) + refused_by q l.todo (h.fail i)) in
+        let y = none_refused q l.todo in omega arith) in
+        let r = s.rest.refusals q in
+        only (refusal_counter q) none (λ a l e. refl) ∙ c
+        ∙ within_end (refusal_count q g.was) (omega arith)
+        ∙ ap (λ (i : ℕ). at_most_end (refusal_count q g.was + i)) (sym z);
+    news = λ q.
+        let c = account_of (news_count q) in
+        let z : total (spot n) (noted g q) (told_ahead q) w ≡ 0 =
+        only (noted g q) (told_ahead q) (λ a l e. told_start q l (s.actors a l e).at)
+        ∙ row_none (noted g q) w.row (no_news q) in
+        let r = s.rest.news q in
+        only (news_counter q) none (λ a l e. refl) ∙ c ∙ within_end (news_count q g.was)
+        (omega arith)
+        ∙ ap (λ (i : ℕ). at_most_end (news_count q g.was + i)) (sym z);
+    limits = λ a l e. let h = s.actors a l e in record {
+      over = λ i d at. absurd (let q : slice_get (let ds : List Done = [] in ds) i ≡ Some d =
+          subst (λ (ds : List Done). slice_get ds i ≡ Some d) h.done at in cc);
+      now = subst (FailKeeps g (reach_at g w)) (sym h.fail) tt;
+    };
+  }

@@ -1,0 +1,493 @@
+-- Each taking keeps what the stage says of the actor.
+use Rattle.std.proofs.Common.{◌≡◌, ◌+◌, ◌≤◌, ◌<◌, ◌∷◌, ◌∙◌, ℕ, Bool, true, false, List, [], map, Option, Some, None, refl, sym, ap, subst, arith, inl, inr}
+use Rattle.call_history.specs.Parts.{EndsSo, Follows, program}
+use Rattle.call_history.specs.declared.part.Part.{Part}
+use Rattle.call_history.specs.declared.part.PartEnd.{PartEnd}
+use Rattle.joint_rule.proofs.Facts.{Known}
+use Rattle.joint_rule.proofs.Lookups.{none_weight, nothing_shown}
+use Rattle.joint_rule.proofs.Pages.{blank_empty, blank_some, ever_now, form_low, plain_right}
+use Rattle.joint_rule.proofs.Stages.{OnDisk, made_locks, made_stage, may_none, old_low, on_disk, settle_locks, settle_stage}
+use Rattle.joint_rule.specs.Begins.{Begin, content, form_at, found_after, ground_of, image, terms}
+use Rattle.joint_rule.specs.Joint.{AtHome, EntryFits, IsActor, Sound, Stands}
+use Rattle.joint_rule.specs.Stages.{Bears, BlankAt, BlankBy, Changes, FailBy, IsForm, IsNothing, IsObj, IsRight, IsSmall, IsWrite, Looks, NoObj, NoneOf, Stage, StageBy, WasBlank, locks_at, locks_by}
+use Rattle.joint_rule.specs.Weights.{claim_by, claims, each_one, ever_at, measure}
+use Rattle.lock_row.specs.declared.names.At.{At}
+use Rattle.lock_row.specs.declared.names.At.TheVariants.{Both, Freeing, Giving, Inside, Leaving, Made, Old, Owing, Pinned, Pinning, Ready, Refusing, Seen, Start, Unpinning, Wanting}
+use Rattle.lock_row.specs.declared.names.LockNo.{LockNo}
+use Rattle.lock_row.specs.declared.names.Object.{Object}
+use Rattle.lock_row.specs.declared.names.Pin.{Pin}
+use Rattle.lock_row.specs.declared.names.Plan.TheVariants.{Take}
+use Rattle.mem_account.specs.declared.weight.Weight.{Weight}
+use Rattle.page_steps.specs.Pages.{new_class, next_by, next_form, page_in}
+use Rattle.page_steps.specs.Steps.{DiskHeld, Here, after_take, begun_at, class_by, discard_at, entered_at, entry_in, entry_or, lock_of, made_at, part_at, plan, plan_at, plan_by, seen_at, settle_at, slot, spot, start_plan, taken_at, took, write_at}
+use Rattle.slot_entry.specs.Entries.{EntryState, weight_of}
+use Rattle.slot_entry.specs.Forms.{Blank, PageForm, Pooled, Word, class_in, form_weight, pooled}
+use Rattle.slot_entry.specs.declared.kept.Kept.{Kept}
+use Rattle.std.specs.Prelude.{⊤}
+use Rattle.zr_base.specs.Plain.{has_whole, is_beyond}
+use Rattle.zr_base.specs.declared.op.Op.{Op}
+use Rattle.zr_base.specs.declared.op.Op.TheVariants.{Discard, Read, Write}
+use Rattle.zr_base.specs.declared.op.Stuff.{Stuff}
+use Rattle.lock_row.specs.declared.names.LockNo.TheVariants as lock
+use Rattle.lock_row.specs.declared.names.Held.TheVariants as holds
+use Rattle.slot_entry.specs.declared.kept.Kept.TheVariants as kept
+
+-- an entry at home claims no more than its page was pooled
+pub form_claim : (chain : ℕ) (f : PageForm) (k : Kept) (b : List ℕ) → IsForm chain f k
+    → claim_by each_one k b ≤ pooled f
+form_claim chain f kept.Empty b i = omega arith
+form_claim chain f (kept.Same w) b i = omega arith
+form_claim chain Blank (kept.Obj o) b i = absurd i
+form_claim chain (Word w) (kept.Obj o) b i = absurd i
+form_claim chain (Pooled x h) (kept.Obj o) b i = omega arith
+
+pub home_lean : (g : Begin) (j : ℕ) (v : DiskHeld) → Stands g j v
+    → claims g each_one j v ≤ ever_at g j v
+home_lean g j (holds.Slot e) s = let r = form_claim g.chain (form_at g j e.order) e.kept
+    (image g j e.order) s in let q = ever_now g j e.order in omega arith
+home_lean g j (holds.Class x) s = omega arith
+home_lean g j (holds.Account x) s = omega arith
+home_lean g j (holds.Blocks x) s = omega arith
+home_lean g j (holds.Device x) s = omega arith
+
+abbrev pub IsEntry : DiskHeld → Type 0
+IsEntry (holds.Slot e) = ⊤
+IsEntry (holds.Class x) = ⊥
+IsEntry (holds.Account x) = ⊥
+IsEntry (holds.Blocks x) = ⊥
+IsEntry (holds.Device x) = ⊥
+
+abbrev pub IsPoolOf : DiskHeld → Type 0
+IsPoolOf (holds.Slot e) = ⊥
+IsPoolOf (holds.Class x) = ⊤
+IsPoolOf (holds.Account x) = ⊥
+IsPoolOf (holds.Blocks x) = ⊥
+IsPoolOf (holds.Device x) = ⊥
+
+abbrev pub IsAccount : DiskHeld → Type 0
+IsAccount (holds.Slot e) = ⊥
+IsAccount (holds.Class x) = ⊥
+IsAccount (holds.Account x) = ⊤
+IsAccount (holds.Blocks x) = ⊥
+IsAccount (holds.Device x) = ⊥
+
+module _ (g : Begin) where
+  abbrev size : ℕ
+  size = g.given.size
+
+  pub entry_kind : (p : ℕ) → p < size → (v : DiskHeld) → Sound g p v → IsEntry v
+  entry_kind p lt (holds.Slot e) s = tt
+  entry_kind p lt (holds.Class x) s = let q = s.0 in absurd (omega arith)
+  entry_kind p lt (holds.Account x) s = absurd (omega arith)
+  entry_kind p lt (holds.Blocks x) s = absurd (omega arith)
+  entry_kind p lt (holds.Device x) s = absurd (omega arith)
+
+  pub class_kind : (c : ℕ) → c < 255 → (v : DiskHeld) → Sound g (size + c) v → IsPoolOf v
+  class_kind c lt (holds.Slot e) s = let q = s.page in absurd (omega arith)
+  class_kind c lt (holds.Class x) s = tt
+  class_kind c lt (holds.Account x) s = absurd (omega arith)
+  class_kind c lt (holds.Blocks x) s = absurd (omega arith)
+  class_kind c lt (holds.Device x) s = absurd (omega arith)
+
+  pub account_kind : (v : DiskHeld) → Sound g (size + 255) v → IsAccount v
+  account_kind (holds.Slot e) s = let q = s.page in absurd (omega arith)
+  account_kind (holds.Class x) s = let q = s.0 in let r = s.1.class in absurd (omega arith)
+  account_kind (holds.Account x) s = tt
+  account_kind (holds.Blocks x) s = absurd (omega arith)
+  account_kind (holds.Device x) s = absurd (omega arith)
+
+module _ (g : Begin) (ok : Known g) (p : Part) (fresh : Option Object) (pin : Option Pin) (owed : ℕ)
+    (ahead behind : Option Weight) (page : Option (List ℕ)) (fail : Option PartEnd) where
+  abbrev n : ℕ
+  n = g.given.size
+
+  abbrev Stays : EntryState → At → Type 0
+  Stays e at = Stage g p e at fresh pin owed ahead behind page fail
+
+  abbrev Moved : List LockNo → LockNo → EntryState → At → Type 0
+  Moved ks k e at = (k ∷ ks ≡ locks_at at p (class_by e.kept)
+      (class_in g.chain (next_form p page e.kept))) × Stays e at
+
+  -- a slot is taken
+  module _ (e : EntryState) (start : Stays e Start) (x : EntryState) (fit : EntryFits g p.page x)
+      (stands : IsForm g.chain (form_at g p.page x.order) x.kept)
+      (begun : is_beyond n p.op ≡ false) where
+    abbrev Goes : At → Type 0
+    Goes at = (slot p.page ∷ [] ≡ locks_at at p (class_by x.kept)
+        (class_in g.chain (next_form p page x.kept))) × Stays x at
+
+    -- what the actor sees of a page with no object is the page
+    is_right : (y : Option (List ℕ)) → NoneOf y → NoObj x.kept
+        → page_in y x.kept ≡ content g p.page x.order
+    is_right None free no_obj = plain_right g ok p.page x.order x.kept fit.calls no_obj stands
+    is_right (Some y) free no_obj = absurd free
+
+    no_blank : (op : Op) → IsWrite op → BlankAt Old op ahead (found_after g p.page x.order).blank
+    no_blank (Write start_ count stuff) i = tt
+    no_blank (Read start_ count) i = absurd i
+    no_blank (Discard start_ count) i = absurd i
+
+    made_there : IsWrite p.op → IsRight p.op p.page (page_in page x.kept) (content g p.page x.order)
+        → Goes (made_at (next_form p page x.kept) x.kept)
+    made_there wr right = (
+      made_locks (next_form p page x.kept) x.kept p (class_by x.kept)
+          (class_in g.chain (next_form p page x.kept)),
+      made_stage g p x fresh pin owed ahead behind page fail
+          (may_none x.kept pin start.pins) start.owes stands
+          (no_blank p.op wr) right start.counts.0 start.counts.1 start.fails begun wr start.made
+          (next_form p page x.kept) refl x.kept refl,
+    )
+
+    leaves : {start_ count : ℕ} → p.op ≡ Read start_ count → NoObj x.kept → Goes Leaving
+    leaves is free = (
+      refl,
+      record {
+        kind = subst Looks (sym is) tt;
+        made = start.made;
+        pins = start.pins;
+        owes = start.owes;
+        stands = stands;
+        right = subst (λ (o : Op). IsRight o p.page (page_in page x.kept)
+            (content g p.page x.order)) (sym is) (is_right page start.right free);
+        counts = start.counts;
+        blank = tt;
+        fails = subst (λ (o : Op). FailBy g p o fail) (sym is) start.fails;
+        begun = begun;
+      },
+    )
+
+    sees : Looks p.op → IsObj x.kept → Goes Seen
+    sees looks obj = (
+      refl,
+      record {
+        kind = (looks, obj);
+        made = start.made;
+        pins = start.pins;
+        owes = start.owes;
+        stands = stands;
+        right = start.right;
+        counts = start.counts;
+        blank = tt;
+        fails = start.fails;
+        begun = begun;
+      },
+    )
+
+    module _ (start_ count : ℕ) (stuff : Stuff) (is : p.op ≡ Write start_ count stuff) where
+      is_write : IsWrite p.op
+      is_write = subst IsWrite (sym is) tt
+
+      write_whole : has_whole start_ count p.page ≡ true
+          → Goes (made_at (next_form p page x.kept) x.kept)
+      write_whole e = made_there is_write (subst (λ (o : Op).
+          IsRight o p.page (page_in page x.kept) (content g p.page x.order)) (sym is) (inl e))
+
+      write_part : (k : Kept) → x.kept ≡ k → Goes (part_at (next_form p page x.kept) k)
+      write_part kept.Empty e = subst (λ (k : Kept). Goes (made_at (next_form p page x.kept) k)) e
+          (made_there is_write (subst (λ (o : Op). IsRight o p.page (page_in page x.kept)
+          (content g p.page x.order)) (sym is) (inr
+          (is_right page start.right (subst NoObj (sym e) tt)))))
+      write_part (kept.Same w) e = subst (λ (k : Kept).
+          Goes (made_at (next_form p page x.kept) k)) e
+          (made_there is_write (subst (λ (o : Op). IsRight o p.page (page_in page x.kept)
+          (content g p.page x.order)) (sym is) (inr
+          (is_right page start.right (subst NoObj (sym e) tt)))))
+      write_part (kept.Obj o) e = sees (subst Looks (sym is) tt) (subst IsObj (sym e) tt)
+
+      write_by : (b : Bool) → has_whole start_ count p.page ≡ b
+          → Goes (write_at b (next_form p page x.kept) x.kept)
+      write_by true e = write_whole e
+      write_by false e = write_part x.kept refl
+
+    module _ (start_ count : ℕ) (is : p.op ≡ Read start_ count) where
+      read_by : (k : Kept) → x.kept ≡ k → Goes (seen_at k)
+      read_by kept.Empty e = leaves is (subst NoObj (sym e) tt)
+      read_by (kept.Same w) e = leaves is (subst NoObj (sym e) tt)
+      read_by (kept.Obj o) e = sees (subst Looks (sym is) tt) (subst IsObj (sym e) tt)
+
+    module _ (start_ count : ℕ) (is : p.op ≡ Discard start_ count) where
+      drops : Changes p.op
+      drops = subst Changes (sym is) tt
+
+      blank : next_form p page x.kept ≡ Blank
+      blank = ap (λ (o : Op). next_by o p (page_in page x.kept)) is
+
+      bears : Bears g.chain (next_form p page x.kept) fresh
+      bears = subst (λ (f : PageForm). Bears g.chain f fresh) (sym blank) start.made
+
+      was_blank : (is : Bool) → (found_after g p.page x.order).blank ≡ is
+          → WasBlank p.op is (found_after g p.page x.order).blank
+      was_blank b e = subst (λ (o : Op). WasBlank o b (found_after g p.page x.order).blank)
+          (sym is) e
+
+      settles : (IsNothing x.kept → ⊥) → Goes (settle_at x.kept)
+      settles some = (
+        settle_locks x.kept p (class_by x.kept) (class_in g.chain (next_form p page x.kept)),
+        settle_stage g p x fresh pin owed ahead behind page fail
+            (may_none x.kept pin start.pins) start.owes stands
+            (was_blank false (blank_some g p.page x.order x.kept some stands))
+            (subst (λ (o : Op). IsRight o p.page (page_in page x.kept) (content g p.page x.order))
+            (sym is) tt) start.counts.0 start.counts.1 start.fails begun drops bears x.kept refl,
+      )
+
+      none_by : (y : Option Weight) → NoneOf y → WasBlank p.op true
+          (found_after g p.page x.order).blank → BlankBy p.op y (found_after g p.page x.order).blank
+      none_by None free b = b
+      none_by (Some y) free b = absurd free
+
+      discard_by : (k : Kept) → x.kept ≡ k → Goes (discard_at k)
+      discard_by kept.Empty e = (
+        refl,
+        record {
+          kind = (drops, subst NoObj (sym e) tt);
+          made = bears;
+          pins = start.pins;
+          owes = start.owes;
+          stands = tt;
+          right = subst (λ (o : Op). IsRight o p.page (page_in page x.kept)
+              (content g p.page x.order)) (sym is) tt;
+          counts = record {
+            ahead = λ q. none_weight q ahead start.counts.0
+                ∙ sym (ap (λ (f : PageForm). measure q (form_weight f)) blank ∙ nothing_shown q);
+            behind = λ q. none_weight q behind start.counts.1
+                ∙ sym (ap (λ (k : Kept). measure q (weight_of k)) e ∙ nothing_shown q);
+            small = subst (λ (f : PageForm). IsSmall (form_weight f)) (sym blank) (omega arith);
+          };
+          blank = none_by ahead start.counts.0 (was_blank true
+              (blank_empty g p.page x.order (subst (IsForm g.chain (form_at g p.page x.order)) e
+              stands)));
+          fails = start.fails;
+          begun = begun;
+        },
+      )
+      discard_by (kept.Same w) e = subst (λ (k : Kept). Goes (settle_at k)) e
+          (settles (subst (λ (k : Kept). IsNothing k → ⊥) (sym e) (λ i. i)))
+      discard_by (kept.Obj o) e = subst (λ (k : Kept). Goes (settle_at k)) e
+          (settles (subst (λ (k : Kept). IsNothing k → ⊥) (sym e) (λ i. i)))
+
+    entered : (o : Op) → p.op ≡ o → Goes (entered_at o p.page (next_form p page x.kept) x.kept)
+    entered (Write start_ count stuff) is = write_by start_ count stuff is
+        (has_whole start_ count p.page) refl
+    entered (Read start_ count) is = read_by start_ count is x.kept refl
+    entered (Discard start_ count) is = discard_by start_ count is x.kept refl
+
+  -- ---- takings
+
+  module _ (e : EntryState) (v : DiskHeld) (k : LockNo) (ks : List LockNo) (disk : OnDisk n p) where
+    abbrev Taken : LockNo → At → Type 0
+    Taken m at = Moved ks m (entry_or v e) at
+
+    start_take : (b : Bool) → is_beyond n p.op ≡ b → start_plan b p ≡ Take k
+        → Sound g (spot n (lock_of (start_plan b p))) v
+        → Stands g (spot n (lock_of (start_plan b p))) v
+        → ks ≡ [] → Stays e Start → Taken (lock_of (start_plan b p))
+        (begun_at b p (next_form p page (entry_or v e).kept) (entry_or v e).kept)
+    start_take true b what kind stands locks s = account v (account_kind g v kind) where
+      account : (u : DiskHeld) → IsAccount u → Moved ks lock.Account (entry_or u e) Refusing
+      account (holds.Account c) i = (
+        ap (λ (xs : List LockNo). lock.Account ∷ xs) locks,
+        record {
+          kind = tt;
+          made = s.made;
+          pins = s.pins;
+          owes = s.owes;
+          stands = tt;
+          right = s.right;
+          counts = s.counts;
+          blank = tt;
+          fails = s.fails;
+          begun = b;
+        },
+      )
+      account (holds.Slot c) i = absurd i
+      account (holds.Class c) i = absurd i
+      account (holds.Blocks c) i = absurd i
+      account (holds.Device c) i = absurd i
+    start_take false b what kind stands locks s = slot_of v
+        (entry_kind g p.page (disk b).0 v kind) kind stands where
+          slot_of : (u : DiskHeld) → IsEntry u → Sound g p.page u → Stands g p.page u
+              → Moved ks (slot p.page) (entry_or u e) (entered_at p.op p.page
+              (next_form p page (entry_or u e).kept) (entry_or u e).kept)
+          slot_of (holds.Slot x) i so st = let r = entered e s x so st b p.op refl in
+              (ap (λ (xs : List LockNo). slot p.page ∷ xs) locks ∙ r.0, r.1)
+          slot_of (holds.Class c) i so st = absurd i
+          slot_of (holds.Account c) i so st = absurd i
+          slot_of (holds.Blocks c) i so st = absurd i
+          slot_of (holds.Device c) i so st = absurd i
+
+    -- a pool or the account is taken, and the entry in hand stays
+    by_pool : (c : ℕ) (at : At) → c < 255 → Sound g (n + c) v
+        → (lock.Class c ∷ ks ≡ locks_at at p (class_by e.kept)
+        (class_in g.chain (next_form p page e.kept))) → Stays e at → Taken (lock.Class c) at
+    by_pool c at low kind locks s = pool v (class_kind g c low v kind) where
+      pool : (u : DiskHeld) → IsPoolOf u → Moved ks (lock.Class c) (entry_or u e) at
+      pool (holds.Slot y) i = absurd i
+      pool (holds.Class y) i = (locks, s)
+      pool (holds.Account y) i = absurd i
+      pool (holds.Blocks y) i = absurd i
+      pool (holds.Device y) i = absurd i
+
+    by_account : (at : At) → Sound g (n + 255) v → (lock.Account ∷ ks
+        ≡ locks_at at p (class_by e.kept) (class_in g.chain (next_form p page e.kept))) → Stays e at
+        → Taken lock.Account at
+    by_account at kind locks s = account v (account_kind g v kind) where
+      account : (u : DiskHeld) → IsAccount u → Moved ks lock.Account (entry_or u e) at
+      account (holds.Slot y) i = absurd i
+      account (holds.Class y) i = absurd i
+      account (holds.Account y) i = (locks, s)
+      account (holds.Blocks y) i = absurd i
+      account (holds.Device y) i = absurd i
+
+    abbrev c : ℕ
+    c = class_by e.kept
+
+    abbrev d : ℕ
+    d = class_in g.chain (next_form p page e.kept)
+
+    at_take : (at : At) → plan_at n at p c d ≡ Take k → Sound g
+        (spot n (lock_of (plan_at n at p c d))) v → Stands g
+        (spot n (lock_of (plan_at n at p c d))) v
+        → ks ≡ locks_at at p c d → Stays e at → Taken (lock_of (plan_at n at p c d))
+        (after_take n at p (next_form p page (entry_or v e).kept) (entry_or v e).kept)
+    at_take Start what kind stands locks s = start_take
+        (is_beyond n p.op) refl what kind stands locks s
+    at_take Seen what kind stands locks s = by_pool c Pinning
+        (old_low g.chain (form_at g p.page e.order) e.kept s.stands) kind
+        (ap (λ (xs : List LockNo). lock.Class c ∷ xs) locks)
+        (record {
+          kind = s.kind;
+          made = s.made;
+          pins = s.pins;
+          owes = s.owes;
+          stands = s.stands;
+          right = s.right;
+          counts = s.counts;
+          blank = s.blank;
+          fails = s.fails;
+          begun = s.begun;
+        })
+    at_take Pinned what kind stands locks s = by_pool c Unpinning
+        (old_low g.chain (form_at g p.page e.order) e.kept s.stands) kind
+        (ap (λ (xs : List LockNo). lock.Class c ∷ xs) locks)
+        (record {
+          kind = s.kind;
+          made = s.made;
+          pins = s.pins;
+          owes = s.owes;
+          stands = s.stands;
+          right = s.right;
+          counts = s.counts;
+          blank = s.blank;
+          fails = s.fails;
+          begun = s.begun;
+        })
+    at_take Wanting what kind stands locks s = by_pool d Inside
+        (form_low g.chain (next_form p page e.kept)) kind
+        (ap (λ (xs : List LockNo). lock.Class d ∷ xs) locks)
+        (record {
+          kind = s.kind;
+          made = s.made;
+          pins = s.pins;
+          owes = s.owes;
+          stands = s.stands;
+          right = s.right;
+          counts = s.counts;
+          blank = s.blank;
+          fails = s.fails;
+          begun = s.begun;
+        })
+    at_take Inside what kind stands locks s = by_account Both kind
+        (ap (λ (xs : List LockNo). lock.Account ∷ xs) locks)
+        (record {
+          kind = s.kind;
+          made = s.made;
+          pins = s.pins;
+          owes = s.owes;
+          stands = s.stands;
+          right = s.right;
+          counts = s.counts;
+          blank = s.blank;
+          fails = s.fails;
+          begun = s.begun;
+        })
+    at_take Old what kind stands locks s = by_pool c Freeing
+        (old_low g.chain (form_at g p.page e.order) e.kept s.stands) kind
+        (ap (λ (xs : List LockNo). lock.Class c ∷ xs) locks)
+        (record {
+          kind = s.kind;
+          made = s.made;
+          pins = s.pins;
+          owes = s.owes;
+          stands = s.stands;
+          right = s.right;
+          counts = s.counts;
+          blank = s.blank;
+          fails = s.fails;
+          begun = s.begun;
+        })
+    at_take Owing what kind stands locks s = by_account Giving kind
+        (ap (λ (xs : List LockNo). lock.Account ∷ xs) locks)
+        (record {
+          kind = s.kind;
+          made = s.made;
+          pins = s.pins;
+          owes = s.owes;
+          stands = s.stands;
+          right = s.right;
+          counts = s.counts;
+          blank = s.blank;
+          fails = s.fails;
+          begun = s.begun;
+        })
+    at_take Refusing what kind stands locks s = absurd (cc)
+    at_take Pinning what kind stands locks s = absurd (cc)
+    at_take Unpinning what kind stands locks s = absurd (cc)
+    at_take Leaving what kind stands locks s = absurd (cc)
+    at_take Both what kind stands locks s = absurd (cc)
+    at_take Made what kind stands locks s = absurd (cc)
+    at_take Freeing what kind stands locks s = absurd (cc)
+    at_take Giving what kind stands locks s = absurd (cc)
+    at_take Ready what kind stands locks s = absurd (cc)
+
+module _ (g : Begin) (ok : Known g) where
+  by_take : (l : Here) (v : DiskHeld) (k : LockNo) (ps : List Part) (e : EntryState)
+      (ks : List LockNo) → ((p : Part) (rest : List Part) → ps ≡ p ∷ rest → OnDisk g.given.size p)
+      → plan_by g.given.size ps l.at (class_by e.kept) (new_class g.chain ps l.page e.kept) ≡ Take k
+      → Sound g (spot g.given.size (lock_of (plan_by g.given.size ps l.at (class_by e.kept)
+      (new_class g.chain ps l.page e.kept)))) v
+      → Stands g (spot g.given.size (lock_of (plan_by g.given.size ps l.at (class_by e.kept)
+      (new_class g.chain ps l.page e.kept)))) v
+      → ks ≡ locks_by ps l.at (class_by e.kept) (new_class g.chain ps l.page e.kept)
+      → StageBy g ps e l.at l.fresh l.pin l.owed l.ahead l.behind l.page l.fail
+      → (lock_of (plan_by g.given.size ps l.at (class_by e.kept)
+      (new_class g.chain ps l.page e.kept)) ∷ ks ≡ locks_by ps
+      (taken_at g.given.size ps l.at l.page (entry_or v e).kept) (class_by (entry_or v e).kept)
+      (new_class g.chain ps l.page (entry_or v e).kept))
+      × StageBy g ps (entry_or v e) (taken_at g.given.size ps l.at l.page (entry_or v e).kept)
+      l.fresh l.pin l.owed l.ahead l.behind l.page l.fail
+  by_take l v k [] e ks disk what kind stands locks s = absurd (cc)
+  by_take l v k (p ∷ ps) e ks disk what kind stands locks s =
+      at_take g ok p l.fresh l.pin l.owed l.ahead l.behind l.page l.fail e v k ks
+      (disk p ps refl) l.at what kind stands locks s
+
+  pub fits_take : (a : ℕ) (l : Here) (k : LockNo) (v : DiskHeld) → plan (terms g) l ≡ Take k
+      → IsActor g a l → AtHome g (spot g.given.size k) v → IsActor g a (took (terms g) l v)
+  fits_take a l k v what f home =
+      let q : k ≡ lock_of (plan (terms g) l) = ap lock_of (sym what) in
+      let kind = subst (λ (m : LockNo). Sound g (spot g.given.size m) v) q home.sound in
+      let stands = subst (λ (m : LockNo). Stands g (spot g.given.size m) v) q home.stands in
+      let t = by_take l v k l.todo (entry_in l.held) (map (λ (x : LockNo × DiskHeld). x.0) l.held)
+      (λ p rest is. on_disk (EndsSo (ground_of g)) g.given.size f.ops l.done p rest
+      (subst (Follows (EndsSo (ground_of g)) (program g.given.size 0 f.ops) l.done) is
+      f.follows)) what kind stands f.locks f.stage in
+      record {
+        who = f.who;
+        ops = f.ops;
+        named = f.named;
+        follows = f.follows;
+        locks = t.0;
+        sound = (kind, f.sound);
+        stage = t.1;
+        lean = let x = home_lean g (spot g.given.size (lock_of (plan (terms g) l))) v stands in
+            let y = f.lean in omega arith;
+      }

@@ -1,0 +1,226 @@
+-- Each turn keeps the rule.
+use Rattle.std.proofs.Common.{◌≡◌, ◌*◌, ◌≤◌, ◌<◌, ◌∷◌, ◌++◌, ◌⊎◌, ℕ, zero, suc, List, [], Option, Some, None, slice_get, slice_set, refl, sym, ap, subst, arith, inl, inr, ⊎_elim}
+use Rattle.call_history.specs.Parts.{KeepsTo}
+use Rattle.call_history.specs.declared.part.Done.{Done}
+use Rattle.call_history.specs.declared.part.Part.{Part}
+use Rattle.call_history.specs.declared.part.PartEnd.{PartEnd}
+use Rattle.call_history.specs.declared.part.PartEnd.TheVariants.{AtLimit, Carried, NoMemory, Whole}
+use Rattle.class_pool.specs.Pool.{PoolState}
+use Rattle.joint_rule.proofs.Balances.{none_fresh}
+use Rattle.joint_rule.proofs.Bounds.{below, most_give, most_take, risen, times_le}
+use Rattle.joint_rule.proofs.Counts.{refusals_give, refusals_take, refuses_of}
+use Rattle.joint_rule.proofs.Events.{Event}
+use Rattle.joint_rule.proofs.Facts.{Known}
+use Rattle.joint_rule.proofs.Gifts.{stage}
+use Rattle.joint_rule.proofs.Givings.{gift}
+use Rattle.joint_rule.proofs.Keeps.{OneTurn, event_at, give_keeps, take_keeps}
+use Rattle.joint_rule.proofs.Lookups.{lone, mine_account, under_account}
+use Rattle.joint_rule.proofs.News.{news_give, news_gives, news_take}
+use Rattle.joint_rule.proofs.Pages.{ever_now}
+use Rattle.joint_rule.proofs.Pools.{chain_low}
+use Rattle.joint_rule.proofs.Sums.{get_set, gone}
+use Rattle.joint_rule.proofs.Takes.{form_claim}
+use Rattle.joint_rule.proofs.Tells.{tells_of, told_give, told_take}
+use Rattle.joint_rule.specs.Begins.{Begin, form_at, ground_of, image, terms}
+use Rattle.joint_rule.specs.Joint.{Joint, PoolFits, Sound}
+use Rattle.joint_rule.specs.Rule.{FailKeeps, KeepsLimits, Rule, ShowsOrder, reach_at}
+use Rattle.joint_rule.specs.Weights.{HeldAll, claims, each_one, ever_at, one, pages, some_of}
+use Rattle.lock_row.specs.Machine.{Run}
+use Rattle.lock_row.specs.Totals.{held_sum}
+use Rattle.lock_row.specs.declared.names.At.TheVariants.{Both}
+use Rattle.lock_row.specs.declared.names.LockNo.{LockNo}
+use Rattle.lock_row.specs.declared.names.Plan.TheVariants.{Give, Take}
+use Rattle.lock_row.specs.declared.names.State.{State}
+use Rattle.mem_account.specs.Counters.{Counters, IsPastLimit}
+use Rattle.page_steps.specs.Givings.{Works}
+use Rattle.page_steps.specs.Pools.{IsNeed}
+use Rattle.page_steps.specs.Steps.{DiskHeld, Here, lock_of, piece_over, plan, slot, spot, took}
+use Rattle.plain_disk.specs.Ends.{Bounds}
+use Rattle.slot_entry.specs.Entries.{EntryState}
+use Rattle.joint_rule.proofs.Events as event
+use Rattle.lock_row.specs.declared.names.LockNo.TheVariants as lock
+use Rattle.lock_row.specs.declared.names.Held.TheVariants as holds
+use Rattle.zr_base.specs.declared.op.OpEnd.TheVariants as ends
+use Rattle.lock_row.specs.Machine as turn
+
+get_push : {A : Type 0} (xs : List A) (x : A) (i : ℕ) (y : A) → slice_get (xs ++ x ∷ []) i ≡ Some y
+    → (slice_get xs i ≡ Some y) ⊎ (x ≡ y)
+get_push [] x zero y e = inr (let q : Some x ≡ Some y = e in cc)
+get_push [] x (suc i) y e = absurd (cc)
+get_push (z ∷ zs) x zero y e = inl e
+get_push (z ∷ zs) x (suc i) y e = get_push zs x i y e
+
+-- ---- refusals at the limit
+
+module _ (g : Begin) (b c : Bounds) (up : b.reach ≤ c.reach) where
+  keeps_up : (x : PartEnd) → KeepsTo (ground_of g) b x → KeepsTo (ground_of g) c x
+  keeps_up Carried h = tt
+  keeps_up NoMemory h = tt
+  keeps_up (Whole x) h = tt
+  keeps_up (AtLimit n need limit) h = let t = times_le g.chain b.reach c.reach up in omega arith
+
+  fail_up : (x : Option PartEnd) → FailKeeps g b x → FailKeeps g c x
+  fail_up None h = tt
+  fail_up (Some x) h = keeps_up x h
+
+  limits_up : (l : Here) → KeepsLimits g b l → KeepsLimits g c l
+  limits_up l h = record {
+    over = λ i d e. keeps_up d.end (h.over i d e);
+    now = fail_up l.fail h.now;
+  }
+
+  -- an actor with the same refusals, and one whose piece is over
+  limits_same : (l m : Here) → m.done ≡ l.done → m.fail ≡ l.fail → KeepsLimits g b l
+      → KeepsLimits g c m
+  limits_same l m done fail h = record {
+    over = λ i d e. keeps_up d.end (h.over i d (subst (λ (ds : List Done). slice_get ds i
+        ≡ Some d) done e));
+    now = subst (FailKeeps g c) (sym fail) (fail_up l.fail h.now);
+  }
+
+  limits_over : (l : Here) (p : Part) (end : PartEnd) (got : List (List ℕ)) (rest : List Part)
+      → KeepsTo (ground_of g) c end → KeepsLimits g b l
+      → KeepsLimits g c (piece_over l p end got rest)
+  limits_over l p end got rest this h = record {
+    over = λ i d e. ⊎_elim
+        (λ old. keeps_up d.end (h.over i d old))
+        (λ new. subst (λ (x : Done). KeepsTo (ground_of g) c x.end) new this)
+        (get_push l.done (record { part = p; end = end; got = got }) i d e);
+    now = tt;
+  }
+
+module _ (g : Begin) (ok : Known g) (w : State DiskHeld) (j : Joint g w) (a : ℕ) (l : Here)
+    (who : slice_get w.locals a ≡ Some l) (v : DiskHeld) (m : Here) where
+  abbrev n : ℕ
+  n = g.given.size
+
+  need_few : (q : PoolState) (need : ℕ) → PoolFits g.chain q → IsNeed q need → need ≤ g.chain
+  need_few q need fits (inl x) = let e = x.1 in omega arith
+  need_few q need fits (inr x) = let e = x.1 in let c = chain_low g.chain q fits ok.proper.least in
+      omega arith
+
+  -- a refusal at the limit is within what pages and actors can have made
+  refused_below : (p : Part) (rest : List Part) (e : EntryState) (c : Counters) (q : PoolState)
+      (cl need : ℕ) → l.todo ≡ p ∷ rest → l.at ≡ Both
+      → l.held ≡ (lock.Account, holds.Account c) ∷ (lock.Class cl, holds.Class q) ∷ (
+        slot p.page,
+        holds.Slot e,
+      ) ∷ []
+      → IsNeed q need → IsPastLimit c need → c.limit < g.chain * (reach_at g w).reach
+  refused_below p rest e c q cl need todo at held is_need past =
+      let st = stage g ok w j a l who p rest todo _ Both held at in
+      let sounds = subst (HeldAll n (Sound g)) held (j.each.in_local a l who).sound in
+      let x = ap (held_sum (spot n) (claims g each_one)) held in
+      let y = ap (held_sum (spot n) (ever_at g)) held in
+      let f = none_fresh each_one l.fresh st.made in
+      let o = ap some_of st.owes in
+      let lf = form_claim g.chain (form_at g p.page e.order) e.kept
+      (image g p.page e.order) st.stands in
+      let le = ever_now g p.page e.order in
+      let z = lone g w j a l who lock.Account pages (under_account g (λ i. i.pages))
+      (mine_account g w j a l who c _ held) in
+      let r = ap (held_sum (spot n) pages) held in
+      let b = below g ok w j a l who (omega arith) in
+      let few = need_few q need sounds.1.0.1 is_need in let p1 = past.1 in omega arith
+
+  pub limits_of : (c : Bounds) → (reach_at g w).reach ≤ c.reach → Event g l v m
+      → KeepsLimits g (reach_at g w) l → KeepsLimits g c m
+  limits_of c up (event.refuses p rest x todo at held v_is m_is) h =
+      subst (KeepsLimits g c) (sym m_is) (limits_over g (reach_at g w) c up l p
+      (Whole ends.Range) [] rest tt h)
+  limits_of c up (event.pins p rest e o q q' u u' cell todo at held is sw named_u free taken is_cell
+      in_cell v_is m_is) h = subst (KeepsLimits g c) (sym m_is)
+      (limits_same g (reach_at g w) c up l _ refl refl h)
+  limits_of c up (event.unpins p rest e o q q' u u' todo at held is sw named_u taken free v_is m_is)
+      h = subst (KeepsLimits g c) (sym m_is) (limits_same g (reach_at g w) c up l _ refl refl h)
+  limits_of c up (event.charges p rest e x q q' cl hd need bytes huge todo at held is_form is_class
+      within al v_is m_is) h = subst (KeepsLimits g c) (sym m_is)
+      (limits_same g (reach_at g w) c up l _ refl refl h)
+  limits_of c up (event.limits p rest e x q cl need todo at held is_need past v_is m_is) h =
+      subst (KeepsLimits g c) (sym m_is) (record {
+        over = (limits_up g (reach_at g w) c up l h).over;
+        now = keeps_up g (reach_at g w) c up (AtLimit x.pages need x.limit)
+            (refused_below p rest e x q cl need todo at held is_need past);
+      })
+  limits_of c up (event.starves p rest e x q cl todo at held v_is m_is) h =
+      subst (KeepsLimits g c) (sym m_is) (record {
+        over = (limits_up g (reach_at g w) c up l h).over;
+        now = tt;
+      })
+  limits_of c up (event.stows p rest e q cl todo at held well v_is m_is) h =
+      subst (KeepsLimits g c) (sym m_is) (limits_same g (reach_at g w) c up l _ refl refl h)
+  limits_of c up (event.quits p rest e q cl x todo at held bad v_is m_is) h =
+      subst (KeepsLimits g c) (sym m_is) (limits_same g (reach_at g w) c up l _ refl refl h)
+  limits_of c up (event.frees p rest e o q q' frames todo at held is fp v_is m_is) h =
+      subst (KeepsLimits g c) (sym m_is) (limits_same g (reach_at g w) c up l _ refl refl h)
+  limits_of c up (event.repays p rest e x todo at held v_is m_is) h =
+      subst (KeepsLimits g c) (sym m_is) (limits_same g (reach_at g w) c up l _ refl refl h)
+  limits_of c up (event.puts p rest e f todo at held notes v_is m_is) h =
+      subst (KeepsLimits g c) (sym m_is) (limits_over g
+      (reach_at g w) c up l p Carried [] rest tt h)
+  limits_of c up (event.reads p rest e f todo at held well notes v_is m_is) h =
+      subst (KeepsLimits g c) (sym m_is) (limits_over g (reach_at g w) c up l p Carried _ rest tt h)
+  limits_of c up (event.fails p rest e x todo at held bad v_is m_is) h =
+      subst (KeepsLimits g c) (sym m_is) (limits_over g (reach_at g w) c up l p x [] rest
+      (fail_up g (reach_at g w) c up (Some x) (subst (FailKeeps g (reach_at g w)) bad h.now)) h)
+
+-- ---- the rule
+
+module _ (g : Begin) (ok : Known g) (w : State DiskHeld) (r : Rule g w) (a : ℕ) (l : Here)
+    (who : slice_get w.locals a ≡ Some l) (k : LockNo) (v : DiskHeld) where
+  abbrev size : ℕ
+  size = g.given.size
+
+  rule_take : plan (terms g) l ≡ Take k → slice_get w.row (spot size k) ≡ Some (Some v)
+      → Rule g (gone size w a l who k None (took (terms g) l v))
+  rule_take what there =
+      let m = took (terms g) l v in
+      let same = ok.facts.take (spot size) (ever_at g) one w a l k v m who there
+      (ap (λ p. (lock_of p, v) ∷ l.held) what) refl in record {
+        joint = take_keeps g ok w r.joint a l who k v what there;
+        told = told_take g ok w r.joint r.told a l who k v what there;
+        most = most_take g ok w r.joint a l who k v what there r.most;
+        refusals = λ q. refusals_take g ok w r.joint a l who k v m q what there (r.refusals q);
+        news = λ q. news_take g ok w r.joint a l who k v m q what there (r.news q);
+        limits = λ b y e. ⊎_elim
+            (λ s. subst (KeepsLimits g _) s.1 (limits_same g (reach_at g w) _
+            (omega arith) l m refl refl (r.limits a l who)))
+            (λ o. limits_up g (reach_at g w) _ (omega arith) y (r.limits b y o.1))
+            (get_set w.locals a b m y l who e);
+      }
+
+  rule_give : (m : Here) → plan (terms g) l ≡ Give k → slice_get w.row (spot size k) ≡ Some None
+      → Event g l v m → Rule g (gone size w a l who k (Some v) m)
+  rule_give m what there ev =
+      let x = gift g ok w r.joint a l who k v m what ev in
+      let up = risen g ok w r.joint a l who k v m there x in record {
+        joint = give_keeps g ok w r.joint a l who k v m there x;
+        told = told_give g ok w r.joint r.told a l who k v m there x
+            (tells_of g ok w r.joint a l who k v m what (ShowsOrder g (slice_set w.locals a m)) ev);
+        most = most_give g ok w r.joint a l who k v m there x r.most;
+        refusals = λ q. refusals_give g ok w r.joint a l who k v m q there
+            (refuses_of g ok w r.joint a l who k v m q ev) (r.refusals q);
+        news = λ q. news_give g ok w r.joint a l who k v m q there
+            (news_gives g ok w r.joint a l who k v m what q ev) (r.news q);
+        limits = λ b y e. ⊎_elim
+            (λ s. subst (KeepsLimits g _) s.1 (limits_of g ok w r.joint a l who v m _ up ev
+            (r.limits a l who)))
+            (λ o. limits_up g (reach_at g w) _ up y (r.limits b y o.1))
+            (get_set w.locals a b m y l who e);
+      }
+
+module _ (g : Begin) (ok : Known g) where
+  pub rule_turn : (a : ℕ) (w n : State DiskHeld) → Rule g w → OneTurn g a w n → Rule g n
+  rule_turn a w n r (turn.finished l who what e) = subst (Rule g) (sym e) r
+  rule_turn a w n r (turn.missed l k who what there e) = subst (Rule g) (sym e) r
+  rule_turn a w n r (turn.taken l k v t) = subst (Rule g) (sym t.after)
+      (rule_take g ok w r a l t.who k v t.what t.there)
+  rule_turn a w n r (turn.given l k v m t) = subst (Rule g) (sym t.after)
+      (rule_give g ok w r a l t.who k v m t.what t.there
+      (event_at g ok w r.joint a l t.who v m t.work))
+
+  pub rule_run : (turns : List ℕ) (u w : State DiskHeld) → Rule g u
+      → Run (spot g.given.size) (plan (terms g)) (took (terms g)) (Works (terms g)) turns u w
+      → Rule g w
+  rule_run [] u w r e = subst (Rule g) (sym e) r
+  rule_run (a ∷ rest) u w r e = rule_run rest e.0 w (rule_turn a u e.0 r e.1) e.2

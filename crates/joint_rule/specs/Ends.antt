@@ -1,0 +1,104 @@
+-- What a finished phase leaves: the orders of its pages, the histories of its actors, and the rest
+-- of the plain disk.
+use Rattle.std.specs.Prelude.{◌≡◌, ℕ, ◌+◌, ◌/◌, true, List, [], ◌∷◌, map, get_or, Option, Some, None, slice_get}
+use Rattle.std.specs.List.{range_with_len}
+use Rattle.zr_base.specs.declared.op.Tag.{Tag}
+use Rattle.zr_base.specs.declared.op.Op.{Op}
+use Rattle.zr_base.specs.Plain.{zero_sector}
+use Rattle.mem_account.specs.Counters.{Counters, no_counts}
+use Rattle.zspage.specs.Cells.{used_of}
+use Rattle.class_pool.specs.Zspages.{Cells}
+use Rattle.plain_disk.specs.Calls.{after_all}
+use Rattle.plain_disk.specs.Rests.{Settings, Rest, page_of, stats, nothing_yet, so_far_of}
+use Rattle.plain_disk.specs.Phases.{begun, held_after, nth_order, touched_by}
+use Rattle.call_history.specs.declared.part.Done.{Done}
+use Rattle.lock_row.specs.declared.names.Held.TheVariants as holds
+use Rattle.lock_row.specs.declared.names.Plan.TheVariants.{Finished}
+use Rattle.lock_row.specs.declared.names.State.{State}
+use Rattle.slot_entry.specs.Forms.{page_weight}
+use Rattle.page_steps.specs.Steps.{DiskHeld, Here, plan}
+use Rattle.joint_rule.specs.Begins.{Begin, terms}
+
+-- a phase of these actors begins at a rest of the plain disk
+abbrev pub begin_at : Rest → List (List Op) → Begin
+begin_at r actors = record {
+  given = begun r actors;
+  blank = r.blank;
+  touched = r.touched;
+  chain = r.set.chain;
+  clock = r.set.clock;
+  was = stats page_weight r;
+}
+
+-- all actors are finished
+abbrev pub AllFinished : Begin → State DiskHeld → Type 0
+AllFinished g w = (a : ℕ) (l : Here) → slice_get w.locals a ≡ Some l → plan (terms g) l ≡ Finished
+
+-- the order of the entry at a place
+abbrev pub order_in : Option DiskHeld → List Tag
+order_in (Some (holds.Slot e)) = e.order
+order_in _ = []
+
+-- the value at home at a place
+abbrev pub value_at : List (Option DiskHeld) → ℕ → Option DiskHeld
+value_at row k = get_or row k None
+
+-- the orders of all pages
+abbrev pub orders_of : ℕ → List (Option DiskHeld) → List (List Tag)
+orders_of size row = map (λ p. order_in (value_at row p)) (range_with_len 0 size)
+
+-- the pieces of all actors that are over
+abbrev pub histories : List Here → List (List Done)
+histories ls = map (λ (l : Here). l.done) ls
+
+-- how many cells of each zspage are used
+abbrev pub used_each : List (Option Cells) → List ℕ
+used_each [] = []
+used_each (None ∷ zs) = used_each zs
+used_each (Some cells ∷ zs) = used_of cells ∷ used_each zs
+
+-- those of the pool at a place
+abbrev pub used_in : Option DiskHeld → List ℕ
+used_in (Some (holds.Class p)) = used_each p.zspages
+used_in _ = []
+
+-- the account at a place
+abbrev pub account_in : Option DiskHeld → Counters
+account_in (Some (holds.Account c)) = c
+account_in _ = no_counts
+
+-- the account of a disk of so many pages
+abbrev pub account_of : ℕ → List (Option DiskHeld) → Counters
+account_of size row = account_in (value_at row (size + 255))
+
+-- The rest of the plain disk after a phase with these orders: pages by the calls, pools and
+-- counters
+-- by the row.
+abbrev pub rest_by : Rest → List (List Op) → List (List Tag) → List (Option DiskHeld) → Rest
+rest_by r actors orders row = record {
+  size = r.size;
+  holds = λ s. held_after (begun r actors) (nth_order orders (s / 8)) s;
+  blank = λ p. (after_all actors (page_of r p) (nth_order orders p)).blank;
+  touched = λ p. touched_by (nth_order orders p) r.set.clock (r.touched p);
+  used = λ k. used_in (value_at row (r.size + k));
+  most = (account_of r.size row).most;
+  set = r.set;
+  so_far = so_far_of (account_of r.size row);
+}
+
+-- the rest that a phase leaves on a row
+abbrev pub rest_after : Rest → List (List Op) → List (Option DiskHeld) → Rest
+rest_after r actors row = rest_by r actors (orders_of r.size row) row
+
+-- the rest of a new disk of so many pages
+abbrev pub new_rest : ℕ → Settings → Rest
+new_rest n set = record {
+  size = n;
+  holds = λ s. zero_sector;
+  blank = λ p. true;
+  touched = λ p. 0;
+  used = λ k. [];
+  most = 0;
+  set = set;
+  so_far = nothing_yet;
+}

@@ -1,0 +1,152 @@
+-- What the rule of pages, pools and the account gives: statements that the laws claim.
+use Rattle.std.specs.Prelude.{◌≡◌, ℕ, ◌+◌, ◌*◌, ◌<◌, ◌≤◌, true, List, [], length, Option, Some, None, slice_get}
+use Rattle.zr_base.specs.declared.op.Op.{Op}
+use Rattle.zr_base.specs.Plain.{zero_sector}
+use Rattle.mem_account.specs.Counters.{no_counts}
+use Rattle.plain_disk.specs.Rests.{Settings, Rest, stats}
+use Rattle.plain_disk.specs.Phases.{begun, bounds}
+use Rattle.plain_disk.specs.Legal.{sets}
+use Rattle.plain_disk.specs.Legal.{IsNew as IsNewDisk}
+use Rattle.call_history.specs.Histories.{Agree}
+use Rattle.call_history.specs.Tallies.{Tallies}
+use Rattle.lock_row.specs.declared.names.LockNo.{LockNo}
+use Rattle.lock_row.specs.declared.names.Held.TheVariants as holds
+use Rattle.lock_row.specs.declared.names.Plan.TheVariants.{Finished, Take, Give}
+use Rattle.lock_row.specs.declared.names.State.{State}
+use Rattle.lock_row.specs.Machine.{Turn, Reached}
+use Rattle.lock_row.specs.Totals.{total}
+use Rattle.slot_entry.specs.Entries.{EntryState}
+use Rattle.slot_entry.specs.Forms.{page_weight}
+use Rattle.page_steps.specs.Steps.{DiskHeld, Here, spot, plan, took}
+use Rattle.page_steps.specs.Givings.{Works}
+use Rattle.page_steps.specs.Fits.{StageFits}
+use Rattle.joint_rule.specs.Begins.{Begin, terms, ground_of, AreRequests, IsSector, IsRoomy, Proper}
+use Rattle.joint_rule.specs.Weights.{none, stored, each_one}
+use Rattle.joint_rule.specs.Rule.{Rule}
+use Rattle.joint_rule.specs.Starts.{AtRest, IsStart, IsRenewed, Renewed, Matched, IsNextDisk, IsNew}
+use Rattle.joint_rule.specs.Ends.{begin_at, AllFinished, orders_of, histories, account_of, rest_after, new_rest}
+
+-- ---- turns
+
+module _ (g : Begin) where
+  -- a turn of an actor of a phase
+  abbrev pub OneTurn : ℕ → State DiskHeld → State DiskHeld → Type 0
+  OneTurn = Turn (spot g.given.size) (plan (terms g)) (took (terms g)) (Works (terms g))
+
+  -- turns lead from the first state to the second
+  abbrev pub IsReached : State DiskHeld → State DiskHeld → Type 0
+  IsReached = Reached (spot g.given.size) (plan (terms g)) (took (terms g)) (Works (terms g))
+
+-- the state before the first turn has the rule
+abbrev pub StartHasRule : Type 0
+StartHasRule = (g : Begin) (w : State DiskHeld) → Proper g → IsStart g w → Rule g w
+
+-- each turn keeps it
+abbrev pub TurnKeepsRule : Type 0
+TurnKeepsRule = (g : Begin) (a : ℕ) (w n : State DiskHeld) → Proper g → Rule g w → OneTurn g a w n
+    → Rule g n
+
+-- each state that is reached has it
+abbrev pub ReachedHasRule : Type 0
+ReachedHasRule = (g : Begin) (u w : State DiskHeld) → Proper g → Rule g u → IsReached g u w
+    → Rule g w
+
+-- Some actor can move: it takes a lock whose value is at home, or it gives one back.
+pub data CanMove (g : Begin) (w : State DiskHeld) : Type 0 where
+  takes : (a : ℕ) (l : Here) (k : LockNo) (v : DiskHeld) → slice_get w.locals a ≡ Some l
+      → plan (terms g) l ≡ Take k → slice_get w.row (spot g.given.size k) ≡ Some (Some v)
+      → CanMove g w
+  gives : (a : ℕ) (l : Here) (k : LockNo) → slice_get w.locals a ≡ Some l
+      → plan (terms g) l ≡ Give k → slice_get w.row (spot g.given.size k) ≡ Some None
+      → CanMove g w
+
+-- where some actor isn't finished, some actor can move
+abbrev pub NobodyWaitsForever : Type 0
+NobodyWaitsForever = (g : Begin) (w : State DiskHeld) (a : ℕ) (l : Here) → Proper g → Rule g w
+    → slice_get w.locals a ≡ Some l → (plan (terms g) l ≡ Finished → ⊥) → CanMove g w
+
+-- ---- values
+
+-- the value that an actor's next taking takes fits the actor's stage
+abbrev pub TakenValueFits : Type 0
+TakenValueFits = (g : Begin) (w : State DiskHeld) (a : ℕ) (l : Here) (k : LockNo) (v : DiskHeld)
+    → Proper g → Rule g w → slice_get w.locals a ≡ Some l → plan (terms g) l ≡ Take k
+    → slice_get w.row (spot g.given.size k) ≡ Some (Some v)
+    → StageFits (terms g) l v
+
+-- there are at most as many live objects as pages and actors
+abbrev pub ObjectsAreFew : Type 0
+ObjectsAreFew = (g : Begin) (w : State DiskHeld) → Rule g w
+    → total (spot g.given.size) (stored each_one) none w ≤ g.given.size + length w.locals
+
+-- ---- finished phases
+
+-- where all actors are finished, all values are at home, and the account's numbers are sums over
+-- pools and entries
+abbrev pub FinishedIsAtRest : Type 0
+FinishedIsAtRest = (g : Begin) (w : State DiskHeld) → Rule g w → AllFinished g w → AtRest g w.row
+
+-- the histories of the actors then agree with the orders of the pages
+abbrev pub FinishedAgrees : Type 0
+FinishedAgrees = (r : Rest) (actors : List (List Op)) (w : State DiskHeld)
+    → Proper (begin_at r actors) → Rule (begin_at r actors) w → AllFinished (begin_at r actors) w
+    → Agree (ground_of (begin_at r actors)) (bounds page_weight r actors (orders_of r.size w.row))
+    (begun r actors) (histories w.locals) (orders_of r.size w.row)
+
+-- and the account has counted what the pages of the rest, the orders and the histories say
+abbrev pub FinishedTallies : Type 0
+FinishedTallies = (r : Rest) (actors : List (List Op)) (w : State DiskHeld)
+    → Proper (begin_at r actors) → Rule (begin_at r actors) w → AllFinished (begin_at r actors) w
+    → Tallies page_weight r actors (histories w.locals) (orders_of r.size w.row)
+    (account_of r.size w.row) (rest_after r actors w.row)
+
+-- a rest with emptied orders, or another limit, is one of the phase after
+abbrev pub RestGoesOn : Type 0
+RestGoesOn = (g h : Begin) (xs ys : List (Option DiskHeld)) → IsNextDisk g h
+    → Matched (Renewed g h) xs ys → AtRest g xs → AtRest h ys
+
+-- an entry whose order is emptied is one of the phase after, whatever is set then
+abbrev pub EntryGoesOn : Type 0
+EntryGoesOn = (r : Rest) (actors more : List (List Op)) (set : Settings) (w : State DiskHeld)
+    (j : ℕ) (e f : EntryState)
+    → Proper (begin_at r actors) → Rule (begin_at r actors) w → AllFinished (begin_at r actors) w
+    → slice_get w.row j ≡ Some (Some (holds.Slot e)) → f.kept ≡ e.kept → f.order ≡ []
+    → f.touched ≡ e.touched
+    → IsRenewed (begin_at r actors) (begin_at (sets (rest_after r actors w.row) set) more) j e f
+
+-- and what is known of a phase is known of the phase after
+abbrev pub NextIsProper : Type 0
+NextIsProper = (r : Rest) (actors more : List (List Op)) (set : Settings) (w : State DiskHeld)
+    → Proper (begin_at r actors) → Rule (begin_at r actors) w → AllFinished (begin_at r actors) w
+    → AreRequests more → IsRoomy (begin_at (sets (rest_after r actors w.row) set) more)
+    → Proper (begin_at (sets (rest_after r actors w.row) set) more)
+
+-- ---- new disks
+
+-- a row of which nothing was ever written is at rest
+abbrev pub NewIsAtRest : Type 0
+NewIsAtRest = (g : Begin) (row : List (Option DiskHeld)) → length row ≡ g.given.size + 258
+    → ((k : ℕ) → k < length row → (v : DiskHeld) × (slice_get row k ≡ Some (Some v)))
+    → ((k : ℕ) (v : DiskHeld) → slice_get row k ≡ Some (Some v) → IsNew g k v)
+    → AtRest g row
+
+-- what is known of a phase comes from what its sectors hold before it and from its requests
+abbrev pub RequestsAreProper : Type 0
+RequestsAreProper = (g : Begin) → AreRequests g.given.actors
+    → ((s : ℕ) → IsSector (g.given.before s))
+    → ((p k : ℕ) → k < 8 → g.blank p ≡ true → g.given.before (8 * p + k) ≡ zero_sector)
+    → IsRoomy g → Proper g
+
+-- the first phase on a new disk
+abbrev pub NewIsProper : Type 0
+NewIsProper = (n : ℕ) (set : Settings) (actors : List (List Op)) → AreRequests actors
+    → IsRoomy (begin_at (new_rest n set) actors) → Proper (begin_at (new_rest n set) actors)
+
+-- the account of a new disk has counted nothing
+abbrev pub NewCountsNothing : Type 0
+NewCountsNothing = (n : ℕ) (set : Settings)
+    → stats page_weight (new_rest n set) ≡ record no_counts { limit = set.limit }
+
+-- the rest of a new disk is one
+abbrev pub NewIsNew : Type 0
+NewIsNew = (r : Rest) (n : ℕ) → IsNewDisk r n (new_rest n r.set)

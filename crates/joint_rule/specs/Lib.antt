@@ -1,0 +1,9 @@
+pub mod Begins
+pub mod Weights
+pub mod Stages
+pub mod Joint
+pub mod Rule
+pub mod Starts
+pub mod Ends
+pub mod Laws
+pub mod Facts

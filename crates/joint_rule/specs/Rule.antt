@@ -1,0 +1,111 @@
+-- The whole rule of a phase: the joint rule, orders and replies, and the counters of the account.
+use Rattle.std.specs.Prelude.{◌≡◌, ℕ, ◌+◌, ◌*◌, ◌<◌, ◌≤◌, List, [], length, Option, Some, None, slice_get, ⊤}
+use Rattle.zr_base.specs.declared.op.Tag.{Tag}
+use Rattle.mem_account.specs.Counters.{at_most_end}
+use Rattle.plain_disk.specs.Ends.{Bounds}
+use Rattle.call_history.specs.declared.part.Done.{Done}
+use Rattle.call_history.specs.declared.part.PartEnd.{PartEnd}
+use Rattle.call_history.specs.Parts.{KeepsTo}
+use Rattle.call_history.specs.Shows.{ShowsPage}
+use Rattle.lock_row.specs.declared.names.Held.TheVariants as holds
+use Rattle.lock_row.specs.declared.names.State.{State}
+use Rattle.lock_row.specs.Totals.{locals_sum, total}
+use Rattle.page_steps.specs.Steps.{DiskHeld, Here, spot}
+use Rattle.joint_rule.specs.Begins.{Begin, ground_of, content, pieces_on, pieces_each}
+use Rattle.joint_rule.specs.Weights.{HeldAll, Each, none, one, pages, ever_at, mosts, Refusal, refusal_count, refusal_counter, refusals, News, noted, told_ahead, news_count, news_counter}
+use Rattle.joint_rule.specs.Joint.{Joint}
+
+-- ---- orders
+
+-- the pieces of an actor that are over, or none where there is no such actor
+abbrev pub done_by : Option Here → List Done
+done_by None = []
+done_by (Some l) = l.done
+
+-- the pieces of each actor that are over
+abbrev pub dones : List Here → ℕ → List Done
+dones ls a = done_by (slice_get ls a)
+
+-- an actor's pieces on a page that are left
+abbrev pub owed_by : ℕ → ℕ → Here → ℕ
+owed_by size page l = pieces_on size page l.todo
+
+-- those of all actors
+abbrev pub owed : ℕ → List Here → ℕ → ℕ
+owed size ls page = locals_sum (owed_by size page) ls
+
+-- An order shows what its calls leave, and has spare room for the pieces that are left; with these
+-- it has no more than the phase has on the page.
+pub record ShowsOrder (g : Begin) (ls : List Here) (p : ℕ) (order : List Tag) (room : ℕ)
+    : Type 0 where
+  pub shows : ShowsPage g.given (dones ls) p (content g p order) order
+  pub spare : owed g.given.size ls p ≤ room
+  pub few : length order + owed g.given.size ls p ≤ pieces_each g.given.size g.given.actors p
+
+-- what the order of an entry is
+abbrev pub OfOrder : (ℕ → List Tag → ℕ → Type 0) → ℕ → DiskHeld → Type 0
+OfOrder P j (holds.Slot e) = P j e.order e.room
+OfOrder P j (holds.Class x) = ⊤
+OfOrder P j (holds.Account x) = ⊤
+OfOrder P j (holds.Blocks x) = ⊤
+OfOrder P j (holds.Device x) = ⊤
+
+-- each order, at home and in hand, shows what its calls leave, and has spare room
+abbrev pub Told : Begin → State DiskHeld → Type 0
+Told g w = Each (OfOrder (ShowsOrder g w.locals))
+    (λ a l. HeldAll g.given.size (OfOrder (ShowsOrder g w.locals)) l.held) w
+
+-- ---- the account
+
+-- The maximum hasn't fallen; and where it rose, it is within the limit, and within what pages and
+-- actors can have made.
+pub record Most (g : Begin) (w : State DiskHeld) : Type 0 where
+  pub now : total (spot g.given.size) pages none w ≤ total (spot g.given.size) mosts none w
+  pub before : g.was.most ≤ total (spot g.given.size) mosts none w
+  pub within : g.was.most < total (spot g.given.size) mosts none w → 0 < g.was.limit
+      → total (spot g.given.size) mosts none w ≤ g.was.limit
+  pub few : g.was.most < total (spot g.given.size) mosts none w
+      → total (spot g.given.size) mosts none w
+      ≤ g.chain * total (spot g.given.size) (ever_at g) one w
+
+-- a counter of refusals has risen since the phase's start by what actors tell, up to its end
+abbrev pub CountsRefusals : Begin → Refusal → State DiskHeld → Type 0
+CountsRefusals g q w = total (spot g.given.size) (refusal_counter q) none w
+    ≡ at_most_end (refusal_count q g.was + locals_sum (refusals q) w.locals)
+
+-- a counter of calls has risen since the phase's start by what the calls of the orders give, and by
+-- what was counted and isn't noted yet, up to its end
+abbrev pub CountsNews : Begin → News → State DiskHeld → Type 0
+CountsNews g q w = total (spot g.given.size) (news_counter q) none w
+    ≡ at_most_end (news_count q g.was + total (spot g.given.size) (noted g q) (told_ahead q) w)
+
+-- ---- limits
+
+-- what the ends of pieces are measured by at a state: the pages that were in the pool, and actors
+abbrev pub reach_at : Begin → State DiskHeld → Bounds
+reach_at g w = record { reach = total (spot g.given.size) (ever_at g) one w }
+
+-- a refusal is within these bounds
+abbrev pub FailKeeps : Begin → Bounds → Option PartEnd → Type 0
+FailKeeps g b None = ⊤
+FailKeeps g b (Some end) = KeepsTo (ground_of g) b end
+
+-- An actor's refusals are within these bounds, that of the piece in work too.
+pub record KeepsLimits (g : Begin) (b : Bounds) (l : Here) : Type 0 where
+  pub over : (i : ℕ) (d : Done) → slice_get l.done i ≡ Some d → KeepsTo (ground_of g) b d.end
+  pub now : FailKeeps g b l.fail
+
+-- each refusal at the limit had a limit below what pages and actors can have made
+abbrev pub Limits : Begin → State DiskHeld → Type 0
+Limits g w = (a : ℕ) (l : Here) → slice_get w.locals a ≡ Some l → KeepsLimits g (reach_at g w) l
+
+-- ---- the rule
+
+-- The rule that each state of a phase has.
+pub record Rule (g : Begin) (w : State DiskHeld) : Type 0 where
+  pub joint : Joint g w
+  pub told : Told g w
+  pub most : Most g w
+  pub refusals : (q : Refusal) → CountsRefusals g q w
+  pub news : (q : News) → CountsNews g q w
+  pub limits : Limits g w

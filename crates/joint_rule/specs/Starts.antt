@@ -1,0 +1,124 @@
+-- The state before the first turn of a phase, and the one between two phases.
+use Rattle.std.specs.Prelude.{◌≡◌, ℕ, suc, ◌+◌, ◌*◌, ◌^◌, ◌<◌, ◌≤◌, true, List, [], ◌∷◌, length, Option, Some, None, slice_get}
+use Rattle.zr_base.specs.declared.op.Op.{Op}
+use Rattle.size_class.specs.Classes.{class_size, chain_of, per_of}
+use Rattle.mem_account.specs.Counters.{Counters, no_counts}
+use Rattle.plain_disk.specs.Phases.{held_after}
+use Rattle.call_history.specs.Parts.{program}
+use Rattle.lock_row.specs.declared.names.At.TheVariants.{Start}
+use Rattle.lock_row.specs.declared.names.Held.TheVariants as holds
+use Rattle.lock_row.specs.declared.names.State.{State}
+use Rattle.lock_row.specs.Totals.{row_sum}
+use Rattle.slot_entry.specs.declared.kept.Kept.TheVariants as kept
+use Rattle.slot_entry.specs.Entries.{EntryState}
+use Rattle.page_steps.specs.Steps.{DiskHeld, Here}
+use Rattle.joint_rule.specs.Begins.{Begin, found_after}
+use Rattle.joint_rule.specs.Weights.{Weigh, claims, stored, PinWeigh, outs, pages, chains, Count, counters, shown, mosts, Refusal, refusal_counter, News, news_counter}
+use Rattle.joint_rule.specs.Joint.{AtHome}
+use Rattle.joint_rule.specs.Rule.{owed}
+
+-- ---- rests and starts
+
+-- A row with all values at home, and nothing under way.
+pub record AtRest (g : Begin) (row : List (Option DiskHeld)) : Type 0 where
+  pub size : length row ≡ g.given.size + 258
+  pub whole : (k : ℕ) → k < length row → (v : DiskHeld) × (slice_get row k ≡ Some (Some v))
+  pub home : (k : ℕ) (v : DiskHeld) → slice_get row k ≡ Some (Some v) → AtHome g k v
+  pub owners : (f : Weigh) → row_sum (claims g f) row ≡ row_sum (stored f) row
+  pub pins : (f : PinWeigh) → row_sum (outs f) row ≡ 0
+  pub frames : row_sum pages row ≡ row_sum chains row
+  pub counts : (q : Count) → row_sum (counters q) row ≡ row_sum (shown q) row
+  -- the account's maximum isn't below its frames, and no counter is past its end
+  pub most : row_sum pages row ≤ row_sum mosts row
+  pub refusals : (q : Refusal) → row_sum (refusal_counter q) row < 2 ^ 64
+  pub news : (q : News) → row_sum (news_counter q) row < 2 ^ 64
+
+-- An actor before its first turn.
+pub record Starts (g : Begin) (a : ℕ) (l : Here) : Type 0 where
+  pub who : l.actor ≡ a
+  pub ops : List Op
+  pub named : slice_get g.given.actors a ≡ Some ops
+  pub at : l.at ≡ Start
+  pub todo : l.todo ≡ program g.given.size 0 ops
+  pub held : l.held ≡ []
+  pub done : l.done ≡ []
+  pub fresh : l.fresh ≡ None
+  pub pin : l.pin ≡ None
+  pub owed : l.owed ≡ 0
+  pub ahead : l.ahead ≡ None
+  pub behind : l.behind ≡ None
+  pub page : l.page ≡ None
+  pub fail : l.fail ≡ None
+
+-- The state before the first turn: orders are empty, with room for the phase's pieces, and the
+-- account is as the phase finds it.
+pub record IsStart (g : Begin) (w : State DiskHeld) : Type 0 where
+  pub rest : AtRest g w.row
+  pub orders : (k : ℕ) (e : EntryState) → slice_get w.row k ≡ Some (Some (holds.Slot e))
+      → (e.order ≡ []) × (owed g.given.size w.locals k ≤ e.room)
+  pub account : (k : ℕ) (c : Counters) → slice_get w.row k ≡ Some (Some (holds.Account c))
+      → c ≡ g.was
+  pub actors : (a : ℕ) (l : Here) → slice_get w.locals a ≡ Some l → Starts g a l
+  pub count : length w.locals ≡ length g.given.actors
+
+-- ---- from one phase to the next
+
+-- An entry whose order is emptied, beside a phase that begins with what the calls of the order
+-- left.
+pub record IsRenewed (g h : Begin) (j : ℕ) (e f : EntryState) : Type 0 where
+  pub kept : f.kept ≡ e.kept
+  pub order : f.order ≡ []
+  pub touched : f.touched ≡ e.touched
+  pub time : h.touched j ≡ e.touched
+  pub blank : h.blank j ≡ (found_after g j e.order).blank
+  pub before : (k : ℕ) → k < 8
+      → h.given.before (8 * j + k) ≡ held_after g.given e.order (8 * j + k)
+
+-- the value is no entry and no account
+abbrev pub IsOther : DiskHeld → Type 0
+IsOther (holds.Slot e) = ⊥
+IsOther (holds.Class p) = Unit {0}
+IsOther (holds.Account c) = ⊥
+IsOther (holds.Blocks x) = Unit {0}
+IsOther (holds.Device x) = Unit {0}
+
+-- What lies between two phases does this to a value: orders are emptied, and the limit may change.
+pub data Renewed (g h : Begin) (j : ℕ) (v u : DiskHeld) : Type 0 where
+  slots : (e f : EntryState) → v ≡ holds.Slot e → u ≡ holds.Slot f → IsRenewed g h j e f
+      → Renewed g h j v u
+  accounts : (c d : Counters) → v ≡ holds.Account c → u ≡ holds.Account d
+      → d ≡ record c { limit = d.limit } → Renewed g h j v u
+  stays : IsOther v → u ≡ v → Renewed g h j v u
+
+-- the values of two rows, place by place
+abbrev pub Matched : (ℕ → DiskHeld → DiskHeld → Type 0) → List (Option DiskHeld)
+    → List (Option DiskHeld) → Type 0
+Matched R [] [] = Unit {0}
+Matched R [] (y ∷ ys) = ⊥
+Matched R (x ∷ xs) [] = ⊥
+Matched R (None ∷ xs) (y ∷ ys) = ⊥
+Matched R (Some v ∷ xs) (None ∷ ys) = ⊥
+Matched R (Some v ∷ xs) (Some u ∷ ys) = R 0 v u × Matched (λ j. R (suc j)) xs ys
+
+-- The second phase begins with the disk of the first, at the same limit on chains.
+pub record IsNextDisk (g h : Begin) : Type 0 where
+  pub size : h.given.size ≡ g.given.size
+  pub chain : h.chain ≡ g.chain
+
+-- ---- a new disk
+
+-- a value of a disk on which nothing was ever written
+abbrev pub IsNew : Begin → ℕ → DiskHeld → Type 0
+IsNew g j (holds.Slot e) = (j < g.given.size) × (e.kept ≡ kept.Empty) × (e.order ≡ [])
+    × (e.touched ≡ g.touched j) × (g.blank j ≡ true)
+IsNew g j (holds.Class p) = (j ≡ g.given.size + p.class) × (p.class < 255)
+    × (p ≡ record {
+      class = p.class;
+      size = class_size p.class;
+      chain = chain_of g.chain p.class;
+      per = per_of g.chain p.class;
+      zspages = [];
+    })
+IsNew g j (holds.Account c) = (j ≡ g.given.size + 255) × (c ≡ record no_counts { limit = c.limit })
+IsNew g j (holds.Blocks x) = j ≡ g.given.size + 256
+IsNew g j (holds.Device x) = j ≡ g.given.size + 257

@@ -1,0 +1,342 @@
+-- What values and actors weigh: the sums over them that the joint rule compares.
+use Rattle.std.specs.Prelude.{◌≡◌, ℕ, zero, suc, ◌+◌, ◌==◌, ◌&&◌, Bool, true, false, cond, is_some, List, [], ◌∷◌, sum_by, Option, Some, slice_get}
+use denote.RawPtr.{Ptr, block_ptr, null_ptr}
+use Rattle.zr_base.specs.declared.op.Tag.{Tag}
+use Rattle.zr_base.specs.declared.op.Op.{Op}
+use Rattle.zr_base.specs.declared.op.Op.TheVariants.{Write, Read, Discard}
+use Rattle.zr_base.specs.declared.op.OpEnd.{OpEnd}
+use Rattle.zspage.specs.Cells.{UsedCell}
+use Rattle.class_pool.specs.Pool.{PoolState, used_cells}
+use Rattle.class_pool.specs.Laws.{frames_of}
+use Rattle.mem_account.specs.Counters.{Counters}
+use Rattle.mem_account.specs.Tally.{same_of, packed_of, packed_bytes_of, huge_of, back_of}
+use Rattle.mem_account.specs.declared.weight.Weight.{Weight}
+use Rattle.plain_disk.specs.Ends.{failed_write, beyond}
+use Rattle.plain_disk.specs.Calls.{Found, calls_sum, made_huge, freed}
+use Rattle.call_history.specs.declared.part.Part.{Part}
+use Rattle.call_history.specs.declared.part.PartEnd.{PartEnd}
+use Rattle.call_history.specs.Parts.{piece_gives, done_sum}
+use Rattle.lock_row.specs.declared.names.LockNo.{LockNo}
+use Rattle.lock_row.specs.declared.names.Held.TheVariants as holds
+use Rattle.lock_row.specs.declared.names.At.{At}
+use Rattle.lock_row.specs.declared.names.At.TheVariants.{Ready}
+use Rattle.lock_row.specs.declared.names.State.{State}
+use Rattle.lock_row.specs.declared.names.Object.{Object}
+use Rattle.lock_row.specs.declared.names.Pin.{Pin}
+use Rattle.lock_row.specs.Totals.{by_option}
+use Rattle.slot_entry.specs.declared.kept.Kept.{Kept}
+use Rattle.slot_entry.specs.declared.kept.Kept.TheVariants as kept
+use Rattle.slot_entry.specs.Forms.{same_list, page_weight}
+use Rattle.slot_entry.specs.Entries.{weight_of}
+use Rattle.page_steps.specs.Steps.{DiskHeld, Here, spot}
+use Rattle.joint_rule.specs.Begins.{Begin, found, image, ever}
+
+-- ---- values and actors
+
+module _ (size : ℕ) where
+  -- something holds of each value that an actor holds
+  abbrev pub HeldAll : (ℕ → DiskHeld → Type 0) → List (LockNo × DiskHeld) → Type 0
+  HeldAll P [] = Unit {0}
+  HeldAll P (x ∷ xs) = P (spot size x.0) x.1 × HeldAll P xs
+
+-- Something holds of each value at home, and of each actor.
+pub record Each (P : ℕ → DiskHeld → Type 0) (Q : ℕ → Here → Type 0) (w : State DiskHeld)
+    : Type 0 where
+  pub in_row : (k : ℕ) (v : DiskHeld) → slice_get w.row k ≡ Some (Some v) → P k v
+  pub in_local : (a : ℕ) (l : Here) → slice_get w.locals a ≡ Some l → Q a l
+
+-- no value weighs anything
+abbrev pub nothing : ℕ → DiskHeld → ℕ
+nothing j v = 0
+
+-- no actor weighs anything
+abbrev pub none : Here → ℕ
+none l = 0
+
+-- each actor weighs 1
+abbrev pub one : Here → ℕ
+one l = 1
+
+-- 1 where they are equal, else 0
+abbrev pub same : ℕ → ℕ → ℕ
+same zero zero = 1
+same zero (suc b) = 0
+same (suc a) zero = 0
+same (suc a) (suc b) = same a b
+
+-- 1 for the value of a place
+abbrev pub at_place : ℕ → ℕ → DiskHeld → ℕ
+at_place k j v = same k j
+
+-- an entry's weight
+abbrev pub on_entry : (ℕ → Kept → List Tag → ℕ) → ℕ → DiskHeld → ℕ
+on_entry f j (holds.Slot e) = f j e.kept e.order
+on_entry f j (holds.Class p) = 0
+on_entry f j (holds.Account c) = 0
+on_entry f j (holds.Blocks x) = 0
+on_entry f j (holds.Device x) = 0
+
+-- a pool's weight
+abbrev pub on_pool : (PoolState → ℕ) → ℕ → DiskHeld → ℕ
+on_pool f j (holds.Slot e) = 0
+on_pool f j (holds.Class p) = f p
+on_pool f j (holds.Account c) = 0
+on_pool f j (holds.Blocks x) = 0
+on_pool f j (holds.Device x) = 0
+
+-- the account's weight
+abbrev pub on_account : (Counters → ℕ) → ℕ → DiskHeld → ℕ
+on_account f j (holds.Slot e) = 0
+on_account f j (holds.Class p) = 0
+on_account f j (holds.Account c) = f c
+on_account f j (holds.Blocks x) = 0
+on_account f j (holds.Device x) = 0
+
+-- ---- objects
+
+-- a weight of objects, by class, handle and bytes
+abbrev pub Weigh : Type 0
+Weigh = ℕ → ℕ → List ℕ → ℕ
+
+-- each object weighs 1
+abbrev pub each_one : Weigh
+each_one c h b = 1
+
+-- the object that a kept form names, with these bytes
+abbrev pub claim_by : Weigh → Kept → List ℕ → ℕ
+claim_by f kept.Empty b = 0
+claim_by f (kept.Same w) b = 0
+claim_by f (kept.Obj o) b = f o.class o.handle.0 b
+
+-- the object that an entry names, with the bytes in which its page has to be kept
+abbrev pub claims : Begin → Weigh → ℕ → DiskHeld → ℕ
+claims g f = on_entry (λ j k order. claim_by f k (image g j order))
+
+-- an object's weight
+abbrev pub object_weight : Weigh → Object → ℕ
+object_weight f o = f o.class o.handle o.bytes
+
+-- the new object of an actor
+abbrev pub fresh_claim : Weigh → Here → ℕ
+fresh_claim f l = by_option (object_weight f) l.fresh
+
+-- the object in a used cell
+abbrev pub cell_weight : (ℕ → List ℕ → ℕ) → UsedCell → ℕ
+cell_weight f u = f u.handle u.bytes
+
+-- the objects of a pool
+abbrev pub stored : Weigh → ℕ → DiskHeld → ℕ
+stored f = on_pool (λ p. sum_by (cell_weight (f p.class)) (used_cells p.zspages))
+
+-- 1 for the objects of a handle
+abbrev pub names : ℕ → ℕ → List ℕ → ℕ
+names h g b = same h g
+
+-- ---- pins
+
+-- a weight of pinned cells
+abbrev pub PinWeigh : Type 0
+PinWeigh = Pin → ℕ
+
+-- what an actor that pinned a used cell of a class has
+abbrev pub pin_in : ℕ → UsedCell → Pin
+pin_in class u = record {
+  class = class;
+  handle = u.handle;
+  chain = u.cell.chain;
+  number = u.cell.number;
+  size = u.cell.size;
+  bytes = u.cell.bytes;
+}
+
+-- a used cell of a class, where it is out
+abbrev pub out_weight : PinWeigh → ℕ → UsedCell → ℕ
+out_weight f class u = cond u.out (f (pin_in class u)) 0
+
+-- the cells of a pool that are out
+abbrev pub outs : PinWeigh → ℕ → DiskHeld → ℕ
+outs f = on_pool (λ p. sum_by (out_weight f p.class) (used_cells p.zspages))
+
+-- the cell that an actor has pinned
+abbrev pub pinned : PinWeigh → Here → ℕ
+pinned f l = by_option f l.pin
+
+-- whether two pointers are one
+abbrev pub same_ptr : Ptr → Ptr → Bool
+same_ptr (block_ptr b o) (block_ptr c p) = (b == c) && (o == p)
+same_ptr (block_ptr b o) null_ptr = false
+same_ptr null_ptr (block_ptr c p) = false
+same_ptr null_ptr null_ptr = true
+
+-- whether two pins are one
+abbrev pub same_pin : Pin → Pin → Bool
+same_pin x y = ((x.class == y.class) && (x.handle == y.handle))
+    && (same_ptr x.chain y.chain && ((x.number == y.number) && ((x.size == y.size)
+    && same_list x.bytes y.bytes)))
+
+-- ---- frames
+
+-- the account's frames
+abbrev pub pages : ℕ → DiskHeld → ℕ
+pages = on_account (λ c. c.pages)
+
+-- those of a pool
+abbrev pub chains : ℕ → DiskHeld → ℕ
+chains = on_pool frames_of
+
+-- those that an actor owes
+abbrev pub owing : Here → ℕ
+owing l = l.owed
+
+-- 1 for a page that was in the pool after some first calls of its order
+abbrev pub ever_at : Begin → ℕ → DiskHeld → ℕ
+ever_at g = on_entry (λ j k order. ever g j order)
+
+-- 1 for some
+abbrev pub some_of : ℕ → ℕ
+some_of zero = 0
+some_of (suc n) = 1
+
+-- the objects that an actor makes, and 1 where it owes frames
+abbrev pub leaning : Here → ℕ
+leaning l = fresh_claim each_one l + some_of l.owed
+
+-- ---- the counters that are sums over pages
+
+-- The counters of the pages in a form.
+pub data Count : Type 0 where
+  Sames : Count
+  Packs : Count
+  PackedBytes : Count
+  Huges : Count
+  Backs : Count
+
+-- what a page of a weight adds
+abbrev pub measure : Count → Weight → ℕ
+measure Sames w = same_of w
+measure Packs w = packed_of w
+measure PackedBytes w = packed_bytes_of w
+measure Huges w = huge_of w
+measure Backs w = back_of w
+
+-- the account's counter
+abbrev pub counter : Count → Counters → ℕ
+counter Sames c = c.same
+counter Packs c = c.packed
+counter PackedBytes c = c.packed_bytes
+counter Huges c = c.huge
+counter Backs c = c.back
+
+-- the account's counter, as a weight
+abbrev pub counters : Count → ℕ → DiskHeld → ℕ
+counters q = on_account (counter q)
+
+-- what an entry adds
+abbrev pub shown : Count → ℕ → DiskHeld → ℕ
+shown q = on_entry (λ j k order. measure q (weight_of k))
+
+-- what the account counts beside what entries show
+abbrev pub ahead : Count → Here → ℕ
+ahead q l = by_option (measure q) l.ahead
+
+-- what entries show beside what the account counts
+abbrev pub behind : Count → Here → ℕ
+behind q l = by_option (measure q) l.behind
+
+-- ---- the counters that no event of pages changes
+
+-- The limit, the frames that compactions freed, and the reads that failed.
+pub data Fixed : Type 0 where
+  Limit : Fixed
+  Compactions : Fixed
+  FailedReads : Fixed
+
+-- the account's counter
+abbrev pub fixed_count : Fixed → Counters → ℕ
+fixed_count Limit c = c.limit
+fixed_count Compactions c = c.compacted
+fixed_count FailedReads c = c.failed_reads
+
+-- the account's counter, as a weight
+abbrev pub fixed : Fixed → ℕ → DiskHeld → ℕ
+fixed q = on_account (fixed_count q)
+
+-- the account's maximum
+abbrev pub mosts : ℕ → DiskHeld → ℕ
+mosts = on_account (λ c. c.most)
+
+-- ---- the counters of refusals
+
+-- Writes that were refused, and requests beyond the disk.
+pub data Refusal : Type 0 where
+  FailedWrites : Refusal
+  OutOfRange : Refusal
+
+-- what an operation gives by its end
+abbrev pub refusal_of : Refusal → Op → OpEnd → ℕ
+refusal_of FailedWrites op end = failed_write op end
+refusal_of OutOfRange op end = beyond op end
+
+-- what a piece in work gives that is refused already
+abbrev pub refused_by : Refusal → List Part → Option PartEnd → ℕ
+refused_by q [] x = 0
+refused_by q (p ∷ ps) x = by_option (piece_gives (refusal_of q) p.op) x
+
+-- the refusals that an actor tells
+abbrev pub refusals : Refusal → Here → ℕ
+refusals q l = done_sum (refusal_of q) l.done + refused_by q l.todo l.fail
+
+-- the account's counter
+abbrev pub refusal_count : Refusal → Counters → ℕ
+refusal_count FailedWrites c = c.failed_writes
+refusal_count OutOfRange c = c.invalid_io
+
+-- the account's counter, as a weight
+abbrev pub refusal_counter : Refusal → ℕ → DiskHeld → ℕ
+refusal_counter q = on_account (refusal_count q)
+
+-- ---- the counters of calls
+
+-- Writes after which their page is kept as its 4096 bytes, and discards of pages that weren't
+-- blank.
+pub data News : Type 0 where
+  HugeWrites : News
+  FreedPages : News
+
+-- what a call gives, by its page before it and after it
+abbrev pub news_of : News → ℕ → Option Op → Found → Found → ℕ
+news_of HugeWrites p = made_huge page_weight p
+news_of FreedPages p = freed
+
+-- what the calls of an order give
+abbrev pub order_news : Begin → News → ℕ → List Tag → ℕ
+order_news g q p order = calls_sum (news_of q p) g.given.actors (found g p) order
+
+-- what the calls in an entry's order give
+abbrev pub noted : Begin → News → ℕ → DiskHeld → ℕ
+noted g q = on_entry (λ j k order. order_news g q j order)
+
+-- what a piece gives that the account has counted
+abbrev pub told_by : News → Op → Option Weight → ℕ
+told_by HugeWrites op x = by_option huge_of x
+told_by FreedPages (Write start count stuff) x = 0
+told_by FreedPages (Read start count) x = 0
+told_by FreedPages (Discard start count) x = cond (is_some x) 1 0
+
+-- what a piece at a stage gives that the account has counted, and the order hasn't got yet
+abbrev pub told_at : News → At → List Part → Option Weight → ℕ
+told_at q Ready (p ∷ ps) x = told_by q p.op x
+told_at q at ps x = 0
+
+-- what an actor's piece gives that the account has counted, and the order hasn't got yet
+abbrev pub told_ahead : News → Here → ℕ
+told_ahead q l = told_at q l.at l.todo l.ahead
+
+-- the account's counter
+abbrev pub news_count : News → Counters → ℕ
+news_count HugeWrites c = c.huge_since
+news_count FreedPages c = c.notify_free
+
+-- the account's counter, as a weight
+abbrev pub news_counter : News → ℕ → DiskHeld → ℕ
+news_counter q = on_account (news_count q)

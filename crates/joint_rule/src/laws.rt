@@ -1,0 +1,68 @@
+//! What the rule of pages, pools and the account gives, whatever the turns are. Each law is a
+//! function whose body calls the laws that it rests on: who wants it calls it, and has its clauses.
+
+ghost use Rattle.joint_rule.specs.Facts.{Facts};
+ghost use Rattle.joint_rule.specs.Laws.{StartHasRule, TurnKeepsRule, ReachedHasRule, NobodyWaitsForever, TakenValueFits, ObjectsAreFew, FinishedIsAtRest, FinishedAgrees, FinishedTallies, RestGoesOn, EntryGoesOn, NextIsProper, NewIsAtRest, RequestsAreProper, NewIsProper, NewCountsNothing, NewIsNew};
+
+use call_history::{histories_go_on, pieces_keep};
+use class_pool::{ClassPool, objects_move};
+use lock_row::{Held, sums_move, totals_move};
+use mem_account::Account;
+use slot_entry::{Entry, forms_tell_pages, kept_bytes_have_one_page};
+
+/// What a lock of a disk guards.
+type DiskHeld = Held<Entry, ClassPool, Account, (), ()>;
+
+/// What the rule rests on.
+fn lower_laws()
+    ensures { Facts }
+{
+    totals_move::<DiskHeld>();
+    sums_move::<DiskHeld>();
+    pieces_keep();
+    histories_go_on();
+    objects_move();
+    kept_bytes_have_one_page();
+    forms_tell_pages();
+}
+
+/// The state before the first turn has the rule, each turn keeps it, and so each state has it that
+/// is reached from one that does. Where some actor isn't finished, some actor can move.
+pub fn rule_keeps()
+    ensures start { StartHasRule }
+    ensures turn { TurnKeepsRule }
+    ensures reached { ReachedHasRule }
+    ensures free { NobodyWaitsForever }
+{
+    lower_laws();
+}
+
+/// The value that an actor's next taking takes fits the actor's stage, and there are few objects.
+pub fn values_fit()
+    ensures fits { TakenValueFits }
+    ensures few { ObjectsAreFew }
+{
+    lower_laws();
+}
+
+/// A finished phase is at rest, its histories agree with its orders, its account tells the rest of
+/// the plain disk, and the next phase begins there.
+pub fn phases_go_on()
+    ensures rest { FinishedIsAtRest }
+    ensures agree { FinishedAgrees }
+    ensures tallies { FinishedTallies }
+    ensures next { RestGoesOn }
+    ensures entry { EntryGoesOn }
+    ensures proper { NextIsProper }
+{
+    lower_laws();
+}
+
+/// A new disk is at rest, and its first phase may begin.
+pub fn disks_begin()
+    ensures rest { NewIsAtRest }
+    ensures proper { RequestsAreProper }
+    ensures new { NewIsProper }
+    ensures account { NewCountsNothing }
+    ensures plain { NewIsNew }
+{}

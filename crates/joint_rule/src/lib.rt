@@ -1,0 +1,6 @@
+//! The joint rule of pages in the pool, of pools and of the account.
+#![tactic(auto)]
+
+mod laws;
+
+pub use laws::{disks_begin, phases_go_on, rule_keeps, values_fit};

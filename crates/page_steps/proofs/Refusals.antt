@@ -1,0 +1,347 @@
+-- The events of a refused piece give back what they found.
+use Rattle.std.proofs.Common.{◌≡◌, ◌⊎◌, ℕ, zero, suc, ◌+◌, Bool, true, false, List, [], ◌∷◌, ◌++◌, length, map, Option, Some, None, refl, sym, ap, ◌∙◌, subst, inl, inr, arith, length-append}
+use Rattle.std.proofs.lemmas.List.{append_cancel_left, map-append}
+use Rattle.std.specs.Prelude.{⊤, slice_set}
+use Rattle.zspage.specs.Cells.{CellState, UsedCell, entry}
+use Rattle.class_pool.specs.Zspages.{Cells}
+use Rattle.class_pool.specs.Pool.{PoolState, Object, object_of, objects, used_cells, used_cells_in, IsPlace, with_cells}
+use Rattle.mem_account.specs.Counters.{counted}
+use Rattle.mem_account.specs.declared.weight.Delta.TheVariants as delta
+use Rattle.call_history.specs.declared.part.Part.{Part}
+use Rattle.call_history.specs.declared.part.PartEnd.{PartEnd}
+use Rattle.call_history.specs.declared.part.PartEnd.TheVariants as over
+use Rattle.call_history.specs.declared.part.Done.{Done}
+use Rattle.call_history.specs.Shows.{got_from}
+use Rattle.zr_base.specs.declared.op.OpEnd.TheVariants as ends
+use Rattle.lock_row.specs.declared.names.LockNo.{LockNo}
+use Rattle.lock_row.specs.declared.names.Held.TheVariants as holds
+use Rattle.lock_row.specs.declared.names.At.{At}
+use Rattle.lock_row.specs.declared.names.At.TheVariants as at
+use Rattle.lock_row.specs.declared.names.Pin.{Pin}
+use Rattle.slot_entry.specs.declared.kept.Kept.{Kept}
+use Rattle.slot_entry.specs.declared.kept.Kept.TheVariants as kept
+use Rattle.page_steps.specs.Pools.{Lends, Returns}
+use Rattle.page_steps.specs.Steps.{Terms, DiskHeld, Here, taken_at, settle_at, quit_at, took, entry_or, entry_in}
+use Rattle.page_steps.specs.Givings.{Works, refuses, pins, unpins, charges, limits, starves, stows, quits, frees, repays, puts, reads, fails}
+use Rattle.page_steps.specs.Nexts.{ending_by, failing_by, tail_of, own_entry, pinning}
+use Rattle.page_steps.specs.Pages.{page_in}
+use Rattle.page_steps.specs.Refusals.{Event, Takes, Gives, IsRefusedEnd, EndsRefused, AreRefused, IsGivenBack, GivesLast, GiveBack, RefusalsLeaveAll}
+
+-- ---- the objects of a pool whose cells go out and come back
+
+objects_in : (cells : Cells) (ix : ℕ) (u v : UsedCell) → entry cells ix ≡ Some u
+    → object_of v ≡ object_of u
+    → map object_of (used_cells_in (slice_set cells ix (Some v))) ≡ map object_of (used_cells_in cells)
+objects_in [] ix u v at same = refl
+objects_in (None ∷ cells) zero u v at same = absurd (cc)
+objects_in (None ∷ cells) (suc ix) u v at same = objects_in cells ix u v at same
+objects_in (Some w ∷ cells) zero u v at same =
+    let is : w ≡ u = cc in
+    ap (λ (o : Object). o ∷ map object_of (used_cells_in cells)) (same ∙ ap object_of (sym is))
+objects_in (Some w ∷ cells) (suc ix) u v at same =
+    ap (λ (os : List Object). object_of w ∷ os) (objects_in cells ix u v at same)
+
+objects_at : (zspages : List (Option Cells)) (id : ℕ) (cells : Cells) (ix : ℕ) (u v : UsedCell)
+    → entry zspages id ≡ Some cells → entry cells ix ≡ Some u → object_of v ≡ object_of u
+    → map object_of (used_cells (slice_set zspages id (Some (slice_set cells ix (Some v)))))
+    ≡ map object_of (used_cells zspages)
+objects_at [] id cells ix u v there at same = refl
+objects_at (None ∷ zspages) zero cells ix u v there at same = absurd (cc)
+objects_at (None ∷ zspages) (suc id) cells ix u v there at same =
+    objects_at zspages id cells ix u v there at same
+objects_at (Some first ∷ zspages) zero cells ix u v there at same =
+    let is : first ≡ cells = cc in
+    map-append object_of (used_cells_in (slice_set cells ix (Some v))) (used_cells zspages)
+    ∙ ap (λ (os : List Object). os ++ map object_of (used_cells zspages))
+    (objects_in cells ix u v at same ∙ ap (λ (y : Cells). map object_of (used_cells_in y)) (sym is))
+    ∙ sym (map-append object_of (used_cells_in first) (used_cells zspages))
+objects_at (Some first ∷ zspages) (suc id) cells ix u v there at same =
+    map-append object_of (used_cells_in first)
+    (used_cells (slice_set zspages id (Some (slice_set cells ix (Some v)))))
+    ∙ ap (λ (os : List Object). map object_of (used_cells_in first) ++ os)
+    (objects_at zspages id cells ix u v there at same)
+    ∙ sym (map-append object_of (used_cells_in first) (used_cells zspages))
+
+objects_lent : (q q' : PoolState) (handle : ℕ) (cell : CellState) → Lends q q' handle cell
+    → objects q' ≡ objects q
+objects_lent q q' handle cell l =
+    ap objects l.after
+    ∙ objects_at q.zspages l.id l.cells l.ix l.object (record l.object { out = true }) l.place.zspage
+    l.place.cell refl
+
+objects_back : (q q' : PoolState) (handle : ℕ) → Returns q q' handle → objects q' ≡ objects q
+objects_back q q' handle r =
+    ap objects r.after
+    ∙ objects_at q.zspages r.id r.cells r.ix r.object (record r.object { out = false }) r.place.zspage
+    r.place.cell refl
+
+-- ---- stages before and after the point of no return
+
+-- there is no refusal
+abbrev HasNone : Option PartEnd → Type 0
+HasNone None = ⊤
+HasNone (Some end) = ⊥
+
+-- there is one
+abbrev HasSome : Option PartEnd → Type 0
+HasSome None = ⊥
+HasSome (Some end) = ⊤
+
+-- the piece may still be refused, and has changed nothing
+abbrev IsEarly : At → Option PartEnd → Type 0
+IsEarly at.Start f = HasNone f
+IsEarly at.Refusing f = ⊥
+IsEarly at.Seen f = HasNone f
+IsEarly at.Pinning f = HasNone f
+IsEarly at.Pinned f = ⊤
+IsEarly at.Unpinning f = ⊤
+IsEarly at.Leaving f = ⊤
+IsEarly at.Wanting f = HasNone f
+IsEarly at.Inside f = HasNone f
+IsEarly at.Both f = HasNone f
+IsEarly at.Made f = HasSome f
+IsEarly a f = ⊥
+
+-- the piece isn't refused any more
+abbrev IsLate : At → Option PartEnd → Type 0
+IsLate at.Refusing f = ⊤
+IsLate at.Made f = HasNone f
+IsLate at.Old f = ⊤
+IsLate at.Freeing f = ⊤
+IsLate at.Owing f = ⊤
+IsLate at.Giving f = ⊤
+IsLate at.Ready f = ⊤
+IsLate a f = ⊥
+
+-- without a refusal each stage is one or the other
+split : (a : At) (f : Option PartEnd) → HasNone f → IsEarly a f ⊎ IsLate a f
+split at.Start f none = inl none
+split at.Refusing f none = inr tt
+split at.Seen f none = inl none
+split at.Pinning f none = inl none
+split at.Pinned f none = inl tt
+split at.Unpinning f none = inl tt
+split at.Leaving f none = inl tt
+split at.Wanting f none = inl none
+split at.Inside f none = inl none
+split at.Both f none = inl none
+split at.Made f none = inr none
+split at.Old f none = inr tt
+split at.Freeing f none = inr tt
+split at.Owing f none = inr tt
+split at.Giving f none = inr tt
+split at.Ready f none = inr tt
+
+early_take : (size : ℕ) (todo : List Part) (a : At) (page : Option (List ℕ)) (k : Kept)
+    (f : Option PartEnd) → IsEarly a f
+    → IsEarly (taken_at size todo a page k) f ⊎ IsLate (taken_at size todo a page k) f
+early_take size todo a page k None e = split (taken_at size todo a page k) None tt
+early_take size [] a page k (Some end) e = inl e
+early_take size (p ∷ ps) at.Pinned page k (Some end) e = inl tt
+early_take size (p ∷ ps) at.Unpinning page k (Some end) e = inl tt
+early_take size (p ∷ ps) at.Leaving page k (Some end) e = inl tt
+early_take size (p ∷ ps) at.Made page k (Some end) e = inl tt
+early_take size (p ∷ ps) a page k (Some end) e = absurd e
+
+late_take : (size : ℕ) (todo : List Part) (a : At) (page : Option (List ℕ)) (k : Kept)
+    (f : Option PartEnd) → IsLate a f → IsLate (taken_at size todo a page k) f
+late_take size [] a page k f late = late
+late_take size (p ∷ ps) at.Refusing page k f late = tt
+late_take size (p ∷ ps) at.Made page k f late = late
+late_take size (p ∷ ps) at.Old page k f late = tt
+late_take size (p ∷ ps) at.Freeing page k f late = tt
+late_take size (p ∷ ps) at.Owing page k f late = tt
+late_take size (p ∷ ps) at.Giving page k f late = tt
+late_take size (p ∷ ps) at.Ready page k f late = tt
+late_take size (p ∷ ps) a page k f late = absurd late
+
+-- ---- givings
+
+over_is : (l : Here) (end : PartEnd) (got : Part → List (List ℕ)) (p : Part) (rest todo : List Part)
+    → todo ≡ p ∷ rest
+    → (ending_by l end got todo).done ≡ l.done ++ record { part = p; end = end; got = got p } ∷ []
+over_is l end got p rest todo e = ap (λ (ts : List Part). (ending_by l end got ts).done) e
+
+held_is : (l : Here) (end : PartEnd) (got : Part → List (List ℕ)) (p : Part) (rest todo : List Part)
+    → todo ≡ p ∷ rest → (ending_by l end got todo).held ≡ []
+held_is l end got p rest todo e = ap (λ (ts : List Part). (ending_by l end got ts).held) e
+
+settle_late : (k : Kept) (f : Option PartEnd) → IsLate (settle_at k) f
+settle_late kept.Empty f = tt
+settle_late (kept.Same w) f = tt
+settle_late (kept.Obj o) f = tt
+
+late_step : (t : Terms) (l : Here) (v : DiskHeld) (m : Here) → Works t l v m → IsLate l.at l.fail
+    → (IsLate m.at m.fail × (m.done ≡ l.done))
+    ⊎ ((d : Done) × (m.done ≡ l.done ++ d ∷ []) × (IsRefusedEnd d.end → ⊥))
+late_step t l v m (refuses p rest c todo stage held give is) late =
+    inr (
+      record { part = p; end = over.Whole ends.Range; got = [] },
+      ap (λ (y : Here). y.done) is ∙ over_is l (over.Whole ends.Range) (λ p. []) p rest l.todo todo,
+      λ r. r,
+    )
+late_step t l v m (pins p rest e o q q' cell todo stage held kept lends give is) late =
+    absurd (subst (λ (a : At). IsLate a l.fail) stage late)
+late_step t l v m (unpins p rest e o q q' todo stage held kept back give is) late =
+    absurd (subst (λ (a : At). IsLate a l.fail) stage late)
+late_step t l v m (charges p rest e c q q' class handle need bytes huge todo stage held form c_is within adds give is)
+    late = absurd (subst (λ (a : At). IsLate a l.fail) stage late)
+late_step t l v m (limits p rest e c q class need todo stage held n past give is) late =
+    absurd (subst (λ (a : At). IsLate a l.fail) stage late)
+late_step t l v m (starves p rest e c q class todo stage held full within give is) late =
+    absurd (subst (λ (a : At). IsLate a l.fail) stage late)
+late_step t l v m (stows p rest e q class todo stage held fail give is) late =
+    inl (subst (λ (y : Here). IsLate y.at y.fail × (y.done ≡ l.done)) (sym is)
+    (settle_late (own_entry l).kept l.fail, refl))
+late_step t l v m (quits p rest e q class end todo stage held fail give is) late =
+    absurd (subst (λ (f : Option PartEnd). IsLate at.Made f) fail
+    (subst (λ (a : At). IsLate a l.fail) stage late))
+late_step t l v m (frees p rest e o q q' frames todo stage held kept drops give is) late =
+    inl (subst (λ (y : Here). IsLate y.at y.fail × (y.done ≡ l.done)) (sym is) (tt, refl))
+late_step t l v m (repays p rest e c todo stage held give is) late =
+    inl (subst (λ (y : Here). IsLate y.at y.fail × (y.done ≡ l.done)) (sym is) (tt, refl))
+late_step t l v m (puts p rest e f todo stage held notes give is) late =
+    inr (
+      record { part = p; end = over.Carried; got = [] },
+      ap (λ (y : Here). y.done) is ∙ over_is l over.Carried (λ p. []) p rest l.todo todo,
+      λ r. r,
+    )
+late_step t l v m (reads p rest e f todo stage held fail notes give is) late =
+    absurd (subst (λ (a : At). IsLate a l.fail) stage late)
+late_step t l v m (fails p rest e end todo stage held fail give is) late =
+    absurd (subst (λ (a : At). IsLate a l.fail) stage late)
+
+-- What a giving of a piece leaves that may still be refused: it goes on with what it took, or it is
+-- past a refusal, or it ends.
+data Step (l m : Here) (v : DiskHeld) : Type 0 where
+  stays : GivesLast l.held v → m.held ≡ tail_of l.held → IsEarly m.at m.fail → Step l m v
+  passes : IsLate m.at m.fail → m.done ≡ l.done → Step l m v
+  ended : (d : Done) → m.done ≡ l.done ++ d ∷ []
+      → (IsRefusedEnd d.end → GivesLast l.held v × (m.held ≡ tail_of l.held)) → Step l m v
+
+pin_step : (l n : Here) (v : DiskHeld) → HasNone l.fail → n.fail ≡ l.fail → n.done ≡ l.done
+    → GivesLast l.held v → n.held ≡ tail_of l.held → Step l n v
+pin_step l n v none fail done last held = by (split n.at n.fail (subst HasNone (sym fail) none)) where
+  by : IsEarly n.at n.fail ⊎ IsLate n.at n.fail → Step l n v
+  by (inl early) = stays last held early
+  by (inr late) = passes late done
+
+quit_early : (pin : Option Pin) (f : Option PartEnd) → IsEarly (quit_at pin) f
+quit_early None f = tt
+quit_early (Some x) f = tt
+
+-- the value that was held last
+last_is : (l : Here) (v : DiskHeld) (held : List (LockNo × DiskHeld)) → l.held ≡ held
+    → GivesLast held v → GivesLast l.held v
+last_is l v held is last = subst (λ (h : List (LockNo × DiskHeld)). GivesLast h v) (sym is) last
+
+early_step : (t : Terms) (l : Here) (v : DiskHeld) (m : Here) → Works t l v m
+    → IsEarly l.at l.fail → Step l m v
+early_step t l v m (refuses p rest c todo stage held give is) early =
+    absurd (subst (λ (a : At). IsEarly a l.fail) stage early)
+early_step t l v m (pins p rest e o q q' cell todo stage held kept lends give is) early =
+    subst (λ (y : Here). Step l y v) (sym is)
+    (pin_step l (pinning o cell l v) v (subst (λ (a : At). IsEarly a l.fail) stage early) refl refl
+    (last_is l v _ held (q', give, objects_lent q q' o.handle.0 cell lends)) refl)
+early_step t l v m (unpins p rest e o q q' todo stage held kept back give is) early =
+    subst (λ (y : Here). Step l y v) (sym is)
+    (stays (last_is l v _ held (q', give, objects_back q q' o.handle.0 back)) refl tt)
+early_step t l v m (charges p rest e c q q' class handle need bytes huge todo stage held form c_is within adds give is)
+    early =
+    subst (λ (y : Here). Step l y v) (sym is)
+    (passes (subst (λ (a : At). IsEarly a l.fail) stage early) refl)
+early_step t l v m (limits p rest e c q class need todo stage held n past give is) early =
+    subst (λ (y : Here). Step l y v) (sym is) (stays (last_is l v _ held give) refl tt)
+early_step t l v m (starves p rest e c q class todo stage held full within give is) early =
+    subst (λ (y : Here). Step l y v) (sym is) (stays (last_is l v _ held give) refl tt)
+early_step t l v m (stows p rest e q class todo stage held fail give is) early =
+    absurd (subst (λ (f : Option PartEnd). IsEarly at.Made f) fail
+    (subst (λ (a : At). IsEarly a l.fail) stage early))
+early_step t l v m (quits p rest e q class end todo stage held fail give is) early =
+    subst (λ (y : Here). Step l y v) (sym is)
+    (stays (last_is l v _ held (q, give, refl)) refl (quit_early l.pin l.fail))
+early_step t l v m (frees p rest e o q q' frames todo stage held kept drops give is) early =
+    absurd (subst (λ (a : At). IsEarly a l.fail) stage early)
+early_step t l v m (repays p rest e c todo stage held give is) early =
+    absurd (subst (λ (a : At). IsEarly a l.fail) stage early)
+early_step t l v m (puts p rest e f todo stage held notes give is) early =
+    absurd (subst (λ (a : At). IsEarly a l.fail) stage early)
+early_step t l v m (reads p rest e f todo stage held fail notes give is) early =
+    ended (record {
+      part = p;
+      end = over.Carried;
+      got = got_from (page_in l.page (own_entry l).kept) p;
+    })
+    (ap (λ (y : Here). y.done) is
+    ∙ over_is l over.Carried (λ p. got_from (page_in l.page (own_entry l).kept) p) p rest l.todo todo)
+    (λ r. absurd r)
+early_step t l v m (fails p rest e end todo stage held fail give is) early =
+    let so = is ∙ ap (failing_by l) fail in
+    ended (record { part = p; end = end; got = [] })
+    (ap (λ (y : Here). y.done) so ∙ over_is l end (λ p. []) p rest l.todo todo)
+    (λ r. (
+      last_is l v _ held give,
+      ap (λ (y : Here). y.held) so ∙ held_is l end (λ p. []) p rest l.todo todo
+          ∙ sym (ap tail_of held),
+    ))
+
+-- ---- a refused piece
+
+-- a piece that is over stands after those before it
+one_more : (done done' : List Done) (d : Done) → done' ≡ done → done' ≡ done ++ d ∷ [] → ⊥
+one_more done done' d same more =
+    let n = ap length (sym same ∙ more) in
+    let m = length-append done (d ∷ []) in
+    omega arith
+
+last_done : (done done' : List Done) (d d' : Done) → done' ≡ done ++ d ∷ [] → done' ≡ done ++ d' ∷ []
+    → d ≡ d'
+last_done done done' d d' e e' =
+    let same = append_cancel_left done (d ∷ []) (d' ∷ []) (sym e ∙ e') in cc
+
+never_late : (t : Terms) (es : List Event) (l : Here) → IsLate l.at l.fail → AreRefused t es l → ⊥
+never_late t [] l late refused = refused
+never_late t (Takes v ∷ es) l late (k, what, refused) =
+    never_late t es (took t l v)
+    (late_take t.size l.todo l.at l.page (entry_or v (entry_in l.held)).kept l.fail late) refused
+never_late t (Gives v m ∷ []) l late (k, what, works, (d, done, refused)) =
+    elim (late_step t l v m works late) [
+      | inl goes ↦ one_more l.done m.done d goes.1 done
+      | inr other ↦ other.2 (subst (λ (y : Done). IsRefusedEnd y.end)
+          (last_done l.done m.done d other.0 done other.1) refused)
+    ]
+never_late t (Gives v m ∷ e ∷ es) l late (k, what, works, same, refused) =
+    elim (late_step t l v m works late) [
+      | inl goes ↦ never_late t (e ∷ es) m goes.0 refused
+      | inr other ↦ one_more l.done m.done other.0 same other.1
+    ]
+
+gives_back : (t : Terms) (es : List Event) (l : Here) → IsEarly l.at l.fail → AreRefused t es l
+    → GiveBack t es l
+gives_back t [] l early refused = tt
+gives_back t (Takes v ∷ es) l early (k, what, refused) =
+    elim (early_take t.size l.todo l.at l.page (entry_or v (entry_in l.held)).kept l.fail early) [
+      | inl soon ↦ gives_back t es (took t l v) soon refused
+      | inr late ↦ absurd (never_late t es (took t l v) late refused)
+    ]
+gives_back t (Gives v m ∷ []) l early (k, what, works, (d, done, refused)) =
+    elim (early_step t l v m works early) [
+      | stays last held soon ↦ (last, held, tt)
+      | passes late same ↦ absurd (one_more l.done m.done d same done)
+      | ended d' done' so ↦
+          let r = so (subst (λ (y : Done). IsRefusedEnd y.end)
+          (last_done l.done m.done d d' done done') refused) in
+          (r.0, r.1, tt)
+    ]
+gives_back t (Gives v m ∷ e ∷ es) l early (k, what, works, same, refused) =
+    elim (early_step t l v m works early) [
+      | stays last held soon ↦ (last, held, gives_back t (e ∷ es) m soon refused)
+      | passes late more ↦ absurd (never_late t (e ∷ es) m late refused)
+      | ended d' done' so ↦ absurd (one_more l.done m.done d' same done')
+    ]
+
+pub leaves_all : RefusalsLeaveAll
+leaves_all t es l start fail refused =
+    gives_back t es l
+    (subst (λ (a : At). IsEarly a l.fail) (sym start)
+    (subst (λ (f : Option PartEnd). IsEarly at.Start f) (sym fail) tt)) refused

@@ -1,0 +1,25 @@
+use Rattle.std.proofs.Common.{refl, subst}
+use Rattle.class_pool.specs.Pool.{IsLent}
+use Rattle.lock_row.specs.declared.names.At.TheVariants as at
+use Rattle.page_steps.specs.Fits.{AsPool}
+use Rattle.page_steps.specs.Calls.{here}
+use Rattle.page_steps.specs.declared.stage.Stage.TheVariants as stage
+use Rattle.page_steps.proofs.Moves.{waits, takes_it}
+use Rattle.page_steps.proofs.Taken.{fits_pinned, took_old}
+use Rattle.page_steps.proofs.pins.pinned.Goals as goal
+
+pub returns-in-None : goal.returns-in-None
+returns-in-None g c = waits c.requires tt refl c.in-None.ensures.outcome
+
+pub returns-in-Some : goal.returns-in-Some
+returns-in-Some g c =
+    let a = c.args in
+    let fits = fits_pinned a.head a.scratch.now a.entry a.lent a.end c.in-Some.value
+    (c.requires.allows.fits _ _ _ _ refl (λ x v w. refl) c.in-Some.ensures.outcome) in
+    takes_it c.requires tt refl (λ x v w. refl) c.in-Some.ensures.outcome (
+      c.requires.fit.0,
+      c.requires.fit.1,
+      subst (AsPool (λ q. IsLent q a.lent.object.handle.0 a.lent.cell)) c.pool_of.ensures fits,
+    ) tt
+    (λ x w. took_old (here x a.scratch.now (stage.Pinned a.entry a.lent a.end)) at.Unpinning a.entry.kept
+    a.lent.object c.in-Some.value c.pool_of.result c.requires.fit.0.kept c.pool_of.ensures)

@@ -1,0 +1,33 @@
+use Rattle.std.proofs.Common.{◌≡◌, refl, sym, ap, ◌∙◌}
+use Rattle.lock_row.specs.declared.names.Held.TheVariants as holds
+use Rattle.slot_entry.specs.Entries.{EntryState, weight_of}
+use Rattle.page_steps.specs.Nexts.{freeing, emptied}
+use Rattle.page_steps.proofs.Moves.{gives_it}
+use Rattle.page_steps.proofs.Given.{can_free, freed_here, freed_fit}
+use Rattle.page_steps.proofs.settle.free.Goals as goal
+
+pub give_by-requires : goal.give_by-requires
+give_by-requires g c =
+    let a = c.args in
+    c.requires.allows.give _ _ _ refl
+    (can_free a.head a.scratch.now a.own a.object a.next a.pool c.drop_object-frames.new.pool
+    c.drop_object-frames.result c.requires.fit.1 c.drop_object-frames.ensures)
+
+pub returns : goal.returns
+returns g c =
+    let a = c.args in
+    let empty : c.put.new.self ≡ emptied a.own.entry = λ i. record {
+      kept = c.put.ensures.kept i;
+      order = c.put.ensures.order i;
+      room = c.put.ensures.room i;
+      touched = c.put.ensures.touched i;
+    } in
+    gives_it (freeing c.drop_object-frames.result) c.requires tt refl
+    (can_free a.head a.scratch.now a.own a.object a.next a.pool c.drop_object-frames.new.pool
+    c.drop_object-frames.result c.requires.fit.1 c.drop_object-frames.ensures)
+    c.give_by.ensures
+    (freed_fit a.head a.scratch.now a.own a.object a.next c.put.new.self c.is_some-read.result
+    c.requires.fit.1 c.requires.fit.0 c.requires.fit.2 empty c.is_some-read.ensures) tt
+    (λ x w. freed_here x a.scratch.now a.own a.object a.next a.pool c.drop_object-frames.result
+    c.put.new.self c.is_some-read.result c.weight_in-before.result (holds.Class c.drop_object-frames.new.pool)
+    empty c.is_some-read.ensures (c.weight_in-before.ensures ∙ ap weight_of c.kept.ensures))

@@ -1,0 +1,9 @@
+pub mod Pages
+pub mod Pools
+pub mod Steps
+pub mod Nexts
+pub mod Givings
+pub mod Fits
+pub mod Calls
+pub mod Turns
+pub mod Refusals

@@ -1,0 +1,254 @@
+-- What an actor does next on a page, and what a taking does to its local.
+use Rattle.std.specs.Prelude.{◌≡◌, ℕ, ◌+◌, ◌*◌, Bool, true, false, List, [], ◌∷◌, ◌++◌, length, Option, Some, None}
+use Rattle.zr_base.specs.declared.op.Op.{Op}
+use Rattle.zr_base.specs.declared.op.Op.TheVariants.{Write, Read, Discard}
+use Rattle.zr_base.specs.Plain.{is_beyond, has_whole}
+use Rattle.class_pool.specs.Pool.{PoolState}
+use Rattle.mem_account.specs.Counters.{Counters}
+use Rattle.mem_account.specs.declared.weight.Weight.{Weight}
+use Rattle.call_history.specs.declared.part.Part.{Part}
+use Rattle.call_history.specs.declared.part.PartEnd.{PartEnd}
+use Rattle.call_history.specs.Parts.{left_by}
+use Rattle.lock_row.specs.declared.names.LockNo.{LockNo}
+use Rattle.lock_row.specs.declared.names.LockNo.TheVariants as lock
+use Rattle.lock_row.specs.declared.names.Held.{Held}
+use Rattle.lock_row.specs.declared.names.Held.TheVariants as holds
+use Rattle.lock_row.specs.declared.names.At.{At}
+use Rattle.lock_row.specs.declared.names.At.TheVariants.{Start, Refusing, Seen, Pinning, Pinned, Unpinning, Leaving, Wanting, Inside, Both, Made, Old, Freeing, Owing, Giving, Ready}
+use Rattle.lock_row.specs.declared.names.Plan.{Plan}
+use Rattle.lock_row.specs.declared.names.Plan.TheVariants.{Finished, Take, Give}
+use Rattle.lock_row.specs.declared.names.Local.{Local}
+use Rattle.lock_row.specs.declared.names.Object.{Object}
+use Rattle.lock_row.specs.declared.names.Pin.{Pin}
+use Rattle.slot_entry.specs.declared.kept.Kept.{Kept}
+use Rattle.slot_entry.specs.declared.kept.Kept.TheVariants as kept
+use Rattle.slot_entry.specs.Entries.{EntryState, weight_of}
+use Rattle.slot_entry.specs.Forms.{PageForm, Blank, Word, Pooled}
+use Rattle.page_steps.specs.Pages.{next_form, new_class}
+
+-- What a phase's steps go by: the disk's pages, the most frames of a chain, and the time.
+pub record Terms : Type 0 where
+  pub size : ℕ
+  pub chain : ℕ
+  pub clock : ℕ
+
+-- what a lock guards: a slot has its page's entry, a class its pool, and the account its counters;
+-- the blocks and the device, which aren't there yet, have the value () and are taken by nobody
+abbrev pub DiskHeld : Type 0
+DiskHeld = Held EntryState PoolState Counters (Unit {0}) (Unit {0})
+
+-- the local of an actor of a disk
+abbrev pub Here : Type 0
+Here = Local DiskHeld
+
+-- the lock of a page
+abbrev pub slot : ℕ → LockNo
+slot page = lock.Slot (record { 0 = page })
+
+-- the place of a lock in the row of a disk of so many pages: the slots first, then the classes, the account, the blocks and the device
+abbrev pub spot : ℕ → LockNo → ℕ
+spot size (lock.Slot page) = page.0
+spot size (lock.Class c) = size + c
+spot size lock.Account = size + 255
+spot size lock.Blocks = size + 256
+spot size lock.Device = size + 257
+
+-- the class of an object that stands
+abbrev pub class_by : Kept → ℕ
+class_by kept.Empty = 0
+class_by (kept.Same w) = 0
+class_by (kept.Obj o) = o.class
+
+-- ---- plans
+
+-- the first event of a piece: a request beyond the disk takes the account
+abbrev pub start_plan : Bool → Part → Plan
+start_plan true p = Take lock.Account
+start_plan false p = Take (slot p.page)
+
+-- c is the class of the old object, d that of the new one
+abbrev pub plan_at : ℕ → At → Part → ℕ → ℕ → Plan
+plan_at size Start p c d = start_plan (is_beyond size p.op) p
+plan_at size Refusing p c d = Give lock.Account
+plan_at size Seen p c d = Take (lock.Class c)
+plan_at size Pinning p c d = Give (lock.Class c)
+plan_at size Pinned p c d = Take (lock.Class c)
+plan_at size Unpinning p c d = Give (lock.Class c)
+plan_at size Leaving p c d = Give (slot p.page)
+plan_at size Wanting p c d = Take (lock.Class d)
+plan_at size Inside p c d = Take lock.Account
+plan_at size Both p c d = Give lock.Account
+plan_at size Made p c d = Give (lock.Class d)
+plan_at size Old p c d = Take (lock.Class c)
+plan_at size Freeing p c d = Give (lock.Class c)
+plan_at size Owing p c d = Take lock.Account
+plan_at size Giving p c d = Give lock.Account
+plan_at size Ready p c d = Give (slot p.page)
+
+-- the next event of an actor with these pieces to do
+abbrev pub plan_by : ℕ → List Part → At → ℕ → ℕ → Plan
+plan_by size [] at c d = Finished
+plan_by size (p ∷ ps) at c d = plan_at size at p c d
+
+-- the entry that is the value, or else another
+abbrev pub entry_or : DiskHeld → EntryState → EntryState
+entry_or (holds.Slot e) d = e
+entry_or (holds.Class x) d = d
+entry_or (holds.Account x) d = d
+entry_or (holds.Blocks x) d = d
+entry_or (holds.Device x) d = d
+
+-- the entry that an actor holds
+abbrev pub entry_in : List (LockNo × DiskHeld) → EntryState
+entry_in [] = record { kept = kept.Empty; order = []; room = 0; touched = 0 }
+entry_in (x ∷ xs) = entry_or x.1 (entry_in xs)
+
+-- the next event of an actor
+abbrev pub plan : Terms → Here → Plan
+plan t l = plan_by t.size l.todo l.at (class_by (entry_in l.held).kept) (new_class t.chain l.todo l.page (entry_in l.held).kept)
+
+-- ---- stages
+
+-- what stands has to be given up
+abbrev pub settle_at : Kept → At
+settle_at kept.Empty = Owing
+settle_at (kept.Same w) = Owing
+settle_at (kept.Obj o) = Old
+
+-- a new form needs an object, or what stands is given up
+abbrev pub made_at : PageForm → Kept → At
+made_at Blank k = settle_at k
+made_at (Word w) k = settle_at k
+made_at (Pooled bytes huge) k = Wanting
+
+-- a page with an object is read from its cell
+abbrev pub seen_at : Kept → At
+seen_at kept.Empty = Leaving
+seen_at (kept.Same w) = Leaving
+seen_at (kept.Obj o) = Seen
+
+-- a page of which a part is written is read before where it has an object
+abbrev pub part_at : PageForm → Kept → At
+part_at f kept.Empty = made_at f kept.Empty
+part_at f (kept.Same w) = made_at f (kept.Same w)
+part_at f (kept.Obj o) = Seen
+
+-- a write of a whole page doesn't read it
+abbrev pub write_at : Bool → PageForm → Kept → At
+write_at true f k = made_at f k
+write_at false f k = part_at f k
+
+-- a discard gives up what stands
+abbrev pub discard_at : Kept → At
+discard_at kept.Empty = Ready
+discard_at (kept.Same w) = Owing
+discard_at (kept.Obj o) = Old
+
+-- a piece has its page's slot
+abbrev pub entered_at : Op → ℕ → PageForm → Kept → At
+entered_at (Write start count stuff) page f k = write_at (has_whole start count page) f k
+entered_at (Read start count) page f k = seen_at k
+entered_at (Discard start count) page f k = discard_at k
+
+-- a piece has its first lock
+abbrev pub begun_at : Bool → Part → PageForm → Kept → At
+begun_at true p f k = Refusing
+begun_at false p f k = entered_at p.op p.page f k
+
+-- a piece has the lock that it takes next
+abbrev pub after_take : ℕ → At → Part → PageForm → Kept → At
+after_take size Start p f k = begun_at (is_beyond size p.op) p f k
+after_take size Refusing p f k = Refusing
+after_take size Seen p f k = Pinning
+after_take size Pinning p f k = Pinning
+after_take size Pinned p f k = Unpinning
+after_take size Unpinning p f k = Unpinning
+after_take size Leaving p f k = Leaving
+after_take size Wanting p f k = Inside
+after_take size Inside p f k = Both
+after_take size Both p f k = Both
+after_take size Made p f k = Made
+after_take size Old p f k = Freeing
+after_take size Freeing p f k = Freeing
+after_take size Owing p f k = Giving
+after_take size Giving p f k = Giving
+after_take size Ready p f k = Ready
+
+-- an actor with these pieces to do has the lock that it takes next
+abbrev pub taken_at : ℕ → List Part → At → Option (List ℕ) → Kept → At
+taken_at size [] at page k = at
+taken_at size (p ∷ ps) at page k = after_take size at p (next_form p page k) k
+
+-- a page was read from its cell
+abbrev pub pinned_at : Op → PageForm → Kept → At
+pinned_at (Write start count stuff) f k = made_at f k
+pinned_at (Read start count) f k = Pinned
+pinned_at (Discard start count) f k = Pinned
+
+-- a refused piece has nothing in the pool
+abbrev pub quit_at : Option Pin → At
+quit_at None = Leaving
+quit_at (Some x) = Pinned
+
+-- the lock of an event
+abbrev pub lock_of : Plan → LockNo
+lock_of (Take k) = k
+lock_of (Give k) = k
+lock_of Finished = lock.Account
+
+-- ---- locals
+
+-- a take changes the stage and what is held, and nothing else
+abbrev pub with_lock : Here → At → LockNo → DiskHeld → Here
+with_lock l at k v = record {
+  actor = l.actor;
+  at = at;
+  todo = l.todo;
+  held = (k, v) ∷ l.held;
+  done = l.done;
+  fresh = l.fresh;
+  pin = l.pin;
+  owed = l.owed;
+  ahead = l.ahead;
+  behind = l.behind;
+  page = l.page;
+  fail = l.fail;
+}
+
+-- the local after a taking
+abbrev pub took : Terms → Here → DiskHeld → Here
+took t l v = with_lock l (taken_at t.size l.todo l.at l.page (entry_or v (entry_in l.held)).kept) (lock_of (plan t l)) v
+
+-- the piece goes on
+abbrev pub on : Here → At → List (LockNo × DiskHeld) → Option Object → Option Pin → ℕ → Option Weight → Option Weight → Option (List ℕ) → Option PartEnd → Here
+on l at held fresh pin owed ahead behind page fail = record {
+  actor = l.actor;
+  at = at;
+  todo = l.todo;
+  held = held;
+  done = l.done;
+  fresh = fresh;
+  pin = pin;
+  owed = owed;
+  ahead = ahead;
+  behind = behind;
+  page = page;
+  fail = fail;
+}
+
+-- the piece is over
+abbrev pub piece_over : Here → Part → PartEnd → List (List ℕ) → List Part → Here
+piece_over l p end got rest = record {
+  actor = l.actor;
+  at = Start;
+  todo = left_by end p.nr rest;
+  held = [];
+  done = l.done ++ record { part = p; end = end; got = got } ∷ [];
+  fresh = None;
+  pin = None;
+  owed = 0;
+  ahead = None;
+  behind = None;
+  page = None;
+  fail = None;
+}

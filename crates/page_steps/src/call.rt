@@ -1,0 +1,172 @@
+//! The calls of a page: reads, writes and discards of a piece, one event at a time.
+
+ghost use Rattle.std.specs.Prelude.{◌≡◌};
+ghost use Rattle.page_steps.specs.declared.stage.Stage.TheVariants as stage;
+ghost use Rattle.page_steps.specs.declared.stage.Work.TheVariants as work;
+ghost use Rattle.page_steps.specs.Calls.{Frame, IsFit, IsGoing, IsWork, is_skipped, started, counting};
+ghost use Rattle.page_steps.specs.Turns.{Allows, IsReady, Advanced, HasAdvanced, IsOnward};
+
+use crate::enter::{beyond, refuse_request, start};
+use crate::leave::{leave, leave_plain, refuse};
+use crate::objects::{ask, charge, made, want};
+use crate::pins::{pin, pinned, seen, unpin};
+use crate::settle::{free, old, owe, put, repay};
+use crate::stage::{DiskHeld, Head, Progress, Scratch, Stage, Work};
+use lock_row::Hand;
+use std::mem;
+use zr_base::{PageIx, Piece, Tag};
+
+/// A call in work.
+#[derive(Drop)]
+pub struct PageCall {
+    pub head: Head,
+    pub stage: Stage,
+}
+
+impl PageCall {
+    /// Begins a read. Where it is done, the page stands in the scratch.
+    pub fn read(piece: Piece, tag: Tag, now: u64) -> PageCall
+        ensures { result ≡ started work.Reads piece tag now }
+    {
+        PageCall {
+            head: Head {
+                work: Work::Reads,
+                piece,
+                tag,
+                now,
+            },
+            stage: Stage::Start,
+        }
+    }
+
+    /// Begins a write. The piece's sectors stand in the scratch, in `fresh`, each at its place in
+    /// the page.
+    pub fn write(piece: Piece, tag: Tag, now: u64) -> PageCall
+        ensures { result ≡ started work.Writes piece tag now }
+    {
+        PageCall {
+            head: Head {
+                work: Work::Writes,
+                piece,
+                tag,
+                now,
+            },
+            stage: Stage::Start,
+        }
+    }
+
+    /// Begins a discard of a whole page.
+    pub fn discard(piece: Piece, tag: Tag, now: u64) -> PageCall
+        ensures { result ≡ started work.Discards piece tag now }
+    {
+        PageCall {
+            head: Head {
+                work: Work::Discards,
+                piece,
+                tag,
+                now,
+            },
+            stage: Stage::Start,
+        }
+    }
+
+    /// Begins the count of a request beyond the disk.
+    pub fn out_of_range() -> PageCall
+        ensures { result ≡ counting }
+    {
+        let piece = Piece {
+            page: PageIx(0),
+            first: 0,
+            count: 0,
+        };
+        let tag = Tag { actor: 0, op: 0 };
+        PageCall {
+            head: Head {
+                work: Work::Counts,
+                piece,
+                tag,
+                now: 0,
+            },
+            stage: Stage::Beyond,
+        }
+    }
+
+    /// Whether it is a discard of a part of a page, which ends `Skipped` without an event.
+    pub fn is_skip(&self) -> bool
+        ensures { result ≡ is_skipped self.now.head }
+    {
+        matches!(&self.head.work, Work::Discards) && self.head.piece.count < 8
+    }
+
+    /// Makes the next event, or misses.
+    pub fn advance<H: Hand<Value = DiskHeld>>(
+        &mut self,
+        hand: &mut H,
+        scratch: &mut Scratch,
+    ) -> Progress
+        requires going { IsGoing self.old.stage }
+        requires fit { IsFit self.old.head scratch.old self.old.stage }
+        requires allows { Allows H.can_take H.takes H.can_give self.old.head scratch.old
+            self.old.stage hand.old }
+        ensures head { self.new.head ≡ self.old.head }
+        ensures fit { IsFit self.old.head scratch.new self.new.stage }
+        ensures turn { Advanced H.takes H.misses H.gives self.old.head scratch.old self.old.stage
+            hand.old
+            scratch.new self.new.stage hand.new result }
+        ensures over { IsOnward result self.new.stage }
+        ensures work { (x : Frame) → IsWork self.old.head scratch.old x → IsWork self.old.head
+            scratch.new x }
+        ensures table { scratch.new.table ≡ scratch.old.table }
+    {
+        let at = mem::replace(&mut self.stage, Stage::Over);
+        let (next, progress) = step(self.head, at, hand, scratch);
+        self.stage = next;
+        progress
+    }
+}
+
+// One event, or a miss, of a call that isn't over.
+fn step<H: Hand<Value = DiskHeld>>(
+    head: Head,
+    at: Stage,
+    hand: &mut H,
+    scratch: &mut Scratch,
+) -> (Stage, Progress)
+    requires going { IsGoing at }
+    requires ready { IsReady H.can_take H.takes H.can_give head scratch.old at hand.old }
+    ensures { HasAdvanced H.takes H.misses H.gives head scratch.old at hand.old scratch.new
+        result.0 hand.new result.1 }
+{
+    match at {
+        Stage::Start => start(head, hand, scratch),
+        Stage::Beyond => beyond(head, hand, scratch),
+        Stage::Refusing(account) => refuse_request(head, account, hand, scratch),
+        Stage::Seen(entry, object) => seen(head, entry, object, hand, scratch),
+        Stage::Pinning(entry, object, pool) => pin(head, entry, object, pool, hand, scratch),
+        Stage::Pinned(entry, lent, end) => pinned(head, entry, lent, end, hand, scratch),
+        Stage::Unpinning(entry, lent, end, pool) => unpin(
+            head, entry, lent, end, pool, hand, scratch,
+        ),
+        Stage::Plain(entry) => leave_plain(head, entry, hand, scratch),
+        Stage::Leaving(entry) => leave(head, entry, hand, scratch),
+        Stage::Refused(entry, read, end) => refuse(head, entry, read, end, hand, scratch),
+        Stage::Wanting(own, new) => want(head, own, new, hand, scratch),
+        Stage::Inside(own, new, pool) => ask(head, own, new, pool, hand, scratch),
+        Stage::Both(own, new, pool, account) => charge(
+            head, own, new, pool, account, hand, scratch,
+        ),
+        Stage::Made(own, class, pool, outcome) => made(
+            head, own, class, pool, outcome, hand, scratch,
+        ),
+        Stage::Old(own, object, next) => old(head, own, object, next, hand, scratch),
+        Stage::Freeing(own, object, next, pool) => free(
+            head, own, object, next, pool, hand, scratch,
+        ),
+        Stage::Owing(due, frames, ahead) => owe(head, due, frames, ahead, hand, scratch),
+        Stage::Giving(due, frames, ahead, account) => repay(
+            head, due, frames, ahead, account, hand, scratch,
+        ),
+        Stage::Ready(due, ahead, behind) => put(head, due, ahead, behind, hand, scratch),
+        Stage::Over => unreachable!(),
+    }
+}

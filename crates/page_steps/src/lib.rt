@@ -1,0 +1,20 @@
+//! The calls of pages as steps: each is one event, the taking or the giving of one lock, by any hand.
+#![tactic(auto)]
+
+mod call;
+mod enter;
+mod forms;
+mod laws;
+mod leave;
+mod nexts;
+mod objects;
+mod pins;
+mod settle;
+mod stage;
+mod values;
+
+pub use call::PageCall;
+pub use laws::refusals_leave_all;
+pub use stage::{
+    DiskHeld, Due, Head, Lent, New, Outcome, Own, PieceEnd, Progress, Scratch, Stage, Work,
+};

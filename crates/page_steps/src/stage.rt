@@ -1,0 +1,167 @@
+//! The stages of a page's call. Each has what the call holds there, so a stage tells the next
+//! event.
+//!
+//! | Stage | Holds | Next event | Function | The event's work |
+//! |---|---|---|---|---|
+//! | `Start` | | takes the slot | `start` | none |
+//! | `Beyond` | | takes the account | `beyond` | none |
+//! | `Refusing` | account | gives the account | `refuse_request` | counts a request beyond the disk |
+//! | `Seen` | slot | takes the class of the page's object | `seen` | none |
+//! | `Pinning` | slot, that class | gives the class | `pin` | pins the object |
+//! | `Pinned` | slot, cell | takes that class | `pinned` | none |
+//! | `Unpinning` | slot, cell, that class | gives the class | `unpin` | unpins the object |
+//! | `Plain`, `Leaving` | slot | gives the slot | `leave_plain`, `leave` | notes the read |
+//! | `Refused` | slot | gives the slot | `refuse` | none |
+//! | `Wanting` | slot, cell if pinned | takes the class of the new object | `want` | none |
+//! | `Inside` | slot, cell, new class | takes the account | `ask` | none |
+//! | `Both` | slot, cell, new class, account | gives the account | `charge` | makes the object, or fails |
+//! | `Made` | slot, cell, new class | gives the class | `made` | none |
+//! | `Old` | slot, cell if pinned | takes the class of the old object | `old` | none |
+//! | `Freeing` | slot, cell, that class | gives the class | `free` | unpins and frees the object |
+//! | `Owing` | slot | takes the account | `owe` | none |
+//! | `Giving` | slot, account | gives the account | `repay` | repays frames, counts the page |
+//! | `Ready` | slot | gives the slot | `put` | puts the new form, and notes the piece |
+//! | `Over` | | none | | |
+
+use arrayvec::ArrayVec;
+use cell_arena::Cell;
+use class_pool::ClassPool;
+use lock_row::{Held, LockNo};
+use mem_account::{Account, Weight};
+use size_class::ClassTable;
+use slot_entry::{Entry, Kept, Stored};
+use zr_base::{Page, Piece, Tag};
+
+/// What a lock of a disk guards.
+pub type DiskHeld = Held<Entry, ClassPool, Account, (), ()>;
+
+/// The buffers of a call, and the classes of new objects. From a call's first event to its end it
+/// is
+/// given the same scratch, which nothing else changes.
+#[derive(Drop)]
+pub struct Scratch {
+    /// A page that was read.
+    pub page: Page,
+    /// A page that is written: a write's sectors stand in it, each at its place in the page.
+    pub fresh: Page,
+    /// The packing of that page.
+    pub packed: ArrayVec<u8, 4128>,
+    /// The classes for the disk's longest chains.
+    pub table: ClassTable,
+}
+
+/// How a piece ended. `at` is the place of its tag in the page's order, from 0.
+#[derive(Clone, Copy, PartialEq, Eq, Debug)]
+pub enum PieceEnd {
+    Read { at: u32 },
+    Wrote { at: u32 },
+    Discarded { at: u32 },
+    /// It was a discard of a part of a page, which does nothing.
+    Skipped,
+    /// It was a request beyond the disk.
+    Range,
+    /// It was refused at the memory limit: the frames charged, those needed, and the limit.
+    AtLimit { pages: u64, need: u64, limit: u64 },
+    /// It was refused for want of memory.
+    NoMemory,
+}
+
+/// What a turn of a call was.
+#[derive(Clone, Copy, PartialEq, Eq, Debug)]
+pub enum Progress {
+    /// One event, and the call goes on.
+    Moved,
+    /// A miss: this lock was held.
+    Waits(LockNo),
+    /// The last event.
+    Done(PieceEnd),
+}
+
+/// What a call does.
+#[derive(Clone, Copy, PartialEq, Eq, Debug)]
+pub enum Work {
+    Reads,
+    Writes,
+    Discards,
+    /// Counts a request beyond the disk.
+    Counts,
+}
+
+/// What stays during a call.
+#[derive(Clone, Copy)]
+pub struct Head {
+    pub work: Work,
+    pub piece: Piece,
+    pub tag: Tag,
+    pub now: u64,
+}
+
+/// An object's cell that its pool has lent.
+#[derive(Drop)]
+pub struct Lent {
+    pub object: Stored,
+    pub cell: Cell,
+}
+
+/// What a call has of its page: the entry, and the object's cell where it is pinned.
+#[derive(Drop)]
+pub struct Own {
+    pub entry: Entry,
+    pub lent: Option<Lent>,
+}
+
+/// Where a new object goes: its class, and whether it is the page itself.
+#[derive(Clone, Copy)]
+pub struct New {
+    pub class: u8,
+    pub huge: bool,
+}
+
+/// What came of making a new object.
+#[derive(Clone, Copy)]
+pub enum Outcome {
+    Object(Stored),
+    Refused(PieceEnd),
+}
+
+/// What is to be put: the entry, whether its page was read from a cell, and the new form.
+#[derive(Drop)]
+pub struct Due {
+    pub entry: Entry,
+    pub read: bool,
+    pub next: Kept,
+}
+
+/// What a call is at, with the values that it holds.
+#[derive(Drop)]
+pub enum Stage {
+    Start,
+    Beyond,
+    Refusing(Account),
+    Seen(Entry, Stored),
+    Pinning(Entry, Stored, ClassPool),
+    /// The last field is the refusal that ends the piece, if it has one.
+    Pinned(Entry, Lent, Option<PieceEnd>),
+    Unpinning(Entry, Lent, Option<PieceEnd>, ClassPool),
+    /// The page has no object.
+    Plain(Entry),
+    /// The page was read from its object's cell.
+    Leaving(Entry),
+    /// The second field says whether the page was read from a cell.
+    Refused(Entry, bool, PieceEnd),
+    Wanting(Own, New),
+    Inside(Own, New, ClassPool),
+    Both(Own, New, ClassPool, Account),
+    /// The second field is the class of the new object.
+    Made(Own, u8, ClassPool, Outcome),
+    /// The last field is the form that is to be put.
+    Old(Own, Stored, Kept),
+    Freeing(Own, Stored, Kept, ClassPool),
+    /// The frames that are to be given back, and what the account counts of the page where its
+    /// object is gone.
+    Owing(Due, u32, Option<Weight>),
+    Giving(Due, u32, Option<Weight>, Account),
+    /// What the account counts of the page, and what it counted before.
+    Ready(Due, Option<Weight>, Option<Weight>),
+    Over,
+}

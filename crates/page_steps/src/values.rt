@@ -1,0 +1,61 @@
+//! What the values of locks are, once they are taken.
+
+ghost use Rattle.std.specs.Prelude.{◌≡◌};
+ghost use Rattle.lock_row.specs.declared.names.Held.TheVariants as holds;
+ghost use Rattle.slot_entry.specs.Entries.{weight_of};
+
+use crate::stage::DiskHeld;
+use class_pool::ClassPool;
+use lock_row::Held;
+use mem_account::{Account, Weight};
+use slot_entry::{Entry, Kept};
+
+/// The entry of a page's slot.
+pub(crate) fn entry_of(value: DiskHeld) -> Entry
+    requires { (e : _) × (value ≡ holds.Slot e) }
+    ensures { value ≡ holds.Slot result }
+{
+    match value {
+        Held::Slot(entry) => entry,
+        _ => unreachable!(),
+    }
+}
+
+/// The pool of a class.
+pub(crate) fn pool_of(value: DiskHeld) -> ClassPool
+    requires { (q : _) × (value ≡ holds.Class q) }
+    ensures { value ≡ holds.Class result }
+{
+    match value {
+        Held::Class(pool) => pool,
+        _ => unreachable!(),
+    }
+}
+
+/// The account.
+pub(crate) fn account_of(value: DiskHeld) -> Account
+    requires { (a : _) × (value ≡ holds.Account a) }
+    ensures { value ≡ holds.Account result }
+{
+    match value {
+        Held::Account(account) => account,
+        _ => unreachable!(),
+    }
+}
+
+/// How a page of this form weighs.
+pub(crate) fn weight_in(kept: Kept) -> Weight
+    ensures { result ≡ weight_of kept }
+{
+    match kept {
+        Kept::Empty => Weight::Empty,
+        Kept::Same(_) => Weight::Same,
+        Kept::Obj(object) => {
+            if object.huge {
+                Weight::Huge
+            } else {
+                Weight::Packed(object.len)
+            }
+        }
+    }
+}

@@ -1,0 +1,58 @@
+-- What the calls of an order do to one page, and sums over them.
+use Rattle.std.specs.Prelude.{ℕ, ◌+◌, Bool, true, false, ◌||◌, List, [], ◌∷◌, Option, Some, if◌then◌else◌}
+use Rattle.zr_base.specs.declared.op.Tag.{Tag}
+use Rattle.zr_base.specs.declared.op.Op.{Op}
+use Rattle.zr_base.specs.declared.op.Op.TheVariants.{Write, Discard}
+use Rattle.zr_base.specs.Plain.{named, sector_after_named}
+use Rattle.mem_account.specs.declared.weight.Weight.{Weight}
+use Rattle.mem_account.specs.declared.weight.Weight.TheVariants.{Empty}
+use Rattle.plain_disk.specs.Forms.{page_bytes, is_pooled, is_huge}
+
+-- a page as calls find it: what the disk's sectors hold, and whether the page is blank, so that no
+-- write stands after its last discard
+pub record Found : Type 0 where
+  pub holds : ℕ → List ℕ
+  pub blank : Bool
+
+-- whether a page is blank after a call
+abbrev pub blank_by : Option Op → Bool → Bool
+blank_by (Some (Write start count stuff)) blank = false
+blank_by (Some (Discard start count)) blank = true
+blank_by _ blank = blank
+
+-- the page after a call
+abbrev pub after : Option Op → Found → Found
+after op f =
+    record { holds = λ s. sector_after_named op s (f.holds s); blank = blank_by op f.blank }
+
+-- the page after the calls of an order
+abbrev pub after_all : List (List Op) → Found → List Tag → Found
+after_all actors f [] = f
+after_all actors f (tag ∷ tags) = after_all actors (after (named actors tag) f) tags
+
+-- how page p is kept: a blank page as nothing, another by its bytes
+abbrev pub kept_as : (List ℕ → Weight) → ℕ → Found → Weight
+kept_as form p f = if f.blank then Empty else form (page_bytes f.holds p)
+
+-- whether page p is in the pool after some first calls of its order, or before them all
+abbrev pub ever_pooled : (List ℕ → Weight) → ℕ → List (List Op) → Found → List Tag → Bool
+ever_pooled form p actors f [] = is_pooled (kept_as form p f)
+ever_pooled form p actors f (tag ∷ tags) = is_pooled (kept_as form p f)
+    || ever_pooled form p actors (after (named actors tag) f) tags
+
+-- the sum over the calls of an order of what each gives, by the page before it and after it
+abbrev pub calls_sum : (Option Op → Found → Found → ℕ) → List (List Op) → Found → List Tag → ℕ
+calls_sum w actors f [] = 0
+calls_sum w actors f (tag ∷ tags) = w (named actors tag) f (after (named actors tag) f)
+    + calls_sum w actors (after (named actors tag) f) tags
+
+-- one for a write after which page p is kept as its 4096 bytes
+abbrev pub made_huge : (List ℕ → Weight) → ℕ → Option Op → Found → Found → ℕ
+made_huge form p (Some (Write start count stuff)) before now =
+    if is_huge (kept_as form p now) then 1 else 0
+made_huge form p _ before now = 0
+
+-- one for a discard of a page that wasn't blank
+abbrev pub freed : Option Op → Found → Found → ℕ
+freed (Some (Discard start count)) before now = if before.blank then 0 else 1
+freed _ before now = 0

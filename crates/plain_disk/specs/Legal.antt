@@ -1,0 +1,64 @@
+-- The lines that the items of a job may print, one after the other.
+use Rattle.std.specs.Prelude.{◌≡◌, ℕ, ◌*◌, ◌<◌, true, List, [], ◌∷◌, ◌++◌}
+use Rattle.zr_base.specs.declared.op.Op.{Op}
+use Rattle.zr_base.specs.Plain.{zero_sector}
+use Rattle.mem_account.specs.declared.weight.Weight.{Weight}
+use Rattle.plain_disk.specs.Output.{OutLine}
+use Rattle.plain_disk.specs.Rests.{nothing_yet, Settings, Rest, Report, report}
+use Rattle.plain_disk.specs.Phases.{IsPhase}
+
+-- An item of a job, as the plain disk knows it.
+pub data Item : Type 0 where
+  -- a disk of so many pages
+  disk : ℕ → Item
+  -- at most so many frames from now on, or any number where it is 0
+  limit_to : ℕ → Item
+  -- the lines of a report
+  asks : Report → Item
+  -- the operations of the actors of a phase
+  phase : List (List Op) → Item
+
+-- what is set before the first item: no limit, the clock at 0, and chains of at most four frames
+abbrev pub first_settings : Settings
+first_settings = record { limit = 0; clock = 0; chain = 4 }
+
+-- There is no zspage yet, and nothing has happened.
+pub record IsUnused (r : Rest) : Type 0 where
+  pub used : (k : ℕ) → k < 255 → r.used k ≡ []
+  pub most : r.most ≡ 0
+  pub so_far : r.so_far ≡ nothing_yet
+
+-- The rest before the first item: there is no disk.
+pub record IsFirst (r : Rest) : Type 0 where
+  pub no_disk : r.size ≡ 0
+  pub unused : IsUnused r
+  pub set : r.set ≡ first_settings
+
+-- A disk of so many pages of zeros, of which nothing is kept yet. What is set stays.
+pub record IsNew (r : Rest) (n : ℕ) (m : Rest) : Type 0 where
+  pub size : m.size ≡ n
+  pub holds : (s : ℕ) → s < 8 * n → m.holds s ≡ zero_sector
+  pub blank : (p : ℕ) → p < n → m.blank p ≡ true
+  pub touched : (p : ℕ) → p < n → m.touched p ≡ 0
+  pub unused : IsUnused m
+  pub set : m.set ≡ r.set
+
+-- the rest with these settings
+abbrev pub sets : Rest → Settings → Rest
+sets r set = record r { set = set }
+
+-- The lines that an item may print between two rests. An attribute prints nothing, and a report
+-- prints its lines of the rest, and changes nothing.
+abbrev pub ItemIsLegal : (List ℕ → Weight) → Rest → Item → List OutLine → Rest → Type 0
+ItemIsLegal form r (disk n) lines m = (lines ≡ []) × IsNew r n m
+ItemIsLegal form r (limit_to n) lines m =
+    (lines ≡ []) × (m ≡ sets r (record r.set { limit = n }))
+ItemIsLegal form r (asks q) lines m = (lines ≡ report form r q) × (m ≡ r)
+ItemIsLegal form r (phase actors) lines m = IsPhase form r actors lines m
+
+-- the lines that a job's items may print one after the other, from one rest to the last
+abbrev pub Legal : (List ℕ → Weight) → Rest → List Item → List OutLine → Rest → Type 0
+Legal form r [] lines last = (lines ≡ []) × (last ≡ r)
+Legal form r (item ∷ items) lines last =
+    (m : Rest) × (first others : List OutLine) × ItemIsLegal form r item first m
+    × Legal form m items others last × (lines ≡ first ++ others)

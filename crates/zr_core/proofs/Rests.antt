@@ -1,0 +1,399 @@
+-- A row between two phases.
+use Rattle.std.proofs.Common.{◌≡◌, ℕ, zero, suc, ◌+◌, ◌*◌, ◌/◌, ◌^◌, ◌<◌, ◌≤◌, List, [], ◌∷◌, length, get_or, Option, Some, None, slice_get, slice_set, refl, sym, ap, ◌∙◌, subst, arith, inr, length-set}
+use mathlib.Core.Logic.{dite}
+use native.Mathlib.Decide.{ℕ_discrete}
+use Rattle.std.proofs.lemmas.Option.{slice_get_within, get_or_from_slice_get}
+use Rattle.zr_base.specs.declared.op.Tag.{Tag}
+use Rattle.zr_base.specs.declared.op.Op.{Op}
+use Rattle.zr_base.specs.declared.limits.TheConstants.{MOST_PAGES}
+use Rattle.mem_account.specs.Counters.{Counters, no_counts}
+use Rattle.call_history.specs.Parts.{program}
+use Rattle.plain_disk.specs.Phases.{held_after}
+use Rattle.lock_row.specs.declared.names.Held.TheVariants as holds
+use Rattle.lock_row.specs.declared.names.State.{State}
+use Rattle.slot_entry.specs.Entries.{EntryState}
+use Rattle.page_steps.specs.Pages.{new_class}
+use Rattle.page_steps.specs.Steps.{DiskHeld, Here, class_by, entry_in, plan_by}
+use Rattle.joint_rule.specs.Begins.{Begin, found_after, pieces_each, AreCarried, Proper}
+use Rattle.joint_rule.specs.Joint.{Sound, AtHome}
+use Rattle.joint_rule.specs.Laws.{RestGoesOn, FinishedIsAtRest, RequestsAreProper}
+use Rattle.joint_rule.specs.Rule.{Rule, owed}
+use Rattle.joint_rule.specs.Starts.{AtRest, Renewed, slots, accounts, stays, IsStart}
+use Rattle.zr_core.specs.Machines.{AllFinished, order_in, order_at, without_calls, without_orders, IsKept, KeepsValues, IsSetUp}
+use Rattle.zr_core.specs.declared.limits.TheConstants.{MOST_CHAIN}
+use Rattle.zr_core.specs.Noted.{HasAllOrders}
+use Rattle.zr_core.specs.Rests.{HasEntries, RestsAs, IsAtRest, begun, with_limit, left, touched_in, account_in, account_of}
+use Rattle.zr_core.proofs.Lists.{get_here, get_else}
+use Rattle.zr_core.proofs.Blanks.{leaves_proper}
+use Rattle.zr_core.proofs.Matches.{Row, IsWhole, matched, emptied_long, emptied_at, was_at, was_whole, rows_same, order_is}
+
+-- ---- values by their places
+
+-- the value of a page's place is an entry
+entry_by : (g : Begin) (j : ℕ) (v : DiskHeld) → j < g.given.size → Sound g j v
+    → (e : EntryState) × (v ≡ holds.Slot e)
+entry_by g j (holds.Slot e) lt is = (e, refl)
+entry_by g j (holds.Class q) lt is = absurd (let e = is.0 in let none : ⊥ = omega arith in none)
+entry_by g j (holds.Account c) lt is = absurd (let none : ⊥ = omega arith in none)
+entry_by g j (holds.Blocks x) lt is = absurd (let none : ⊥ = omega arith in none)
+entry_by g j (holds.Device x) lt is = absurd (let none : ⊥ = omega arith in none)
+
+-- that behind the pages and the classes is the account
+account_by : (g : Begin) (j : ℕ) (v : DiskHeld) → j ≡ g.given.size + 255 → Sound g j v
+    → (c : Counters) × (v ≡ holds.Account c)
+account_by g j (holds.Slot e) at is = absurd (let p = is.page in let none : ⊥ = omega arith in none)
+account_by g j (holds.Class q) at is =
+    absurd (let e = is.0 in let c = is.1.class in let none : ⊥ = omega arith in none)
+account_by g j (holds.Account c) at is = (c, refl)
+account_by g j (holds.Blocks x) at is = absurd (let none : ⊥ = omega arith in none)
+account_by g j (holds.Device x) at is = absurd (let none : ⊥ = omega arith in none)
+
+get_or_none : (row : Row) (p : ℕ) → slice_get row p ≡ None → get_or row p None ≡ None
+get_or_none [] p e = refl
+get_or_none (x ∷ row) zero e = absurd (cc)
+get_or_none (x ∷ row) (suc p) e = get_or_none row p e
+
+module _ (g : Begin) (row : Row) (rest : AtRest g row) where
+  sound_at : (k : ℕ) (v : DiskHeld) → slice_get row k ≡ Some (Some v) → Sound g k v
+  sound_at k v at = (rest.home k v at).sound
+
+  pub entry_there : (p : ℕ) → p < g.given.size
+      → (e : EntryState) × (slice_get row p ≡ Some (Some (holds.Slot e)))
+  entry_there p lt =
+      let v = rest.whole p (let n = rest.size in omega arith) in
+      let e = entry_by g p v.0 lt (sound_at p v.0 v.1) in
+      (e.0, v.1 ∙ ap (λ (u : DiskHeld). Some (Some u)) e.1)
+
+  pub account_there : (c : Counters)
+      × (slice_get row (g.given.size + 255) ≡ Some (Some (holds.Account c)))
+  account_there =
+      let v = rest.whole (g.given.size + 255) (let n = rest.size in omega arith) in
+      let c = account_by g (g.given.size + 255) v.0 refl (sound_at (g.given.size + 255) v.0 v.1) in
+      (c.0, v.1 ∙ ap (λ (u : DiskHeld). Some (Some u)) c.1)
+
+-- the value as the phase after finds it
+abbrev IsNext : DiskHeld → DiskHeld → Type 0
+IsNext (holds.Slot e) u =
+    (f : EntryState) × (u ≡ holds.Slot f) × (f.kept ≡ e.kept) × (f.touched ≡ e.touched)
+    × (f.order ≡ [])
+IsNext (holds.Class q) u = u ≡ holds.Class q
+IsNext (holds.Account c) u = (d : Counters) × (u ≡ holds.Account d)
+    × (d ≡ record c { limit = d.limit })
+IsNext (holds.Blocks x) u = u ≡ holds.Blocks x
+IsNext (holds.Device x) u = u ≡ holds.Device x
+
+-- ---- a disk at rest
+
+entry_was : (v : DiskHeld) (e : EntryState) → without_calls v ≡ holds.Slot e
+    → (f : EntryState) × (v ≡ holds.Slot f)
+entry_was (holds.Slot f) e is = (f, refl)
+entry_was (holds.Class q) e is = absurd (cc)
+entry_was (holds.Account c) e is = absurd (cc)
+entry_was (holds.Blocks x) e is = absurd (cc)
+entry_was (holds.Device x) e is = absurd (cc)
+
+module _ (g : Begin) (pages : ℕ) (cells : Row) (rests : RestsAs g pages cells) where
+  pub rests_long : length cells ≡ pages + 258
+  rests_long = let a = emptied_long cells in let b = rests.row.size in let c = rests.size in
+      omega arith
+
+  pub rests_whole : IsWhole cells
+  rests_whole = was_whole cells rests.row.whole
+
+  pub rests_entries : HasEntries pages cells
+  rests_entries = record {
+    size = (let n = rests_long in omega arith);
+    each = λ p lt.
+        let e = entry_there g (without_orders cells) rests.row p
+        (let s = rests.size in omega arith) in
+        let v = was_at cells p (holds.Slot e.0) e.1 in
+        let f = entry_was v.0 e.0 v.2 in
+        (f.0, v.1 ∙ ap (λ (u : DiskHeld). Some (Some u)) f.1);
+  }
+
+  pub at_rest : (noted : List ℕ) → HasAllOrders pages noted cells → IsAtRest pages noted cells
+  at_rest noted orders = record {
+    entries = rests_entries;
+    orders = orders;
+    rests = inr (g, rests);
+  }
+
+  -- what differs in its orders alone is at rest too
+  pub rests_on : (after : Row) → KeepsValues cells after → RestsAs g pages after
+  rests_on after keeps =
+      let same = rows_same cells after rests_whole keeps in
+      let a = keeps.each (pages + 255) (holds.Account g.was) rests.account in record {
+        size = rests.size;
+        some = rests.some;
+        most = rests.most;
+        none = rests.none;
+        chain = rests.chain;
+        proper = rests.proper;
+        row = subst (AtRest g) (sym same) rests.row;
+        account = a.1 ∙ ap (λ (u : DiskHeld). Some (Some u)) a.2;
+      }
+
+  -- ---- what goes on from here
+
+  module _ (h : Begin) (size : h.given.size ≡ g.given.size) (chain : h.chain ≡ g.chain)
+      (touched : (j : ℕ) → h.touched j ≡ g.touched j) (blank : (p : ℕ) → h.blank p ≡ g.blank p)
+      (before : (s : ℕ) → h.given.before s ≡ g.given.before s) (next : RestGoesOn) (after : Row)
+      (long : length after ≡ length cells)
+      (each : (k : ℕ) (v : DiskHeld) → slice_get cells k ≡ Some (Some v)
+      → (u : DiskHeld) × (slice_get after k ≡ Some (Some u)) × IsNext v u) where
+    touched_was : (e : EntryState) (j : ℕ)
+        → slice_get (without_orders cells) j ≡ Some (Some (without_calls (holds.Slot e)))
+        → h.touched j ≡ e.touched
+    touched_was e j at = touched j
+        ∙ sym (rests.row.home j (without_calls (holds.Slot e)) at).sound.touched
+
+    renewed : (j : ℕ) (v u : DiskHeld)
+        → slice_get (without_orders cells) j ≡ Some (Some (without_calls v)) → IsNext v u
+        → Renewed g h j (without_calls v) u
+    renewed j (holds.Slot e) u at is =
+        slots (record { kept = e.kept; order = []; room = 0; touched = e.touched }) is.0 refl is.1
+        record {
+          kept = is.2;
+          order = is.4;
+          touched = is.3;
+          time = touched_was e j at;
+          blank = blank j;
+          before = λ k lt. before (8 * j + k);
+        }
+    renewed j (holds.Class q) u at is = stays tt is
+    renewed j (holds.Account c) u at is = accounts c is.0 refl is.1 is.2
+    renewed j (holds.Blocks x) u at is = stays tt is
+    renewed j (holds.Device x) u at is = stays tt is
+
+    pub goes_on : AtRest h after
+    goes_on = next g h (without_orders cells) after record { size = size; chain = chain }
+        (matched (Renewed g h) (without_orders cells) after
+        (let a = emptied_long cells in omega arith) rests.row.whole
+        (λ k v at.
+        let x = was_at cells k v at in
+        let u = each k x.0 x.1 in (
+          u.0,
+          u.1,
+          subst (λ (y : DiskHeld). Renewed g h k y u.0) x.2
+              (renewed k x.0 u.0 (emptied_at cells k (Some x.0) x.1) u.2),
+        )))
+        rests.row
+
+  -- ---- a phase begins
+
+  module _ (actors : List (List Op)) (now : ℕ) (w : State DiskHeld)
+      (up : IsSetUp pages actors cells w) (next : RestGoesOn) where
+    abbrev new : Begin
+    new = begun g actors now
+
+    next_is : (k : ℕ) (v u : DiskHeld) → slice_get w.row k ≡ Some (Some u) → IsKept v u
+        → IsNext v u
+    next_is k (holds.Slot e) u there is = (
+      is.0,
+      is.1,
+      is.2,
+      is.3,
+      (up.orders k is.0 (there ∙ ap (λ (x : DiskHeld). Some (Some x)) is.1)).0,
+    )
+    next_is k (holds.Class q) u there is = is
+    next_is k (holds.Account c) u there is = (c, is, refl)
+    next_is k (holds.Blocks x) u there is = is
+    next_is k (holds.Device x) u there is = is
+
+    begins_rest : AtRest new w.row
+    begins_rest = goes_on new refl refl (λ j. refl) (λ p. refl) (λ s. refl) next w.row up.row.size
+        (λ k v at. let u = up.row.each k v at in (u.0, u.1, next_is k v u.0 u.1 u.2))
+
+    -- the account of the row that is set up
+    account_is : (k : ℕ) (c : Counters) → slice_get w.row k ≡ Some (Some (holds.Account c))
+        → c ≡ g.was
+    account_is k c at =
+        let is : k ≡ g.given.size + 255 = (begins_rest.home k (holds.Account c) at).sound in
+        let u = up.row.each (pages + 255) (holds.Account g.was) rests.account in
+        let e : k ≡ pages + 255 = (let s = rests.size in omega arith) in
+        let q : Some (Some (holds.Account c)) ≡ Some (Some (holds.Account g.was)) = sym at
+        ∙ ap (slice_get w.row) e
+        ∙ u.1 ∙ ap (λ (x : DiskHeld). Some (Some x)) u.2 in cc
+
+    pub begins : IsStart new w
+    begins = record {
+      rest = begins_rest;
+      orders = λ k e at. let o = up.orders k e at in (
+        o.0,
+        subst (λ (n : ℕ). owed n w.locals k ≤ e.room) (sym rests.size) o.1,
+      );
+      account = account_is;
+      actors = λ a l at. let b = up.begin a l at in record {
+        who = b.who;
+        ops = b.ops;
+        named = b.named;
+        at = b.at;
+        todo = b.todo ∙ ap (λ (n : ℕ). program n 0 b.ops) (sym rests.size);
+        held = b.held;
+        done = b.done;
+        fresh = b.fresh;
+        pin = b.pin;
+        owed = b.owed;
+        ahead = b.ahead;
+        behind = b.behind;
+        page = b.page;
+        fail = b.fail;
+      };
+      count = up.count;
+    }
+
+  -- ---- another limit
+
+  module _ (limit : ℕ) (next : RestGoesOn) (after : Row)
+      (is : after ≡ slice_set cells (pages + 255)
+      (Some (holds.Account (record g.was { limit = limit })))) where
+    abbrev now : DiskHeld
+    now = holds.Account (record g.was { limit = limit })
+
+    same_next : (v : DiskHeld) → IsNext v (without_calls v)
+    same_next (holds.Slot e) = (
+      record { kept = e.kept; order = []; room = 0; touched = e.touched },
+      refl,
+      refl,
+      refl,
+      refl,
+    )
+    same_next (holds.Class q) = refl
+    same_next (holds.Account c) = (c, refl, refl)
+    same_next (holds.Blocks x) = refl
+    same_next (holds.Device x) = refl
+
+    limited_at : slice_get after (pages + 255) ≡ Some (Some now)
+    limited_at = ap (λ (row : Row). slice_get row (pages + 255)) is
+        ∙ get_here cells (pages + 255) (Some now) (Some (holds.Account g.was)) rests.account
+
+    limited_each : (k : ℕ) (v : DiskHeld) → slice_get cells k ≡ Some (Some v)
+        → (u : DiskHeld) × (slice_get (without_orders after) k ≡ Some (Some u)) × IsNext v u
+    limited_each k v at = dite (ℕ_discrete k (pages + 255))
+        (λ here. (
+          now,
+          emptied_at after k (Some now) (ap (slice_get after) here ∙ limited_at),
+          subst (λ (x : DiskHeld). IsNext x now)
+              (let q : Some (Some (holds.Account g.was)) ≡ Some (Some v) = sym rests.account
+              ∙ ap (slice_get cells) (sym here) ∙ at in
+              let r : holds.Account g.was ≡ v = cc in r)
+              (record g.was { limit = limit }, refl, refl),
+        ))
+        (λ ne. (
+          without_calls v,
+          emptied_at after k (Some v) (ap (λ (row : Row). slice_get row k) is
+              ∙ get_else cells (pages + 255) k (Some now) ne ∙ at),
+          same_next v,
+        ))
+
+    pub limited : RestsAs (with_limit g limit) pages after
+    limited = record {
+      size = rests.size;
+      some = rests.some;
+      most = rests.most;
+      none = rests.none;
+      chain = rests.chain;
+      proper = record {
+        blanks = rests.proper.blanks;
+        sectors = rests.proper.sectors;
+        least = rests.proper.least;
+        most = rests.proper.most;
+        few = rests.proper.few;
+        pieces = rests.proper.pieces;
+      };
+      row = goes_on (with_limit g limit) refl refl (λ j. refl) (λ p. refl) (λ s. refl) next
+          (without_orders after)
+          (let a = emptied_long after in let b = ap length is
+          ∙ length-set cells (pages + 255) (Some now) in omega arith) limited_each;
+      account = limited_at;
+    }
+
+-- the account of a disk with pages
+pub account_some : (limit pages : ℕ) (cells : Row) → 1 ≤ pages
+    → account_of limit pages cells
+    ≡ account_in (record no_counts { limit = limit }) (get_or cells (pages + 255) None)
+account_some limit zero cells some = absurd (omega arith)
+account_some limit (suc n) cells some = refl
+
+-- ---- a phase ends
+
+module _ (g : Begin) (w : State DiskHeld) (proper : Proper g) (rule : Rule g w)
+    (finished : AllFinished w) (chain : g.chain ≡ MOST_CHAIN) (some : 1 ≤ g.given.size)
+    (most : g.given.size ≤ MOST_PAGES) (rests : FinishedIsAtRest) (next : RestGoesOn)
+    (law : RequestsAreProper) where
+  ends : AtRest g w.row
+  ends = rests g w rule (λ a l who. ap (λ ps. plan_by g.given.size ps l.at
+      (class_by (entry_in l.held).kept) (new_class g.chain ps l.page (entry_in l.held).kept))
+      (finished a l who))
+
+  abbrev gone : Begin
+  gone = left g w.row
+
+  gone_at : (j : ℕ) (v : DiskHeld) → slice_get w.row j ≡ Some (Some v)
+      → Renewed g gone j v (without_calls v)
+  gone_at j (holds.Slot e) at =
+      let order = order_is w.row j e at in
+      slots e (record { kept = e.kept; order = []; room = 0; touched = e.touched }) refl refl record {
+        kept = refl;
+        order = refl;
+        touched = refl;
+        time = ap touched_in (get_or_from_slice_get w.row j (Some (holds.Slot e)) None at);
+        blank = ap (λ (o : List Tag). (found_after g j o).blank) order;
+        before = λ k lt. ap (λ (o : List Tag). held_after g.given o (8 * j + k))
+            (ap (order_at w.row) (let q : (8 * j + k) / 8 ≡ j = omega arith in q) ∙ order);
+      }
+  gone_at j (holds.Class q) at = stays tt refl
+  gone_at j (holds.Account c) at = accounts c c refl refl refl
+  gone_at j (holds.Blocks x) at = stays tt refl
+  gone_at j (holds.Device x) at = stays tt refl
+
+  carried : (p : ℕ) → AreCarried g p (order_at w.row p)
+  carried p = by (slice_get w.row p) refl where
+    by_value : (v : DiskHeld) → slice_get w.row p ≡ Some (Some v)
+        → AreCarried g p (order_in (Some v))
+    by_value (holds.Slot e) at = (ends.home p (holds.Slot e) at).sound.calls
+    by_value (holds.Class q) at = tt
+    by_value (holds.Account c) at = tt
+    by_value (holds.Blocks x) at = tt
+    by_value (holds.Device x) at = tt
+
+    by_cell : (c : Option DiskHeld) → slice_get w.row p ≡ Some c → AreCarried g p (order_in c)
+    by_cell None at = tt
+    by_cell (Some v) at = by_value v at
+
+    by : (x : Option (Option DiskHeld)) → slice_get w.row p ≡ x → AreCarried g p (order_at w.row p)
+    by None is = subst (λ (c : Option DiskHeld). AreCarried g p (order_in c))
+        (sym (get_or_none w.row p is)) tt
+    by (Some c) is = subst (λ (d : Option DiskHeld). AreCarried g p (order_in d))
+        (sym (get_or_from_slice_get w.row p c None is)) (by_cell c is)
+
+  pub left_rests : RestsAs gone g.given.size w.row
+  left_rests =
+      let a = account_there g w.row ends in record {
+        size = refl;
+        some = some;
+        most = most;
+        none = refl;
+        chain = chain;
+        proper = leaves_proper law g proper gone (order_at w.row) refl refl refl carried
+            (λ p. refl) (λ s. refl);
+        row = next g gone w.row (without_orders w.row) record { size = refl; chain = refl }
+            (matched (Renewed g gone) w.row (without_orders w.row) (emptied_long w.row) ends.whole
+            (λ k v at. (without_calls v, emptied_at w.row k (Some v) at, gone_at k v at)))
+            ends;
+        account = a.1 ∙ ap (λ (c : Counters). Some (Some (holds.Account c)))
+            (sym (account_some g.was.limit g.given.size w.row some
+            ∙ ap (account_in (record no_counts { limit = g.was.limit }))
+            (get_or_from_slice_get w.row (g.given.size + 255) (Some (holds.Account a.0)) None a.1)));
+      }
+
+  -- a page on which no piece has events has no order
+  pub no_order : (p : ℕ) → p < g.given.size
+      → pieces_each g.given.size g.given.actors p ≡ 0 → order_at w.row p ≡ []
+  no_order p lt none =
+      let e = entry_there g w.row ends p lt in
+      let few = (rule.told.in_row p (holds.Slot e.0) e.1).few in
+      order_is w.row p e.0 e.1 ∙ nothing e.0.order (omega arith) where
+        nothing : (order : List Tag) → length order ≤ 0 → order ≡ []
+        nothing [] le = refl
+        nothing (t ∷ ts) le = absurd (let no : ⊥ = omega arith in no)

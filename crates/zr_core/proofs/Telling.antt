@@ -1,0 +1,93 @@
+-- What is told of a disk between two phases.
+use Rattle.std.proofs.Common.{◌≡◌, ℕ, zero, suc, ◌+◌, ◌<◌, ◌≤◌, ltb, Bool, true, cond, List, [], ◌∷◌, get_or, Option, Some, None, slice_get, slice_set, refl, sym, ap, ◌∙◌, arith, inl, inr, ⊎_elim}
+use Rattle.std.proofs.lemmas.Bool.{lt-ltb}
+use Rattle.mem_account.specs.Counters.{Counters, no_counts}
+use Rattle.lock_row.specs.declared.names.LockNo.TheVariants as lock
+use Rattle.lock_row.specs.declared.names.Held.TheVariants as holds
+use Rattle.lock_row.specs.Laws.{NamesHavePlaces}
+use Rattle.lock_row.specs.Rows.{cell, at_home}
+use Rattle.lock_row.specs.Rows.{Row as Locks}
+use Rattle.page_steps.specs.Steps.{DiskHeld}
+use Rattle.joint_rule.specs.Begins.{Begin}
+use Rattle.joint_rule.specs.Laws.{RestGoesOn}
+use Rattle.zr_core.specs.Machines.{order_at}
+use Rattle.zr_core.specs.Noted.{is_in}
+use Rattle.zr_core.specs.Rests.{names_of, account_in, account_of, pool_in, pool_of, RestsAs, IsBare, IsAtRest, with_limit}
+use Rattle.zr_core.proofs.Lists.{get_else}
+use Rattle.zr_core.proofs.Matches.{Row, order_is}
+use Rattle.zr_core.proofs.Names.{cell_at}
+use Rattle.zr_core.proofs.Rests.{account_some, at_rest, limited}
+
+home_is : (row : Row) (k : ℕ) → at_home (slice_get row k) ≡ get_or row k None
+home_is [] k = refl
+home_is (x ∷ row) zero = refl
+home_is (x ∷ row) (suc k) = home_is row k
+
+-- ---- the account and the pools
+
+pub account_none : (limit pages : ℕ) (cells : Row) → pages ≡ 0
+    → account_of limit pages cells ≡ record no_counts { limit = limit }
+account_none limit pages cells e = ap (λ (n : ℕ). account_of limit n cells) e
+
+pub pool_none : (pages class : ℕ) (cells : Row) → pages ≡ 0 → pool_of pages cells class ≡ None
+pool_none pages class cells e = ap (λ (n : ℕ). pool_of n cells class) e
+
+pub pool_last : (pages : ℕ) (cells : Row) → pool_of pages cells 255 ≡ None
+pool_last zero cells = refl
+pool_last (suc n) cells = refl
+
+module _ (places : NamesHavePlaces) (pages : ℕ) (some : 1 ≤ pages) (r : Locks DiskHeld)
+    (names : r.names ≡ names_of pages) (x : Option DiskHeld) where
+  pub account_value : (limit : ℕ) → x ≡ at_home (cell r lock.Account)
+      → account_of limit pages r.cells ≡ account_in (record no_counts { limit = limit }) x
+  account_value limit e = account_some limit pages r.cells some
+      ∙ ap (account_in (record no_counts { limit = limit }))
+      (sym (home_is r.cells (pages + 255))
+      ∙ sym (ap at_home (cell_at pages places lock.Account tt r names)) ∙ sym e)
+
+  pub pool_value : (class : ℕ) → class < 255 → x ≡ at_home (cell r (lock.Class class))
+      → pool_of pages r.cells class ≡ pool_in x
+  pool_value class low e = pool_some pages some
+      ∙ ap pool_in (sym (home_is r.cells (pages + class))
+      ∙ sym (ap at_home (cell_at pages places (lock.Class class) low r names)) ∙ sym e) where
+        pool_some : (n : ℕ) → 1 ≤ n
+            → pool_of n r.cells class ≡ pool_in (get_or r.cells (n + class) None)
+        pool_some zero le = absurd (omega arith)
+        pool_some (suc n) le = ap (λ (b : Bool). cond b (pool_in (get_or r.cells (suc n + class) None))
+            None) (lt-ltb class 255 low)
+
+-- ---- another limit
+
+module _ (pages : ℕ) (noted : List ℕ) (cells : Row) (rest : IsAtRest pages noted cells) where
+  -- a disk with pages has its account at home
+  pub account_home : 1 ≤ pages
+      → (c : Counters) × (slice_get cells (pages + 255) ≡ Some (Some (holds.Account c)))
+  account_home some = ⊎_elim
+      (λ bare. absurd (let e = bare.0 in let none : ⊥ = omega arith in none))
+      (λ r. (r.0.was, r.1.account)) rest.rests
+
+  -- one without pages has none
+  pub no_account : pages ≡ 0 → (c : Counters)
+      → slice_get cells (pages + 255) ≡ Some (Some (holds.Account c)) → ⊥
+  no_account none c at = ⊎_elim
+      (λ bare. let q : None ≡ Some (Some (holds.Account c)) =
+      sym (ap (λ (row : Row). slice_get row (pages + 255)) bare.1) ∙ at in cc)
+      (λ r. let s = r.1.some in omega arith) rest.rests
+
+  pub limit_rests : 1 ≤ pages → (limit : ℕ) → RestGoesOn → (after : Row)
+      → ((c : Counters) → slice_get cells (pages + 255) ≡ Some (Some (holds.Account c))
+      → after ≡ slice_set cells (pages + 255) (Some (holds.Account (record c { limit = limit }))))
+      → IsAtRest pages noted after
+  limit_rests some limit next after set = ⊎_elim
+      (λ bare. absurd (let e = bare.0 in let none : ⊥ = omega arith in none))
+      (λ r.
+      let is = set r.0.was r.1.account in
+      at_rest (with_limit r.0 limit) pages after (limited r.0 pages cells r.1 limit next after is)
+      noted record {
+        listed = rest.orders.listed;
+        others = λ p lt off.
+            let e = rest.entries.each p lt in
+            order_is after p e.0 (ap (λ (row : Row). slice_get row p) is
+            ∙ get_else cells (pages + 255) p _ (λ same. let none : ⊥ = omega arith in none) ∙ e.1)
+            ∙ sym (order_is cells p e.0 e.1) ∙ rest.orders.others p lt off;
+      }) rest.rests

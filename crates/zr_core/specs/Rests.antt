@@ -1,0 +1,161 @@
+-- A disk between two phases: its row, and what a phase on it begins with.
+use Rattle.std.specs.Prelude.{◌≡◌, ◌⊎◌, ℕ, zero, suc, ◌+◌, ◌/◌, ◌<◌, ◌≤◌, nat_lt, true, List, [], ◌∷◌, ◌++◌, map, get_or, length, if◌then◌else◌, Option, Some, None, slice_get}
+use Rattle.std.specs.List.{range_with_len}
+use Rattle.zr_base.specs.declared.op.Op.{Op}
+use Rattle.zr_base.specs.Plain.{zero_sector}
+use Rattle.class_pool.specs.Pool.{PoolState}
+use Rattle.mem_account.specs.Counters.{Counters, no_counts}
+use Rattle.plain_disk.specs.Phases.{held_after}
+use Rattle.lock_row.specs.declared.names.LockNo.{LockNo}
+use Rattle.lock_row.specs.declared.names.LockNo.TheVariants as lock
+use Rattle.lock_row.specs.declared.names.Held.TheVariants as holds
+use Rattle.slot_entry.specs.Entries.{EntryState}
+use Rattle.page_steps.specs.Steps.{DiskHeld, slot}
+use Rattle.joint_rule.specs.Begins.{Begin, found_after, Proper}
+use Rattle.joint_rule.specs.Starts.{AtRest}
+use Rattle.zr_base.specs.declared.limits.TheConstants.{MOST_PAGES}
+use Rattle.zr_core.specs.declared.limits.TheConstants.{MOST_CHAIN}
+use Rattle.zr_core.specs.Machines.{order_at, without_orders}
+use Rattle.zr_core.specs.Noted.{HasAllOrders}
+
+-- ---- the row
+
+-- the slots of so many pages, in rising order
+abbrev pub slots_of : ℕ → List LockNo
+slots_of size = map slot (range_with_len 0 size)
+
+-- so many classes, in rising order
+abbrev pub classes_of : ℕ → List LockNo
+classes_of n = map (λ (c : ℕ). lock.Class c) (range_with_len 0 n)
+
+-- the locks behind the slots and the classes
+abbrev pub last_locks : List LockNo
+last_locks = lock.Account ∷ lock.Blocks ∷ lock.Device ∷ []
+
+-- the names of the locks of a disk with pages: slots, classes, and the others
+unfoldable pub names_of : ℕ → List LockNo
+names_of size = slots_of size ++ classes_of 255 ++ last_locks
+
+-- the names of a disk's locks; before its size is given it has none
+abbrev pub names_by : ℕ → List LockNo
+names_by zero = []
+names_by (suc n) = names_of (suc n)
+
+-- the counters in a place of the row, or these where it has none
+abbrev pub account_in : Counters → Option DiskHeld → Counters
+account_in c None = c
+account_in c (Some (holds.Slot e)) = c
+account_in c (Some (holds.Class q)) = c
+account_in c (Some (holds.Account d)) = d
+account_in c (Some (holds.Blocks x)) = c
+account_in c (Some (holds.Device x)) = c
+
+-- the account of a disk with this limit; before the disk's size is given all but the limit is 0
+abbrev pub account_of : ℕ → ℕ → List (Option DiskHeld) → Counters
+account_of limit zero cells = record no_counts { limit = limit }
+account_of limit (suc n) cells =
+    account_in (record no_counts { limit = limit }) (get_or cells (suc n + 255) None)
+
+-- the pool in a place of the row, if it has one
+abbrev pub pool_in : Option DiskHeld → Option PoolState
+pool_in None = None
+pool_in (Some (holds.Slot e)) = None
+pool_in (Some (holds.Class q)) = Some q
+pool_in (Some (holds.Account d)) = None
+pool_in (Some (holds.Blocks x)) = None
+pool_in (Some (holds.Device x)) = None
+
+-- the pool of a class, if the disk has one
+abbrev pub pool_of : ℕ → List (Option DiskHeld) → ℕ → Option PoolState
+pool_of zero cells class = None
+pool_of (suc n) cells class =
+    if nat_lt class 255 then pool_in (get_or cells (suc n + class) None) else None
+
+-- ---- between two phases
+
+-- Each value is at home, and these are the disk's pages as the phases so far left them, with every
+-- order taken as empty, and the account.
+pub record RestsAs (g : Begin) (pages : ℕ) (cells : List (Option DiskHeld)) : Type 0 where
+  pub size : g.given.size ≡ pages
+  pub some : 1 ≤ pages
+  pub most : pages ≤ MOST_PAGES
+  pub none : g.given.actors ≡ []
+  pub chain : g.chain ≡ MOST_CHAIN
+  pub proper : Proper g
+  pub row : AtRest g (without_orders cells)
+  pub account : slice_get cells (pages + 255) ≡ Some (Some (holds.Account g.was))
+
+-- Each page has its entry at home.
+pub record HasEntries (pages : ℕ) (cells : List (Option DiskHeld)) : Type 0 where
+  pub size : pages ≤ length cells
+  pub each : (p : ℕ) → p < pages
+      → (e : EntryState) × (slice_get cells p ≡ Some (Some (holds.Slot e)))
+
+-- the disk's size isn't given yet
+abbrev pub IsBare : ℕ → List (Option DiskHeld) → Type 0
+IsBare pages cells = (pages ≡ 0) × (cells ≡ [])
+
+-- Each value is at home, and each page with an order is noted, as between two phases.
+pub record IsAtRest (pages : ℕ) (noted : List ℕ) (cells : List (Option DiskHeld)) : Type 0 where
+  pub entries : HasEntries pages cells
+  pub orders : HasAllOrders pages noted cells
+  pub rests : IsBare pages cells ⊎ ((g : Begin) × RestsAs g pages cells)
+
+-- ---- what a phase begins with
+
+-- a new disk: zeros, nothing written, and the limit
+abbrev pub new_disk : ℕ → ℕ → Begin
+new_disk pages limit = record {
+  given = record { size = pages; actors = []; before = λ s. zero_sector };
+  blank = λ p. true;
+  touched = λ p. 0;
+  chain = MOST_CHAIN;
+  clock = 0;
+  was = record no_counts { limit = limit };
+}
+
+-- the disk with another limit
+abbrev pub with_limit : Begin → ℕ → Begin
+with_limit g limit = record {
+  given = g.given;
+  blank = g.blank;
+  touched = g.touched;
+  chain = g.chain;
+  clock = g.clock;
+  was = record g.was { limit = limit };
+}
+
+-- a phase of these actors at this time
+abbrev pub begun : Begin → List (List Op) → ℕ → Begin
+begun g actors now = record {
+  given = record { size = g.given.size; actors = actors; before = g.given.before };
+  blank = g.blank;
+  touched = g.touched;
+  chain = g.chain;
+  clock = now;
+  was = g.was;
+}
+
+-- when the page in a place of the row was touched last
+abbrev pub touched_in : Option DiskHeld → ℕ
+touched_in None = 0
+touched_in (Some (holds.Slot e)) = e.touched
+touched_in (Some (holds.Class q)) = 0
+touched_in (Some (holds.Account c)) = 0
+touched_in (Some (holds.Blocks x)) = 0
+touched_in (Some (holds.Device x)) = 0
+
+-- the disk that a phase leaves in this row
+abbrev pub left : Begin → List (Option DiskHeld) → Begin
+left g row = record {
+  given = record {
+    size = g.given.size;
+    actors = [];
+    before = λ s. held_after g.given (order_at row (s / 8)) s;
+  };
+  blank = λ p. (found_after g p (order_at row p)).blank;
+  touched = λ p. touched_in (get_or row p None);
+  chain = g.chain;
+  clock = g.clock;
+  was = account_of g.was.limit g.given.size row;
+}

@@ -1,0 +1,145 @@
+//! The row of a new disk, and the values of a row.
+
+ghost use Rattle.std.specs.Prelude.{◌≡◌, ℕ, ◌+◌, ◌<◌, ◌≤◌, ◌^◌, [], ◌++◌, OnOk, IfOk, Some, slice_get, slice_set};
+ghost use Rattle.zr_base.specs.declared.limits.TheConstants.{MOST_PAGES};
+ghost use Rattle.mem_account.specs.Counters.{Counters, no_counts};
+ghost use Rattle.lock_row.specs.declared.names.Held.TheVariants as holds;
+ghost use Rattle.slot_entry.specs.Entries.{EntryState};
+ghost use Rattle.zr_core.specs.Rests.{slots_of, classes_of, names_of, names_by, new_disk};
+ghost use Rattle.zr_core.specs.Rows.{AreNew};
+
+use crate::limits::MOST_CHAIN;
+use class_pool::ClassPool;
+use lock_row::{Hand, Held, LockNo, SimRow, Still, names_have_places};
+use mem_account::Account;
+use page_steps::DiskHeld;
+use size_class::{CLASSES, ClassTable, size};
+use slot_entry::Entry;
+use std::alloc::{AllocError, Global};
+use zr_base::PageIx;
+
+// Puts the slots of a new disk into an empty row.
+fn push_slots(
+    alloc: Global,
+    pages: u32,
+    names: &mut Vec<LockNo>,
+    cells: &mut Vec<Option<DiskHeld>>,
+) -> Result<(), AllocError>
+    requires no_names { names.old.items ≡ [] }
+    requires no_cells { cells.old.items ≡ [] }
+    ensures names { OnOk result (names.new.items ≡ slots_of pages) }
+    ensures cells { OnOk result ((limit : ℕ) → AreNew (new_disk pages limit) pages cells.new.items) }
+{
+    for page in 0..pages {
+        names.push(LockNo::Slot(PageIx(page)))?;
+        cells.push(Some(Held::Slot(Entry::new(alloc))))?;
+    }
+    Ok(())
+}
+
+// Puts the classes behind the slots, each with a pool.
+fn push_pools(
+    alloc: Global,
+    pages: u32,
+    names: &mut Vec<LockNo>,
+    cells: &mut Vec<Option<DiskHeld>>,
+) -> Result<(), AllocError>
+    requires names { names.old.items ≡ slots_of pages }
+    requires cells { (limit : ℕ) → AreNew (new_disk pages limit) pages cells.old.items }
+    ensures names { OnOk result (names.new.items ≡ slots_of pages ++ classes_of 255) }
+    ensures cells { OnOk result
+        ((limit : ℕ) → AreNew (new_disk pages limit) (pages + 255) cells.new.items) }
+{
+    let table = ClassTable::new(MOST_CHAIN);
+    for class in 0..CLASSES {
+        let pool = ClassPool::new(
+            alloc,
+            class,
+            size(class),
+            table.chain(class),
+            table.per(class),
+        );
+        names.push(LockNo::Class(class))?;
+        cells.push(Some(Held::Class(pool)))?;
+    }
+    Ok(())
+}
+
+/// The row of a new disk of so many pages, with the account at this limit.
+pub(crate) fn new_row(alloc: Global, pages: u32, limit: u64) -> Result<SimRow<DiskHeld>, AllocError>
+    requires most { pages ≤ MOST_PAGES }
+    requires small { limit < 2 ^ 52 }
+    ensures names { IfOk result (λ row. row.names ≡ names_of pages) }
+    ensures cells { IfOk result (λ row. AreNew (new_disk pages limit) (pages + 258) row.cells) }
+    ensures account { IfOk result (λ row. slice_get row.cells (pages + 255)
+        ≡ Some (Some (holds.Account (record no_counts { limit = limit })))) }
+{
+    let room = pages as usize + CLASSES as usize + 3;
+    let mut names = Vec::with_capacity(alloc, room)?;
+    let mut cells = Vec::with_capacity(alloc, room)?;
+    push_slots(alloc, pages, &mut names, &mut cells)?;
+    push_pools(alloc, pages, &mut names, &mut cells)?;
+    let mut account = Account::new();
+    account.set_limit(limit);
+    names.push(LockNo::Account)?;
+    cells.push(Some(Held::Account(account)))?;
+    names.push(LockNo::Blocks)?;
+    cells.push(Some(Held::Blocks(())))?;
+    names.push(LockNo::Device)?;
+    cells.push(Some(Held::Device(())))?;
+    Ok(SimRow::new(names, cells))
+}
+
+/// The entry that a slot's lock guards.
+pub(crate) fn entry_of(value: DiskHeld) -> Entry
+    requires { (e : EntryState) × (value ≡ holds.Slot e) }
+    ensures { value ≡ holds.Slot result }
+{
+    match value {
+        Held::Slot(entry) => entry,
+        _ => unreachable!(),
+    }
+}
+
+/// The same, where it stays.
+pub(crate) fn entry_in(value: &DiskHeld) -> &Entry
+    requires { (e : EntryState) × (value.now ≡ holds.Slot e) }
+    ensures { value.now ≡ holds.Slot result.now }
+{
+    match value {
+        Held::Slot(entry) => entry,
+        _ => unreachable!(),
+    }
+}
+
+/// The account that its lock guards.
+pub(crate) fn account_of(value: DiskHeld) -> Account
+    requires { (c : Counters) × (value ≡ holds.Account c) }
+    ensures { value ≡ holds.Account result }
+{
+    match value {
+        Held::Account(account) => account,
+        _ => unreachable!(),
+    }
+}
+
+/// Sets the limit of a disk's account, which is at home.
+pub(crate) fn limit_account(row: &mut SimRow<DiskHeld>, size: u32, limit: u64)
+    requires names { row.old.names ≡ names_by size }
+    requires some { 1 ≤ size }
+    requires small { limit < 2 ^ 52 }
+    requires home { (c : Counters) × (slice_get row.old.cells (size + 255) ≡ Some (Some (holds.Account c))) }
+    ensures names { row.new.names ≡ row.old.names }
+    ensures cells { (c : Counters) → slice_get row.old.cells (size + 255) ≡ Some (Some (holds.Account c))
+        → row.new.cells ≡ slice_set row.old.cells (size + 255)
+        (Some (holds.Account (record c { limit = limit }))) }
+{
+    names_have_places();
+    let mut hand = row.hand(0);
+    let Some(value) = hand.try_take::<Still>(LockNo::Account) else {
+        unreachable!()
+    };
+    let mut account = account_of(value);
+    account.set_limit(limit);
+    hand.give::<Still>(LockNo::Account, Held::Account(account));
+}
