@@ -14,7 +14,7 @@ mod stage;
 mod values;
 
 pub use call::PageCall;
-pub use laws::refusals_leave_all;
+pub use laws::{calls_are_events, refusals_leave_all};
 pub use stage::{
     DiskHeld, Due, Head, Lent, New, Outcome, Own, PieceEnd, Progress, Scratch, Stage, Work,
 };
