@@ -12,7 +12,7 @@ use Rattle.joint_rule.proofs.Starts.{none_first}
 use Rattle.joint_rule.proofs.Sums.{locals_le, row_le, some_local}
 use Rattle.joint_rule.specs.Begins.{Begin, ground_of, terms}
 use Rattle.joint_rule.specs.Joint.{IsActor, Joint, Sound}
-use Rattle.joint_rule.specs.Laws.{CanMove, gives, takes}
+use Rattle.joint_rule.specs.Laws.{CanMove, gives, takes, IsLock}
 use Rattle.joint_rule.specs.Stages.{Stage, locks_at, locks_by}
 use Rattle.joint_rule.specs.Weights.{HeldAll, at_place, none, same}
 use Rattle.lock_row.specs.Totals.{held_sum, locals_sum, mass, row_sum}
@@ -227,6 +227,63 @@ module _ (g : Begin) (ok : Known g) (w : State DiskHeld) (j : Joint g w) where
       above k Giving is e = absurd (cc)
       above k Ready is e = absurd (cc)
 
+      on_new : IsLock n (lock.Class d)
+      on_new = form_low g.chain _
+
+      start_lock : (k : LockNo) (b : Bool) → is_beyond n p.op ≡ b → start_plan b p ≡ Take k
+          → IsLock n k
+      start_lock k true b e = subst (IsLock n) (let q : lock.Account ≡ k = cc in q) tt
+      start_lock k false b e = subst (IsLock n) (let q : slot p.page ≡ k = cc in q) (disk b).0
+
+      -- what it takes is a lock of the disk
+      take_lock : (k : LockNo) (at : At) → l.at ≡ at → plan_at n at p c d ≡ Take k → IsLock n k
+      take_lock k Start is e = start_lock k (is_beyond n p.op) refl e
+      take_lock k Seen is e = subst (IsLock n) (let q : lock.Class c ≡ k = cc in q)
+          (old_low g.chain _ _ (here Seen is).stands)
+      take_lock k Pinned is e = subst (IsLock n) (let q : lock.Class c ≡ k = cc in q)
+          (old_low g.chain _ _ (here Pinned is).stands)
+      take_lock k Wanting is e = subst (IsLock n) (let q : lock.Class d ≡ k = cc in q) on_new
+      take_lock k Inside is e = subst (IsLock n) (let q : lock.Account ≡ k = cc in q) tt
+      take_lock k Old is e = subst (IsLock n) (let q : lock.Class c ≡ k = cc in q)
+          (old_low g.chain _ _ (here Old is).stands)
+      take_lock k Owing is e = subst (IsLock n) (let q : lock.Account ≡ k = cc in q) tt
+      take_lock k Refusing is e = absurd (cc)
+      take_lock k Pinning is e = absurd (cc)
+      take_lock k Unpinning is e = absurd (cc)
+      take_lock k Leaving is e = absurd (cc)
+      take_lock k Both is e = absurd (cc)
+      take_lock k Made is e = absurd (cc)
+      take_lock k Freeing is e = absurd (cc)
+      take_lock k Giving is e = absurd (cc)
+      take_lock k Ready is e = absurd (cc)
+
+      -- and so is what it gives
+      give_lock : (k : LockNo) (at : At) → l.at ≡ at → plan_at n at p c d ≡ Give k → IsLock n k
+      give_lock k Start is e = absurd (started (is_beyond n p.op) e) where
+        started : (b : Bool) → start_plan b p ≡ Give k → ⊥
+        started true x = cc
+        started false x = cc
+      give_lock k Refusing is e = subst (IsLock n) (let q : lock.Account ≡ k = cc in q) tt
+      give_lock k Pinning is e = subst (IsLock n) (let q : lock.Class c ≡ k = cc in q)
+          (old_low g.chain _ _ (here Pinning is).stands)
+      give_lock k Unpinning is e = subst (IsLock n) (let q : lock.Class c ≡ k = cc in q)
+          (old_low g.chain _ _ (here Unpinning is).stands)
+      give_lock k Leaving is e = subst (IsLock n) (let q : slot p.page ≡ k = cc in q)
+          (disk (here Leaving is).begun).0
+      give_lock k Both is e = subst (IsLock n) (let q : lock.Account ≡ k = cc in q) tt
+      give_lock k Made is e = subst (IsLock n) (let q : lock.Class d ≡ k = cc in q) on_new
+      give_lock k Freeing is e = subst (IsLock n) (let q : lock.Class c ≡ k = cc in q)
+          (old_low g.chain _ _ (here Freeing is).stands)
+      give_lock k Giving is e = subst (IsLock n) (let q : lock.Account ≡ k = cc in q) tt
+      give_lock k Ready is e = subst (IsLock n) (let q : slot p.page ≡ k = cc in q)
+          (disk (here Ready is).begun).0
+      give_lock k Seen is e = absurd (cc)
+      give_lock k Pinned is e = absurd (cc)
+      give_lock k Wanting is e = absurd (cc)
+      give_lock k Inside is e = absurd (cc)
+      give_lock k Old is e = absurd (cc)
+      give_lock k Owing is e = absurd (cc)
+
     todo_of : (ps : List Part) → l.todo ≡ ps → (plan (terms g) l ≡ Finished → ⊥)
         → (p : Part) × (rest : List Part) × (l.todo ≡ p ∷ rest)
     todo_of [] todo go = absurd (go (ap (λ (ps : List Part).
@@ -278,6 +335,17 @@ module _ (g : Begin) (ok : Known g) (w : State DiskHeld) (j : Joint g w) where
                     row_le n (at_place (spot n k)) w.row (spot n k) (Some v) e in
                     let s = same_self (spot n k) in let al = j.alone (spot n k) in
                     let no : ⊥ = omega arith in no)
+
+    pub takes_lock : (k : LockNo) → plan (terms g) l ≡ Take k → IsLock n k
+    takes_lock k what =
+        let t = todo_of l.todo refl (λ fin. let z : Finished ≡ Take k = sym fin ∙ what in cc) in
+        take_lock t.0 t.1 t.2 k l.at refl (sym (plan_here t.0 t.1 t.2) ∙ what)
+
+    pub gives_lock : (k : LockNo) → plan (terms g) l ≡ Give k
+        → IsLock n k × (slice_get w.row (spot n k) ≡ Some None)
+    gives_lock k what =
+        let t = todo_of l.todo refl (λ fin. let z : Finished ≡ Give k = sym fin ∙ what in cc) in
+        (give_lock t.0 t.1 t.2 k l.at refl (sym (plan_here t.0 t.1 t.2) ∙ what), given_out k what)
 
   -- who holds what is out
   holder : (k : ℕ) → slice_get w.row k ≡ Some None → k < n + 258

@@ -1,5 +1,5 @@
 -- What the rule of pages, pools and the account gives: statements that the laws claim.
-use Rattle.std.specs.Prelude.{◌≡◌, ℕ, ◌+◌, ◌*◌, ◌<◌, ◌≤◌, true, List, [], length, Option, Some, None, slice_get}
+use Rattle.std.specs.Prelude.{◌≡◌, ℕ, ◌+◌, ◌*◌, ◌<◌, ◌≤◌, true, List, [], length, Option, Some, None, slice_get, ⊤}
 use Rattle.zr_base.specs.declared.op.Op.{Op}
 use Rattle.zr_base.specs.Plain.{zero_sector}
 use Rattle.mem_account.specs.Counters.{no_counts}
@@ -10,6 +10,7 @@ use Rattle.plain_disk.specs.Legal.{IsNew as IsNewDisk}
 use Rattle.call_history.specs.Histories.{Agree}
 use Rattle.call_history.specs.Tallies.{Tallies}
 use Rattle.lock_row.specs.declared.names.LockNo.{LockNo}
+use Rattle.lock_row.specs.declared.names.LockNo.TheVariants as lock
 use Rattle.lock_row.specs.declared.names.Held.TheVariants as holds
 use Rattle.lock_row.specs.declared.names.Plan.TheVariants.{Finished, Take, Give}
 use Rattle.lock_row.specs.declared.names.State.{State}
@@ -64,6 +65,27 @@ pub data CanMove (g : Begin) (w : State DiskHeld) : Type 0 where
 abbrev pub NobodyWaitsForever : Type 0
 NobodyWaitsForever = (g : Begin) (w : State DiskHeld) (a : ℕ) (l : Here) → Proper g → Rule g w
     → slice_get w.locals a ≡ Some l → (plan (terms g) l ≡ Finished → ⊥) → CanMove g w
+
+-- ---- locks
+
+-- the lock is one of a disk of so many pages
+abbrev pub IsLock : ℕ → LockNo → Type 0
+IsLock size (lock.Slot page) = page.0 < size
+IsLock size (lock.Class c) = c < 255
+IsLock size lock.Account = ⊤
+IsLock size lock.Blocks = ⊤
+IsLock size lock.Device = ⊤
+
+-- what an actor takes next is a lock of the disk
+abbrev pub TakesLock : Type 0
+TakesLock = (g : Begin) (w : State DiskHeld) (a : ℕ) (l : Here) (k : LockNo) → Proper g → Rule g w
+    → slice_get w.locals a ≡ Some l → plan (terms g) l ≡ Take k → IsLock g.given.size k
+
+-- so is what it gives next, and that is out
+abbrev pub GivesLock : Type 0
+GivesLock = (g : Begin) (w : State DiskHeld) (a : ℕ) (l : Here) (k : LockNo) → Proper g → Rule g w
+    → slice_get w.locals a ≡ Some l → plan (terms g) l ≡ Give k
+    → IsLock g.given.size k × (slice_get w.row (spot g.given.size k) ≡ Some None)
 
 -- ---- values
 

@@ -2,7 +2,7 @@
 //! function whose body calls the laws that it rests on: who wants it calls it, and has its clauses.
 
 ghost use Rattle.joint_rule.specs.Facts.{Facts};
-ghost use Rattle.joint_rule.specs.Laws.{StartHasRule, TurnKeepsRule, ReachedHasRule, NobodyWaitsForever, TakenValueFits, ObjectsAreFew, FinishedIsAtRest, FinishedAgrees, FinishedTallies, RestGoesOn, EntryGoesOn, NextIsProper, NewIsAtRest, RequestsAreProper, NewIsProper, NewCountsNothing, NewIsNew};
+ghost use Rattle.joint_rule.specs.Laws.{StartHasRule, TurnKeepsRule, ReachedHasRule, NobodyWaitsForever, TakesLock, GivesLock, TakenValueFits, ObjectsAreFew, FinishedIsAtRest, FinishedAgrees, FinishedTallies, RestGoesOn, EntryGoesOn, NextIsProper, NewIsAtRest, RequestsAreProper, NewIsProper, NewCountsNothing, NewIsNew};
 
 use call_history::{histories_go_on, pieces_keep};
 use class_pool::{ClassPool, objects_move};
@@ -33,6 +33,14 @@ pub fn rule_keeps()
     ensures turn { TurnKeepsRule }
     ensures reached { ReachedHasRule }
     ensures free { NobodyWaitsForever }
+{
+    lower_laws();
+}
+
+/// What an actor takes or gives next is a lock of the disk, and what it gives is out.
+pub fn locks_are_of_the_disk()
+    ensures takes { TakesLock }
+    ensures gives { GivesLock }
 {
     lower_laws();
 }
