@@ -11,7 +11,7 @@ use crate::put::{
 };
 use std::alloc::AllocError;
 
-// The text of a line, put behind other text.
+// The text of a line, put after other text.
 fn put_line(out: &mut Vec<u8>, line: &OutLine) -> Result<(), AllocError>
     ensures { OnOk result (out.new.items ≡ out.old.items ++ out_line line.now) }
 {
@@ -33,7 +33,7 @@ fn put_line(out: &mut Vec<u8>, line: &OutLine) -> Result<(), AllocError>
     }
 }
 
-/// Puts the text of a line behind other text. Err says that memory was refused.
+/// Puts the text of a line after other text. Err says that memory was refused.
 pub fn print(line: &OutLine, out: &mut Vec<u8>) -> Result<(), AllocError>
     requires { IsProper line.now }
     ensures ok { OnOk result (out.new.items ≡ out.old.items ++ out_line line.now) }

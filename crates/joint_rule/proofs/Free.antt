@@ -127,7 +127,7 @@ gives_last size Ready p c d k e = (
 )
 
 module _ (size : ℕ) (p : Part) (c d : ℕ) (k : LockNo) where
-  -- What an actor takes lies in the row, behind all that it holds.
+  -- What an actor takes lies in the row, after all that it holds.
   abbrev IsAbove : At → Type 0
   IsAbove at = (spot size k < size + 258) × ((j : ℕ) → 1 ≤ places_sum size j (locks_at at p c d)
       → j < spot size k)
@@ -291,7 +291,7 @@ module _ (g : Begin) (ok : Known g) (w : State DiskHeld) (j : Joint g w) where
         (new_class g.chain ps l.page (entry_in l.held).kept)) todo))
     todo_of (p ∷ rest) todo go = (p, rest, todo)
 
-    -- what it takes lies behind what it holds
+    -- what it takes lies after what it holds
     rises : (k : LockNo) → plan (terms g) l ≡ Take k → (spot n k < n + 258)
         × ((i : ℕ) → 1 ≤ held_sum (spot n) (at_place i) l.held → i < spot n k)
     rises k what =
@@ -370,7 +370,7 @@ module _ (g : Begin) (ok : Known g) (w : State DiskHeld) (j : Joint g w) where
   taken_or a l who k what (Some v) e or_else = takes a l k v who what e
   taken_or a l who k what None e or_else = or_else e
 
-  -- who waits for a place waits for somebody who waits for a place behind it, if for any
+  -- who waits for a place waits for somebody who waits for a place after it, if for any
   by_plan : (fuel : ℕ) (a : ℕ) (l : Here) → slice_get w.locals a ≡ Some l → (x : Plan)
       → plan (terms g) l ≡ x → (x ≡ Finished → ⊥)
       → ((k : LockNo) → x ≡ Take k → n + 258 ≤ fuel + spot n k) → CanMove g w

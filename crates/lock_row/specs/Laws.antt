@@ -69,7 +69,7 @@ abbrev pub NamesHavePlaces : Type 0
 NamesHavePlaces = (names : List LockNo) (i : ℕ) (k : LockNo) → IsDistinct names
     → slice_get names i ≡ Some k → place_in names k ≡ i
 
--- one that doesn't has its place behind them all
+-- one that doesn't has its place after them all
 abbrev pub OthersHaveNone : Type 0
 OthersHaveNone = (names : List LockNo) (k : LockNo) → ((i : ℕ) → slice_get names i ≢ Some k)
     → length names ≤ place_in names k
