@@ -95,22 +95,26 @@ heres_length t (ops ∷ more) (w ∷ ws) (d ∷ ds) = let q = heres_length t mor
 may_move : (g : Begin) (w : State DiskHeld) → CanMove g w → (f : ℕ) × IsFree (terms g) w f
 may_move g w (takes a l k v who what home) = (
   a,
-  l,
-  who,
-  (λ e. let q : Take k ≡ Finished = sym what ∙ e in cc),
-  λ m e. (
-    v,
-    ap (λ (n : LockNo). slice_get w.row (spot g.given.size n))
-        (let q : Take m ≡ Take k = sym e ∙ what in let r : m ≡ k = cc in r)
-        ∙ home,
+  (
+    l,
+    who,
+    (λ e. let q : Take k ≡ Finished = sym what ∙ e in cc),
+    λ m e. (
+      v,
+      ap (λ (n : LockNo). slice_get w.row (spot g.given.size n))
+          (let q : Take m ≡ Take k = sym e ∙ what in let r : m ≡ k = cc in r)
+          ∙ home,
+    ),
   ),
 )
 may_move g w (gives a l k who what out) = (
   a,
-  l,
-  who,
-  (λ e. let q : Give k ≡ Finished = sym what ∙ e in cc),
-  λ m e. absurd (let q : Give k ≡ Take m = sym what ∙ e in cc),
+  (
+    l,
+    who,
+    (λ e. let q : Give k ≡ Finished = sym what ∙ e in cc),
+    λ m e. absurd (let q : Give k ≡ Take m = sym what ∙ e in cc),
+  ),
 )
 
 module _ (free : NobodyWaitsForever) (x : Playing) (can : CanGoOn x) (busy : IsBusy x.actors x.workers)
