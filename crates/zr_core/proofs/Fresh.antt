@@ -6,7 +6,7 @@ use Rattle.std.proofs.lemmas.List.FromFn.{map-range_with_len_more}
 use Rattle.std.proofs.lemmas.Option.{slice_get_within, get_or_from_slice_get}
 use Rattle.zr_base.specs.declared.limits.TheConstants.{MOST_PAGES}
 use Rattle.zr_base.specs.Plain.{zero_sector}
-use Rattle.mem_account.specs.Counters.{no_counts}
+use Rattle.mem_account.specs.Counters.{Counters, no_counts}
 use Rattle.lock_row.specs.declared.names.LockNo.{LockNo}
 use Rattle.lock_row.specs.declared.names.LockNo.TheVariants as lock
 use Rattle.lock_row.specs.declared.names.Held.TheVariants as holds
@@ -56,13 +56,56 @@ one_class names xs n e = ap (λ (ks : List LockNo). ks ++ lock.Class n ∷ []) e
     ∙ ap (λ (ks : List LockNo). xs ++ ks)
     (sym (map-range_with_len_more class_lock 0 n n (omega arith)))
 
-pub all_names : (names : List LockNo) (size : ℕ) → names ≡ slots_of size ++ classes_of 255
-    → names ++ lock.Account ∷ [] ++ lock.Blocks ∷ [] ++ lock.Device ∷ [] ≡ names_of size
+pub all_names : (names a b d : List LockNo) (size : ℕ) → names ≡ slots_of size ++ classes_of 255
+    → a ≡ names ++ lock.Account ∷ [] → b ≡ a ++ lock.Blocks ∷ [] → d ≡ b ++ lock.Device ∷ []
+    → d ≡ names_of size
 unfolding names_of
-all_names names size e =
-    append_assoc (names ++ lock.Account ∷ []) (lock.Blocks ∷ []) (lock.Device ∷ [])
+all_names names a b d size e account blocks device =
+    device ∙ ap (λ (ks : List LockNo). ks ++ lock.Device ∷ [])
+    (blocks ∙ ap (λ (ks : List LockNo). ks ++ lock.Blocks ∷ []) account)
+    ∙ append_assoc (names ++ lock.Account ∷ []) (lock.Blocks ∷ []) (lock.Device ∷ [])
     ∙ append_assoc names (lock.Account ∷ []) (lock.Blocks ∷ lock.Device ∷ [])
     ∙ ap (λ (ks : List LockNo). ks ++ last_locks) e
+
+-- the account, the blocks and the device behind the classes
+module _ (pages limit : ℕ) (cells a b d : Row) (c : Counters)
+    (is : c ≡ record no_counts { limit = limit })
+    (are : AreNew (new_disk pages limit) (pages + 255) cells)
+    (account : a ≡ cells ++ Some (holds.Account c) ∷ [])
+    (blocks : b ≡ a ++ Some (holds.Blocks tt) ∷ [])
+    (device : d ≡ b ++ Some (holds.Device tt) ∷ []) where
+  abbrev to : Begin
+  to = new_disk pages limit
+
+  account_new : AreNew to (pages + 255 + 1) a
+  account_new = subst (AreNew to (pages + 255 + 1)) (sym account)
+      (new_more to (pages + 255) cells (holds.Account c) are (
+        refl,
+        subst (λ (e : Counters). e ≡ record no_counts { limit = e.limit }) (sym is) refl,
+      ))
+
+  blocks_new : AreNew to (pages + 255 + 1 + 1) b
+  blocks_new = subst (AreNew to (pages + 255 + 1 + 1)) (sym blocks)
+      (new_more to (pages + 255 + 1) a (holds.Blocks tt) account_new (omega arith))
+
+  pub row_new : AreNew to (pages + 258) d
+  row_new = subst (λ (x : ℕ × Row). AreNew to x.0 x.1) (λ i. (
+    (let q : pages + 255 + 1 + 1 + 1 ≡ pages + 258 = omega arith in q) i,
+    sym device i,
+  )) (new_more to (pages + 255 + 1 + 1) b (holds.Device tt) blocks_new (omega arith))
+
+  pub row_account : slice_get d (pages + 255)
+      ≡ Some (Some (holds.Account (record no_counts { limit = limit })))
+  row_account = ap (λ (row : Row). slice_get row (pages + 255)) device
+      ∙ get_left b (Some (holds.Device tt) ∷ []) (pages + 255)
+      (let n = blocks_new.size in omega arith)
+      ∙ ap (λ (row : Row). slice_get row (pages + 255)) blocks
+      ∙ get_left a (Some (holds.Blocks tt) ∷ []) (pages + 255)
+      (let n = account_new.size in omega arith)
+      ∙ ap (λ (row : Row). slice_get row (pages + 255)) account
+      ∙ get_right cells (Some (holds.Account c) ∷ []) 0 (pages + 255)
+      (let n = are.size in omega arith)
+      ∙ ap (λ (e : Counters). Some (Some (holds.Account e))) is
 
 -- ---- a new disk at rest
 

@@ -10,7 +10,7 @@ use Rattle.lock_row.specs.declared.names.LockNo.TheVariants as lock
 use Rattle.lock_row.specs.Rows.{Row, IsDistinct, place_in, cell, with_cell, at_home}
 use Rattle.lock_row.specs.Laws.{NamesHavePlaces, OthersHaveNone}
 use Rattle.page_steps.specs.Steps.{DiskHeld, slot, spot}
-use Rattle.joint_rule.specs.Progress.{IsLock}
+use Rattle.joint_rule.specs.Laws.{IsLock}
 use Rattle.zr_core.specs.Rests.{slots_of, classes_of, last_locks, names_of, names_by}
 use Rattle.zr_core.proofs.Lists.{get_left, get_right}
 

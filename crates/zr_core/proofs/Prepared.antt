@@ -309,13 +309,20 @@ owed_is t p (ops ∷ more) (w ∷ ws) e todo =
 -- ---- the state before the first turn
 
 module _ (t : Terms) (actors : List (List Op)) (cells cells' : Row) (ws : List Worker)
-    (counts noted : List ℕ) (new : AreNewWorkers t.size t.chain actors ws)
+    (limit : ℕ) (counts noted : List ℕ) (new : AreNewWorkers t.size t.chain actors ws)
     (counted : (p : ℕ) → p < t.size → count_at counts p ≡ counted_each t.size actors p)
     (r : AreReserved (λ p. true) counts t.size cells cells')
     (beyond : (k : ℕ) (e : EntryState) → t.size ≤ k
     → slice_get cells k ≡ Some (Some (holds.Slot e)) → ⊥) where
   abbrev now : Playing
-  now = record { terms = t; noted = noted; actors = actors; cells = cells'; workers = ws }
+  now = record {
+    terms = t;
+    limit = limit;
+    noted = noted;
+    actors = actors;
+    cells = cells';
+    workers = ws;
+  }
 
   abbrev locals : List Here
   locals = heres t actors ws (nothing_over ws)

@@ -7,7 +7,7 @@ use Rattle.lock_row.specs.Laws.{NamesHavePlaces}
 use Rattle.lock_row.specs.Rows.{Row, IsIn, cell, with_cell}
 use Rattle.slot_entry.specs.Entries.{EntryState}
 use Rattle.page_steps.specs.Steps.{DiskHeld, slot, spot}
-use Rattle.joint_rule.specs.Progress.{IsLock}
+use Rattle.joint_rule.specs.Laws.{IsLock}
 use Rattle.zr_core.specs.Preparing.{IsReserved}
 use Rattle.zr_core.specs.Rests.{names_of, names_by, HasEntries}
 use Rattle.zr_core.proofs.Lists.{get_here, get_else, set_same, set_twice}

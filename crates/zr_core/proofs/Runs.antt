@@ -9,18 +9,19 @@ use native.Mathlib.Decide.{ℕ_discrete}
 use Rattle.zr_base.specs.declared.op.Op.{Op}
 use Rattle.zr_base.specs.declared.op.Turns.{Turns as By}
 use Rattle.call_history.specs.declared.part.Done.{Done}
+use Rattle.lock_row.specs.declared.names.LockNo.{LockNo}
+use Rattle.lock_row.specs.declared.names.Plan.TheVariants.{Finished, Take, Give}
 use Rattle.lock_row.specs.declared.names.State.{State}
 use Rattle.lock_row.specs.Machine.{missed}
 use Rattle.lock_row.specs.Totals.{locals_sum}
 use Rattle.lock_row.specs.Laws.{SumMoves}
-use Rattle.page_steps.specs.Steps.{Terms, DiskHeld, Here}
+use Rattle.page_steps.specs.Steps.{Terms, DiskHeld, Here, spot}
 use Rattle.actor_steps.specs.declared.worker.Worker.{Worker}
 use Rattle.actor_steps.specs.declared.worker.Turn.{Turn as WasTurn}
 use Rattle.actor_steps.specs.declared.worker.Turn.TheVariants as turn
 use Rattle.actor_steps.specs.Workers.{here}
-use Rattle.joint_rule.specs.Begins.{Begin}
-use Rattle.joint_rule.specs.Laws.{TurnKeepsRule}
-use Rattle.joint_rule.specs.Progress.{SomeFree}
+use Rattle.joint_rule.specs.Begins.{Begin, terms}
+use Rattle.joint_rule.specs.Laws.{TurnKeepsRule, CanMove, takes, gives, NobodyWaitsForever}
 use Rattle.zr_core.specs.Machines.{OneTurn, Turns, IsReached, AllFinished, rounds_of}
 use Rattle.zr_core.specs.States.{heres, state, Playing, state_of, AreKept, CanGoOn, HasRule, IsReachedFrom, TurnIs, TurnsOnce}
 use Rattle.zr_core.specs.Runs.{turns_of, Plays, RunsOut, IsBusy, AllOver, left_by, all_left, nothing_over, left_of, IsFree, Round, RoundTo}
@@ -28,7 +29,7 @@ use Rattle.zr_core.proofs.Falls.{falls, free_falls}
 use Rattle.zr_core.proofs.Lists.{there_is}
 use Rattle.zr_core.proofs.Machines.{run_on, run_both, rule_run}
 use Rattle.zr_core.proofs.Places.{no_todo, some_todo}
-use Rattle.zr_core.proofs.States.{heres_get}
+use Rattle.zr_core.proofs.States.{heres_get, no_plan}
 use Rattle.zr_core.proofs.Worlds.{one_turn, of_on, ruled_by}
 
 pub round_none : (t : Terms) (start : State DiskHeld) → Round t start start 0
@@ -90,7 +91,33 @@ heres_length t (ops ∷ more) (w ∷ ws) [] = omega arith
 heres_length t (ops ∷ more) (w ∷ ws) (d ∷ ds) = let q = heres_length t more ws ds in
     omega arith
 
-module _ (free : SomeFree) (x : Playing) (can : CanGoOn x) (busy : IsBusy x.actors x.workers)
+-- an actor that can move is free
+may_move : (g : Begin) (w : State DiskHeld) → CanMove g w → (f : ℕ) × IsFree (terms g) w f
+may_move g w (takes a l k v who what home) = (
+  a,
+  (
+    l,
+    who,
+    (λ e. let q : Take k ≡ Finished = sym what ∙ e in cc),
+    λ m e. (
+      v,
+      ap (λ (n : LockNo). slice_get w.row (spot g.given.size n))
+          (let q : Take m ≡ Take k = sym e ∙ what in let r : m ≡ k = cc in r)
+          ∙ home,
+    ),
+  ),
+)
+may_move g w (gives a l k who what out) = (
+  a,
+  (
+    l,
+    who,
+    (λ e. let q : Give k ≡ Finished = sym what ∙ e in cc),
+    λ m e. absurd (let q : Give k ≡ Take m = sym what ∙ e in cc),
+  ),
+)
+
+module _ (free : NobodyWaitsForever) (x : Playing) (can : CanGoOn x) (busy : IsBusy x.actors x.workers)
   where
     -- the rule, since there is an actor
     pub rule : (g : Begin) × HasRule g x
@@ -107,11 +134,11 @@ module _ (free : SomeFree) (x : Playing) (can : CanGoOn x) (busy : IsBusy x.acto
         let is_fit = can.fit.each busy.actor busy.ops busy.worker busy.named busy.there in
         let who = heres_get x.terms x.actors x.workers j.dones busy.actor busy.ops busy.worker done.0
         busy.named busy.there done.1 in
-        let f = free g s busy.actor (here x.terms.size busy.ops busy.worker done.0) j.of.proper j.rule
-        who (some_todo x.terms.size busy.ops busy.worker.place is_fit.settled busy.more) in (
-          f.0,
-          subst (λ (t : Terms). IsFree t s f.0) j.of.goes_by (f.1, f.2, f.3, f.4),
-        )
+        let l = here x.terms.size busy.ops busy.worker done.0 in
+        let f = may_move g s (free g s busy.actor l j.of.proper j.rule who
+        (λ e. some_todo x.terms.size busy.ops busy.worker.place is_fit.settled busy.more
+        (no_plan (terms g) l e))) in
+        (f.0, subst (λ (t : Terms). IsFree t s f.0) j.of.goes_by f.1)
 
     -- a whole round leaves fewer events
     pub round_left : SumMoves DiskHeld → (y : Playing) → y.terms ≡ x.terms → y.actors ≡ x.actors
@@ -193,12 +220,18 @@ turn_more sums start x y same i t r turn =
 -- ---- turns after turns
 
 pub plays_none : (x : Playing) → CanGoOn x → Plays [] x x
-plays_none x can = record { same = refl; can = can; goes = λ dones kept. (dones, kept, refl) }
+plays_none x can = record {
+  same = refl;
+  limit = refl;
+  can = can;
+  goes = λ dones kept. (dones, kept, refl);
+}
 
 pub plays_on : (xs ys : List ℕ) (x y z : Playing) → Plays xs x y → Plays ys y z
     → Plays (xs ++ ys) x z
 plays_on xs ys x y z first then = record {
   same = then.same ∙ first.same;
+  limit = then.limit ∙ first.limit;
   can = then.can;
   goes = λ dones kept.
       let f = first.goes dones kept in
@@ -211,11 +244,13 @@ plays_on xs ys x y z first then = record {
 }
 
 -- one turn
-pub plays_once : (a : ℕ) (x y : Playing) (t : WasTurn) → y.terms ≡ x.terms → CanGoOn y
+pub plays_once : (a : ℕ) (x y : Playing) (t : WasTurn) → y.terms ≡ x.terms → y.limit ≡ x.limit
+    → CanGoOn y
     → ((dones : List (List Done)) → AreKept x.workers dones → TurnsOnce a x y t dones)
     → Plays (a ∷ []) x y
-plays_once a x y t same can turn = record {
+plays_once a x y t same limit can turn = record {
   same = same;
+  limit = limit;
   can = can;
   goes = λ dones kept. let n = turn dones kept in
       (n.0, n.1, (state_of y n.0, one_turn x.terms a _ _ t n.2, refl));
@@ -244,11 +279,12 @@ idle u (suc k) a w n turn.Finished not is =
     (w, one_turn u a w w turn.Finished (is.0, is.1, is.2, refl), idle u k a w n turn.Finished not is)
 
 pub plays_idle : (k a : ℕ) (x y : Playing) (t : WasTurn) → t ≢ turn.Went → y.terms ≡ x.terms
-    → CanGoOn y
+    → y.limit ≡ x.limit → CanGoOn y
     → ((dones : List (List Done)) → AreKept x.workers dones → TurnsOnce a x y t dones)
     → Plays (replicate k a) x y
-plays_idle k a x y t not same can once = record {
+plays_idle k a x y t not same limit can once = record {
   same = same;
+  limit = limit;
   can = can;
   goes = λ dones kept. let n = once dones kept in (n.0, n.1, idle x.terms k a _ _ t not n.2);
 }

@@ -19,8 +19,7 @@ use Rattle.actor_steps.specs.declared.worker.Turn.{Turn}
 use Rattle.actor_steps.specs.declared.worker.Turn.TheVariants as turn
 use Rattle.actor_steps.specs.Workers.{here, next_event, Keeps, Advanced}
 use Rattle.joint_rule.specs.Begins.{Begin, terms}
-use Rattle.joint_rule.specs.Laws.{TurnKeepsRule, TakenValueFits}
-use Rattle.joint_rule.specs.Progress.{IsLock, TakesLock, GivesLock}
+use Rattle.joint_rule.specs.Laws.{IsLock, TurnKeepsRule, TakesLock, GivesLock, TakenValueFits}
 use Rattle.zr_core.specs.Machines.{OneTurn, IsReached}
 use Rattle.zr_core.specs.Rests.{names_of}
 use Rattle.zr_core.specs.States.{heres, Playing, state_of, AreKept, HasRule, IsEmpty, IsOf, IsReachedFrom, taken, given, TurnIs, TurnsOnce}
@@ -133,6 +132,7 @@ module _ (x : Playing) (a : ℕ) (ops : List Op) (w : Worker) (r : Row DiskHeld)
     abbrev after : Playing
     after = record {
       terms = x.terms;
+      limit = x.limit;
       noted = x.noted;
       actors = x.actors;
       cells = (row_of m).cells;

@@ -16,6 +16,7 @@ use Rattle.zr_core.specs.States.{AreKept, IsOf, Playing, ends_shown, sectors_sho
 abbrev pub playing : World → Phase → List (List Op) → Playing
 playing world phase actors = record {
   terms = record { size = world.pages; chain = MOST_CHAIN; clock = phase.clock };
+  limit = world.limit;
   noted = world.noted.items;
   actors = actors;
   cells = world.row.cells;

@@ -35,6 +35,7 @@ RunsOut turns x y dones = (rounds : ℕ) × (dones' : List (List Done)) × AreKe
 -- The phase goes on by these turns, and can go on.
 pub record Plays (turns : List ℕ) (x y : Playing) : Type 0 where
   pub same : y.terms ≡ x.terms
+  pub limit : y.limit ≡ x.limit
   pub can : CanGoOn y
   pub goes : (dones : List (List Done)) → AreKept x.workers dones → GoesBy turns x y dones
 

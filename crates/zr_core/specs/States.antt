@@ -61,10 +61,11 @@ pub record AreKept (ws : List Worker) (dones : List (List Done)) : Type 0 where
   pub each : (a : ℕ) (w : Worker) (done : List Done) → slice_get ws a ≡ Some w
       → slice_get dones a ≡ Some done → Keeps w done
 
--- A phase between two turns: what its steps go by, the pages that may have an order, the actors'
--- operations, the row and the workers.
+-- A phase between two turns: what its steps go by, the disk's limit, the pages that may have an
+-- order, the actors' operations, the row and the workers.
 pub record Playing : Type 0 where
   pub terms : Terms
+  pub limit : ℕ
   pub noted : List ℕ
   pub actors : List (List Op)
   pub cells : List (Option DiskHeld)

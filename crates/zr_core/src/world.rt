@@ -23,9 +23,7 @@ use crate::limits::MOST_CHAIN;
 use crate::phase::Phase;
 use crate::prepare::{noted_pages, reserve_all};
 use actor_steps::{Turn, count_pieces, new_workers};
-use joint_rule::{
-    disks_begin, locks_are_of_the_disk, phases_go_on, rule_keeps, turns_go_on, values_fit,
-};
+use joint_rule::{disks_begin, locks_are_of_the_disk, phases_go_on, rule_keeps, values_fit};
 use lock_row::{names_have_places, sums_move};
 use page_steps::DiskHeld;
 use std::alloc::AllocError;
@@ -72,6 +70,7 @@ impl World {
         requires actor { actor < length actors.now }
         requires can { CanGoOn (playing self.old phase.old actors.now) }
         ensures same { (playing self.new phase.new actors.now).terms ≡ (playing self.old phase.old actors.now).terms }
+        ensures limit { self.new.limit ≡ self.old.limit }
         ensures can { CanGoOn (playing self.new phase.new actors.now) }
         ensures turn { (dones : _) → AreKept phase.old.workers.items dones
             → TurnsOnce actor (playing self.old phase.old actors.now) (playing self.new phase.new actors.now) result dones }
@@ -119,7 +118,7 @@ impl World {
             → left_of (playing self.new phase.new actors.now)
             < left_of (playing self.old phase.old actors.now) }
     {
-        turns_go_on();
+        rule_keeps();
         sums_move::<DiskHeld>();
         for actor in 0..actors.len() as u32 {
             let _turn = self.step(phase, actors, actor);
@@ -175,6 +174,7 @@ impl World {
         requires actors { (k : ℕ) (t : _) → slice_get schedule.now k ≡ Some t → t.actor < length actors.now }
         requires can { CanGoOn (playing self.old phase.old actors.now) }
         ensures same { (playing self.new phase.new actors.now).terms ≡ (playing self.old phase.old actors.now).terms }
+        ensures limit { self.new.limit ≡ self.old.limit }
         ensures can { CanGoOn (playing self.new phase.new actors.now) }
         ensures runs { (dones : _) → AreKept phase.old.workers.items dones
             → RunsOut (turns_of schedule.now) (playing self.old phase.old actors.now)

@@ -1,7 +1,7 @@
-use Rattle.std.proofs.Common.{◌≡◌, ℕ, ◌+◌, List, Option, refl, sym, ◌∙◌, subst, arith}
-use Rattle.std.specs.Prelude.{Result}
+use Rattle.std.proofs.Common.{◌≡◌, ℕ, ◌+◌, ◌++◌, List, [], ◌∷◌, Option, Some, refl, sym, ◌∙◌, subst, arith}
+use Rattle.lock_row.specs.declared.names.Held.TheVariants as holds
 use Rattle.page_steps.specs.Steps.{DiskHeld}
-use Rattle.zr_core.specs.Rests.{slots_of, new_disk}
+use Rattle.zr_core.specs.Rests.{new_disk}
 use Rattle.zr_core.specs.Rows.{AreNew}
 use Rattle.zr_core.proofs.Fresh.{new_none, new_more, one_slot}
 use Rattle.zr_core.proofs.row.push_slots.Goals as goal
@@ -12,3 +12,26 @@ loop-page-init c = record {
   cells = λ limit. subst (AreNew (new_disk c.args.pages limit) 0) (sym c.requires.no_cells)
       (new_none (new_disk c.args.pages limit));
 }
+
+pub loop-page-preserved : goal.loop-page-preserved
+loop-page-preserved c = let i = c.loop-page.invariant in record {
+  names = c.in_ok-push.ensures.items ∙ one_slot c.loop-page.names.items c.loop-page.page i.names;
+  cells = λ limit.
+      let g = new_disk c.args.pages limit in
+      subst (AreNew g (c.loop-page.page + 1)) (sym c.in_ok-push-2.ensures.items)
+      (new_more g c.loop-page.page c.loop-page.cells.items (holds.Slot c.new.result)
+      (i.cells limit) (
+        c.loop-page-test.true,
+        c.new.ensures.kept,
+        c.new.ensures.order,
+        c.new.ensures.touched,
+        refl,
+      ));
+}
+
+pub returns-clause-cells : goal.returns-clause-cells
+returns-clause-cells c limit =
+    subst (λ (n : ℕ). AreNew (new_disk c.args.pages limit) n c.loop-page.cells.items)
+    (let t = c.loop-page-test.false in let e = c.loop-page.auto.page-end in
+    let q : c.loop-page.page ≡ c.args.pages = omega arith in q)
+    (c.loop-page.invariant.cells limit)

@@ -50,7 +50,8 @@ pub returns-clause-set_up : goal.returns-clause-set_up
 returns-clause-set_up c =
     let a = (goal.at.returns-clause-set_up c).After-reserve_all in
     set_up_on (terms a) c.args.actors.now c.args.self.now.row.cells c.reserve_all.new.row.cells
-    c.in_ok-workers.workers.items c.in_ok-counts.counts.items c.in_ok-noted.noted.items
+    c.in_ok-workers.workers.items c.args.self.now.limit c.in_ok-counts.counts.items
+    c.in_ok-noted.noted.items
     c.in_ok-workers.ensures c.in_ok-counts.ensures.counted (subst (λ (cs : List ℕ). AreReserved (λ p. true) cs c.args.self.now.pages
     c.args.self.now.row.cells c.reserve_all.new.row.cells)
     c.deref-2.ensures.value c.in_ok-reserve_all.ensures.reserved)
@@ -61,7 +62,8 @@ pub returns-clause-start : goal.returns-clause-start
 returns-clause-start c g rests =
     let a = (goal.at.returns-clause-start c).After-reserve_all in
     prepared (terms a) c.args.actors.now c.args.self.now.row.cells c.reserve_all.new.row.cells
-    c.in_ok-workers.workers.items c.in_ok-counts.counts.items c.in_ok-noted.noted.items
+    c.in_ok-workers.workers.items c.args.self.now.limit c.in_ok-counts.counts.items
+    c.in_ok-noted.noted.items
     c.in_ok-workers.ensures c.in_ok-counts.ensures.counted (subst (λ (cs : List ℕ). AreReserved (λ p. true) cs c.args.self.now.pages
     c.args.self.now.row.cells c.reserve_all.new.row.cells)
     c.deref-2.ensures.value c.in_ok-reserve_all.ensures.reserved)
@@ -73,7 +75,8 @@ pub returns-clause-can : goal.returns-clause-can
 returns-clause-can c =
     let a = (goal.at.returns-clause-can c).After-reserve_all in
     may_go_on (terms a) c.args.actors.now c.args.self.now.row.cells c.reserve_all.new.row.cells
-    c.in_ok-workers.workers.items c.in_ok-counts.counts.items c.in_ok-noted.noted.items
+    c.in_ok-workers.workers.items c.args.self.now.limit c.in_ok-counts.counts.items
+    c.in_ok-noted.noted.items
     c.in_ok-workers.ensures c.in_ok-counts.ensures.counted (subst (λ (cs : List ℕ). AreReserved (λ p. true) cs c.args.self.now.pages
     c.args.self.now.row.cells c.reserve_all.new.row.cells)
     c.deref-2.ensures.value c.in_ok-reserve_all.ensures.reserved)

@@ -17,7 +17,7 @@ loop-actor-preserved c =
     let i = c.loop-actor.invariant in
     let t = c.step-turn.ensures in record {
       plays = then_turn _ _ _ c.loop-actor.actor i.plays
-          (plays_once c.loop-actor.actor _ _ c.step-turn.result t.same t.can t.turn);
+          (plays_once c.loop-actor.actor _ _ c.step-turn.result t.same t.limit t.can t.turn);
       falls = λ dones kept. turn_more c.sums_move.ensures.moves
           (state_of (playing c.args.self.now c.args.phase.now c.args.actors.now) dones)
           (playing c.loop-actor.self c.loop-actor.phase c.args.actors.now)
@@ -40,8 +40,8 @@ pub returns-clause-falls : goal.returns-clause-falls
 returns-clause-falls c busy =
     let i = c.loop-actor.invariant in
     let x = playing c.args.self.now c.args.phase.now c.args.actors.now in
-    let j = (rule c.turns_go_on.ensures.free x c.requires.can busy).1 in
-    round_left c.turns_go_on.ensures.free x c.requires.can busy
+    let j = (rule c.rule_keeps.ensures.free x c.requires.can busy).1 in
+    round_left c.rule_keeps.ensures.free x c.requires.can busy
     c.sums_move.ensures.moves
     (playing c.loop-actor.self c.loop-actor.phase c.args.actors.now) i.plays.same refl
     c.loop-actor.actor

@@ -33,6 +33,9 @@ all_turns c =
 pub returns-clause-same : goal.returns-clause-same
 returns-clause-same c = (all_turns (goal.at.returns-clause-same c).After-finish).same
 
+pub returns-clause-limit : goal.returns-clause-limit
+returns-clause-limit c = (all_turns (goal.at.returns-clause-limit c).After-finish).limit
+
 pub returns-clause-can : goal.returns-clause-can
 returns-clause-can c = c.finish.ensures.plays.1.can
 

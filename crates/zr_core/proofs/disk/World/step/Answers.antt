@@ -130,6 +130,7 @@ was c = playing c.args.self.now c.args.phase.now c.args.actors.now
 abbrev is_now : After-advance → Playing
 is_now c = record {
   terms = (was c).terms;
+  limit = (was c).limit;
   noted = (was c).noted;
   actors = c.args.actors.now;
   cells = c.advance.new.hand.row.now.cells;
