@@ -2,15 +2,11 @@ pub mod Sums
 pub mod Counted
 pub mod Places
 pub mod Forms
-pub mod Contents
-pub mod Finished
-pub mod Ended
-pub mod Agreed
 pub mod Matches
 pub mod Left
 pub mod Reports
 pub mod Bare
 pub mod Onward
 pub mod Begun
-pub mod Sectors
+pub mod Asked
 pub mod Pieces

@@ -9,7 +9,8 @@ use Rattle.lock_row.specs.declared.names.Held.TheVariants as holds
 use Rattle.slot_entry.specs.Entries.{EntryState}
 use Rattle.page_steps.specs.Steps.{DiskHeld}
 use Rattle.joint_rule.specs.Starts.{Matched}
-use Rattle.disk_rest.specs.Rows.{Row, value_at, without_calls, cell_without_calls, without_orders}
+use Rattle.joint_rule.specs.Ends.{value_at}
+use Rattle.disk_rest.specs.Rows.{Row, without_calls, cell_without_calls, without_orders}
 
 -- The values of a place in two rows.
 pub record Match (R : ℕ → DiskHeld → DiskHeld → Type 0) (xs ys : Row) (k : ℕ) : Type 0 where

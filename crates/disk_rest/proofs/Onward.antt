@@ -13,10 +13,11 @@ use Rattle.page_steps.specs.Steps.{DiskHeld}
 use Rattle.slot_entry.specs.Forms.{page_weight}
 use Rattle.joint_rule.specs.Begins.{Begin}
 use Rattle.joint_rule.specs.Joint.{AtHome}
-use Rattle.joint_rule.specs.Laws.{GoesToNext}
+use Rattle.joint_rule.specs.Laws.{RestGoesOn}
 use Rattle.joint_rule.specs.Starts.{AtRest, IsStart, Renewed, slots, accounts, stays}
-use Rattle.disk_rest.specs.Rows.{Row, value_at, used_in, used_at, counters_in, account_at, without_calls, without_orders, IsKept, KeepsValues}
-use Rattle.disk_rest.specs.Resting.{begin_of, StandsFor, IsSetUp}
+use Rattle.joint_rule.specs.Ends.{begin_at, value_at, used_in, account_in, account_of}
+use Rattle.disk_rest.specs.Rows.{Row, used_at, without_calls, without_orders, IsKept, KeepsValues}
+use Rattle.disk_rest.specs.Resting.{StandsFor, IsSetUp}
 use Rattle.disk_rest.proofs.Places.{value_is}
 use Rattle.disk_rest.proofs.Matches.{matched, value_there, was_at, was_slot, emptied_long, emptied_at}
 use Rattle.disk_rest.proofs.Reports.{pool_tells, account_tells}
@@ -65,10 +66,10 @@ account_kept (holds.Device x) c is = absurd (cc)
 
 module _ (r : Rest) (n : ℕ) (actors : List (List Op)) where
   abbrev g : Begin
-  g = begin_of r []
+  g = begin_at r []
 
   abbrev h : Begin
-  h = begin_of (at_limit r n) actors
+  h = begin_at (at_limit r n) actors
 
   -- a value that is kept, with an empty order, is one with which the next phase begins
   renews : (k : ℕ) (v u : DiskHeld) → IsKept v u → NoCalls u → AtHome g k (without_calls v)
@@ -88,7 +89,7 @@ module _ (r : Rest) (n : ℕ) (actors : List (List Op)) where
   renews k (holds.Blocks x) u is none home = stays tt is
   renews k (holds.Device x) u is none home = stays tt is
 
-  goes_on : (row ys : Row) → GoesToNext → AtRest g (without_orders row) → length ys ≡ length row
+  goes_on : (row ys : Row) → RestGoesOn → AtRest g (without_orders row) → length ys ≡ length row
       → ((k : ℕ) (v : DiskHeld) → slice_get row k ≡ Some (Some v) → AtHome g k (without_calls v)
       → (u : DiskHeld) × (slice_get ys k ≡ Some (Some u)) × Renewed g h k (without_calls v) u)
       → AtRest h ys
@@ -107,8 +108,8 @@ module _ (r : Rest) (n : ℕ) (actors : List (List Op)) where
 -- ---- the next phase
 
 module _ (r : Rest) (actors : List (List Op)) (row : Row) (w : State DiskHeld)
-    (next : GoesToNext) (st : StandsFor r row) (up : IsSetUp r actors row w) where
-  next_rest : AtRest (begin_of r actors) w.row
+    (next : RestGoesOn) (st : StandsFor r row) (up : IsSetUp r actors row w) where
+  next_rest : AtRest (begin_at r actors) w.row
   next_rest = goes_on r r.set.limit actors row w.row next st.rest up.row.size
       (λ k v at home. let u = up.row.each k v at in (
         u.0,
@@ -126,7 +127,7 @@ module _ (r : Rest) (actors : List (List Op)) (row : Row) (w : State DiskHeld)
       let u = up.row.each (r.size + 255) _ (account_tells r row st) in
       let a = u.1 in let b = u.2 in cc
 
-  pub starts : IsStart (begin_of r actors) w
+  pub starts : IsStart (begin_at r actors) w
   starts = record {
     rest = next_rest;
     orders = up.orders;
@@ -137,7 +138,7 @@ module _ (r : Rest) (actors : List (List Op)) (row : Row) (w : State DiskHeld)
 
 -- ---- other orders
 
-module _ (r : Rest) (row ys : Row) (next : GoesToNext) (st : StandsFor r row)
+module _ (r : Rest) (row ys : Row) (next : RestGoesOn) (st : StandsFor r row)
     (keeps : KeepsValues row ys) where
   used_still : (k : ℕ) → k < 255 → used_at r.size ys k ≡ r.used k
   used_still k lt =
@@ -146,11 +147,11 @@ module _ (r : Rest) (row ys : Row) (next : GoesToNext) (st : StandsFor r row)
       ap used_in (value_is ys (r.size + k) u.0 u.1) ∙ ap (λ (v : DiskHeld). used_in (Some v)) u.2
       ∙ q.used
 
-  account_still : account_at r.size ys ≡ stats page_weight r
+  account_still : account_of r.size ys ≡ stats page_weight r
   account_still =
       let u = keeps.each (r.size + 255) _ (account_tells r row st) in
-      ap counters_in (value_is ys (r.size + 255) u.0 u.1)
-      ∙ ap (λ (v : DiskHeld). counters_in (Some v)) u.2
+      ap account_in (value_is ys (r.size + 255) u.0 u.1)
+      ∙ ap (λ (v : DiskHeld). account_in (Some v)) u.2
 
   pub stands_still : StandsFor r ys
   stands_still = record {
@@ -168,7 +169,7 @@ module _ (r : Rest) (row ys : Row) (next : GoesToNext) (st : StandsFor r row)
 
 -- ---- another limit
 
-module _ (r : Rest) (row : Row) (n : ℕ) (c : Counters) (next : GoesToNext) (st : StandsFor r row)
+module _ (r : Rest) (row : Row) (n : ℕ) (c : Counters) (next : RestGoesOn) (st : StandsFor r row)
     (at : slice_get row (r.size + 255) ≡ Some (Some (holds.Account c))) where
   -- the account with the limit
   abbrev limited : Counters
@@ -186,9 +187,9 @@ module _ (r : Rest) (row : Row) (n : ℕ) (c : Counters) (next : GoesToNext) (st
   value_else k ne = get_or-set_other row (r.size + 255) k (Some (holds.Account limited)) None ne
 
   limit_each : (k : ℕ) (v : DiskHeld) → slice_get row k ≡ Some (Some v)
-      → AtHome (begin_of r []) k (without_calls v)
+      → AtHome (begin_at r []) k (without_calls v)
       → (u : DiskHeld) × (slice_get (without_orders ys) k ≡ Some (Some u))
-      × Renewed (begin_of r []) (begin_of (at_limit r n) []) k (without_calls v) u
+      × Renewed (begin_at r []) (begin_at (at_limit r n) []) k (without_calls v) u
   limit_each k v e home = elim (cases_eq k (r.size + 255)) [
     | inl here ↦
         let there : slice_get row k ≡ Some (Some (holds.Account c)) =
@@ -212,10 +213,10 @@ module _ (r : Rest) (row : Row) (n : ℕ) (c : Counters) (next : GoesToNext) (st
       ap used_in (value_else (r.size + k) (λ e. let none : ⊥ = omega arith in none))
       ∙ st.used k lt
 
-  account_same : account_at r.size ys ≡ stats page_weight (at_limit r n)
-  account_same = ap counters_in (value_is ys (r.size + 255) (holds.Account limited) at_account)
+  account_same : account_of r.size ys ≡ stats page_weight (at_limit r n)
+  account_same = ap account_in (value_is ys (r.size + 255) (holds.Account limited) at_account)
       ∙ ap (λ (k : Counters). record k { limit = n })
-      (sym (ap counters_in (value_is row (r.size + 255) (holds.Account c) at)) ∙ st.account)
+      (sym (ap account_in (value_is row (r.size + 255) (holds.Account c) at)) ∙ st.account)
 
   pub limit_stands : StandsFor (at_limit r n) ys
   limit_stands = record {

@@ -15,8 +15,9 @@ use Rattle.page_steps.specs.Steps.{DiskHeld}
 use Rattle.slot_entry.specs.Forms.{page_weight}
 use Rattle.joint_rule.specs.Begins.{Begin, form_at, found_after}
 use Rattle.joint_rule.specs.Joint.{PoolFits}
-use Rattle.disk_rest.specs.Rows.{Row, value_at, used_counts, used_in, used_at, counters_in}
-use Rattle.disk_rest.specs.Resting.{begin_of, StandsFor}
+use Rattle.joint_rule.specs.Ends.{begin_at, value_at, used_each, used_in, account_in}
+use Rattle.disk_rest.specs.Rows.{Row, used_at}
+use Rattle.disk_rest.specs.Resting.{StandsFor}
 use Rattle.disk_rest.specs.Printed.{state_in, row_report}
 use Rattle.disk_rest.proofs.Places.{slot_at, pool_at, account_there, value_is}
 use Rattle.disk_rest.proofs.Matches.{was_at, was_slot, was_pool, was_account}
@@ -35,7 +36,7 @@ pub record PoolTells (r : Rest) (row : Row) (k : ℕ) : Type 0 where
   pub at : slice_get row (r.size + k) ≡ Some (Some (holds.Class pool))
   pub class : pool.class ≡ k
   pub fits : PoolFits r.set.chain pool
-  pub used : used_counts pool.zspages ≡ r.used k
+  pub used : used_each pool.zspages ≡ r.used k
 
 pub lines_same : (f h : ℕ → List OutLine) (a n : ℕ) → ((i : ℕ) → a ≤ i → i < a + n → f i ≡ h i)
     → flat_map f (range_with_len a n) ≡ flat_map h (range_with_len a n)
@@ -45,7 +46,7 @@ lines_same f h a (suc n) e = λ i. e a (omega arith) (omega arith) i
 
 module _ (r : Rest) (row : Row) (st : StandsFor r row) where
   abbrev g : Begin
-  g = begin_of r []
+  g = begin_at r []
 
   pub entry_tells : (p : ℕ) → p < r.size → EntryTells r row p
   entry_tells p lt =
@@ -85,7 +86,7 @@ module _ (r : Rest) (row : Row) (st : StandsFor r row) where
       let at : slice_get row (r.size + 255) ≡ Some (Some (holds.Account a.counters)) =
       was.at ∙ ap (λ (v : DiskHeld). Some (Some v)) (was_account was.value a.counters was.is) in
       at ∙ ap (λ (c : Counters). Some (Some (holds.Account c)))
-      (sym (ap counters_in (value_is row (r.size + 255) (holds.Account a.counters) at))
+      (sym (ap account_in (value_is row (r.size + 255) (holds.Account a.counters) at))
       ∙ st.account)
 
   state_same : (p : ℕ) → p < r.size

@@ -22,23 +22,24 @@ use Rattle.joint_rule.specs.Joint.{PoolFits}
 use Rattle.joint_rule.specs.Rule.{Rule}
 use Rattle.joint_rule.specs.Starts.{IsStart}
 use Rattle.joint_rule.specs.Starts.{IsNew as IsNewValue}
-use Rattle.disk_rest.specs.Rows.{Row, AllFinished, histories, AreOrders, used_counts, KeepsValues}
-use Rattle.disk_rest.specs.Resting.{begin_of, rest_after, new_rest, StandsFor, IsSetUp}
+use Rattle.joint_rule.specs.Ends.{begin_at, histories, rest_after, used_each, new_rest}
+use Rattle.disk_rest.specs.Rows.{Row, NoPieceLeft, AreOrders, KeepsValues}
+use Rattle.disk_rest.specs.Resting.{StandsFor, IsSetUp}
 use Rattle.disk_rest.specs.Printed.{row_report}
 
--- a phase in which all actors are finished prints what the plain disk allows
+-- a phase of which no actor has a piece left prints what the plain disk allows
 abbrev pub PrintsPhase : Type 0
 PrintsPhase = (r : Rest) (actors : List (List Op)) (w : State DiskHeld) (orders : List (List Tag))
-    → Proper (begin_of r actors) → Rule (begin_of r actors) w
-    → AllFinished w → HasSomeEach actors → AreOrders r.size w.row orders
+    → Proper (begin_at r actors) → Rule (begin_at r actors) w
+    → NoPieceLeft w → HasSomeEach actors → AreOrders r.size w.row orders
     → IsPhase page_weight r actors (phase_lines (ends_each actors (histories w.locals))
     (told_each actors (histories w.locals)) orders) (rest_after r actors w.row)
 
 -- its row stands for the rest that it leaves
 abbrev pub LeavesRest : Type 0
 LeavesRest = (r : Rest) (actors : List (List Op)) (w : State DiskHeld)
-    → Proper (begin_of r actors) → Rule (begin_of r actors) w
-    → AllFinished w → StandsFor (rest_after r actors w.row) w.row
+    → Proper (begin_at r actors) → Rule (begin_at r actors) w
+    → NoPieceLeft w → StandsFor (rest_after r actors w.row) w.row
 
 -- a row that stands for a rest prints the rest's reports
 abbrev pub PrintsReports : Type 0
@@ -61,7 +62,7 @@ EntriesTell = (r : Rest) (row : Row) (p : ℕ) → StandsFor r row → p < r.siz
 abbrev pub PoolsTell : Type 0
 PoolsTell = (r : Rest) (row : Row) (k : ℕ) → StandsFor r row → k < 255
     → (p : PoolState) × (slice_get row (r.size + k) ≡ Some (Some (holds.Class p)))
-    × (p.class ≡ k) × PoolFits r.set.chain p × (used_counts p.zspages ≡ r.used k)
+    × (p.class ≡ k) × PoolFits r.set.chain p × (used_each p.zspages ≡ r.used k)
 
 -- the account has counted the statistics of the rest
 abbrev pub AccountTells : Type 0
@@ -71,15 +72,15 @@ AccountTells = (r : Rest) (row : Row) → StandsFor r row
 -- sums over the used counts of a pool: its objects, its zspages, and those of a fullness group
 abbrev pub CountsTell : Type 0
 CountsTell = (p : PoolState)
-    → (sum_by (λ u. u) (used_counts p.zspages) ≡ length (objects p))
-    × (length (used_counts p.zspages) ≡ used_of p.zspages)
-    × ((g : ℕ) → count_by (λ u. group_of u p.per == g) (used_counts p.zspages)
+    → (sum_by (λ u. u) (used_each p.zspages) ≡ length (objects p))
+    × (length (used_each p.zspages) ≡ used_of p.zspages)
+    × ((g : ℕ) → count_by (λ u. group_of u p.per == g) (used_each p.zspages)
     ≡ count_by (is_in_group p.per g) p.zspages)
 
 -- a phase that is set up on a row is before its first turn
 abbrev pub BeginsPhase : Type 0
 BeginsPhase = (r : Rest) (actors : List (List Op)) (row : Row) (w : State DiskHeld)
-    → StandsFor r row → IsSetUp r actors row w → IsStart (begin_of r actors) w
+    → StandsFor r row → IsSetUp r actors row w → IsStart (begin_at r actors) w
 
 -- what is known of a phase of requests, where there aren't too many
 abbrev pub BeginsProper : Type 0
@@ -88,17 +89,17 @@ BeginsProper = (r : Rest) (actors : List (List Op)) (row : Row) → StandsFor r 
     → slice_get ops k ≡ Some op → IsRequest op)
     → r.size + length actors < 2 ^ 32 - 1
     → sum_by (λ (ops : List Op). length ops) actors < 2 ^ 32
-    → Proper (begin_of r actors)
+    → Proper (begin_at r actors)
 
 -- the row of a new disk stands for it
 abbrev pub BeginsDisk : Type 0
 BeginsDisk = (r : Rest) (n : ℕ) (row : Row) → 4 ≤ r.set.chain → r.set.chain ≤ 16
     → length row ≡ n + 258
     → ((k : ℕ) → k < length row → (v : DiskHeld) × (slice_get row k ≡ Some (Some v))
-    × IsNewValue (begin_of (new_rest r n) []) k v)
+    × IsNewValue (begin_at (new_rest n r.set) []) k v)
     → ((k : ℕ) (c : Counters) → slice_get row k ≡ Some (Some (holds.Account c))
     → c.limit ≡ r.set.limit)
-    → IsNew r n (new_rest r n) × StandsFor (new_rest r n) row
+    → IsNew r n (new_rest n r.set) × StandsFor (new_rest n r.set) row
 
 -- a row of which only orders have changed stands for the same rest
 abbrev pub StandsStill : Type 0

@@ -7,7 +7,8 @@ use Rattle.plain_disk.specs.Rests.{state_line, class_line, Report, mm_stat, io_s
 use Rattle.lock_row.specs.declared.names.Held.TheVariants as holds
 use Rattle.slot_entry.specs.Entries.{weight_of}
 use Rattle.page_steps.specs.Steps.{DiskHeld}
-use Rattle.disk_rest.specs.Rows.{Row, value_at, used_at, account_at}
+use Rattle.joint_rule.specs.Ends.{value_at, account_of}
+use Rattle.disk_rest.specs.Rows.{Row, used_at}
 
 -- the line of page p, by its entry
 abbrev pub state_in : ℕ → Option DiskHeld → List OutLine
@@ -21,8 +22,8 @@ state_in p (Some (holds.Device x)) = []
 -- the lines of a report, by the values of a row of so many pages, where chains have at most so many
 -- frames: the account's, each entry's, or each pool's
 abbrev pub row_report : ℕ → ℕ → Row → Report → List OutLine
-row_report size chain row mm_stat = memory (mm_stat_of (account_at size row)) ∷ []
-row_report size chain row io_stat = calls (io_stat_of (account_at size row)) ∷ []
+row_report size chain row mm_stat = memory (mm_stat_of (account_of size row)) ∷ []
+row_report size chain row io_stat = calls (io_stat_of (account_of size row)) ∷ []
 row_report size chain row states =
     flat_map (λ p. state_in p (value_at row p)) (range_with_len 0 size)
 row_report size chain row classes =

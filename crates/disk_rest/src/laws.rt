@@ -6,7 +6,7 @@ ghost use Rattle.disk_rest.specs.Laws.{PrintsPhase, LeavesRest, PrintsReports, P
 use call_history::histories_tell;
 use joint_rule::phases_go_on;
 
-/// A phase in which all actors are finished is one that the plain disk allows, and its row stands
+/// A phase of which no actor has a piece left is one that the plain disk allows, and its row stands
 /// for the rest that it leaves.
 pub fn phases_end()
     ensures prints { PrintsPhase }
@@ -37,13 +37,14 @@ pub fn phases_begin()
     ensures proper { BeginsProper }
 {
     phases_go_on();
+    joint_rule::disks_begin();
 }
 
 /// The row of a new disk stands for it.
 pub fn disks_begin()
     ensures { BeginsDisk }
 {
-    phases_go_on();
+    joint_rule::disks_begin();
 }
 
 /// Orders are no part of a rest; and another limit of the account is another limit of the rest.

@@ -17,7 +17,8 @@ use Rattle.page_steps.specs.Steps.{DiskHeld, Terms}
 use Rattle.slot_entry.specs.Forms.{page_weight}
 use Rattle.joint_rule.specs.Begins.{terms}
 use Rattle.joint_rule.specs.Laws.{StartHasRule, ReachedHasRule}
-use Rattle.disk_rest.specs.Resting.{begin_of, rest_after, new_rest, StandsFor}
+use Rattle.joint_rule.specs.Ends.{begin_at, rest_after, new_rest}
+use Rattle.disk_rest.specs.Resting.{StandsFor}
 use Rattle.disk_rest.specs.Printed.{row_report}
 use Rattle.disk_rest.specs.Laws.{PrintsPhase, LeavesRest, PrintsReports, PrintsNothing, AccountTells, BeginsPhase, BeginsProper, BeginsDisk, SetsLimit}
 use Rattle.zr_core.specs.declared.limits.TheConstants.{MOST_CHAIN}
@@ -84,7 +85,7 @@ module _ (laws : Laws) where
   -- a new disk stands for a new rest
   new_stands : (r : Rest) (d m : Disk) (n : ℕ) → 1 ≤ n → n ≤ MOST_PAGES → Stands r d
       → IsNewDisk d n m
-      → IsNew r n (new_rest r n) × Stands (new_rest r n) m
+      → IsNew r n (new_rest n r.set) × Stands (new_rest n r.set) m
   new_stands r d m n some most s new =
       let both = disk_on laws.new r n d.limit m.row s.chain s.limit new.row new.account in (
         both.0,
@@ -197,7 +198,7 @@ module _ (laws : Laws) where
     abbrev After : Type 0
     After = (n : Rest) × IsPhase page_weight r actors lines n × Stands n m
 
-    terms_are : terms_of d ≡ terms (begin_of r actors)
+    terms_are : terms_of d ≡ terms (begin_at r actors)
     terms_are = λ i. record { size = sym s.size i; chain = sym s.chain i; clock = sym s.clock i }
 
     phase_stands : HasRow r d → After
@@ -257,10 +258,10 @@ module _ (laws : Laws) where
       let new = new_stands r d steps.0 n may.1.0 may.1.1 s steps.1 in
       let some : 1 ≤ n = may.1.0 in
       let is : steps.0.size ≡ n = steps.1.size in
-      let rest = legal_by (with_attr u (DiskPages n)) more (new_rest r n) steps.0 turns lines last
+      let rest = legal_by (with_attr u (DiskPages n)) more (new_rest n r.set) steps.0 turns lines last
       may.2 (λ none. absurd (omega (arith, none, some, is))) new.1 steps.2 in (
         rest.0,
-        (new_rest r n, [], lines, (refl, new.0), rest.1, refl),
+        (new_rest n r.set, [], lines, (refl, new.0), rest.1, refl),
         rest.2,
       )
   legal_by u (items.Attr (LimitPages n) ∷ more) r d turns lines last may bare s steps =

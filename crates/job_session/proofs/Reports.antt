@@ -15,7 +15,8 @@ use Rattle.slot_entry.specs.Entries.{EntryState, weight_of}
 use Rattle.page_steps.specs.Steps.{DiskHeld}
 use Rattle.joint_rule.specs.Begins.{Begin}
 use Rattle.joint_rule.specs.Joint.{PoolFits}
-use Rattle.disk_rest.specs.Rows.{value_at, used_counts, used_in, used_at}
+use Rattle.joint_rule.specs.Ends.{value_at, used_each, used_in}
+use Rattle.disk_rest.specs.Rows.{used_at}
 use Rattle.disk_rest.specs.Printed.{state_in}
 use Rattle.disk_rest.specs.Laws.{CountsTell}
 use Rattle.zr_core.specs.declared.limits.TheConstants.{MOST_CHAIN}
@@ -80,7 +81,7 @@ pool_used : (x : Option DiskHeld) → CountsTell → zspages_of (pool_in x) ≡ 
 pool_used None counts none = refl
 pool_used (Some (holds.Slot e)) counts none = refl
 pool_used (Some (holds.Class p)) counts none =
-    nothing_in (used_counts p.zspages) ((counts p).1 ∙ none)
+    nothing_in (used_each p.zspages) ((counts p).1 ∙ none)
 pool_used (Some (holds.Account c)) counts none = refl
 pool_used (Some (holds.Blocks y)) counts none = refl
 pool_used (Some (holds.Device y)) counts none = refl
@@ -107,7 +108,7 @@ module _ (pages : ℕ) (row : List (Option DiskHeld)) (k : ℕ) (lt : k < 255) (
   value = pool_value (value_at row (pages + k)) has.pool
       (sym (class_place pages row k lt (place_there pages row rest)) ∙ has.there)
 
-  used_is : used_at pages row k ≡ used_counts has.pool.zspages
+  used_is : used_at pages row k ≡ used_each has.pool.zspages
   used_is = ap used_in value
 
   pub class_with : class_of (record { class = k; chain = MOST_CHAIN; used = used_at pages row k }) ∷ []

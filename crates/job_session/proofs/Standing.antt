@@ -17,7 +17,8 @@ use Rattle.joint_rule.specs.Begins.{Proper, terms}
 use Rattle.joint_rule.specs.Starts.{Starts, IsNew}
 use Rattle.joint_rule.specs.Laws.{StartHasRule, ReachedHasRule}
 use Rattle.disk_rest.specs.Rows.{AreOrders}
-use Rattle.disk_rest.specs.Resting.{begin_of, rest_after, new_rest, StandsFor, IsSetUp}
+use Rattle.joint_rule.specs.Ends.{begin_at, rest_after, new_rest}
+use Rattle.disk_rest.specs.Resting.{StandsFor, IsSetUp}
 use Rattle.disk_rest.specs.Laws.{PrintsPhase, LeavesRest, BeginsPhase, BeginsDisk}
 use Rattle.zr_core.specs.declared.limits.TheConstants.{MOST_CHAIN}
 use Rattle.zr_core.specs.Machines.{Begins, PhaseSteps, orders_of}
@@ -28,7 +29,7 @@ use Rattle.zr_core.specs.Rows.{AreNew}
 -- ---- a phase
 
 module _ (r : Rest) (actors : List (List Op)) (row : List (Option DiskHeld)) where
-  begins : (a : ℕ) (l : Here) → Begins r.size actors a l → Starts (begin_of r actors) a l
+  begins : (a : ℕ) (l : Here) → Begins r.size actors a l → Starts (begin_at r actors) a l
   begins a l b = record {
     who = b.who;
     ops = b.ops;
@@ -61,16 +62,16 @@ module _ (r : Rest) (actors : List (List Op)) (row : List (Option DiskHeld)) whe
   }
 
   module _ (starts : StartHasRule) (reached : ReachedHasRule) (begin : BeginsPhase)
-      (prints : PrintsPhase) (leaves : LeavesRest) (proper : Proper (begin_of r actors)) where
+      (prints : PrintsPhase) (leaves : LeavesRest) (proper : Proper (begin_at r actors)) where
     -- a phase prints what the plain disk allows, and the row stands for the rest that it leaves
     pub phase_on : (turns : List ℕ) (lines : List OutLine) (after : List (Option DiskHeld))
         → StandsFor r row → HasSomeEach actors
-        → PhaseSteps (terms (begin_of r actors)) actors row turns lines after
+        → PhaseSteps (terms (begin_at r actors)) actors row turns lines after
         → IsPhase page_weight r actors lines (rest_after r actors after)
         × StandsFor (rest_after r actors after) after
     phase_on turns lines after stands some s =
-        let rule = reached (begin_of r actors) s.start s.last proper
-        (starts (begin_of r actors) s.start proper
+        let rule = reached (begin_at r actors) s.start s.last proper
+        (starts (begin_at r actors) s.start proper
         (begin r actors row s.start stands (set_up s.start s.is_set_up))) (turns, s.run) in
         let P : List OutLine × List (Option DiskHeld) → Type 0 =
         λ x. IsPhase page_weight r actors x.0 (rest_after r actors x.1)
@@ -85,7 +86,7 @@ module _ (r : Rest) (actors : List (List Op)) (row : List (Option DiskHeld)) whe
 
 -- what a value of a new disk is doesn't lean on the row before
 new_value : (r : Rest) (n limit : ℕ) → r.set.chain ≡ MOST_CHAIN → (k : ℕ) (v : DiskHeld)
-    → IsNew (new_disk n limit) k v → IsNew (begin_of (new_rest r n) []) k v
+    → IsNew (new_disk n limit) k v → IsNew (begin_at (new_rest n r.set) []) k v
 new_value r n limit chain k (holds.Slot e) is = is
 new_value r n limit chain k (holds.Class p) is =
     subst (λ (c : ℕ). IsNew (record (new_disk n limit) { chain = c }) k (holds.Class p)) (sym chain)
@@ -124,7 +125,7 @@ module _ (new : BeginsDisk) (r : Rest) (n limit : ℕ) (row : List (Option DiskH
           → c.limit ≡ d.limit
       account_limit c d is = let e : c ≡ d = cc in ap (λ (x : Counters). x.limit) e
 
-  pub disk_on : IsNewRest r n (new_rest r n) × StandsFor (new_rest r n) row
+  pub disk_on : IsNewRest r n (new_rest n r.set) × StandsFor (new_rest n r.set) row
   disk_on =
       new r n row (omega (arith, chain)) (omega (arith, chain)) are.size
       (λ k lt.
