@@ -233,11 +233,17 @@ def words_of(path: str) -> dict[str, list[int]]:
 
 
 def cited_elsewhere(crate: str, path: str) -> set[tuple[str, str]]:
-    """The lemmas of other files that a file cites, by an import or by their whole path, as (path, name)."""
+    """The lemmas of other files that a file cites, as (path, name): by an import of them or of their file, or by their
+    whole path.
+    """
     known = contracts.known_names(path)
     found = {known[word] for word in words_of(path).keys() & known.keys()}
     for place, name in re.findall(r"\bcrate::(proofs(?:::\w+)*)::([\w'-]+)", files.text(path)):
         found.add((crate + "." + place.replace("::", "."), name))
+    text = "\n".join(line.split("-- ")[0] for line in joined(path) if not IMPORT.match(line))
+    for module, name in re.findall(r"(?<![\w.'-])(\w+)\.([A-Za-z_][\w'-]*)", text):
+        if module in known:
+            found.add((".".join(known[module]), name))
     return {("crates/" + place.replace(".", "/") + ".antt", name) for place, name in found}
 
 
