@@ -108,7 +108,7 @@ def crates_are_listed() -> Iterator[Breach]:
 
 
 def arrows_are_right() -> Iterator[Breach]:
-    """The README's drawing has an arrow, or two, to each crate of its layer on which a crate stands, and no others."""
+    """The README's drawing has arrows that lead to each crate of its layer on which a crate stands, and no others."""
     layer = {crate.name: crate.layer for crate in files.crates()}
     every = [(crate.name, other) for crate in files.crates() for other in crate.needs]
     needs = {(one, other) for one, other in every if layer[one] == layer.get(other)}
@@ -118,9 +118,20 @@ def arrows_are_right() -> Iterator[Breach]:
             drawn.add((one, other))
             if (one, other) not in needs:
                 yield "README.md", number, f"{one} doesn't stand on {other} in its layer: see crates.txt"
-    for one, other in sorted(needs - drawn):
-        if layer[one] != "benches" and not any((one, mid) in drawn and (mid, other) in drawn for mid in layer):
+    for one, other in sorted(needs):
+        if layer[one] != "benches" and other not in led_to(one, drawn):
             yield "README.md", 1, f"no arrow leads from {one} to {other}, on which it stands"
+
+
+def led_to(name: str, drawn: set[tuple[str, str]]) -> set[str]:
+    """The crates to which arrows lead from a crate, one after the other."""
+    found, left = set(), [name]
+    while left:
+        now = left.pop()
+        more = {other for one, other in drawn if one == now} - found
+        found |= more
+        left += more
+    return found
 
 
 def plain_words() -> Iterator[Breach]:
@@ -131,6 +142,7 @@ def plain_words() -> Iterator[Breach]:
             continue
         for number, line in enumerate(files.text(path).splitlines(), 1):
             said = line if path.endswith(".md") else "".join(re.findall(r"(?:--|//|#) .*", line))
+            said = re.sub(r"`[^`]*`", "", said)  # names of code
             for word in re.findall(r"\b(?:behind|wanting)\b", said):
                 yield path, number, f"'{word}': say after, or out of memory"
 
@@ -233,11 +245,17 @@ def words_of(path: str) -> dict[str, list[int]]:
 
 
 def cited_elsewhere(crate: str, path: str) -> set[tuple[str, str]]:
-    """The lemmas of other files that a file cites, by an import or by their whole path, as (path, name)."""
+    """The lemmas of other files that a file cites, as (path, name): by an import of them or of their file, or by their
+    whole path.
+    """
     known = contracts.known_names(path)
     found = {known[word] for word in words_of(path).keys() & known.keys()}
     for place, name in re.findall(r"\bcrate::(proofs(?:::\w+)*)::([\w'-]+)", files.text(path)):
         found.add((crate + "." + place.replace("::", "."), name))
+    text = "\n".join(line.split("-- ")[0] for line in joined(path) if not IMPORT.match(line))
+    for module, name in re.findall(r"(?<![\w.'-])(\w+)\.([A-Za-z_][\w'-]*)", text):
+        if module in known:
+            found.add((".".join(known[module]), name))
     return {("crates/" + place.replace(".", "/") + ".antt", name) for place, name in found}
 
 

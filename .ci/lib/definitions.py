@@ -238,8 +238,25 @@ def closure(roots: list[Definition]) -> dict[tuple[str, str], Definition]:
 
 
 @functools.cache
+def crates_in_order() -> list[str]:
+    """The crates in reading order: a crate stands after those on which it stands, else as in crates.txt."""
+    needs = {crate.name: crate.needs for crate in files.crates()}
+    order: list[str] = []
+
+    def visit(name: str) -> None:
+        if name in needs and name not in order:
+            for other in needs[name]:
+                visit(other)
+            order.append(name)
+
+    for name in needs:
+        visit(name)
+    return order
+
+
+@functools.cache
 def spec_files() -> list[str]:
-    """The files of specs in reading order: a file stands after those that it imports, crates as in crates.txt."""
+    """The files of specs in reading order: crate by crate, and a file stands after those that it imports."""
     order: list[str] = []
     seen: set[str] = set()
 
@@ -254,9 +271,8 @@ def spec_files() -> list[str]:
                 visit(other)
         order.append(path)
 
-    for crate in files.crates():
-        known = {path for path in files.sources(crate.name, "specs") if not path.endswith("/Lib.antt")}
+    for crate in crates_in_order():
+        known = {path for path in files.sources(crate, "specs") if not path.endswith("/Lib.antt")}
         for path in sorted(known):
             visit(path)
     return order
-

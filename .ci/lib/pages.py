@@ -9,7 +9,7 @@ from collections.abc import Callable
 
 import contracts
 import files
-from definitions import Definition, closure, sheet, spec_files
+from definitions import Definition, closure, crates_in_order, sheet, spec_files
 
 EXAMPLE = "examples/race_partial_writes"
 LAYERS = {
@@ -21,13 +21,15 @@ LAYERS = {
     "account and device": "Account and device",
 }
 # The call that carries the headline, with its clauses; and parts of what they rest on, in reading order: the heading
-# of each part, and the definitions that it begins with. What no part has comes last.
+# of each part, and the definitions that it begins with, as CRATE.NAME. What no part has comes last.
 TOP_CALL = ("job_session", "sim_main", "done", "refused")
 PARTS = [
-    ("What a job is", ["IsJob"]),
-    ("What its output may say", ["Legal"]),
-    ("How an output is written down", ["text"]),
-    ("By which turns it came about", ["Stepped", "AreOwn"]),
+    ("What a job is", ["job_text.IsJob"]),
+    ("In which form a page has to be kept", ["slot_entry.page_weight"]),
+    ("What a report says", ["plain_disk.report"]),
+    ("What an output may say", ["job_session.Legal"]),
+    ("How an output is written down", ["job_print.text"]),
+    ("By which turns it came about", ["job_session.Stepped", "job_session.AreOwn"]),
 ]
 
 
@@ -80,9 +82,9 @@ def beside() -> str:
 
 
 def roots(names: list[str]) -> list[Definition]:
-    """The definitions of these names on which the top call rests."""
+    """The definitions of these names, as CRATE.NAME, on which the top call rests."""
     whole = closure(contracts.cited_by(*TOP_CALL)).values()
-    found = [each for each in whole if each.name in names and not each.is_type]
+    found = [each for each in whole if f"{each.crate}.{each.name}" in names and not each.is_type]
     if len(found) != len(names):
         raise Lost(f".ci/lib/pages.py: {TOP_CALL[1]} doesn't rest on {' and '.join(names)}: mend TOP_CALL or PARTS")
     return found
@@ -139,7 +141,7 @@ def headline() -> str:
 
 
 def types_by_file(types: list[Definition]) -> str:
-    order = {crate.name: number for number, crate in enumerate(files.crates())}
+    order = {crate: number for number, crate in enumerate(crates_in_order())}
     mine = sorted(types, key=lambda each: (order[each.crate], each.path, each.line))
     rows = []
     for path, group in itertools.groupby(mine, key=lambda each: each.path):

@@ -223,7 +223,7 @@ pub no_todo : (size nr : ℕ) (ops : List Op) (page n : ℕ) → length ops ≤ 
     → todo_by size nr page n (drop nr ops) ≡ []
 no_todo size nr ops page n le = ap (todo_by size nr page n) (drop_out ops nr le)
 
--- the next piece, and those behind it
+-- the next piece, and those after it
 pub todo_next : (size : ℕ) (ops : List Op) (pl : Place) (op : Op) → slice_get ops pl.nr ≡ Some op
     → IsSettled size ops pl → todo_at size ops pl ≡ part_at pl op ∷ todo_at size ops (behind pl)
 todo_next size ops pl op at s =

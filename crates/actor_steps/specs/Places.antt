@@ -52,7 +52,7 @@ todo_at size ops pl = todo_by size pl.nr pl.page pl.left (drop pl.nr ops)
 abbrev pub part_at : Place → Op → Part
 part_at pl op = record { nr = pl.nr; op = op; page = pl.page }
 
--- the place behind the piece
+-- the place after the piece
 abbrev pub behind : Place → Place
 behind pl = record { nr = pl.nr; page = pl.page + 1; left = pl.left - 1 }
 

@@ -67,7 +67,7 @@ all_names names a b d size e account blocks device =
     ∙ append_assoc names (lock.Account ∷ []) (lock.Blocks ∷ lock.Device ∷ [])
     ∙ ap (λ (ks : List LockNo). ks ++ last_locks) e
 
--- the account, the blocks and the device behind the classes
+-- the account, the blocks and the device after the classes
 module _ (pages limit : ℕ) (cells a b d : Row) (c : Counters)
     (is : c ≡ record no_counts { limit = limit })
     (are : AreNew (new_disk pages limit) (pages + 255) cells)

@@ -205,7 +205,7 @@ kept_refl (holds.Device x) = refl
 pub keeps_same : (row : Row) → KeepsValues row row
 keeps_same row = record { size = refl; each = λ k v at. (v, at, kept_refl v) }
 
--- behind the pages no value is an entry
+-- after the pages no value is an entry
 pub no_entry : (pages : ℕ) (noted : List ℕ) (cells : Row) → IsAtRest pages noted cells
     → (k : ℕ) (e : EntryState) → pages ≤ k → slice_get cells k ≡ Some (Some (holds.Slot e)) → ⊥
 no_entry pages noted cells rest k e ge at = by rest.rests where

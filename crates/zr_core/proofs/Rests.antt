@@ -38,7 +38,7 @@ entry_by g j (holds.Account c) lt is = absurd (let none : ⊥ = omega arith in n
 entry_by g j (holds.Blocks x) lt is = absurd (let none : ⊥ = omega arith in none)
 entry_by g j (holds.Device x) lt is = absurd (let none : ⊥ = omega arith in none)
 
--- that behind the pages and the classes is the account
+-- that after the pages and the classes is the account
 account_by : (g : Begin) (j : ℕ) (v : DiskHeld) → j ≡ g.given.size + 255 → Sound g j v
     → (c : Counters) × (v ≡ holds.Account c)
 account_by g j (holds.Slot e) at is = absurd (let p = is.page in let none : ⊥ = omega arith in none)

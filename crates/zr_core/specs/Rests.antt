@@ -28,7 +28,7 @@ slots_of size = map slot (range_with_len 0 size)
 abbrev pub classes_of : ℕ → List LockNo
 classes_of n = map (λ (c : ℕ). lock.Class c) (range_with_len 0 n)
 
--- the locks behind the slots and the classes
+-- the locks after the slots and the classes
 abbrev pub last_locks : List LockNo
 last_locks = lock.Account ∷ lock.Blocks ∷ lock.Device ∷ []
 

@@ -37,7 +37,7 @@ fn push_slots(
     Ok(())
 }
 
-// Puts the classes behind the slots, each with a pool.
+// Puts the classes after the slots, each with a pool.
 fn push_pools(
     alloc: Global,
     pages: u32,

@@ -7,7 +7,7 @@ endif
 syntax case match
 syntax match zramsimError /[^ \t\r#]\+/
 
-" a line's first word, and what may stand behind it
+" a line's first word, and what may stand after it
 syntax match zramsimActor /^[ \t]*\zsactor\ze[ \t\r]*\(#.*\)\?$/
 syntax match zramsimRun /^[ \t]*\zsrun\ze[ \t\r]*\(#.*\)\?$/
 syntax match zramsimAttribute /^[ \t]*\zs\(disksize\|mem_limit\)\ze[ \t]/ nextgroup=zramsimSize skipwhite
