@@ -1,5 +1,5 @@
 -- A worker whose piece is over.
-use Rattle.std.proofs.Common.{◌≡◌, ◌≢◌, ◌⊎◌, ℕ, ◌+◌, ◌-◌, ◌*◌, ◌<◌, ◌≤◌, Bool, true, false, cond, eqb, List, [], ◌∷◌, ◌++◌, length, Option, Some, None, slice_get, refl, sym, ap, ◌∙◌, subst, arith, inl, inr, ⊎_elim, vec_len, vec_capacity}
+use Rattle.std.proofs.Common.{◌≡◌, ◌≢◌, ◌⊎◌, ℕ, ◌+◌, ◌<◌, ◌≤◌, Bool, true, false, cond, List, [], ◌∷◌, ◌++◌, length, Option, Some, None, slice_get, refl, sym, ap, ◌∙◌, subst, arith, inl, inr, ⊎_elim, vec_len, vec_capacity}
 use mathlib.Core.Logic.{dite}
 use native.Mathlib.Decide.{ℕ_discrete}
 use Rattle.std.proofs.lemmas.Bool.{cases_Bool, eq-eqb, ne_eqb}
@@ -9,7 +9,7 @@ use Rattle.zr_base.specs.declared.op.Op.TheVariants.{Write, Read, Discard}
 use Rattle.plain_disk.specs.Ends.{is_single}
 use Rattle.call_history.specs.declared.part.Part.{Part}
 use Rattle.call_history.specs.declared.part.Done.{Done}
-use Rattle.call_history.specs.Parts.{is_carried, left_by, got_by, got_of, op_end, end_of}
+use Rattle.call_history.specs.Parts.{is_carried, got_by, got_of, op_end, end_of}
 use Rattle.call_history.specs.Laws.{GotGrows}
 use Rattle.lock_row.specs.declared.names.LockNo.{LockNo}
 use Rattle.page_steps.specs.declared.call.PageCall.{PageCall}
@@ -27,12 +27,12 @@ use Rattle.actor_steps.specs.declared.place.Place.{Place}
 use Rattle.actor_steps.specs.declared.reply.Reply.{Reply}
 use Rattle.actor_steps.specs.declared.worker.Worker.{Worker}
 use Rattle.actor_steps.specs.declared.worker.Turn.TheVariants as turn
-use Rattle.actor_steps.specs.Places.{todo_at, part_at, behind, IsOnward}
+use Rattle.actor_steps.specs.Places.{part_at, behind, IsOnward}
 use Rattle.actor_steps.specs.Work.{reads}
 use Rattle.actor_steps.specs.Replies.{HasRoomFor, HasMore}
 use Rattle.actor_steps.specs.Workers.{stage_of, here, with_call, over_of, AllCarried, Keeps, ReplyFits, HasCall, IsFit, CanFinish, Finishes, turned, Advanced}
 use Rattle.actor_steps.proofs.Histories.{over_here, over_else, carried_more, none_carried, end_here, end_else}
-use Rattle.actor_steps.proofs.Turns.{gone_on, rest, x, here_is}
+use Rattle.actor_steps.proofs.Turns.{rest, x, here_is}
 use Rattle.actor_steps.proofs.Singles.{EndsAs, reads_nothing}
 
 -- ---- what a piece reads

@@ -5,7 +5,6 @@ use Rattle.call_history.specs.declared.part.PartEnd.TheVariants as over
 use Rattle.call_history.specs.declared.part.Done.{Done}
 use Rattle.zr_base.specs.declared.op.OpEnd.TheVariants as ends
 use Rattle.lock_row.specs.declared.names.LockNo.{LockNo}
-use Rattle.lock_row.specs.declared.names.LockNo.TheVariants as lock
 use Rattle.lock_row.specs.declared.names.At.{At}
 use Rattle.lock_row.specs.declared.names.At.TheVariants as at
 use Rattle.lock_row.specs.declared.names.Plan.{Plan}

@@ -1,17 +1,17 @@
 -- A worker's turns are those of its call.
-use Rattle.std.proofs.Common.{◌≡◌, ℕ, ◌<◌, ◌≤◌, List, [], ◌∷◌, length, drop, Some, None, slice_get, refl, sym, ap, ◌∙◌, subst}
+use Rattle.std.proofs.Common.{◌≡◌, ℕ, ◌≤◌, List, [], ◌∷◌, length, Some, None, slice_get, refl, sym, ap, ◌∙◌, subst}
 use Rattle.zr_base.specs.declared.op.Op.{Op}
 use Rattle.call_history.specs.declared.part.Part.{Part}
 use Rattle.call_history.specs.declared.part.Done.{Done}
 use Rattle.lock_row.specs.declared.names.LockNo.{LockNo}
 use Rattle.lock_row.specs.declared.names.Plan.{Plan}
-use Rattle.lock_row.specs.declared.names.Plan.TheVariants.{Finished, Take, Give}
+use Rattle.lock_row.specs.declared.names.Plan.TheVariants.{Take, Give}
 use Rattle.page_steps.specs.declared.call.PageCall.{PageCall}
 use Rattle.page_steps.specs.declared.stage.Head.{Head}
 use Rattle.page_steps.specs.declared.stage.Scratch.{Scratch}
 use Rattle.page_steps.specs.declared.stage.Stage.{Stage}
 use Rattle.page_steps.specs.declared.stage.Progress.{Progress}
-use Rattle.page_steps.specs.Steps.{Terms, DiskHeld, Here, plan, plan_by, took}
+use Rattle.page_steps.specs.Steps.{Terms, DiskHeld, Here, plan, took}
 use Rattle.page_steps.specs.Nexts.{Next}
 use Rattle.page_steps.specs.Givings.{Works}
 use Rattle.page_steps.specs.Fits.{StageFits}

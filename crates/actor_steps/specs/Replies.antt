@@ -1,5 +1,5 @@
 -- What an operation has told so far.
-use Rattle.std.specs.Prelude.{◌≡◌, ◌≢◌, ℕ, ◌+◌, ◌<◌, ◌≤◌, List, ◌++◌, length, Some, slice_get, vec_len, vec_capacity, ⊤}
+use Rattle.std.specs.Prelude.{◌≡◌, ◌≢◌, ℕ, ◌+◌, ◌≤◌, List, ◌++◌, length, Some, slice_get, vec_len, vec_capacity, ⊤}
 use Rattle.zr_base.specs.declared.op.OpEnd.{OpEnd}
 use Rattle.page_steps.specs.declared.stage.PieceEnd.{PieceEnd}
 use Rattle.page_steps.specs.declared.stage.PieceEnd.TheVariants as piece

@@ -1,6 +1,6 @@
 -- A worker, which has an actor's place and replies and its call in work, and the local that it
 -- stands for.
-use Rattle.std.specs.Prelude.{◌≡◌, ℕ, ◌+◌, ◌-◌, ◌*◌, ◌<◌, ◌≤◌, ◌^◌, ◌==◌, max, Bool, true, false, List, [], ◌∷◌, length, Option, Some, None, slice_get, vec_len, vec_capacity, if◌then◌else◌, ⊤}
+use Rattle.std.specs.Prelude.{◌≡◌, ℕ, ◌+◌, ◌-◌, ◌*◌, ◌<◌, ◌≤◌, ◌^◌, ◌==◌, max, true, false, List, [], ◌∷◌, length, Option, Some, None, slice_get, vec_len, vec_capacity, if◌then◌else◌, ⊤}
 use Rattle.zr_base.specs.declared.op.Op.{Op}
 use Rattle.zr_base.specs.declared.op.Op.TheVariants.{Write, Read, Discard}
 use Rattle.plain_disk.specs.Ends.{is_single}

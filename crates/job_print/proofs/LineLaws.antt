@@ -1,15 +1,14 @@
 -- Lines, read back: a proper line's words are read as that line, and no other words are.
-use Rattle.std.proofs.Common.{◌≡◌, ℕ, ◌+◌, ◌*◌, ◌/◌, ◌%◌, ◌⊎◌, inl, inr, drop, ◌<◌, ◌≤◌, ◌^◌, Bool, true, false, not, ◌&&◌, ◌==◌, nat_lt, cond, List, [], ◌∷◌, ◌++◌, length, get_or, map, codes, Option, Some, None, option_map, option_and_then, refl, ap, sym, subst, ◌∙◌, arith}
+use Rattle.std.proofs.Common.{◌≡◌, ℕ, ◌+◌, ◌/◌, ◌%◌, ◌⊎◌, inl, inr, drop, ◌<◌, ◌≤◌, ◌^◌, true, false, ◌&&◌, ◌==◌, nat_lt, cond, List, [], ◌∷◌, ◌++◌, length, get_or, map, codes, Option, Some, None, option_map, option_and_then, refl, ap, sym, subst, ◌∙◌, arith}
 use Rattle.std.specs.List.{flat_map, list_all, range_with_len, slice_split, AllByRecursion}
 use Rattle.std.specs.Str.{bytes_eq}
 use Rattle.std.specs.Fmt.{decimal}
 use Rattle.std.specs.Int.{w64, to_be_bytes}
-use Rattle.std.proofs.lemmas.Bool.{cases_lt, lt-ltb, le-ltb, eqb-true, ltb-true, and_parts, true_from_ne_false, both_ways}
+use Rattle.std.proofs.lemmas.Bool.{cases_lt, lt-ltb, le-ltb, eqb-true, and_parts, both_ways}
 use Rattle.std.proofs.lemmas.Grind.{same_number_lists}
 use Rattle.std.proofs.lemmas.List.{length-map}
 use Rattle.std.proofs.lemmas.List.FromFn.{length-map-range_with_len, get_or-map-range_with_len}
 use Rattle.std.proofs.lemmas.Option.{option_and_then_some}
-use Rattle.std.proofs.lemmas.Slice.Eq.{bytes_eq-Decides}
 use Rattle.zr_base.specs.declared.op.Tag.{Tag}
 use Rattle.zr_base.specs.declared.op.OpEnd.{OpEnd}
 use Rattle.mem_account.specs.declared.account.MmStat.{MmStat}
@@ -19,11 +18,11 @@ use Rattle.job_text.specs.declared.fault.Cause.{Cause}
 use Rattle.job_text.specs.declared.fault.JobFault.{JobFault}
 use Rattle.job_print.specs.declared.line.OutLine.{OutLine}
 use Rattle.job_print.specs.declared.line.OutLine.TheVariants as lines
-use Rattle.job_print.specs.Texts.{hex_digit, hex_byte, word_digits, spaced, tag_word, end_words, memory_numbers, calls_numbers, cell_words, use_words, cause_word, name_of, words_of, is_filled, IsFilled}
-use Rattle.job_print.specs.Proper.{IsProperTag, IsProperEnd, IsProperStat, AreLong, AreShort, AreLetters, IsProper}
-use Rattle.job_print.specs.Reading.{all_in, number_in, short_in, below, bytes_in, word_in, other_sector, sector_in, tag_in, end_in, letters_in, cause_in, op_in, fill_in, hex_in, order_in, memory_of, memory_in, calls_of, calls_in, state_in, stat_by, class_number_in, numbered_class, are_names, class_in, fault_in, usage_in, named_in, line_by, line_in}
+use Rattle.job_print.specs.Texts.{hex_digit, hex_byte, word_digits, spaced, tag_word, end_words, memory_numbers, calls_numbers, cell_words, use_words, cause_word, name_of, words_of, is_filled}
+use Rattle.job_print.specs.Proper.{IsProperTag, IsProperStat, AreLong, AreShort, IsProper}
+use Rattle.job_print.specs.Reading.{all_in, number_in, short_in, below, bytes_in, word_in, other_sector, tag_in, end_in, letters_in, cause_in, op_in, fill_in, hex_in, order_in, memory_of, memory_in, calls_of, calls_in, state_in, stat_by, class_number_in, numbered_class, are_names, class_in, fault_in, usage_in, named_in, line_by, line_in}
 use Rattle.job_print.proofs.Filled.{fill_test, other_test}
-use Rattle.job_print.proofs.Digits.{some_when, IsHex, bytes-hex, bytes_some, word-digits, word_some}
+use Rattle.job_print.proofs.Digits.{some_when, bytes-hex, bytes_some, word-digits, word_some}
 use Rattle.job_print.proofs.Numbers.{none_when, number-decimal, number_some, short-decimal, short_some, below_some}
 use Rattle.job_print.proofs.Marks.{is_word, split-spaced, spaced_is}
 use Rattle.job_print.proofs.WordLaws

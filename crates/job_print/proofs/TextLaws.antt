@@ -1,14 +1,14 @@
 -- Texts of lines: where a line ends, and that a text has one list of lines.
-use Rattle.std.proofs.Common.{◌≡◌, ℕ, suc, ◌+◌, ◌<◌, ◌≤◌, ◌==◌, true, List, [], ◌∷◌, ◌++◌, length, take, drop, position, Option, Some, None, refl, ap, sym, subst, ◌∙◌, append_assoc, arith}
-use Rattle.std.specs.List.{flat_map, AllByRecursion}
+use Rattle.std.proofs.Common.{◌≡◌, ℕ, ◌+◌, ◌<◌, ◌==◌, List, [], ◌∷◌, ◌++◌, length, take, drop, position, Some, None, refl, ap, sym, ◌∙◌, append_assoc, arith}
+use Rattle.std.specs.List.{AllByRecursion}
 use Rattle.std.proofs.Math.Seq.{take-append_seam, drop-append-add}
-use Rattle.std.proofs.lemmas.List.{length-append, append-nil}
+use Rattle.std.proofs.lemmas.List.{length-append}
 use Rattle.job_print.specs.declared.line.OutLine.{OutLine}
 use Rattle.job_print.specs.Texts.{name_of, words_of, spaced, out_line, out_text}
 use Rattle.job_print.specs.Proper.{IsProper}
 use Rattle.job_print.specs.Reading.{line_in}
 use Rattle.job_print.specs.Outputs.{IsText, IsFaulty, HasFault}
-use Rattle.job_print.proofs.Marks.{lacks, position-marked, position_marks, line_lacks}
+use Rattle.job_print.proofs.Marks.{position-marked, position_marks, line_lacks}
 use Rattle.job_print.proofs.LineLaws.{name_word, words_words, line_in-line, line_in_some}
 
 -- a line without the byte that ends it

@@ -1,5 +1,5 @@
 -- The words of lines, read back.
-use Rattle.std.proofs.Common.{◌≡◌, ℕ, ◌+◌, ◌<◌, ◌≤◌, ◌^◌, ◌⊎◌, inl, inr, Bool, true, false, ◌&&◌, ◌||◌, ◌==◌, cond, List, [], ◌∷◌, ◌++◌, length, take, drop, get_or, map, position, codes, Option, Some, None, nat_lt, option_map, option_and_then, refl, ap, sym, subst, ◌∙◌, arith}
+use Rattle.std.proofs.Common.{◌≡◌, ℕ, ◌+◌, ◌<◌, ◌^◌, inl, inr, Bool, true, false, ◌&&◌, ◌||◌, ◌==◌, cond, List, [], ◌∷◌, ◌++◌, length, take, drop, get_or, map, position, codes, Option, Some, None, nat_lt, option_map, option_and_then, refl, ap, sym, subst, ◌∙◌, arith}
 use Rattle.std.specs.List.{list_all, AllByRecursion}
 use Rattle.std.specs.Str.{bytes_eq}
 use Rattle.std.specs.Fmt.{decimal}
@@ -7,7 +7,6 @@ use Rattle.std.proofs.Math.Seq.{take-append_seam, drop-append-add}
 use Rattle.std.proofs.lemmas.Bool.{lt-ltb, eqb-true, and_parts}
 use Rattle.std.proofs.lemmas.Bool.Decides.{nat_tests}
 use Rattle.std.proofs.lemmas.Option.{option_and_then_some}
-use Rattle.std.proofs.lemmas.List.{length-map}
 use Rattle.std.proofs.lemmas.List.Folds.{list_all-append}
 use Rattle.std.proofs.lemmas.Slice.Eq.{bytes_eq-Decides}
 use Rattle.zr_base.specs.declared.op.Tag.{Tag}
@@ -16,9 +15,9 @@ use Rattle.zr_base.specs.declared.op.OpEnd.TheVariants as ends
 use Rattle.job_text.specs.declared.fault.Cause.{Cause}
 use Rattle.job_text.specs.declared.fault.Cause.TheVariants as causes
 use Rattle.job_print.specs.Texts.{tag_word, end_words, cause_word}
-use Rattle.job_print.specs.Proper.{IsProperTag, IsProperEnd, AreLong, AreShort, IsLetter, AreLetters}
-use Rattle.job_print.specs.Reading.{all_in, number_in, short_in, tag_at, tag_in, limit_in, limit_end_in, memory_end_in, plain_end_in, end_in, is_letter, letters_in, cause_in}
-use Rattle.job_print.proofs.Numbers.{number-decimal, number_some, short-decimal, short_some, decimal_digits, some_cond}
+use Rattle.job_print.specs.Proper.{IsProperTag, IsProperEnd, AreLong, IsLetter, AreLetters}
+use Rattle.job_print.specs.Reading.{all_in, number_in, short_in, tag_at, tag_in, limit_end_in, memory_end_in, plain_end_in, end_in, is_letter, letters_in, cause_in}
+use Rattle.job_print.proofs.Numbers.{number-decimal, number_some, short-decimal, short_some, decimal_digits}
 use Rattle.job_print.proofs.Marks.{is_word, position-marked, position_marks, digits_word, digits_lack}
 
 -- ---- choices

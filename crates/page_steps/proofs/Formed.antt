@@ -1,5 +1,5 @@
 -- The stages of a call that has its page's slot, and of one whose new page was found.
-use Rattle.std.proofs.Common.{◌≡◌, ◌⊎◌, ℕ, ◌+◌, ◌≤◌, Bool, true, false, List, length, Option, Some, None, refl, sym, ap, ◌∙◌, subst, inl, inr}
+use Rattle.std.proofs.Common.{◌≡◌, ℕ, ◌≤◌, Bool, true, false, List, length, Option, Some, None, refl, sym, ap, ◌∙◌, subst, inl, inr}
 use Rattle.std.specs.Prelude.{is_some}
 use Rattle.zr_base.specs.declared.op.Op.{Op}
 use Rattle.zr_base.specs.declared.op.Op.TheVariants.{Write, Read, Discard}
@@ -18,11 +18,11 @@ use Rattle.slot_entry.specs.declared.kept.Kept.TheVariants as kept
 use Rattle.slot_entry.specs.Entries.{EntryState, IsPlain}
 use Rattle.slot_entry.specs.Forms.{PageForm, Word, Pooled, form_of, form_weight, object_class}
 use Rattle.page_steps.specs.Pages.{next_form, page_in_cell}
-use Rattle.page_steps.specs.Steps.{DiskHeld, on, took, settle_at, made_at, seen_at, discard_at, write_at, entered_at, pinned_at}
+use Rattle.page_steps.specs.Steps.{DiskHeld, on, took, made_at, seen_at, discard_at, write_at, entered_at, pinned_at}
 use Rattle.page_steps.specs.Givings.{kept_by}
 use Rattle.page_steps.specs.Nexts.{entering, pinning, pin_at, pin_of, tail_of}
 use Rattle.page_steps.specs.Fits.{HasPlace}
-use Rattle.page_steps.specs.Calls.{Frame, here, IsWork, IsOwn, IsNew, IsNext, IsFit, IsGoing, IsWithin, IsFresh, IsDue, Asks, HasObject, KeepsRest, is_count, is_write, is_whole, form_by, bytes_by, object_of, page_if, settled_by, read_by, discard_by}
+use Rattle.page_steps.specs.Calls.{Frame, here, IsWork, IsOwn, IsNext, IsFit, IsGoing, IsWithin, IsFresh, IsDue, Asks, HasObject, KeepsRest, is_count, is_write, is_whole, form_by, bytes_by, page_if, settled_by, read_by, discard_by}
 use Rattle.page_steps.specs.Turns.{IsFormed, HasEntered, HasRead, HasOld, Keeps, owning}
 use Rattle.page_steps.specs.declared.stage.Work.{Work}
 use Rattle.page_steps.specs.declared.stage.Work.TheVariants as work

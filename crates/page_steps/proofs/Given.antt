@@ -1,6 +1,6 @@
 -- Which local a giving may name, and that it is the one of the stage that follows.
 use Rattle.std.specs.Prelude.{is_some}
-use Rattle.std.proofs.Common.{◌≡◌, ℕ, ◌-◌, Bool, true, false, List, [], ◌∷◌, length, Option, Some, None, refl, sym, ap, ◌∙◌, subst, inr}
+use Rattle.std.proofs.Common.{◌≡◌, ℕ, Bool, false, List, length, Option, Some, None, refl, sym, ap, ◌∙◌, subst, inr}
 use Rattle.zspage.specs.Cells.{CellState}
 use Rattle.class_pool.specs.Pool.{PoolState, PoolHasRoom}
 use Rattle.mem_account.specs.Counters.{AnswersCharge, Counters, charged, counted, IsWithinLimit}
@@ -9,22 +9,20 @@ use Rattle.mem_account.specs.declared.weight.Weight.{Weight}
 use Rattle.mem_account.specs.declared.weight.Delta.TheVariants as delta
 use Rattle.call_history.specs.declared.part.PartEnd.TheVariants as over
 use Rattle.call_history.specs.Shows.{got_from, tag_by}
-use Rattle.lock_row.specs.declared.names.LockNo.TheVariants as lock
 use Rattle.lock_row.specs.declared.names.Held.TheVariants as holds
 use Rattle.lock_row.specs.declared.names.At.TheVariants as at
 use Rattle.slot_entry.specs.declared.kept.Stored.{Stored}
 use Rattle.slot_entry.specs.declared.kept.Kept.{Kept}
 use Rattle.slot_entry.specs.declared.kept.Kept.TheVariants as kept
 use Rattle.slot_entry.specs.Entries.{EntryState, plain_page, weight_of}
-use Rattle.slot_entry.specs.Forms.{PageForm, Pooled, form_weight, object_class, class_in}
-use Rattle.page_steps.specs.Pages.{next_form, page_in_cell}
+use Rattle.slot_entry.specs.Forms.{PageForm, form_weight, object_class, class_in}
+use Rattle.page_steps.specs.Pages.{next_form}
 use Rattle.page_steps.specs.Pools.{IsNeed, Adds, Lends, Returns, DropsPinned}
-use Rattle.page_steps.specs.Steps.{DiskHeld, Here, slot, on, piece_over, settle_at}
-use Rattle.page_steps.specs.Givings.{Notes, kept_by, old_weight, repaid, settled, Works, refuses, pins, unpins, charges, limits, starves, stows, quits, frees, repays, puts, reads, fails}
-use Rattle.page_steps.specs.Nexts.{refusing, pinning, unpinning, charging, denying, stowing, quitting, freeing, repaying, putting, reading, failing, emptied, ending_by, pin_at, pin_of}
-use Rattle.page_steps.specs.Calls.{Frame, here, IsWithin, Asks, IsPlaced, IsCallOf, IsWork, IsOwn, IsNew, IsNext, IsToPut, IsFit, IsGoing, IsDue, IsLentOf, IsRefusal, AreRefusals, HasObject, Makes, is_count, form_by, bytes_by, object_of, page_if, pin_by, end_of, ends_of, got_of, tells_by, settled_by, quit_by, unpinned_by}
+use Rattle.page_steps.specs.Steps.{DiskHeld, piece_over, settle_at}
+use Rattle.page_steps.specs.Givings.{Notes, kept_by, old_weight, repaid, settled, refuses, pins, unpins, charges, limits, starves, stows, quits, frees, repays, puts, reads, fails}
+use Rattle.page_steps.specs.Nexts.{refusing, pinning, unpinning, charging, denying, stowing, quitting, freeing, repaying, putting, reading, failing, emptied}
+use Rattle.page_steps.specs.Calls.{Frame, here, IsWithin, IsPlaced, IsCallOf, IsOwn, IsNew, IsNext, IsToPut, IsFit, IsGoing, IsDue, IsLentOf, IsRefusal, AreRefusals, HasObject, is_count, form_by, bytes_by, object_of, page_if, pin_by, end_of, tells_by, settled_by, quit_by, unpinned_by}
 use Rattle.page_steps.specs.Turns.{GivesAs, after, owning}
-use Rattle.page_steps.specs.Fits.{HasPlace}
 use Rattle.zr_base.specs.declared.op.Piece.{Piece}
 use Rattle.page_steps.specs.declared.stage.Work.{Work}
 use Rattle.page_steps.specs.declared.stage.Work.TheVariants as work
@@ -37,7 +35,6 @@ use Rattle.page_steps.specs.declared.stage.Due.{Due}
 use Rattle.page_steps.specs.declared.stage.Outcome.TheVariants as outcome
 use Rattle.page_steps.specs.declared.stage.PieceEnd.{PieceEnd}
 use Rattle.page_steps.specs.declared.stage.PieceEnd.TheVariants as piece
-use Rattle.page_steps.specs.declared.stage.Stage.{Stage}
 use Rattle.page_steps.specs.declared.stage.Stage.TheVariants as stage
 use Rattle.page_steps.specs.declared.stage.Progress.TheVariants as progress
 use Rattle.page_steps.proofs.Merges.{fresh_emptied}

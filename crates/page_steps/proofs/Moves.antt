@@ -1,5 +1,5 @@
 -- Turns of a call from what its hand did.
-use Rattle.std.proofs.Common.{◌≡◌, refl, sym, ap, ◌∙◌, subst}
+use Rattle.std.proofs.Common.{◌≡◌, refl, sym, ◌∙◌, subst}
 use Rattle.lock_row.specs.declared.names.LockNo.{LockNo}
 use Rattle.lock_row.specs.declared.names.Plan.TheVariants.{Take, Give}
 use Rattle.page_steps.specs.Steps.{DiskHeld, Here, took}

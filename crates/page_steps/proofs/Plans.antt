@@ -1,30 +1,26 @@
 -- What a call knows of its next event is what its actor's plan is.
 use Rattle.std.specs.Prelude.{is_some}
-use Rattle.std.proofs.Common.{◌≡◌, ℕ, ◌+◌, ◌≤◌, Bool, true, false, List, length, Option, Some, None, refl, sym, ap, ◌∙◌, subst}
+use Rattle.std.proofs.Common.{◌≡◌, ℕ, false, List, Option, refl, sym, ap, ◌∙◌}
 use Rattle.zr_base.specs.declared.op.Op.{Op}
 use Rattle.zr_base.specs.declared.op.Op.TheVariants.{Write, Read, Discard}
 use Rattle.zr_base.specs.declared.op.Piece.{Piece}
-use Rattle.zr_base.specs.Plain.{has_whole}
 use Rattle.call_history.specs.declared.part.Part.{Part}
 use Rattle.lock_row.specs.declared.names.LockNo.TheVariants as lock
-use Rattle.lock_row.specs.declared.names.At.{At}
-use Rattle.lock_row.specs.declared.names.At.TheVariants as at
-use Rattle.lock_row.specs.declared.names.Plan.{Plan}
 use Rattle.lock_row.specs.declared.names.Plan.TheVariants.{Take, Give}
 use Rattle.mem_account.specs.Counters.{Counters}
 use Rattle.slot_entry.specs.declared.kept.Kept.{Kept}
-use Rattle.slot_entry.specs.Forms.{PageForm, Blank, form_of, class_in, object_class}
+use Rattle.slot_entry.specs.Forms.{form_of, class_in, object_class}
 use Rattle.page_steps.specs.Pages.{next_by, next_form, page_in}
-use Rattle.page_steps.specs.Steps.{Terms, slot, plan, start_plan, class_by, entered_at, pinned_at, made_at, write_at, seen_at, discard_at, part_at}
+use Rattle.page_steps.specs.Steps.{slot, plan, start_plan, class_by}
 use Rattle.page_steps.specs.Givings.{tells}
-use Rattle.page_steps.specs.Calls.{Frame, here, next_event, IsCallOf, IsWork, IsFit, IsGoing, Asks, Brings, IsDue, is_count, is_write, is_whole, form_by, bytes_by, tells_by, page_if}
+use Rattle.page_steps.specs.Calls.{Frame, here, next_event, IsCallOf, IsWork, IsFit, IsGoing, Asks, IsDue, is_count, form_by, bytes_by, tells_by, page_if}
 use Rattle.page_steps.specs.declared.stage.Work.{Work}
 use Rattle.page_steps.specs.declared.stage.Work.TheVariants as work
 use Rattle.page_steps.specs.declared.stage.Head.{Head}
 use Rattle.page_steps.specs.declared.stage.Scratch.{Scratch}
 use Rattle.page_steps.specs.declared.stage.Stage.{Stage}
 use Rattle.page_steps.specs.declared.stage.Stage.TheVariants as stage
-use Rattle.page_steps.proofs.Merges.{page_after_is, fresh_rest, whole_is}
+use Rattle.page_steps.proofs.Merges.{page_after_is, fresh_rest}
 
 -- ---- by the kind of the call
 

@@ -1,5 +1,5 @@
 -- What the calls of a pool do, as the machine says it.
-use Rattle.std.proofs.Common.{◌≡◌, ◌⊎◌, ℕ, zero, suc, Bool, true, false, List, [], ◌∷◌, Option, Some, None, Contains, refl, sym, ap, ◌∙◌, subst, inl, inr, arith}
+use Rattle.std.proofs.Common.{◌≡◌, ℕ, zero, suc, true, false, List, [], ◌∷◌, Option, Some, None, Contains, refl, sym, ap, ◌∙◌, inl, inr, arith}
 use Rattle.std.specs.Prelude.{slice_set, Result, Ok, Err, IfOk}
 use Rattle.zr_base.specs.declared.page.Handle.{Handle}
 use Rattle.std.proofs.lemmas.List.Elements.{Contains-append_left, Contains-append_right}

@@ -1,12 +1,10 @@
 -- The events of a refused piece give back what they found.
-use Rattle.std.proofs.Common.{◌≡◌, ◌⊎◌, ℕ, zero, suc, ◌+◌, Bool, true, false, List, [], ◌∷◌, ◌++◌, length, map, Option, Some, None, refl, sym, ap, ◌∙◌, subst, inl, inr, arith, length-append}
+use Rattle.std.proofs.Common.{◌≡◌, ◌⊎◌, ℕ, zero, suc, true, false, List, [], ◌∷◌, ◌++◌, length, map, Option, Some, None, refl, sym, ap, ◌∙◌, subst, inl, inr, arith, length-append}
 use Rattle.std.proofs.lemmas.List.{append_cancel_left, map-append}
 use Rattle.std.specs.Prelude.{⊤, slice_set}
 use Rattle.zspage.specs.Cells.{CellState, UsedCell, entry}
 use Rattle.class_pool.specs.Zspages.{Cells}
-use Rattle.class_pool.specs.Pool.{PoolState, Object, object_of, objects, used_cells, used_cells_in, IsPlace, with_cells}
-use Rattle.mem_account.specs.Counters.{counted}
-use Rattle.mem_account.specs.declared.weight.Delta.TheVariants as delta
+use Rattle.class_pool.specs.Pool.{PoolState, Object, object_of, objects, used_cells, used_cells_in}
 use Rattle.call_history.specs.declared.part.Part.{Part}
 use Rattle.call_history.specs.declared.part.PartEnd.{PartEnd}
 use Rattle.call_history.specs.declared.part.PartEnd.TheVariants as over
@@ -14,7 +12,6 @@ use Rattle.call_history.specs.declared.part.Done.{Done}
 use Rattle.call_history.specs.Shows.{got_from}
 use Rattle.zr_base.specs.declared.op.OpEnd.TheVariants as ends
 use Rattle.lock_row.specs.declared.names.LockNo.{LockNo}
-use Rattle.lock_row.specs.declared.names.Held.TheVariants as holds
 use Rattle.lock_row.specs.declared.names.At.{At}
 use Rattle.lock_row.specs.declared.names.At.TheVariants as at
 use Rattle.lock_row.specs.declared.names.Pin.{Pin}
@@ -25,7 +22,7 @@ use Rattle.page_steps.specs.Steps.{Terms, DiskHeld, Here, taken_at, settle_at, q
 use Rattle.page_steps.specs.Givings.{Works, refuses, pins, unpins, charges, limits, starves, stows, quits, frees, repays, puts, reads, fails}
 use Rattle.page_steps.specs.Nexts.{ending_by, failing_by, tail_of, own_entry, pinning}
 use Rattle.page_steps.specs.Pages.{page_in}
-use Rattle.page_steps.specs.Refusals.{Event, Takes, Gives, IsRefusedEnd, EndsRefused, AreRefused, IsGivenBack, GivesLast, GiveBack, RefusalsLeaveAll}
+use Rattle.page_steps.specs.Refusals.{Event, Takes, Gives, IsRefusedEnd, AreRefused, GivesLast, GiveBack, RefusalsLeaveAll}
 
 -- ---- the objects of a pool whose cells go out and come back
 

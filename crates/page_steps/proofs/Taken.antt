@@ -1,7 +1,7 @@
 -- What a taken value is, by the stage of the call that takes it.
 use Rattle.std.specs.Prelude.{is_some}
-use Rattle.std.proofs.Common.{◌≡◌, ℕ, ◌+◌, ◌<◌, ◌^◌, Bool, true, false, List, [], length, Option, Some, None, refl, sym, ap, ◌∙◌, subst}
-use Rattle.class_pool.specs.Pool.{PoolState, IsAtHome, IsLent}
+use Rattle.std.proofs.Common.{◌≡◌, ℕ, Bool, true, false, [], length, Option, Some, None, refl, sym, ap, ◌∙◌, subst}
+use Rattle.class_pool.specs.Pool.{PoolState, IsLent}
 use Rattle.mem_account.specs.Counters.{Counters}
 use Rattle.mem_account.specs.declared.weight.Weight.{Weight}
 use Rattle.lock_row.specs.declared.names.LockNo.TheVariants as lock
@@ -12,13 +12,13 @@ use Rattle.slot_entry.specs.declared.kept.Stored.{Stored}
 use Rattle.slot_entry.specs.declared.kept.Kept.{Kept}
 use Rattle.slot_entry.specs.declared.kept.Kept.TheVariants as kept
 use Rattle.slot_entry.specs.Entries.{EntryState, weight_of}
-use Rattle.slot_entry.specs.Forms.{PageForm, Pooled, form_weight}
+use Rattle.slot_entry.specs.Forms.{PageForm, form_weight}
 use Rattle.page_steps.specs.Pages.{next_form}
 use Rattle.page_steps.specs.Steps.{DiskHeld, Here, with_lock, class_by, begun_at, entry_or, entry_in, lock_of, start_plan}
 use Rattle.page_steps.specs.Nexts.{entering}
 use Rattle.page_steps.specs.Givings.{old_weight}
 use Rattle.page_steps.specs.Fits.{AsSlot, AsPool, AsAccount, CanPin, CanStore, CanCharge, CanPay, HasPlace, StartFits, PinFits, StoreFits, FreeFits}
-use Rattle.page_steps.specs.Calls.{Frame, here, IsOwn, IsNew, IsToPut, IsLentOf, CanFree, bytes_by, page_if, is_count, pin_by}
+use Rattle.page_steps.specs.Calls.{here, IsOwn, IsNew, IsToPut, CanFree, bytes_by, page_if, is_count, pin_by}
 use Rattle.page_steps.specs.Turns.{FitsSome, TakesAs, asking, wanting}
 use Rattle.page_steps.specs.declared.stage.Head.{Head}
 use Rattle.page_steps.specs.declared.stage.Scratch.{Scratch}

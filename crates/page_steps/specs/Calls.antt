@@ -9,7 +9,6 @@ use Rattle.zr_base.specs.declared.op.Stuff.{Stuff}
 use Rattle.zr_base.specs.Sectors.{page_sector}
 use Rattle.zr_base.specs.Plain.{is_beyond, covers, stuff_sector}
 use Rattle.zr_base.specs.Pieces.{IsPieceOf}
-use Rattle.zspage.specs.Cells.{CellState}
 use Rattle.class_pool.specs.Pool.{PoolState, IsAtHome, IsLent}
 use Rattle.mem_account.specs.Counters.{Counters, counted}
 use Rattle.mem_account.specs.declared.weight.Weight.{Weight}
@@ -33,7 +32,7 @@ use Rattle.slot_entry.specs.declared.kept.Kept.{Kept}
 use Rattle.slot_entry.specs.declared.kept.Kept.TheVariants as kept
 use Rattle.slot_entry.specs.Entries.{EntryState, IsPlain, plain_page, weight_of}
 use Rattle.slot_entry.specs.Forms.{PageForm, Blank, Pooled, form_of, form_weight, class_in, object_class}
-use Rattle.page_steps.specs.Steps.{Terms, DiskHeld, Here, slot, entry_in, settle_at}
+use Rattle.page_steps.specs.Steps.{Terms, DiskHeld, Here, slot}
 use Rattle.page_steps.specs.Givings.{kept_by, old_weight}
 use Rattle.page_steps.specs.Nexts.{pin_of}
 use Rattle.page_steps.specs.Fits.{CanPin, CanStore, CanCharge, CanPay, HasPlace}

@@ -1,6 +1,5 @@
 -- What a value has to be for an actor to go on with it, by the stage at which the actor takes it.
 use Rattle.std.specs.Prelude.{◌≡◌, ℕ, ◌+◌, ◌-◌, ◌<◌, ◌≤◌, ◌^◌, ⊤, Bool, true, false, Contains, List, [], ◌∷◌, length, Option, Some, None}
-use Rattle.zr_base.specs.declared.op.Op.{Op}
 use Rattle.zr_base.specs.Plain.{is_beyond}
 use Rattle.zspage.specs.Cells.{CellState, UsedCell}
 use Rattle.zspage.specs.Cells.{Fits as CellFits}

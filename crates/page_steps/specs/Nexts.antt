@@ -1,8 +1,7 @@
 -- The local of an actor after each giving, as functions of the local before: what the call that gives
 -- chose stands as an argument.
-use Rattle.std.specs.Prelude.{ℕ, ◌-◌, List, [], ◌∷◌, Option, Some, None}
+use Rattle.std.specs.Prelude.{ℕ, List, [], ◌∷◌, Option, Some, None}
 use Rattle.zr_base.specs.declared.op.OpEnd.TheVariants as ends
-use Rattle.zr_base.specs.Plain.{is_beyond}
 use Rattle.mem_account.specs.declared.weight.Weight.{Weight}
 use Rattle.zspage.specs.Cells.{CellState}
 use Rattle.class_pool.specs.Pool.{PoolState}

@@ -1,6 +1,5 @@
 use Rattle.std.proofs.Common.{refl, subst}
 use Rattle.page_steps.specs.Fits.{AsSlot, HasPlace}
-use Rattle.page_steps.specs.Nexts.{entering}
 use Rattle.page_steps.proofs.Moves.{waits, moves}
 use Rattle.page_steps.proofs.Taken.{enters, fits_start, slot_in}
 use Rattle.page_steps.proofs.Formed.{started_here}

@@ -1,5 +1,4 @@
 use Rattle.std.proofs.Common.{refl}
-use Rattle.page_steps.specs.Calls.{KeepsRest}
 use Rattle.page_steps.specs.declared.stage.Scratch.{Scratch}
 use Rattle.page_steps.proofs.Formed.{own_merged, entered_written}
 use Rattle.page_steps.proofs.enter.written.Goals as goal

@@ -1,5 +1,5 @@
-use Rattle.std.proofs.Common.{◌≡◌, refl, sym, ap, ◌∙◌, subst, arith}
-use Rattle.std.specs.Prelude.{true, false, length}
+use Rattle.std.proofs.Common.{refl, sym, ap, ◌∙◌, subst, arith}
+use Rattle.std.specs.Prelude.{true, false}
 use Rattle.slot_entry.specs.Forms.{class_for}
 use Rattle.page_steps.specs.Turns.{IsFormed, Keeps}
 use Rattle.page_steps.specs.declared.stage.Scratch.{Scratch}

@@ -1,7 +1,6 @@
 use Rattle.std.proofs.Common.{refl, sym, subst}
 use Rattle.mem_account.specs.Counters.{Counters}
 use Rattle.lock_row.specs.declared.names.Held.TheVariants as holds
-use Rattle.slot_entry.specs.Forms.{class_in}
 use Rattle.page_steps.specs.Nexts.{denying}
 use Rattle.page_steps.specs.Calls.{end_of}
 use Rattle.page_steps.specs.Turns.{GivesAs}

@@ -1,5 +1,4 @@
 use Rattle.std.proofs.Common.{refl, sym}
-use Rattle.lock_row.specs.declared.names.Held.TheVariants as holds
 use Rattle.slot_entry.specs.declared.kept.Kept.TheVariants as kept
 use Rattle.page_steps.specs.Nexts.{stowing}
 use Rattle.page_steps.proofs.Moves.{gives_it, at_stage}

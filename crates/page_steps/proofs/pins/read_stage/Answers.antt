@@ -1,4 +1,4 @@
-use Rattle.std.proofs.Common.{◌≡◌, refl, sym, ap, ◌∙◌}
+use Rattle.std.proofs.Common.{refl, sym, ◌∙◌}
 use Rattle.page_steps.specs.declared.stage.Scratch.{Scratch}
 use Rattle.page_steps.proofs.Formed.{own_read, read_pinned, read_written}
 use Rattle.page_steps.proofs.pins.read_stage.Goals as goal

@@ -1,6 +1,6 @@
-use Rattle.std.proofs.Common.{◌≡◌, refl, sym, ap, ◌∙◌}
+use Rattle.std.proofs.Common.{◌≡◌, refl, ap, ◌∙◌}
 use Rattle.lock_row.specs.declared.names.Held.TheVariants as holds
-use Rattle.slot_entry.specs.Entries.{EntryState, weight_of}
+use Rattle.slot_entry.specs.Entries.{weight_of}
 use Rattle.page_steps.specs.Nexts.{freeing, emptied}
 use Rattle.page_steps.proofs.Moves.{gives_it}
 use Rattle.page_steps.proofs.Given.{can_free, freed_here, freed_fit}

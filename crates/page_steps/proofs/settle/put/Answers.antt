@@ -1,4 +1,4 @@
-use Rattle.std.proofs.Common.{◌≡◌, refl, sym, ap, ◌∙◌, subst, arith}
+use Rattle.std.proofs.Common.{refl, sym, ap, subst}
 use Rattle.std.specs.Prelude.{length}
 use Rattle.page_steps.specs.Steps.{piece_over}
 use Rattle.page_steps.specs.Nexts.{putting}

@@ -1,9 +1,7 @@
-use Rattle.std.proofs.Common.{◌≡◌, refl, sym, ap, ◌∙◌}
+use Rattle.std.proofs.Common.{refl, ap, ◌∙◌}
 use Rattle.lock_row.specs.declared.names.Held.TheVariants as holds
-use Rattle.mem_account.specs.Counters.{Counters, counted}
-use Rattle.mem_account.specs.declared.weight.Delta.TheVariants as delta
 use Rattle.slot_entry.specs.Entries.{weight_of}
-use Rattle.page_steps.specs.Givings.{old_weight, repaid}
+use Rattle.page_steps.specs.Givings.{old_weight}
 use Rattle.page_steps.specs.Nexts.{repaying}
 use Rattle.page_steps.specs.Calls.{tells_by}
 use Rattle.page_steps.proofs.Moves.{gives_it}

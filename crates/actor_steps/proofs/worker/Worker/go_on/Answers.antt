@@ -1,4 +1,4 @@
-use Rattle.std.proofs.Common.{◌≡◌, Some, slice_get, subst, sym}
+use Rattle.std.proofs.Common.{Some, subst, sym}
 use Rattle.page_steps.specs.declared.stage.Progress.TheVariants as progress
 use Rattle.page_steps.specs.declared.call.PageCall.{PageCall}
 use Rattle.actor_steps.specs.Workers.{terms_of, with_call, IsFit, Advanced}
