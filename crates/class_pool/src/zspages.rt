@@ -33,9 +33,9 @@ const STAYS: u32 = 0;
 /// The zspages of one class.
 #[derive(Drop)]
 pub struct Zspages {
-    size: u32,
-    chain: u32,
-    per: u32,
+    size: u16,
+    chain: u16,
+    per: u16,
     items: Vec<Option<Zspage>>,
     ranks: Tournament,
     sources: Tournament,
@@ -68,9 +68,9 @@ impl Zspages {
         ensures { result ≡ record { size = size; chain = chain; per = per; zspages = [] } }
     {
         Zspages {
-            size,
-            chain,
-            per,
+            size: size as u16,
+            chain: chain as u16,
+            per: per as u16,
             items: Vec::new(alloc),
             ranks: Tournament::new(alloc),
             sources: Tournament::new(alloc),
@@ -81,21 +81,21 @@ impl Zspages {
     pub fn size(&self) -> u32
         ensures { result ≡ self.now.size }
     {
-        self.size
+        self.size as u32
     }
 
     /// The frames of a chain.
     pub fn chain(&self) -> u32
         ensures { result ≡ self.now.chain }
     {
-        self.chain
+        self.chain as u32
     }
 
     /// The cells of a zspage.
     pub fn per(&self) -> u32
         ensures { result ≡ self.now.per }
     {
-        self.per
+        self.per as u32
     }
 
     /// The number of ids that are or were in use.
@@ -206,7 +206,7 @@ impl Zspages {
         }) }
         ensures err { OnErr result (self.new ≡ self.old) }
     {
-        let zspage = Zspage::new(alloc, id, self.size, self.chain)?;
+        let zspage = Zspage::new(alloc, id, self.size as u32, self.chain as u32)?;
         let rank = rank(&zspage);
         let id = id as usize;
         if id < self.items.len() {

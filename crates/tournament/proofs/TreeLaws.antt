@@ -1,8 +1,8 @@
 -- A tree stays one as a leaf's path is renewed, and its root is the winner.
-use Rattle.std.proofs.Common.{◌≡◌, ◌≢◌, ℕ, zero, suc, ◌+◌, ◌-◌, ◌*◌, ◌/◌, ◌<◌, ◌≤◌, ◌⊎◌, List, ◌++◌, length, take, drop, slice_index, refl, sym, ◌∙◌, ap, subst, inl, inr, arith, get_or-set_same, get_or-set_other}
+use Rattle.std.proofs.Common.{◌≡◌, ◌≢◌, ℕ, zero, suc, ◌+◌, ◌-◌, ◌*◌, ◌/◌, ◌<◌, ◌≤◌, ◌⊎◌, List, ◌++◌, ◌∷◌, [], length, take, drop, slice_index, refl, sym, ◌∙◌, ap, subst, inl, inr, arith, get_or-set_same, get_or-set_other}
 use Rattle.std.proofs.Math.ListN.{set, length-set}
 use Rattle.std.proofs.Math.Seq.{take-append_seam}
-use Rattle.std.proofs.lemmas.List.{length-take-le, get_or-take}
+use Rattle.std.proofs.lemmas.List.{length-take-le, get_or-take, length_push, get_or_push, get_or_append_left}
 use Rattle.std.proofs.lemmas.Bool.{cases_eq, cases_lt}
 use Rattle.tournament.specs.declared.tree.Node.{Node}
 use Rattle.tournament.specs.Tree.{Beats, HasSameFirst, HasSameLast, IsBetter, IsTree, IsTreeBut, node, leaf, spare, IsTournament}
@@ -42,6 +42,18 @@ climb room at up nodes n tree long some low is better p some_p low_p left right 
           (tree p some_p low_p (λ e. elim is [ inl f ↦ other (omega arith) | inr f ↦ omega arith ])
           (λ e. elim is [ inl f ↦ omega arith | inr f ↦ other (omega arith) ]))
     ]
+
+-- the room is half of the nodes
+pub at_len : (n : ℕ) (ranks : List ℕ) (nodes : List Node)
+    → IsTournament (length nodes / 2) ranks nodes → n ≡ length nodes
+    → IsTournament (n / 2) ranks nodes
+at_len n ranks nodes t is = subst (λ k. IsTournament (k / 2) ranks nodes) (sym is) t
+
+pub at_half : (room : ℕ) (ranks : List ℕ) (nodes : List Node) → IsTournament room ranks nodes
+    → IsTournament (length nodes / 2) ranks nodes
+at_half room ranks nodes t =
+    let half : room ≡ length nodes / 2 = omega (arith, t.long) in
+    subst (λ r. IsTournament r ranks nodes) half t
 
 -- ---- one place changes
 
@@ -110,6 +122,20 @@ pop_placed room place ranks nodes new t last long tree here others =
     (λ within. absurd (omega arith))
     (λ behind. here)
     (λ k other within. (omega arith, get_or-take place ranks k 0 (omega arith)))
+    (λ k other behind. omega arith)
+
+pub push_placed : (room place rank : ℕ) (ranks : List ℕ) (nodes new : List Node)
+    → IsTournament room ranks nodes
+    → place < room → place ≡ length ranks → length new ≡ 2 * room → IsTree room new
+    → node new (room + place) ≡ leaf rank place
+    → ((k : ℕ) → room ≤ k → k < 2 * room → (k ≡ room + place → ⊥) → node new k ≡ node nodes k)
+    → IsTournament room (ranks ++ rank ∷ []) new
+push_placed room place rank ranks nodes new t low last long tree here others =
+    let longer : length (ranks ++ rank ∷ []) ≡ length ranks + 1 = length_push ranks rank in
+    placed room place ranks (ranks ++ rank ∷ []) nodes new t (omega arith) long tree others
+    (λ within. rw (get_or_push ranks rank 0 place (sym last)) here)
+    (λ behind. absurd (omega arith))
+    (λ k other within. (omega arith, get_or_append_left ranks (rank ∷ []) 0 k (omega arith)))
     (λ k other behind. omega arith)
 
 -- ---- the root

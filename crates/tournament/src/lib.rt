@@ -21,19 +21,18 @@ const MOST: usize = 1 << 40;
 pub struct Tournament {
     alloc: Global,
     ranks: Vec<u32>,
-    room: usize,
     nodes: Vec<Node>,
 }
 
 impl Model for Tournament {
-    ghost use Rattle.std.specs.Prelude.{List, ℕ};
+    ghost use Rattle.std.specs.Prelude.{List, ℕ, ◌/◌, length};
     ghost use Rattle.tournament.specs.Tree.{IsTournament};
 
     ghost Value = { List ℕ };
 
     ghost view = { λ t. t.ranks.items };
 
-    ghost invariant = { λ t. IsTournament t.room t.ranks.items t.nodes.items };
+    ghost invariant = { λ t. IsTournament (length t.nodes.items / 2) t.ranks.items t.nodes.items };
 }
 
 impl Tournament {
@@ -44,7 +43,6 @@ impl Tournament {
         Tournament {
             alloc,
             ranks: Vec::new(alloc),
-            room: 0,
             nodes: Vec::new(alloc),
         }
     }
@@ -60,7 +58,6 @@ impl Tournament {
         Ok(Tournament {
             alloc,
             ranks,
-            room: len,
             nodes,
         })
     }
@@ -86,17 +83,17 @@ impl Tournament {
         ensures err { OnErr result (self.new ≡ self.old) }
     {
         let place = self.ranks.len();
-        if place == self.room {
-            if self.room >= MOST {
+        let mut room = self.nodes.len() / 2;
+        if place == room {
+            if room >= MOST {
                 return Err(AllocError);
             }
-            let room = 2 * self.room + 1;
+            room = 2 * room + 1;
             let nodes = nodes_of(self.alloc, &self.ranks, room)?;
             self.nodes = nodes;
-            self.room = room;
         }
         self.ranks.push(rank)?;
-        put(&mut self.nodes, self.room, place, Node::leaf(rank, place));
+        put(&mut self.nodes, room, place, Node::leaf(rank, place));
         Ok(())
     }
 
@@ -106,8 +103,9 @@ impl Tournament {
         ensures { self.new ≡ take (length self.old - 1) self.old }
     {
         let place = self.ranks.len() - 1;
+        let room = self.nodes.len() / 2;
         self.ranks.pop();
-        put(&mut self.nodes, self.room, place, Node::spare(place));
+        put(&mut self.nodes, room, place, Node::spare(place));
     }
 
     /// Gives a place this rank. It takes no memory.
@@ -115,8 +113,9 @@ impl Tournament {
         requires { place < length self.old }
         ensures { self.new ≡ slice_set self.old place rank }
     {
+        let room = self.nodes.len() / 2;
         self.ranks[place] = rank;
-        put(&mut self.nodes, self.room, place, Node::leaf(rank, place));
+        put(&mut self.nodes, room, place, Node::leaf(rank, place));
     }
 
     /// The place of the greatest rank, the first such place on a tie.

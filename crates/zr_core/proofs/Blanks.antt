@@ -1,5 +1,5 @@
 -- What is known of a phase that begins where another has ended.
-use Rattle.std.proofs.Common.{◌≡◌, ℕ, ◌+◌, ◌-◌, ◌*◌, ◌/◌, ◌^◌, ◌<◌, ◌≤◌, Bool, true, cond, List, [], ◌∷◌, length, Option, Some, None, slice_get, refl, sym, ap, ◌∙◌, subst, arith}
+use Rattle.std.proofs.Common.{◌≡◌, ℕ, ◌+◌, ◌-◌, ◌*◌, ◌/◌, ◌^◌, ◌<◌, Bool, true, cond, List, [], ◌∷◌, length, Option, Some, None, slice_get, refl, sym, ap, ◌∙◌, subst, arith}
 use Rattle.std.specs.List.{AllByRecursion}
 use Rattle.std.specs.Prelude.{option_and_then}
 use Rattle.zr_base.specs.declared.op.Tag.{Tag}
@@ -9,7 +9,7 @@ use Rattle.zr_base.specs.Plain.{content, named, has_whole, sector_after_named, z
 use Rattle.plain_disk.specs.Calls.{Found, after, after_all, blank_by}
 use Rattle.plain_disk.specs.Phases.{held_after}
 use Rattle.actor_steps.specs.Places.{IsWork}
-use Rattle.joint_rule.specs.Begins.{Begin, found, found_after, HasEvent, AreCarried, AreRequests, IsSector, IsRoomy, Proper, pieces_each}
+use Rattle.joint_rule.specs.Begins.{Begin, found, found_after, HasEvent, AreCarried, AreRequests, IsSector, Proper, pieces_each}
 use Rattle.joint_rule.specs.Laws.{RequestsAreProper}
 
 -- a call that is carried out leaves zeros where it leaves the page blank

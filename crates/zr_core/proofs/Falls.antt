@@ -1,5 +1,5 @@
 -- Each event leaves fewer events to an actor.
-use Rattle.std.proofs.Common.{◌≡◌, ◌≢◌, ◌⊎◌, ℕ, zero, suc, ◌+◌, ◌*◌, ◌<◌, ◌≤◌, Bool, true, false, eqb, List, [], ◌∷◌, length, Option, Some, None, slice_get, slice_set, sym, ap, ◌∙◌, subst, arith, inl, inr}
+use Rattle.std.proofs.Common.{◌≡◌, ◌⊎◌, ℕ, ◌+◌, ◌*◌, ◌<◌, ◌≤◌, Bool, true, false, eqb, List, [], ◌∷◌, length, Option, Some, None, slice_get, slice_set, sym, ap, ◌∙◌, subst, arith, inl, inr}
 use Rattle.std.proofs.lemmas.Bool.{cases_Bool}
 use Rattle.zr_base.specs.declared.op.Op.{Op}
 use Rattle.zr_base.specs.declared.op.Op.TheVariants.{Write, Read, Discard}
@@ -14,8 +14,7 @@ use Rattle.lock_row.specs.declared.names.LockNo.{LockNo}
 use Rattle.lock_row.specs.declared.names.At.{At}
 use Rattle.lock_row.specs.declared.names.At.TheVariants as at
 use Rattle.lock_row.specs.declared.names.Pin.{Pin}
-use Rattle.lock_row.specs.declared.names.Plan.{Plan}
-use Rattle.lock_row.specs.declared.names.Plan.TheVariants.{Finished, Take, Give}
+use Rattle.lock_row.specs.declared.names.Plan.TheVariants.{Take}
 use Rattle.lock_row.specs.declared.names.State.{State}
 use Rattle.lock_row.specs.Laws.{SumMoves}
 use Rattle.lock_row.specs.Machine.{finished, missed, taken, given}
@@ -26,7 +25,7 @@ use Rattle.slot_entry.specs.Forms.{PageForm, Blank, Word, Pooled}
 use Rattle.page_steps.specs.Givings.{Works, refuses, pins, unpins, charges, limits, starves, stows, quits, frees, repays, puts, reads, fails}
 use Rattle.page_steps.specs.Nexts.{ending_by, failing_by, pin_at, own_entry}
 use Rattle.page_steps.specs.Pages.{page_in, page_in_cell, next_form}
-use Rattle.page_steps.specs.Steps.{Terms, DiskHeld, Here, plan, plan_by, plan_at, start_plan, took, taken_at, after_take, begun_at, entered_at, write_at, part_at, made_at, seen_at, discard_at, settle_at, pinned_at, quit_at}
+use Rattle.page_steps.specs.Steps.{Terms, DiskHeld, Here, plan, plan_by, plan_at, took, taken_at, after_take, begun_at, entered_at, write_at, made_at, seen_at, discard_at, settle_at, pinned_at, quit_at}
 use Rattle.zr_core.specs.Machines.{OneTurn}
 use Rattle.zr_core.specs.Runs.{stage_left, left_at, left_by, all_left, IsFree}
 

@@ -1,5 +1,5 @@
 -- Runs of the machine, one after the other.
-use Rattle.std.proofs.Common.{◌≡◌, ℕ, List, [], ◌∷◌, ◌++◌, refl, sym, subst}
+use Rattle.std.proofs.Common.{ℕ, List, [], ◌∷◌, ◌++◌, refl, sym, subst}
 use Rattle.lock_row.specs.declared.names.State.{State}
 use Rattle.page_steps.specs.Steps.{Terms, DiskHeld}
 use Rattle.joint_rule.specs.Begins.{Begin, terms, Proper}

@@ -1,14 +1,14 @@
 -- The places of a disk's locks.
-use Rattle.std.proofs.Common.{◌≡◌, ◌≢◌, ℕ, zero, suc, ◌+◌, ◌-◌, ◌<◌, ◌≤◌, List, [], ◌∷◌, ◌++◌, map, length, get_or, Option, Some, None, slice_get, slice_set, refl, sym, ap, ◌∙◌, subst, arith, ⊎_elim}
+use Rattle.std.proofs.Common.{◌≡◌, ℕ, zero, suc, ◌+◌, ◌-◌, ◌<◌, ◌≤◌, List, [], ◌++◌, map, length, Option, Some, slice_get, slice_set, refl, sym, ap, ◌∙◌, subst, arith, ⊎_elim}
 use Rattle.std.specs.List.{range_with_len}
 use Rattle.std.proofs.lemmas.Bool.{cases_lt}
 use Rattle.std.proofs.lemmas.List.{length-append}
 use Rattle.std.proofs.lemmas.List.FromFn.{length-map-range_with_len, get_or-map-range_with_len}
-use Rattle.std.proofs.lemmas.Option.{slice_get_within, slice_get_past, slice_get-get_or}
+use Rattle.std.proofs.lemmas.Option.{slice_get_within, slice_get-get_or}
 use Rattle.lock_row.specs.declared.names.LockNo.{LockNo}
 use Rattle.lock_row.specs.declared.names.LockNo.TheVariants as lock
-use Rattle.lock_row.specs.Rows.{Row, IsDistinct, place_in, cell, with_cell, at_home}
-use Rattle.lock_row.specs.Laws.{NamesHavePlaces, OthersHaveNone}
+use Rattle.lock_row.specs.Rows.{Row, IsDistinct, place_in, cell, with_cell}
+use Rattle.lock_row.specs.Laws.{NamesHavePlaces}
 use Rattle.page_steps.specs.Steps.{DiskHeld, slot, spot}
 use Rattle.joint_rule.specs.Laws.{IsLock}
 use Rattle.zr_core.specs.Rests.{slots_of, classes_of, last_locks, names_of, names_by}

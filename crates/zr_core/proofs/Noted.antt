@@ -1,9 +1,9 @@
 -- Lists of pages.
-use Rattle.std.proofs.Common.{◌≡◌, ◌≢◌, ◌⊎◌, ℕ, zero, suc, ◌+◌, ◌<◌, ◌≤◌, Bool, true, false, eqb, ◌||◌, List, [], ◌∷◌, ◌++◌, take, Some, slice_get, refl, sym, ap, ◌∙◌, subst, arith, inl, inr}
+use Rattle.std.proofs.Common.{◌≡◌, ◌≢◌, ◌⊎◌, ℕ, ◌+◌, ◌<◌, ◌≤◌, Bool, true, false, eqb, ◌||◌, List, [], ◌∷◌, ◌++◌, refl, sym, ap, ◌∙◌, arith, inl, inr}
 use Rattle.std.specs.List.{AllByRecursion}
-use Rattle.std.proofs.lemmas.Bool.{cases_Bool, eqb-true, eq-eqb, ne_eqb}
+use Rattle.std.proofs.lemmas.Bool.{cases_Bool, eqb-true, eq-eqb}
 use Rattle.actor_steps.specs.Counts.{count_at}
-use Rattle.zr_core.specs.Noted.{is_in, IsRising, ArePages, AreCounted}
+use Rattle.zr_core.specs.Noted.{is_in, IsRising, AreCounted}
 
 -- a page is in a longer list where it was or is the new one
 pub is_in-push : (xs : List ℕ) (n p : ℕ) → is_in (xs ++ n ∷ []) p ≡ (is_in xs p || eqb n p)

@@ -1,10 +1,9 @@
 -- What an actor has left at its place.
-use Rattle.std.proofs.Common.{◌≡◌, ◌≢◌, ℕ, zero, suc, ◌+◌, ◌<◌, ◌≤◌, Bool, true, cond, List, [], ◌∷◌, ◌++◌, length, drop, Some, slice_get, refl, sym, ap, ◌∙◌, subst, arith}
+use Rattle.std.proofs.Common.{◌≡◌, ◌≢◌, ℕ, zero, suc, ◌+◌, ◌<◌, ◌≤◌, Bool, cond, List, [], ◌∷◌, ◌++◌, length, drop, refl, sym, ap, ◌∙◌, subst, arith}
 use Rattle.zr_base.specs.declared.op.Op.{Op}
-use Rattle.call_history.specs.declared.part.Part.{Part}
 use Rattle.call_history.specs.Parts.{program}
 use Rattle.actor_steps.specs.declared.place.Place.{Place}
-use Rattle.actor_steps.specs.Places.{is_part, left_from, todo_by, todo_at, IsSettledBy, IsSettled}
+use Rattle.actor_steps.specs.Places.{left_from, todo_by, todo_at, IsSettledBy, IsSettled}
 
 drop_out : {A : Type 0} (xs : List A) (i : ℕ) → length xs ≤ i → drop i xs ≡ []
 drop_out [] zero le = refl

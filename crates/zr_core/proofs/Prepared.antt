@@ -1,5 +1,5 @@
 -- A phase that is set up: its entries, and the state before its first turn.
-use Rattle.std.proofs.Common.{◌≡◌, ◌⊎◌, ℕ, zero, suc, ◌+◌, ◌^◌, ◌<◌, ◌≤◌, ◌≢◌, Bool, true, false, ◌||◌, List, [], ◌∷◌, ◌++◌, inl, inr, length, get_or, map, Option, Some, None, slice_get, refl, sym, ap, ◌∙◌, subst, arith}
+use Rattle.std.proofs.Common.{◌≡◌, ◌⊎◌, ℕ, zero, suc, ◌+◌, ◌<◌, ◌≤◌, ◌≢◌, Bool, true, false, ◌||◌, List, [], ◌∷◌, ◌++◌, inl, inr, length, get_or, Option, Some, None, slice_get, refl, sym, ap, ◌∙◌, subst, arith}
 use Rattle.std.specs.List.{AllByRecursion}
 use mathlib.Core.Logic.{dite}
 use native.Mathlib.Decide.{ℕ_discrete}
@@ -25,18 +25,18 @@ use Rattle.joint_rule.specs.Rule.{owed}
 use Rattle.joint_rule.specs.Starts.{IsStart}
 use Rattle.zr_core.specs.declared.limits.TheConstants.{MOST_CHAIN}
 use Rattle.zr_core.specs.Machines.{order_at, without_calls, IsKept, KeepsValues, Begins, IsSetUp}
-use Rattle.zr_core.specs.Noted.{is_in, AreCounted, HasAllOrders, HasAllPieces}
+use Rattle.zr_core.specs.Noted.{is_in, AreCounted, HasAllOrders}
 use Rattle.zr_core.specs.Preparing.{IsReserved, KeepsPage, AreReserved}
 use Rattle.zr_core.specs.Rests.{HasEntries, RestsAs, IsAtRest, IsBare, begun}
 use Rattle.zr_core.specs.Runs.{nothing_over}
-use Rattle.zr_core.specs.States.{heres, state, Playing, state_of, AreKept, IsOf, IsPrepared, IsSetUpOn, IsEmpty, HasRule, CanGoOn}
+use Rattle.zr_core.specs.States.{heres, Playing, state_of, AreKept, IsOf, IsPrepared, IsSetUpOn, IsEmpty, HasRule, CanGoOn}
 use Rattle.zr_core.proofs.Blanks.{begins_proper}
 use Rattle.zr_core.proofs.Counts.{pieces_few}
 use Rattle.zr_core.proofs.Ended.{each_same}
 use Rattle.zr_core.proofs.Lists.{there_is}
 use Rattle.zr_core.proofs.Matches.{Row, emptied_at, order_is}
 use Rattle.zr_core.proofs.Noted.{was_in, wasn_t_in, or_false}
-use Rattle.zr_core.proofs.Rests.{at_rest, rests_on, begins}
+use Rattle.zr_core.proofs.Rests.{rests_on, begins}
 
 -- ---- the row
 

@@ -1,17 +1,17 @@
 -- Setting a phase up: one value of the row at a time.
-use Rattle.std.proofs.Common.{◌≡◌, ◌≢◌, ℕ, ◌<◌, ◌≤◌, List, [], length, Option, Some, None, slice_get, slice_set, refl, sym, ap, ◌∙◌, arith, length-set}
+use Rattle.std.proofs.Common.{◌≡◌, ℕ, ◌≤◌, List, [], length, Option, Some, None, slice_get, slice_set, sym, ap, ◌∙◌, length-set}
 use Rattle.std.specs.Prelude.{Result, Ok, Err, OnOk, OnErr}
 use Rattle.lock_row.specs.declared.names.LockNo.{LockNo}
 use Rattle.lock_row.specs.declared.names.Held.TheVariants as holds
 use Rattle.lock_row.specs.Laws.{NamesHavePlaces}
 use Rattle.lock_row.specs.Rows.{Row, IsIn, cell, with_cell}
 use Rattle.slot_entry.specs.Entries.{EntryState}
-use Rattle.page_steps.specs.Steps.{DiskHeld, slot, spot}
+use Rattle.page_steps.specs.Steps.{DiskHeld, spot}
 use Rattle.joint_rule.specs.Laws.{IsLock}
 use Rattle.zr_core.specs.Preparing.{IsReserved}
-use Rattle.zr_core.specs.Rests.{names_of, names_by, HasEntries}
+use Rattle.zr_core.specs.Rests.{names_of}
 use Rattle.zr_core.proofs.Lists.{get_here, get_else, set_same, set_twice}
-use Rattle.zr_core.proofs.Names.{cell_at, cells_with, names_some}
+use Rattle.zr_core.proofs.Names.{cell_at, cells_with}
 
 pub on_ok_both : {A E P Q R : Type 0} (r : Result A E) → (P → Q → R) → OnOk r P → OnOk r Q
     → OnOk r R

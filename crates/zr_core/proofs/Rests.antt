@@ -1,8 +1,8 @@
 -- A row between two phases.
-use Rattle.std.proofs.Common.{◌≡◌, ℕ, zero, suc, ◌+◌, ◌*◌, ◌/◌, ◌^◌, ◌<◌, ◌≤◌, List, [], ◌∷◌, length, get_or, Option, Some, None, slice_get, slice_set, refl, sym, ap, ◌∙◌, subst, arith, inr, length-set}
+use Rattle.std.proofs.Common.{◌≡◌, ℕ, zero, suc, ◌+◌, ◌*◌, ◌/◌, ◌<◌, ◌≤◌, List, [], ◌∷◌, length, get_or, Option, Some, None, slice_get, slice_set, refl, sym, ap, ◌∙◌, subst, arith, inr, length-set}
 use mathlib.Core.Logic.{dite}
 use native.Mathlib.Decide.{ℕ_discrete}
-use Rattle.std.proofs.lemmas.Option.{slice_get_within, get_or_from_slice_get}
+use Rattle.std.proofs.lemmas.Option.{get_or_from_slice_get}
 use Rattle.zr_base.specs.declared.op.Tag.{Tag}
 use Rattle.zr_base.specs.declared.op.Op.{Op}
 use Rattle.zr_base.specs.declared.limits.TheConstants.{MOST_PAGES}
@@ -13,9 +13,9 @@ use Rattle.lock_row.specs.declared.names.Held.TheVariants as holds
 use Rattle.lock_row.specs.declared.names.State.{State}
 use Rattle.slot_entry.specs.Entries.{EntryState}
 use Rattle.page_steps.specs.Pages.{new_class}
-use Rattle.page_steps.specs.Steps.{DiskHeld, Here, class_by, entry_in, plan_by}
+use Rattle.page_steps.specs.Steps.{DiskHeld, class_by, entry_in, plan_by}
 use Rattle.joint_rule.specs.Begins.{Begin, found_after, pieces_each, AreCarried, Proper}
-use Rattle.joint_rule.specs.Joint.{Sound, AtHome}
+use Rattle.joint_rule.specs.Joint.{Sound}
 use Rattle.joint_rule.specs.Laws.{RestGoesOn, FinishedIsAtRest, RequestsAreProper}
 use Rattle.joint_rule.specs.Rule.{Rule, owed}
 use Rattle.joint_rule.specs.Starts.{AtRest, Renewed, slots, accounts, stays, IsStart}

@@ -8,10 +8,9 @@ use Rattle.lock_row.specs.declared.names.LockNo.{LockNo}
 use Rattle.lock_row.specs.declared.names.At.{At}
 use Rattle.lock_row.specs.declared.names.At.TheVariants as at
 use Rattle.lock_row.specs.declared.names.Plan.TheVariants.{Finished, Take, Give}
-use Rattle.lock_row.specs.declared.names.State.{State}
 use Rattle.lock_row.specs.Rows.{Row, place_in, cell, with_cell}
 use Rattle.page_steps.specs.Pages.{new_class}
-use Rattle.page_steps.specs.Steps.{Terms, DiskHeld, Here, spot, class_by, start_plan, plan_at, plan_by, entry_in, plan, took}
+use Rattle.page_steps.specs.Steps.{Terms, DiskHeld, Here, spot, class_by, start_plan, plan_at, plan_by, entry_in, plan}
 use Rattle.page_steps.specs.Nexts.{Next}
 use Rattle.actor_steps.specs.declared.worker.Worker.{Worker}
 use Rattle.actor_steps.specs.declared.worker.Turn.{Turn}

@@ -1,5 +1,5 @@
 -- What is told of a disk between two phases.
-use Rattle.std.proofs.Common.{◌≡◌, ℕ, zero, suc, ◌+◌, ◌<◌, ◌≤◌, ltb, Bool, true, cond, List, [], ◌∷◌, get_or, Option, Some, None, slice_get, slice_set, refl, sym, ap, ◌∙◌, arith, inl, inr, ⊎_elim}
+use Rattle.std.proofs.Common.{◌≡◌, ℕ, zero, suc, ◌+◌, ◌<◌, ◌≤◌, Bool, cond, List, [], ◌∷◌, get_or, Option, Some, None, slice_get, slice_set, refl, sym, ap, ◌∙◌, arith, ⊎_elim}
 use Rattle.std.proofs.lemmas.Bool.{lt-ltb}
 use Rattle.mem_account.specs.Counters.{Counters, no_counts}
 use Rattle.lock_row.specs.declared.names.LockNo.TheVariants as lock
@@ -8,11 +8,8 @@ use Rattle.lock_row.specs.Laws.{NamesHavePlaces}
 use Rattle.lock_row.specs.Rows.{cell, at_home}
 use Rattle.lock_row.specs.Rows.{Row as Locks}
 use Rattle.page_steps.specs.Steps.{DiskHeld}
-use Rattle.joint_rule.specs.Begins.{Begin}
 use Rattle.joint_rule.specs.Laws.{RestGoesOn}
-use Rattle.zr_core.specs.Machines.{order_at}
-use Rattle.zr_core.specs.Noted.{is_in}
-use Rattle.zr_core.specs.Rests.{names_of, account_in, account_of, pool_in, pool_of, RestsAs, IsBare, IsAtRest, with_limit}
+use Rattle.zr_core.specs.Rests.{names_of, account_in, account_of, pool_in, pool_of, IsAtRest, with_limit}
 use Rattle.zr_core.proofs.Lists.{get_else}
 use Rattle.zr_core.proofs.Matches.{Row, order_is}
 use Rattle.zr_core.proofs.Names.{cell_at}

@@ -1,5 +1,5 @@
 -- What is told of a disk's pools.
-use Rattle.std.specs.Prelude.{◌≡◌, ℕ, ◌≤◌, Option, Some, None, length, List}
+use Rattle.std.specs.Prelude.{◌≡◌, ℕ, ◌≤◌, Option, Some, None, length}
 use Rattle.size_class.specs.declared.stat.ClassStat.{ClassStat}
 use Rattle.zspage.specs.Cells.{used_of}
 use Rattle.class_pool.specs.Pool.{PoolState, objects, AreGroups}

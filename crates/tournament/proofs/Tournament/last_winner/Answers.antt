@@ -16,5 +16,5 @@ returns c =
     c.index.ensures ∙ get_or_default c.self.inside.nodes.items 1 c.index.result.now blank low in
     subst (λ xs. IsLastWinner xs c.index.result.now.last) c.self.view_is
     (subst (λ n. IsLastWinner c.self.inside.ranks.items n.last) (sym root)
-    (root_wins_last c.self.inside.room c.self.inside.ranks.items c.self.inside.nodes.items
-    c.self.invariant some))
+    (root_wins_last _ c.self.inside.ranks.items c.self.inside.nodes.items c.self.invariant
+    some))

@@ -1,7 +1,7 @@
 -- The leaf of the place has the new rank, and the others stay.
 use Rattle.std.proofs.Common.{◌<◌, ◌∙◌, length, ap, sym, subst, arith}
 use Rattle.tournament.specs.Tree.{node}
-use Rattle.tournament.proofs.TreeLaws.{written, set_placed}
+use Rattle.tournament.proofs.TreeLaws.{written, set_placed, at_len, at_half}
 use Rattle.tournament.proofs.Tournament.set.Goals as goal
 
 pub invariant_of-self : goal.invariant_of-self
@@ -10,8 +10,9 @@ invariant_of-self c =
     subst (λ xs. c.args.place < length xs) (sym c.self.view_is) c.requires in
     rw (written c.self.inside.nodes.len c.put.new.nodes c.self.inside.nodes.items
     (omega (arith, c.self.inside.nodes.ok, c.put.ensures.len, c.self.invariant.long)))
-    (set_placed _ _ _ _ c.self.inside.nodes.items _ c.self.invariant low c.put.ensures.len
-    c.put.ensures.tree
+    (at_half _ _ _ (set_placed _ _ _ _ c.self.inside.nodes.items _
+    (at_len _ _ _ c.self.invariant (c.len-room.ensures ∙ c.self.inside.nodes.ok.0)) low
+    c.put.ensures.len c.put.ensures.tree
     (c.put.ensures.here ∙ c.leaf.ensures)
     (λ k leaf high other. c.put.ensures.others k leaf high other
-    ∙ ap (λ ns. node ns k) c.deref_mut.ensures.value))
+    ∙ ap (λ ns. node ns k) c.deref_mut.ensures.value)))

@@ -16,5 +16,5 @@ returns c =
     c.index.ensures ∙ get_or_default c.self.inside.nodes.items 1 c.index.result.now blank low in
     subst (λ xs. IsWinner xs c.index.result.now.first) c.self.view_is
     (subst (λ n. IsWinner c.self.inside.ranks.items n.first) (sym root)
-    (root_wins c.self.inside.room c.self.inside.ranks.items c.self.inside.nodes.items
-    c.self.invariant some))
+    (root_wins _ c.self.inside.ranks.items c.self.inside.nodes.items c.self.invariant
+    some))

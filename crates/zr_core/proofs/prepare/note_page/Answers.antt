@@ -1,4 +1,4 @@
-use Rattle.std.proofs.Common.{List, ℕ, ◌+◌, sym, subst}
+use Rattle.std.proofs.Common.{◌+◌, sym, subst}
 use Rattle.zr_core.specs.Noted.{AreCounted}
 use Rattle.zr_core.proofs.Noted.{counted-skip, counted-push}
 use Rattle.zr_core.proofs.prepare.note_page.Goals as goal

@@ -1,4 +1,4 @@
-use Rattle.std.proofs.Common.{◌||◌, ◌∙◌}
+use Rattle.std.proofs.Common.{◌||◌}
 use Rattle.zr_core.proofs.Prepared.{reserved_entries, reserved_both, all_reserved}
 use Rattle.zr_core.proofs.prepare.reserve_all.Goals as goal
 

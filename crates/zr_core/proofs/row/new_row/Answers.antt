@@ -1,4 +1,4 @@
-use Rattle.std.proofs.Common.{◌≡◌, ap, ◌∙◌, sym, subst, length, arith}
+use Rattle.std.proofs.Common.{ap, ◌∙◌, sym, subst, length}
 use Rattle.mem_account.specs.Counters.{Counters}
 use Rattle.lock_row.specs.Rows.{IsDistinct}
 use Rattle.zr_core.proofs.Fresh.{all_names, row_new, row_account}

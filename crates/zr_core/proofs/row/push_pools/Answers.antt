@@ -1,8 +1,7 @@
-use Rattle.std.proofs.Common.{◌≡◌, ℕ, ◌+◌, ◌++◌, List, [], ◌∷◌, Option, Some, refl, sym, ap, ◌∙◌, subst, arith}
+use Rattle.std.proofs.Common.{◌≡◌, ℕ, ◌+◌, ◌++◌, [], ◌∷◌, Some, refl, sym, ap, ◌∙◌, subst, arith}
 use Rattle.std.proofs.lemmas.List.{append-nil}
 use Rattle.class_pool.specs.Pool.{PoolState}
 use Rattle.lock_row.specs.declared.names.Held.TheVariants as holds
-use Rattle.page_steps.specs.Steps.{DiskHeld}
 use Rattle.size_class.specs.Classes.{chain_of, per_of}
 use Rattle.joint_rule.specs.Starts.{IsNew}
 use Rattle.zr_core.specs.Rests.{slots_of, new_disk}

@@ -1,6 +1,5 @@
-use Rattle.std.proofs.Common.{◌≡◌, ℕ, ◌+◌, ◌++◌, List, [], ◌∷◌, Option, Some, refl, sym, ◌∙◌, subst, arith}
+use Rattle.std.proofs.Common.{◌≡◌, ℕ, ◌+◌, refl, sym, ◌∙◌, subst, arith}
 use Rattle.lock_row.specs.declared.names.Held.TheVariants as holds
-use Rattle.page_steps.specs.Steps.{DiskHeld}
 use Rattle.zr_core.specs.Rests.{new_disk}
 use Rattle.zr_core.specs.Rows.{AreNew}
 use Rattle.zr_core.proofs.Fresh.{new_none, new_more, one_slot}

@@ -1,7 +1,7 @@
-use Rattle.std.proofs.Common.{◌≡◌, Some, None, slice_get, sym, ap, ◌∙◌, arith}
+use Rattle.std.proofs.Common.{◌≡◌, Some, None, sym, ap, ◌∙◌, arith}
 use Rattle.std.specs.Option.{option_copied}
 use Rattle.lock_row.specs.declared.names.Held.TheVariants as holds
-use Rattle.lock_row.specs.Rows.{at_home, cell}
+use Rattle.lock_row.specs.Rows.{at_home}
 use Rattle.page_steps.specs.Steps.{slot}
 use Rattle.zr_core.proofs.Names.{cell_at, names_some}
 use Rattle.zr_core.proofs.disk.World.entry.Goals as goal

@@ -1,4 +1,4 @@
-use Rattle.std.proofs.Common.{◌≡◌, ℕ, true, List, Some, sym, refl, subst}
+use Rattle.std.proofs.Common.{ℕ, true, List, refl, subst}
 use Rattle.page_steps.specs.Steps.{Terms}
 use Rattle.zr_core.specs.declared.limits.TheConstants.{MOST_CHAIN}
 use Rattle.zr_core.specs.Noted.{AreCounted}

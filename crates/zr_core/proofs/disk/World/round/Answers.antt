@@ -1,4 +1,4 @@
-use Rattle.std.proofs.Common.{◌≡◌, ℕ, length, refl, sym, ap, ◌∙◌, subst, arith}
+use Rattle.std.proofs.Common.{◌≡◌, ℕ, length, refl, subst, arith}
 use Rattle.std.specs.List.{range_with_len}
 use Rattle.zr_core.specs.Playing.{playing}
 use Rattle.zr_core.specs.Runs.{Plays}

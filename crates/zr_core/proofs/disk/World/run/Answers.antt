@@ -1,10 +1,8 @@
-use Rattle.std.proofs.Common.{◌≡◌, ◌⊎◌, ◌++◌, ℕ, List, length, inl, inr, refl, sym, ap, ◌∙◌, subst}
+use Rattle.std.proofs.Common.{◌++◌, ℕ, List, length, refl}
 use Rattle.call_history.specs.declared.part.Done.{Done}
-use Rattle.page_steps.specs.Steps.{Terms}
 use Rattle.joint_rule.specs.Begins.{Begin}
-use Rattle.zr_core.specs.Machines.{rounds_of, AllFinished, Turns}
-use Rattle.zr_core.specs.Playing.{playing, HasEndedAs}
-use Rattle.zr_core.specs.Rests.{IsAtRest}
+use Rattle.zr_core.specs.Machines.{rounds_of, AllFinished}
+use Rattle.zr_core.specs.Playing.{playing}
 use Rattle.zr_core.specs.Runs.{turns_of, Plays}
 use Rattle.zr_core.specs.States.{Playing, state_of, HasRule}
 use Rattle.zr_core.proofs.Ended.{ended_as, rests_over, steps_over}

@@ -1,4 +1,4 @@
-use Rattle.std.proofs.Common.{◌≤◌, arith}
+use Rattle.std.proofs.Common.{arith}
 use Rattle.zr_core.proofs.Rests.{limited}
 use Rattle.zr_core.proofs.Telling.{account_home, no_account, limit_rests}
 use Rattle.zr_core.proofs.disk.World.set_limit.Goals as goal

@@ -1,5 +1,4 @@
-use Rattle.std.proofs.Common.{◌≡◌, ◌≤◌, ℕ, List, [], Some, slice_get, slice_set, sym, ap, refl, ◌∙◌, subst, arith, inr}
-use Rattle.zr_base.specs.declared.op.Op.{Op}
+use Rattle.std.proofs.Common.{◌≡◌, List, [], Some, slice_get, slice_set, sym, ap, refl, ◌∙◌, subst, arith, inr}
 use Rattle.call_history.specs.declared.part.Done.{Done}
 use Rattle.lock_row.specs.declared.names.LockNo.{LockNo}
 use Rattle.lock_row.specs.Rows.{Row}
@@ -9,7 +8,7 @@ use Rattle.page_steps.specs.Fits.{StageFits}
 use Rattle.actor_steps.specs.Workers.{here, next_event, IsFit, terms_of}
 use Rattle.joint_rule.specs.Begins.{Begin}
 use Rattle.zr_core.specs.Playing.{playing}
-use Rattle.zr_core.specs.Rests.{names_of, names_by}
+use Rattle.zr_core.specs.Rests.{names_of}
 use Rattle.zr_core.specs.States.{Playing, AreKept, HasRule, TurnsOnce}
 use Rattle.zr_core.proofs.Lists.{at_index}
 use Rattle.zr_core.proofs.Names.{names_some}
