@@ -55,13 +55,6 @@ NoCalls u = (f : EntryState) → u ≡ holds.Slot f → f.order ≡ []
 no_calls : (u : DiskHeld) → NoCalls (without_calls u)
 no_calls u f e = (was_slot u f (sym e)).order
 
-account_kept : (v : DiskHeld) (c : Counters) → IsKept v (holds.Account c) → v ≡ holds.Account c
-account_kept (holds.Slot e) c is = absurd (let q = is.1 in cc)
-account_kept (holds.Class x) c is = absurd (cc)
-account_kept (holds.Account x) c is = sym is
-account_kept (holds.Blocks x) c is = absurd (cc)
-account_kept (holds.Device x) c is = absurd (cc)
-
 -- ---- rows that go on from one that stands for a rest
 
 module _ (r : Rest) (n : ℕ) (actors : List (List Op)) where
