@@ -29,9 +29,10 @@ fn hex_of(digit: u8) -> u8
 fn put_hex(out: &mut Vec<u8>, bytes: &[u8]) -> Result<(), AllocError>
     ensures { OnOk result (out.new.items ≡ out.old.items ++ flat_map hex_byte bytes.now) }
 {
+    out.reserve(2 * bytes.len())?;
     for byte in bytes {
-        out.push(hex_of(*byte / 16))?;
-        out.push(hex_of(*byte % 16))?;
+        out.push_reserved(hex_of(*byte / 16));
+        out.push_reserved(hex_of(*byte % 16));
     }
     Ok(())
 }
