@@ -1,6 +1,6 @@
 //! The text of each line, put behind other text.
 
-ghost use Rattle.std.specs.Prelude.{◌≡◌, ℕ, ◌≤◌, ◌++◌, [], ◌∷◌, map, OnOk};
+ghost use Rattle.std.specs.Prelude.{◌≡◌, ℕ, ◌*◌, ◌≤◌, ◌++◌, [], ◌∷◌, length, map, OnOk};
 ghost use Rattle.std.specs.List.{flat_map};
 ghost use Rattle.std.specs.Fmt.{decimal};
 ghost use Rattle.plain_disk.specs.Output.{sector, ClassLine, StateLine, memory, calls, state, class_of, op_lines, order_line};
@@ -25,15 +25,25 @@ fn hex_of(digit: u8) -> u8
     }
 }
 
+// Puts the digits of bytes, two lower-case ones each, over a text that is as long.
+fn set_hex(digits: &mut [u8], bytes: &[u8])
+    requires { length digits.old ≡ 2 * length bytes.now }
+    ensures { digits.new ≡ flat_map hex_byte bytes.now }
+{
+    for k in 0..bytes.len() {
+        digits[2 * k] = hex_of(bytes[k] / 16);
+        digits[2 * k + 1] = hex_of(bytes[k] % 16);
+    }
+}
+
 // The bytes as two lower-case digits each.
 fn put_hex(out: &mut Vec<u8>, bytes: &[u8]) -> Result<(), AllocError>
     ensures { OnOk result (out.new.items ≡ out.old.items ++ flat_map hex_byte bytes.now) }
 {
     out.reserve(2 * bytes.len())?;
-    for byte in bytes {
-        out.push_reserved(hex_of(*byte / 16));
-        out.push_reserved(hex_of(*byte % 16));
-    }
+    let start = out.len();
+    out.resize(start + 2 * bytes.len(), 0)?;
+    set_hex(&mut out[start..], bytes);
     Ok(())
 }
 
