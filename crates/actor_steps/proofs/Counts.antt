@@ -1,9 +1,8 @@
 -- The pieces of a page, counted.
-use Rattle.std.proofs.Common.{◌≡◌, ℕ, zero, suc, ◌+◌, ◌*◌, ◌<◌, ◌≤◌, Bool, false, cond, eqb, List, [], ◌∷◌, ◌++◌, length, drop, get_or, Some, slice_get, slice_set, refl, sym, ap, ◌∙◌, arith, inl, inr}
-use mathlib.Core.Logic.{dite}
-use native.Mathlib.Decide.{ℕ_discrete}
-use Rattle.std.proofs.lemmas.Bool.{cases_Bool, eq-eqb, ne_eqb, ltb-false}
-use Rattle.std.proofs.lemmas.List.{get_or-set_same, get_or-set_other}
+use Rattle.std.proofs.Common.{◌≡◌, ℕ, zero, suc, ◌+◌, ◌*◌, ◌<◌, ◌≤◌, Bool, false, cond, eqb, List, [], ◌∷◌, ◌++◌, length, drop, Some, slice_get, refl, sym, ap, ◌∙◌, arith, inl, inr}
+use Rattle.std.proofs.lemmas.Bool.{cases_Bool, eq-eqb, ltb-false}
+use Rattle.std.specs.BTreeMap.{BTreeMap, Updates}
+use Rattle.std.specs.Ordering.{nat_cmp}
 use Rattle.zr_base.specs.declared.op.Op.{Op}
 use Rattle.zr_base.specs.declared.op.Piece.{Piece}
 use Rattle.zr_base.specs.Plain.{start_of, count_of, has_event, IsRequest}
@@ -12,7 +11,7 @@ use Rattle.call_history.specs.declared.part.Part.{Part}
 use Rattle.zr_base.specs.Pieces.{first_page, pages_of, pieces_from, pieces_of}
 use Rattle.std.specs.List.{AllByRecursion}
 use Rattle.call_history.specs.Parts.{parts_from, parts, program}
-use Rattle.actor_steps.specs.Counts.{piece_on, pieces_on, pieces_each, count_at}
+use Rattle.actor_steps.specs.Counts.{piece_on, pieces_on, pieces_each, count_at, HasOnlyCounts}
 use Rattle.actor_steps.specs.Places.{AreRequests, IsWork, operations}
 use Rattle.actor_steps.proofs.Places.{drop_cons, few_pages, pages_some, in_bounds}
 
@@ -127,18 +126,14 @@ module _ (size : ℕ) (op : Op) (inside : is_single size op ≡ false) where
 pub counts_itself : (page : ℕ) → let n : ℕ = cond (eqb page page) 1 0 in n ≡ 1
 counts_itself page = ap (λ (b : Bool). cond b 1 0) (eq-eqb page page refl)
 
--- one page more is counted
-pub count_more : (counts : List ℕ) (page p : ℕ) → page < length counts
-    → count_at (slice_set counts page (get_or counts page 0 + 1)) p
-    ≡ count_at counts p + cond (eqb page p) 1 0
-count_more counts page p lt = dite (ℕ_discrete p page)
-    (λ s. ap (λ (q : ℕ). count_at (slice_set counts page (get_or counts page 0 + 1)) q) s
-    ∙ get_or-set_same counts page (get_or counts page 0 + 1) 0 lt
-    ∙ sym (ap (λ (b : Bool). count_at counts p + cond b 1 0) (eq-eqb page p (sym s))
-    ∙ ap (λ (q : ℕ). count_at counts q + 1) s))
-    (λ ne. get_or-set_other counts page p (get_or counts page 0 + 1) 0 ne
-    ∙ sym (ap (λ (b : Bool). count_at counts p + cond b 1 0) (ne_eqb page p (λ s. ne (sym s)))
-    ∙ (let q : count_at counts p + 0 ≡ count_at counts p = omega arith in q)))
+-- one piece more is counted
+module _ (old new : BTreeMap ℕ ℕ) (page : ℕ)
+    (u : Updates nat_cmp old new page (Some (count_at old page + 1))) where
+  pub count_more : (p : ℕ) → count_at new p ≡ count_at old p + cond (eqb page p) 1 0
+  count_more p = let q = u.0 p in grind (arith, q, u.1)
+
+  pub only_more : (size : ℕ) → page < size → HasOnlyCounts size old → HasOnlyCounts size new
+  only_more size lt only p = let q = u.0 p in let o = only p in grind (arith, q, u.1, o)
 
 -- ---- there are not many
 

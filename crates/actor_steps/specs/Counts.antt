@@ -1,5 +1,7 @@
 -- The pieces with events on a page, counted.
-use Rattle.std.specs.Prelude.{ℕ, ◌+◌, ◌==◌, List, [], ◌∷◌, get_or, if◌then◌else◌}
+use Rattle.std.specs.Prelude.{ℕ, ◌+◌, ◌==◌, ◌<◌, List, [], ◌∷◌, if◌then◌else◌, unwrap_or, IfSome}
+use Rattle.std.specs.BTreeMap.{BTreeMap, get}
+use Rattle.std.specs.Ordering.{nat_cmp}
 use Rattle.zr_base.specs.declared.op.Op.{Op}
 use Rattle.plain_disk.specs.Ends.{is_single}
 use Rattle.call_history.specs.declared.part.Part.{Part}
@@ -21,5 +23,9 @@ pieces_each size (ops ∷ more) page =
     pieces_on size page (program size 0 ops) + pieces_each size more page
 
 -- what is counted for a page
-abbrev pub count_at : List ℕ → ℕ → ℕ
-count_at counts page = get_or counts page 0
+abbrev pub count_at : BTreeMap ℕ ℕ → ℕ → ℕ
+count_at counts page = unwrap_or (get nat_cmp counts page) 0
+
+-- Each count is above 0, and of a page of the disk.
+abbrev pub HasOnlyCounts : ℕ → BTreeMap ℕ ℕ → Type 0
+HasOnlyCounts size counts = (p : ℕ) → IfSome (get nat_cmp counts p) (λ n. (p < size) × (0 < n))

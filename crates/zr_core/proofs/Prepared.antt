@@ -1,5 +1,6 @@
 -- A phase that is set up: its entries, and the state before its first turn.
 use Rattle.std.proofs.Common.{◌≡◌, ◌⊎◌, ℕ, zero, suc, ◌+◌, ◌<◌, ◌≤◌, ◌≢◌, Bool, true, false, ◌||◌, List, [], ◌∷◌, ◌++◌, inl, inr, length, get_or, Option, Some, None, slice_get, refl, sym, ap, ◌∙◌, subst, arith}
+use Rattle.std.specs.BTreeMap.{BTreeMap}
 use Rattle.std.specs.List.{AllByRecursion}
 use mathlib.Core.Logic.{dite}
 use native.Mathlib.Decide.{ℕ_discrete}
@@ -44,7 +45,7 @@ same_entry : (e f : EntryState) (c : Option (Option DiskHeld)) → c ≡ Some (S
     → c ≡ Some (Some (holds.Slot f)) → e ≡ f
 same_entry e f c p q = let r : c ≡ Some (Some (holds.Slot f)) = q in cc
 
-pub reserved_none : (size : ℕ) (counts : List ℕ) (cells : List (Option DiskHeld))
+pub reserved_none : (size : ℕ) (counts : BTreeMap ℕ ℕ) (cells : List (Option DiskHeld))
     → HasEntries size cells → AreReserved (is_in []) counts size cells cells
 reserved_none size counts cells rest = record {
   size = refl;
@@ -62,7 +63,8 @@ reserved_none size counts cells rest = record {
   };
 }
 
-pub reserved_more : (counts xs : List ℕ) (size page n : ℕ) → page < size → (old mid new : List (Option DiskHeld))
+pub reserved_more : (counts : BTreeMap ℕ ℕ) (xs : List ℕ) (size page n : ℕ) → page < size
+    → (old mid new : List (Option DiskHeld))
     → n ≡ count_at counts page → AreReserved (is_in xs) counts size old mid → IsReserved page n mid new
     → AreReserved (is_in (xs ++ page ∷ [])) counts size old new
 reserved_more counts xs size page n low old mid new count r x = record {
@@ -99,7 +101,7 @@ reserved_more counts xs size page n low old mid new count r x = record {
   before_it p ne done = elim (was_in xs page p done) [ inl old ↦ old | inr same ↦ absurd (ne same) ]
 
 -- one after the other
-pub reserved_both : (d e : ℕ → Bool) (counts : List ℕ) (size : ℕ) (old mid new : List (Option DiskHeld))
+pub reserved_both : (d e : ℕ → Bool) (counts : BTreeMap ℕ ℕ) (size : ℕ) (old mid new : List (Option DiskHeld))
     → AreReserved d counts size old mid → AreReserved e counts size mid new
     → AreReserved (λ p. e p || d p) counts size old new
 reserved_both d e counts size old mid new r s = record {
@@ -139,7 +141,7 @@ page_low size [] i d all lt = absurd (omega arith)
 page_low size (p ∷ ps) zero d all lt = all.0
 page_low size (p ∷ ps) (suc i) d all lt = page_low size ps i d all.1 (omega arith)
 
-pub reserved_entries : (size : ℕ) (d : ℕ → Bool) (counts : List ℕ) (old new : Row)
+pub reserved_entries : (size : ℕ) (d : ℕ → Bool) (counts : BTreeMap ℕ ℕ) (old new : Row)
     → HasEntries size old → AreReserved d counts size old new → HasEntries size new
 reserved_entries size d counts old new rest r = record {
   size = (let a = rest.size in let b = r.size in omega arith);
@@ -147,8 +149,8 @@ reserved_entries size d counts old new rest r = record {
 }
 
 -- a page without an order has none after it
-pub reserved_orders : (size : ℕ) (d : ℕ → Bool) (counts noted : List ℕ) (old new : Row)
-    → HasAllOrders size noted old → AreReserved d counts size old new → HasAllOrders size noted new
+pub reserved_orders : (size : ℕ) (d : ℕ → Bool) (counts : BTreeMap ℕ ℕ) (noted : List ℕ)
+    (old new : Row) → HasAllOrders size noted old → AreReserved d counts size old new → HasAllOrders size noted new
 reserved_orders size d counts noted old new orders r = record {
   listed = orders.listed;
   others = none;
@@ -163,7 +165,7 @@ reserved_orders size d counts noted old new orders r = record {
       ]
 
 -- all pages have no order and their room, where those with an order and those with pieces are done
-pub all_reserved : (size : ℕ) (counts noted pages : List ℕ) (old mid new : Row)
+pub all_reserved : (size : ℕ) (counts : BTreeMap ℕ ℕ) (noted pages : List ℕ) (old mid new : Row)
     → HasAllOrders size noted old → AreCounted size counts pages
     → AreReserved (is_in noted) counts size old mid
     → AreReserved (is_in pages) counts size mid new → AreReserved (λ p. true) counts size old new
@@ -217,7 +219,7 @@ no_entry pages noted cells rest k e ge at = by rest.rests where
       (emptied_at cells k (Some (holds.Slot e)) at)).sound.page in
       let s = rests.size in let none : ⊥ = omega arith in none
 
-pub keeps_values : (size : ℕ) (d : ℕ → Bool) (counts : List ℕ) (old new : Row)
+pub keeps_values : (size : ℕ) (d : ℕ → Bool) (counts : BTreeMap ℕ ℕ) (old new : Row)
     → AreReserved d counts size old new → KeepsValues old new
 keeps_values size d counts old new r = record { size = r.size; each = each } where
   each : (k : ℕ) (v : DiskHeld) → slice_get old k ≡ Some (Some v)
@@ -235,7 +237,7 @@ keeps_values size d counts old new r = record { size = r.size; each = each } whe
 
 -- what a prepare that fails leaves is at rest
 pub still_rests : (pages : ℕ) (noted : List ℕ) (old new : Row) → IsAtRest pages noted old
-    → (d : ℕ → Bool) (counts : List ℕ) → AreReserved d counts pages old new
+    → (d : ℕ → Bool) (counts : BTreeMap ℕ ℕ) → AreReserved d counts pages old new
     → IsAtRest pages noted new
 still_rests pages noted old new rest d counts r = record {
   entries = reserved_entries pages d counts old new rest.entries r;
@@ -309,7 +311,8 @@ owed_is t p (ops ∷ more) (w ∷ ws) e todo =
 -- ---- the state before the first turn
 
 module _ (t : Terms) (actors : List (List Op)) (cells cells' : Row) (ws : List Worker)
-    (limit : ℕ) (counts noted : List ℕ) (new : AreNewWorkers t.size t.chain actors ws)
+    (limit : ℕ) (counts : BTreeMap ℕ ℕ) (noted : List ℕ)
+    (new : AreNewWorkers t.size t.chain actors ws)
     (counted : (p : ℕ) → p < t.size → count_at counts p ≡ counted_each t.size actors p)
     (r : AreReserved (λ p. true) counts t.size cells cells')
     (beyond : (k : ℕ) (e : EntryState) → t.size ≤ k

@@ -22,17 +22,6 @@ home_is (x ∷ row) (suc k) = home_is row k
 
 -- ---- the account and the pools
 
-pub account_none : (limit pages : ℕ) (cells : Row) → pages ≡ 0
-    → account_of limit pages cells ≡ record no_counts { limit = limit }
-account_none limit pages cells e = ap (λ (n : ℕ). account_of limit n cells) e
-
-pub pool_none : (pages class : ℕ) (cells : Row) → pages ≡ 0 → pool_of pages cells class ≡ None
-pool_none pages class cells e = ap (λ (n : ℕ). pool_of n cells class) e
-
-pub pool_last : (pages : ℕ) (cells : Row) → pool_of pages cells 255 ≡ None
-pool_last zero cells = refl
-pool_last (suc n) cells = refl
-
 module _ (places : NamesHavePlaces) (pages : ℕ) (some : 1 ≤ pages) (r : Locks DiskHeld)
     (names : r.names ≡ names_of pages) (x : Option DiskHeld) where
   pub account_value : (limit : ℕ) → x ≡ at_home (cell r lock.Account)

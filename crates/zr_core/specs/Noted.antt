@@ -1,5 +1,6 @@
 -- The pages that have an order, as a list, so that no other page need be looked at.
 use Rattle.std.specs.Prelude.{◌≡◌, ℕ, ◌<◌, Bool, false, ◌==◌, ◌||◌, List, [], ◌∷◌, Option, ⊤}
+use Rattle.std.specs.BTreeMap.{BTreeMap}
 use Rattle.std.specs.List.{AllByRecursion}
 use Rattle.zr_base.specs.declared.op.Op.{Op}
 use Rattle.page_steps.specs.Steps.{DiskHeld}
@@ -21,10 +22,10 @@ pub record ArePages (pages : ℕ) (noted : List ℕ) : Type 0 where
   pub rising : IsRising noted
   pub within : AllByRecursion (λ p. p < pages) noted
 
--- The list has just those of the first n pages that have a count.
-pub record AreCounted (n : ℕ) (counts : List ℕ) (noted : List ℕ) : Type 0 where
-  pub listed : ArePages n noted
-  pub others : (p : ℕ) → p < n → is_in noted p ≡ false → count_at counts p ≡ 0
+-- The list has just those pages of the disk that have a count.
+pub record AreCounted (pages : ℕ) (counts : BTreeMap ℕ ℕ) (noted : List ℕ) : Type 0 where
+  pub listed : ArePages pages noted
+  pub others : (p : ℕ) → p < pages → is_in noted p ≡ false → count_at counts p ≡ 0
 
 -- Every page with an order is in the list.
 pub record HasAllOrders (pages : ℕ) (noted : List ℕ) (cells : List (Option DiskHeld)) : Type 0 where

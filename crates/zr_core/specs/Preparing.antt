@@ -1,5 +1,6 @@
 -- What setting a phase up makes of the entries: no calls, and room for the pieces that are counted.
 use Rattle.std.specs.Prelude.{◌≡◌, ◌≢◌, ℕ, ◌<◌, ◌≤◌, Bool, true, false, List, [], length, Option, Some, slice_get}
+use Rattle.std.specs.BTreeMap.{BTreeMap}
 use Rattle.lock_row.specs.declared.names.Held.TheVariants as holds
 use Rattle.slot_entry.specs.Entries.{EntryState}
 use Rattle.page_steps.specs.Steps.{DiskHeld}
@@ -20,7 +21,7 @@ pub record IsReserved (page n : ℕ) (old new : List (Option DiskHeld)) : Type 0
 
 -- A page's entry keeps its page; where it is done, it has no calls and room for those that are
 -- counted, else it is as before.
-pub record KeepsPage (done : ℕ → Bool) (counts : List ℕ) (page : ℕ)
+pub record KeepsPage (done : ℕ → Bool) (counts : BTreeMap ℕ ℕ) (page : ℕ)
     (old new : List (Option DiskHeld)) : Type 0 where
   pub was : EntryState
   pub is : EntryState
@@ -34,7 +35,7 @@ pub record KeepsPage (done : ℕ → Bool) (counts : List ℕ) (page : ℕ)
 
 -- All entries keep their pages, and those that are done have no calls and room for those that are
 -- counted; all else is as before.
-pub record AreReserved (done : ℕ → Bool) (counts : List ℕ) (pages : ℕ)
+pub record AreReserved (done : ℕ → Bool) (counts : BTreeMap ℕ ℕ) (pages : ℕ)
     (old new : List (Option DiskHeld)) : Type 0 where
   pub size : length new ≡ length old
   pub each : (page : ℕ) → page < pages → KeepsPage done counts page old new

@@ -1,8 +1,9 @@
 //! How the entries are set up for a phase: their orders are emptied and get room for the pieces that
 //! the phase has on each page.
 
-ghost use Rattle.std.specs.Prelude.{◌≡◌, ℕ, ◌+◌, ◌<◌, ◌≤◌, Bool, true, length, IfOk, OnOk, OnErr};
-ghost use Rattle.actor_steps.specs.Counts.{count_at};
+ghost use Rattle.std.specs.Prelude.{◌≡◌, ℕ, ◌<◌, Bool, true, IfOk, OnOk, OnErr};
+ghost use Rattle.std.specs.BTreeMap.{IsOrdered, keys};
+ghost use Rattle.std.specs.Ordering.{nat_cmp};
 ghost use Rattle.zr_core.specs.Noted.{is_in, ArePages, AreCounted, HasAllOrders};
 ghost use Rattle.zr_core.specs.Rests.{names_by, HasEntries};
 ghost use Rattle.zr_core.specs.Preparing.{IsReserved, AreReserved};
@@ -11,31 +12,18 @@ use crate::row::entry_of;
 use lock_row::{Hand, Held, LockNo, SimRow, Still, names_have_places};
 use page_steps::DiskHeld;
 use std::alloc::{AllocError, Global};
+use std::collections::BTreeMap;
 use zr_base::PageIx;
 
-// Notes the next page, if it has pieces.
-fn note_page(counts: &[u32], page: u32, noted: &mut Vec<u32>) -> Result<(), AllocError>
-    requires page { page < length counts.now }
-    requires so_far { AreCounted page counts.now noted.old.items }
-    ensures { OnOk result (AreCounted (page + 1) counts.now noted.new.items) }
+/// The pages that have a count, in rising order.
+pub(crate) fn noted_pages(
+    alloc: Global,
+    counts: &BTreeMap<u32, u32>,
+) -> Result<Vec<u32>, AllocError>
+    ensures keys { IfOk result (λ noted. noted.items ≡ keys counts.now) }
+    ensures ordered { IsOrdered nat_cmp counts.now }
 {
-    if counts[page as usize] == 0 {
-        return Ok(());
-    }
-    noted.push(page)?;
-    Ok(())
-}
-
-/// The pages that have pieces, in rising order.
-pub(crate) fn noted_pages(alloc: Global, size: u32, counts: &[u32]) -> Result<Vec<u32>, AllocError>
-    requires { length counts.now ≡ size }
-    ensures { IfOk result (λ noted. AreCounted size counts.now noted.items) }
-{
-    let mut noted = Vec::new(alloc);
-    for page in 0..size {
-        note_page(counts, page, &mut noted)?;
-    }
-    Ok(noted)
+    counts.keys().copied().collect(alloc)
 }
 
 // Empties the order of a page's entry, and makes its room. On Err nothing changed.
@@ -60,42 +48,39 @@ fn reserve(row: &mut SimRow<DiskHeld>, size: u32, page: u32, count: u32) -> Resu
 }
 
 // Empties the orders of these pages, and makes room for what is counted. On Err each page is as
-// before, and so is
-// its order, or it is empty.
+// before, and so is its order, or it is empty.
 fn reserve_pages(
     row: &mut SimRow<DiskHeld>,
     size: u32,
-    counts: &[u32],
+    counts: &BTreeMap<u32, u32>,
     pages: &[u32],
 ) -> Result<(), AllocError>
     requires names { row.old.names ≡ names_by size }
     requires rest { HasEntries size row.old.cells }
-    requires counts { length counts.now ≡ size }
     requires pages { ArePages size pages.now }
     ensures names { row.new.names ≡ row.old.names }
     ensures reserved { OnOk result (AreReserved (is_in pages.now) counts.now size row.old.cells row.new.cells) }
     ensures kept { (done : ℕ → Bool) × AreReserved done counts.now size row.old.cells row.new.cells }
 {
     for page in pages {
-        reserve(row, size, *page, counts[*page as usize])?;
+        reserve(row, size, *page, counts.get(page).copied().unwrap_or(0))?;
     }
     Ok(())
 }
 
 /// Empties all orders, and makes room for what is counted. `before` has the pages with an order,
-/// and `noted` those
-/// with a count. On Err each page is as before, and so is its order, or it is empty.
+/// and `noted` those with a count. On Err each page is as before, and so is its order, or it is
+/// empty.
 pub(crate) fn reserve_all(
     row: &mut SimRow<DiskHeld>,
     size: u32,
-    counts: &[u32],
+    counts: &BTreeMap<u32, u32>,
     before: &[u32],
     noted: &[u32],
 ) -> Result<(), AllocError>
     requires names { row.old.names ≡ names_by size }
     requires rest { HasEntries size row.old.cells }
     requires orders { HasAllOrders size before.now row.old.cells }
-    requires counts { length counts.now ≡ size }
     requires counted { AreCounted size counts.now noted.now }
     ensures names { row.new.names ≡ row.old.names }
     ensures reserved { OnOk result (AreReserved (λ p. true) counts.now size row.old.cells row.new.cells) }

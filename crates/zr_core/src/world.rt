@@ -56,7 +56,7 @@ impl World {
         disks_begin();
         let counts = count_pieces(self.alloc, self.pages, actors)?;
         let workers = new_workers(self.alloc, self.pages, MOST_CHAIN, actors)?;
-        let noted = noted_pages(self.alloc, self.pages, &counts)?;
+        let noted = noted_pages(self.alloc, &counts)?;
         reserve_all(&mut self.row, self.pages, &counts, &self.noted, &noted)?;
         self.noted = noted;
         Ok(Phase {

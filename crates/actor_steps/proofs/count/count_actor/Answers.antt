@@ -1,4 +1,4 @@
-use Rattle.std.proofs.Common.{◌≡◌, Some, slice_get, ◌∙◌, arith}
+use Rattle.std.proofs.Common.{◌≡◌, Some, slice_get, arith}
 use Rattle.actor_steps.proofs.Places.{at_index}
 use Rattle.actor_steps.proofs.Counts.{program_next}
 use Rattle.actor_steps.proofs.count.count_actor.Goals as goal
@@ -22,10 +22,10 @@ pub loop-op-preserved : goal.loop-op-preserved
 loop-op-preserved c =
     let a = (goal.at.loop-op-preserved c).After-op-item in
     let i = c.loop-op.invariant in record {
-      size = c.count_op.ensures.size ∙ i.size;
+      only = c.in_ok-count_op.ensures.only;
       counted = λ p lt.
           let q = i.counted p lt in
-          let e = c.count_op.ensures.counted p lt in
+          let e = c.in_ok-count_op.ensures.counted p lt in
           let n = program_next c.args.size p c.loop-op.op-index c.args.ops.now c.op-item.result
           (op_at a) in
           omega arith;

@@ -1,5 +1,4 @@
-use Rattle.std.proofs.Common.{◌≡◌, List, ℕ, Some, slice_get, sym, ap, ◌∙◌, arith}
-use Rattle.actor_steps.specs.Counts.{count_at}
+use Rattle.std.proofs.Common.{◌≡◌, Some, slice_get, sym, ap, ◌∙◌, arith}
 use Rattle.actor_steps.proofs.Places.{at_index}
 use Rattle.actor_steps.proofs.Counts.{each_next, few_pieces}
 use Rattle.actor_steps.proofs.count.count_pieces.Goals as goal
@@ -16,7 +15,6 @@ count_actor-requires-clause-fits c p lt =
     let a = (goal.at.count_actor-requires-clause-fits c).After-as_slice in
     let q = c.loop-actor.invariant.counted p lt in
     let f = few_pieces c.args.size p c.args.ops.now c.requires in
-    let v = ap (λ (cs : List ℕ). count_at cs p) c.deref_mut.ensures.value in
     let n = each_next c.args.size p c.loop-actor.actor-index c.args.ops.now c.as_slice.result.now
     (ops_at a) in
     omega arith

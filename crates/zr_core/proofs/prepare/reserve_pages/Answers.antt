@@ -1,4 +1,5 @@
-use Rattle.std.proofs.Common.{List, ℕ, take, refl, sym, ◌∙◌, subst}
+use Rattle.std.proofs.Common.{List, ℕ, Option, take, refl, sym, ap, ◌∙◌, subst}
+use Rattle.std.specs.Prelude.{unwrap_or}
 use Rattle.std.proofs.lemmas.List.{take_more}
 use Rattle.zr_core.specs.Noted.{is_in}
 use Rattle.zr_core.specs.Preparing.{AreReserved}
@@ -31,6 +32,8 @@ loop-page-preserved c = let i = c.loop-page.invariant in record {
       (take c.loop-page.page-index c.args.pages.now) c.args.size _ _
       (page_low c.args.size c.args.pages.now c.loop-page.page-index 0 c.requires.pages.within
       c.loop-page-test.true) c.args.row.now.cells
-      c.loop-page.row.cells c.reserve.new.row.cells refl i.reserved
+      c.loop-page.row.cells c.reserve.new.row.cells
+      (c.unwrap_or.ensures ∙ ap (λ (o : Option ℕ). unwrap_or o 0) (c.copied.ensures ∙ c.get.ensures.value))
+      i.reserved
       c.in_ok-reserve.ensures.reserved);
 }

@@ -1,13 +1,18 @@
-use Rattle.std.proofs.Common.{ℕ, true, List, refl, subst}
+use Rattle.std.proofs.Common.{refl, ◌∙◌}
 use Rattle.page_steps.specs.Steps.{Terms}
 use Rattle.zr_core.specs.declared.limits.TheConstants.{MOST_CHAIN}
-use Rattle.zr_core.specs.Noted.{AreCounted}
-use Rattle.zr_core.specs.Preparing.{AreReserved}
 use Rattle.zr_core.proofs.Preparing.{on_err_any}
+use Rattle.zr_core.proofs.Noted.{are_counted}
 use Rattle.zr_core.proofs.Prepared.{keeps_same, keeps_values, still_rests, no_entry, set_up_on, prepared, may_go_on}
 use Rattle.zr_core.proofs.Rests.{rests_on}
 use Rattle.zr_core.proofs.disk.World.prepare.Goals as goal
 use Rattle.zr_core.proofs.disk.World.prepare.Goals.{After-reserve_all}
+
+pub reserve_all-requires-clause-counted : goal.reserve_all-requires-clause-counted
+reserve_all-requires-clause-counted c =
+    are_counted c.args.self.now.pages c.in_ok-counts.counts _
+    (c.deref-2.ensures.value ∙ c.in_ok-noted.ensures.keys) c.noted_pages.ensures.ordered
+    c.in_ok-counts.ensures.only
 
 -- ---- want of memory
 
@@ -50,11 +55,9 @@ pub returns-clause-set_up : goal.returns-clause-set_up
 returns-clause-set_up c =
     let a = (goal.at.returns-clause-set_up c).After-reserve_all in
     set_up_on (terms a) c.args.actors.now c.args.self.now.row.cells c.reserve_all.new.row.cells
-    c.in_ok-workers.workers.items c.args.self.now.limit c.in_ok-counts.counts.items
+    c.in_ok-workers.workers.items c.args.self.now.limit c.in_ok-counts.counts
     c.in_ok-noted.noted.items
-    c.in_ok-workers.ensures c.in_ok-counts.ensures.counted (subst (λ (cs : List ℕ). AreReserved (λ p. true) cs c.args.self.now.pages
-    c.args.self.now.row.cells c.reserve_all.new.row.cells)
-    c.deref-2.ensures.value c.in_ok-reserve_all.ensures.reserved)
+    c.in_ok-workers.ensures c.in_ok-counts.ensures.counted c.in_ok-reserve_all.ensures.reserved
     (no_entry c.args.self.now.pages c.args.self.now.noted.items c.args.self.now.row.cells
     c.requires.rest)
 
@@ -62,11 +65,9 @@ pub returns-clause-start : goal.returns-clause-start
 returns-clause-start c g rests =
     let a = (goal.at.returns-clause-start c).After-reserve_all in
     prepared (terms a) c.args.actors.now c.args.self.now.row.cells c.reserve_all.new.row.cells
-    c.in_ok-workers.workers.items c.args.self.now.limit c.in_ok-counts.counts.items
+    c.in_ok-workers.workers.items c.args.self.now.limit c.in_ok-counts.counts
     c.in_ok-noted.noted.items
-    c.in_ok-workers.ensures c.in_ok-counts.ensures.counted (subst (λ (cs : List ℕ). AreReserved (λ p. true) cs c.args.self.now.pages
-    c.args.self.now.row.cells c.reserve_all.new.row.cells)
-    c.deref-2.ensures.value c.in_ok-reserve_all.ensures.reserved)
+    c.in_ok-workers.ensures c.in_ok-counts.ensures.counted c.in_ok-reserve_all.ensures.reserved
     (no_entry c.args.self.now.pages c.args.self.now.noted.items c.args.self.now.row.cells
     c.requires.rest)
     g rests c.requires.work refl c.phases_go_on.ensures.next c.disks_begin.ensures.proper
@@ -75,14 +76,12 @@ pub returns-clause-can : goal.returns-clause-can
 returns-clause-can c =
     let a = (goal.at.returns-clause-can c).After-reserve_all in
     may_go_on (terms a) c.args.actors.now c.args.self.now.row.cells c.reserve_all.new.row.cells
-    c.in_ok-workers.workers.items c.args.self.now.limit c.in_ok-counts.counts.items
+    c.in_ok-workers.workers.items c.args.self.now.limit c.in_ok-counts.counts
     c.in_ok-noted.noted.items
-    c.in_ok-workers.ensures c.in_ok-counts.ensures.counted (subst (λ (cs : List ℕ). AreReserved (λ p. true) cs c.args.self.now.pages
-    c.args.self.now.row.cells c.reserve_all.new.row.cells)
-    c.deref-2.ensures.value c.in_ok-reserve_all.ensures.reserved)
+    c.in_ok-workers.ensures c.in_ok-counts.ensures.counted c.in_ok-reserve_all.ensures.reserved
     (no_entry c.args.self.now.pages c.args.self.now.noted.items c.args.self.now.row.cells
     c.requires.rest)
     c.args.self.now.noted.items c.requires.rest c.requires.none c.requires.work refl
-    (subst (λ (cs : List ℕ). AreCounted c.args.self.now.pages cs c.in_ok-noted.noted.items)
-    c.deref.ensures.value c.in_ok-noted.ensures)
+    (are_counted c.args.self.now.pages c.in_ok-counts.counts c.in_ok-noted.noted.items
+    c.in_ok-noted.ensures.keys c.noted_pages.ensures.ordered c.in_ok-counts.ensures.only)
     c.rule_keeps.ensures.start c.phases_go_on.ensures.next c.disks_begin.ensures.proper
