@@ -9,6 +9,9 @@
 # Operations: up to 1,000,000 discards of a page by 64 actors, without a schedule, so that rounds serve them.
 #
 # Pages: disks of 32,768 to 262,144 pages, of which each is written once by one of four actors.
+#
+# Phases: none and 1,000 on a disk of 262,144 pages, without operations and of one read each, so that what a phase costs
+# can be read off.
 set -u
 source "$(dirname "${BASH_SOURCE[0]}")/jobs.sh"
 
@@ -64,3 +67,18 @@ for size in 128 256 512 1024; do
   }' >"$job"
   row 'pages written by four actors' $((256 * size))
 done
+
+# So many phases on a disk of 262,144 pages, each of these operations.
+phases() {
+  awk -v n="$1" -v ops="$2" 'BEGIN {
+    print "disksize 1024M"
+    for (i = 0; i < n; i++) printf "%srun\n", ops
+  }' >"$job"
+}
+
+phases 0 ''
+row 'no phase on 262,144 pages' 1
+phases 1000 ''
+row 'empty phases on 262,144 pages' 1000
+phases 1000 'actor\nread 0 8\n'
+row 'phases of one read on 262,144 pages' 1000
