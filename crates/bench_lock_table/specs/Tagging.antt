@@ -1,6 +1,6 @@
 -- A small rule of a row: a lock guards a list of tags, and each actor has one lock, to which it
 -- adds tags of its own.
-use Rattle.std.specs.Prelude.{◌≡◌, ℕ, suc, List, [], ◌∷◌, ◌++◌, map, length}
+use Rattle.std.specs.Prelude.{◌≡◌, ℕ, suc, List, [], ◌∷◌, ◌++◌, map, length, None}
 use Rattle.zr_base.specs.declared.op.Tag.{Tag}
 use Rattle.zr_base.specs.declared.op.Op.TheVariants.{Discard}
 use Rattle.call_history.specs.declared.part.Part.{Part}
@@ -55,25 +55,11 @@ rest_of (x ∷ xs) = xs
 
 -- the local after a taking
 abbrev pub took : Here → List Tag → Here
-took l v = record {
-  actor = l.actor;
-  at = l.at;
-  todo = l.todo;
-  held =
-      (lock_at l.todo, v) ∷ l.held;
-  done = l.done;
-}
+took l v = record l { held = (lock_at l.todo, v) ∷ l.held }
 
 -- it gives the tags back as they were
 abbrev pub gave : Here → List Tag → Here
-gave l v = record {
-  actor = l.actor;
-  at = l.at;
-  todo = l.todo;
-  held = rest_of l.held;
-  done =
-      l.done;
-}
+gave l v = record l { held = rest_of l.held }
 
 -- its next tag
 abbrev pub next_tag : Here → Tag
@@ -81,13 +67,9 @@ next_tag l = record { actor = l.actor; op = length l.done }
 
 -- it gives them back with that tag
 abbrev pub tagged : Here → List Tag → Here
-tagged l v = record {
-  actor = l.actor;
-  at = l.at;
-  todo = l.todo;
+tagged l v = record l {
   held = rest_of l.held;
-  done =
-      l.done ++ record { part = piece (length l.done) 0; end = Carried; got = [] } ∷ [];
+  done = l.done ++ record { part = piece (length l.done) 0; end = Carried; got = [] } ∷ [];
 }
 
 -- The givings of the rule: the tags as they were, or with one more.
@@ -103,7 +85,20 @@ noted l = map (λ (d : Done). record { actor = l.actor; op = d.part.nr }) l.done
 
 -- an actor at the start
 abbrev pub idle : ℕ → LockNo → Here
-idle a k = record { actor = a; at = Start; todo = pieces_for k; held = []; done = [] }
+idle a k = record {
+  actor = a;
+  at = Start;
+  todo = pieces_for k;
+  held = [];
+  done = [];
+  fresh = None;
+  pin = None;
+  owed = 0;
+  ahead = None;
+  behind = None;
+  page = None;
+  fail = None;
+}
 
 -- actors at the start, from one on
 abbrev pub idle_from : ℕ → List LockNo → List Here
