@@ -1,11 +1,11 @@
 -- What the histories of all actors of a phase say, and when they agree with the orders of the
 -- pages.
-use Rattle.std.specs.Prelude.{◌≡◌, ℕ, ◌<◌, ◌≤◌, true, List, [], ◌∷◌, length, get_or, Some, slice_get}
+use Rattle.std.specs.Prelude.{◌≡◌, ℕ, ◌<◌, ◌≤◌, true, false, List, [], ◌∷◌, length, get_or, Some, slice_get}
 use Rattle.std.specs.List.{AllByRecursion}
 use Rattle.zr_base.specs.declared.op.Tag.{Tag}
 use Rattle.zr_base.specs.declared.op.Op.{Op}
 use Rattle.zr_base.specs.declared.op.OpEnd.{OpEnd}
-use Rattle.zr_base.specs.Plain.{count_of}
+use Rattle.zr_base.specs.Plain.{count_of, is_compaction}
 use Rattle.plain_disk.specs.Ends.{Ground, Bounds}
 use Rattle.plain_disk.specs.Phases.{Given, nth_order}
 use Rattle.call_history.specs.declared.part.Done.{Done}
@@ -28,9 +28,13 @@ told_each (ops ∷ more) (done ∷ dones) = told_from 0 ops done ∷ told_each m
 abbrev pub history : List (List Done) → ℕ → List Done
 history dones a = get_or dones a []
 
+-- the operation is a request with a sector at least, or a compaction
+abbrev pub HasSome : Op → Type 0
+HasSome op = is_compaction op ≡ false → 1 ≤ count_of op
+
 -- each request has a sector at least
 abbrev pub SomeEach : List Op → Type 0
-SomeEach ops = AllByRecursion (λ op. 1 ≤ count_of op) ops
+SomeEach ops = AllByRecursion HasSome ops
 
 -- each request of each actor has a sector at least
 abbrev pub HasSomeEach : List (List Op) → Type 0

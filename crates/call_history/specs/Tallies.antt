@@ -5,7 +5,7 @@ use Rattle.zr_base.specs.declared.op.Op.{Op}
 use Rattle.mem_account.specs.declared.weight.Weight.{Weight}
 use Rattle.mem_account.specs.Counters.{Counters, at_most_end}
 use Rattle.mem_account.specs.Tally.{IsTally}
-use Rattle.plain_disk.specs.Ends.{failed_write, beyond}
+use Rattle.plain_disk.specs.Ends.{failed_write, beyond, compacted}
 use Rattle.plain_disk.specs.Calls.{calls_sum, made_huge, freed}
 use Rattle.plain_disk.specs.Rests.{Rest, kept_pages, frames_of, so_far_of}
 use Rattle.plain_disk.specs.Phases.{phase_sum, LeavesPages}
@@ -25,7 +25,7 @@ pub record Tallies (form : List ℕ → Weight) (r : Rest) (actors : List (List 
   pub most : c.most ≡ m.most
   pub huge_since : c.huge_since ≡ at_most_end
       (r.so_far.huge + phase_sum (λ p. calls_sum (made_huge form p) actors) r orders)
-  pub compacted : c.compacted ≡ r.so_far.compacted
+  pub compacted : c.compacted ≡ at_most_end (r.so_far.compacted + dones_sum compacted dones)
   pub failed_reads : c.failed_reads ≡ r.so_far.failed_reads
   pub failed_writes : c.failed_writes ≡ at_most_end
       (r.so_far.failed_writes + dones_sum failed_write dones)

@@ -76,7 +76,7 @@ AreCarried g p order = AllByRecursion (λ t. HasEvent p (named g.given.actors t)
 
 -- ---- pieces of pages
 
--- 1 for a piece on a page; one beyond the disk is on none
+-- 1 for a piece on a page; one beyond the disk or a compaction is on none
 abbrev pub piece_on : ℕ → ℕ → Part → ℕ
 piece_on size page p = if is_single size p.op then 0 else if p.page == page then 1 else 0
 

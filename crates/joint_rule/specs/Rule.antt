@@ -12,7 +12,7 @@ use Rattle.lock_row.specs.declared.names.State.{State}
 use Rattle.lock_row.specs.Totals.{locals_sum, total}
 use Rattle.page_steps.specs.Steps.{DiskHeld, Here, spot}
 use Rattle.joint_rule.specs.Begins.{Begin, ground_of, content, pieces_on, pieces_each}
-use Rattle.joint_rule.specs.Weights.{HeldAll, Each, none, one, pages, ever_at, mosts, Refusal, refusal_count, refusal_counter, refusals, News, noted, told_ahead, news_count, news_counter}
+use Rattle.joint_rule.specs.Weights.{HeldAll, Each, none, one, pages, ever_at, mosts, Refusal, refusal_count, refusal_counter, refusals, compactions, freed_by, News, noted, told_ahead, news_count, news_counter}
 use Rattle.joint_rule.specs.Joint.{Joint}
 
 -- ---- orders
@@ -73,6 +73,12 @@ abbrev pub CountsRefusals : Begin → Refusal → State DiskHeld → Type 0
 CountsRefusals g q w = total (spot g.given.size) (refusal_counter q) none w
     ≡ at_most_end (refusal_count q g.was + locals_sum (refusals q) w.locals)
 
+-- the frames that compactions freed have risen since the phase's start by what actors tell, up to
+-- the counter's end
+abbrev pub CountsFreed : Begin → State DiskHeld → Type 0
+CountsFreed g w = total (spot g.given.size) compactions none w
+    ≡ at_most_end (g.was.compacted + locals_sum freed_by w.locals)
+
 -- a counter of calls has risen since the phase's start by what the calls of the orders give, and by
 -- what was counted and isn't noted yet, up to its end
 abbrev pub CountsNews : Begin → News → State DiskHeld → Type 0
@@ -107,5 +113,6 @@ pub record Rule (g : Begin) (w : State DiskHeld) : Type 0 where
   pub told : Told g w
   pub most : Most g w
   pub refusals : (q : Refusal) → CountsRefusals g q w
+  pub freed : CountsFreed g w
   pub news : (q : News) → CountsNews g q w
   pub limits : Limits g w

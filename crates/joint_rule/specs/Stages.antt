@@ -1,10 +1,11 @@
 -- What the stage of an actor's piece says of the actor's parts and of the entry that it holds.
-use Rattle.std.specs.Prelude.{◌≡◌, ℕ, ◌≤◌, ◌⊎◌, Bool, true, false, List, [], ◌∷◌, length, Option, Some, None, ⊤}
+use Rattle.std.specs.Prelude.{◌≡◌, ℕ, ◌+◌, ◌*◌, ◌<◌, ◌≤◌, ◌⊎◌, Bool, true, false, List, [], ◌∷◌, length, Option, Some, None, ⊤}
 use Rattle.zr_base.specs.declared.op.Op.{Op}
-use Rattle.zr_base.specs.declared.op.Op.TheVariants.{Write, Read, Discard}
-use Rattle.zr_base.specs.Plain.{is_beyond, has_whole}
+use Rattle.zr_base.specs.declared.op.Op.TheVariants.{Write, Read, Discard, Compact}
+use Rattle.zr_base.specs.Plain.{is_beyond, is_compaction, has_whole}
 use Rattle.mem_account.specs.declared.weight.Weight.{Weight}
 use Rattle.mem_account.specs.Tally.{packed_bytes_of}
+use Rattle.plain_disk.specs.Ends.{is_single}
 use Rattle.call_history.specs.declared.part.Part.{Part}
 use Rattle.call_history.specs.declared.part.PartEnd.{PartEnd}
 use Rattle.call_history.specs.declared.part.PartEnd.TheVariants.{Carried, AtLimit, NoMemory, Whole}
@@ -12,7 +13,8 @@ use Rattle.call_history.specs.Parts.{EndsSo}
 use Rattle.lock_row.specs.declared.names.LockNo.{LockNo}
 use Rattle.lock_row.specs.declared.names.LockNo.TheVariants as lock
 use Rattle.lock_row.specs.declared.names.At.{At}
-use Rattle.lock_row.specs.declared.names.At.TheVariants.{Start, Refusing, Seen, Pinning, Pinned, Unpinning, Leaving, Wanting, Inside, Both, Made, Old, Freeing, Owing, Giving, Ready}
+use Rattle.lock_row.specs.declared.names.At.TheVariants.{Start, Refusing, Seen, Pinning, Pinned, Unpinning, Leaving, Wanting, Inside, Both, Made, Old, Freeing, Owing, Giving, Ready, Sweeping, Moving, Shrunk, Shrinking}
+use Rattle.lock_row.specs.declared.names.Compaction.{Compaction}
 use Rattle.lock_row.specs.declared.names.Object.{Object}
 use Rattle.lock_row.specs.declared.names.Pin.{Pin}
 use Rattle.lock_row.specs.Totals.{by_option}
@@ -61,11 +63,13 @@ IsWrite _ = ⊥
 -- an operation that changes pages
 abbrev pub Changes : Op → Type 0
 Changes (Read start count) = ⊥
+Changes Compact = ⊥
 Changes _ = ⊤
 
 -- an operation that looks at pages
 abbrev pub Looks : Op → Type 0
 Looks (Discard start count) = ⊥
+Looks Compact = ⊥
 Looks _ = ⊤
 
 -- the form in which a page is kept is the one in which it has to be
@@ -129,6 +133,7 @@ module _ (g : Begin) (p : Part) where
   FailBy (Write start count stuff) x = HasFailed x
   FailBy (Read start count) x = NoneOf x
   FailBy (Discard start count) x = ⊥
+  FailBy Compact x = ⊥
 
   -- the refusal, by the stage
   abbrev pub FailAt : At → Op → Option PartEnd → Type 0
@@ -158,6 +163,10 @@ KindAt Freeing op k f = Changes op × IsObj k
 KindAt Owing op k f = Changes op × NoObj k
 KindAt Giving op k f = Changes op × NoObj k
 KindAt Ready op k f = Changes op × NoObj k
+KindAt (Sweeping x) op k f = ⊤
+KindAt (Moving x) op k f = ⊤
+KindAt (Shrunk x) op k f = ⊤
+KindAt (Shrinking x) op k f = ⊤
 
 -- the new object, or none where the piece was refused
 abbrev pub MadeBy : ℕ → Option PartEnd → PageForm → Option Object → Type 0
@@ -190,6 +199,8 @@ PinAt at k x = NoneOf x
 abbrev pub OweAt : ℕ → At → ℕ → Type 0
 OweAt chain Owing n = n ≤ chain
 OweAt chain Giving n = n ≤ chain
+OweAt chain (Shrunk x) n = n ≤ chain
+OweAt chain (Shrinking x) n = n ≤ chain
 OweAt chain at n = n ≡ 0
 
 -- the entry's form is the one in which its page has to be kept, until its object is given up
@@ -199,6 +210,10 @@ StandAt chain Refusing f k = ⊤
 StandAt chain Owing f k = ⊤
 StandAt chain Giving f k = ⊤
 StandAt chain Ready f k = ⊤
+StandAt chain (Sweeping x) f k = ⊤
+StandAt chain (Moving x) f k = ⊤
+StandAt chain (Shrunk x) f k = ⊤
+StandAt chain (Shrinking x) f k = ⊤
 StandAt chain at f k = IsForm chain f k
 
 -- the page that the actor sees is the page, where its piece depends on that
@@ -206,6 +221,7 @@ abbrev pub IsRight : Op → ℕ → List ℕ → List ℕ → Type 0
 IsRight (Write start count stuff) p page was = (has_whole start count p ≡ true) ⊎ (page ≡ was)
 IsRight (Read start count) p page was = page ≡ was
 IsRight (Discard start count) p page was = ⊤
+IsRight Compact p page was = ⊤
 
 -- nothing was read yet, or the page that the actor sees is right
 abbrev pub RightAt : At → Op → ℕ → Option (List ℕ) → List ℕ → List ℕ → Type 0
@@ -213,6 +229,10 @@ RightAt Start op p x page was = NoneOf x
 RightAt Refusing op p x page was = NoneOf x
 RightAt Seen op p x page was = NoneOf x
 RightAt Pinning op p x page was = NoneOf x
+RightAt (Sweeping y) op p x page was = NoneOf x
+RightAt (Moving y) op p x page was = NoneOf x
+RightAt (Shrunk y) op p x page was = NoneOf x
+RightAt (Shrinking y) op p x page was = NoneOf x
 RightAt at op p x page was = IsRight op p page was
 
 -- a packed page has at most so many bytes
@@ -260,7 +280,24 @@ BlankAt at op x blank = ⊤
 abbrev pub BeginAt : ℕ → At → Part → Type 0
 BeginAt size Start p = ⊤
 BeginAt size Refusing p = is_beyond size p.op ≡ true
-BeginAt size at p = is_beyond size p.op ≡ false
+BeginAt size (Sweeping x) p = is_compaction p.op ≡ true
+BeginAt size (Moving x) p = is_compaction p.op ≡ true
+BeginAt size (Shrunk x) p = is_compaction p.op ≡ true
+BeginAt size (Shrinking x) p = is_compaction p.op ≡ true
+BeginAt size at p = is_single size p.op ≡ false
+
+-- A compaction is at a class, and has freed at most a chain's frames with each move.
+pub record IsCompacting (chain owed : ℕ) (x : Compaction) : Type 0 where
+  pub class : x.class < 255
+  pub frames : x.frames + owed ≤ chain * x.moves
+
+-- where a compaction stands
+abbrev pub CompactAt : ℕ → At → ℕ → Type 0
+CompactAt chain (Sweeping x) n = IsCompacting chain n x
+CompactAt chain (Moving x) n = IsCompacting chain n x
+CompactAt chain (Shrunk x) n = IsCompacting chain n x
+CompactAt chain (Shrinking x) n = IsCompacting chain n x
+CompactAt chain at n = ⊤
 
 -- An actor at a piece, with the entry that it holds.
 pub record Stage (g : Begin) (p : Part) (e : EntryState) (at : At) (fresh : Option Object)
@@ -276,6 +313,7 @@ pub record Stage (g : Begin) (p : Part) (e : EntryState) (at : At) (fresh : Opti
   pub blank : BlankAt at p.op ahead (found_after g p.page e.order).blank
   pub fails : FailAt g p at p.op fail
   pub begun : BeginAt g.given.size at p
+  pub compacts : CompactAt g.chain at owed
 
 -- An actor between two pieces, or finished.
 pub record Quiet (fresh : Option Object) (pin : Option Pin) (owed : ℕ)
@@ -316,6 +354,10 @@ locks_at Freeing p c d = lock.Class c ∷ slot p.page ∷ []
 locks_at Owing p c d = slot p.page ∷ []
 locks_at Giving p c d = lock.Account ∷ slot p.page ∷ []
 locks_at Ready p c d = slot p.page ∷ []
+locks_at (Sweeping x) p c d = []
+locks_at (Moving x) p c d = lock.Class x.class ∷ []
+locks_at (Shrunk x) p c d = []
+locks_at (Shrinking x) p c d = lock.Account ∷ []
 
 -- the locks that an actor with these pieces to do holds
 abbrev pub locks_by : List Part → At → ℕ → ℕ → List LockNo

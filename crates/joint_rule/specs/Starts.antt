@@ -13,7 +13,7 @@ use Rattle.slot_entry.specs.declared.kept.Kept.TheVariants as kept
 use Rattle.slot_entry.specs.Entries.{EntryState}
 use Rattle.page_steps.specs.Steps.{DiskHeld, Here}
 use Rattle.joint_rule.specs.Begins.{Begin, found_after}
-use Rattle.joint_rule.specs.Weights.{Weigh, claims, stored, PinWeigh, outs, pages, chains, Count, counters, shown, mosts, Refusal, refusal_counter, News, news_counter}
+use Rattle.joint_rule.specs.Weights.{Weigh, claims, stored, PinWeigh, outs, pages, chains, Count, counters, shown, mosts, Refusal, refusal_counter, compactions, News, news_counter}
 use Rattle.joint_rule.specs.Joint.{AtHome}
 use Rattle.joint_rule.specs.Rule.{owed}
 
@@ -31,6 +31,7 @@ pub record AtRest (g : Begin) (row : List (Option DiskHeld)) : Type 0 where
   -- the account's maximum isn't below its frames, and no counter is past its end
   pub most : row_sum pages row ≤ row_sum mosts row
   pub refusals : (q : Refusal) → row_sum (refusal_counter q) row < 2 ^ 64
+  pub compacted : row_sum compactions row < 2 ^ 64
   pub news : (q : News) → row_sum (news_counter q) row < 2 ^ 64
 
 -- An actor before its first turn.

@@ -3,7 +3,7 @@ use Rattle.std.specs.Prelude.{◌≡◌, ℕ, zero, suc, ◌+◌, ◌==◌, ◌&
 use denote.RawPtr.{Ptr, block_ptr, null_ptr}
 use Rattle.zr_base.specs.declared.op.Tag.{Tag}
 use Rattle.zr_base.specs.declared.op.Op.{Op}
-use Rattle.zr_base.specs.declared.op.Op.TheVariants.{Write, Read, Discard}
+use Rattle.zr_base.specs.declared.op.Op.TheVariants.{Write, Read, Discard, Compact}
 use Rattle.zr_base.specs.declared.op.OpEnd.{OpEnd}
 use Rattle.zspage.specs.Cells.{UsedCell}
 use Rattle.class_pool.specs.Pool.{PoolState, used_cells}
@@ -11,7 +11,7 @@ use Rattle.class_pool.specs.Laws.{frames_of}
 use Rattle.mem_account.specs.Counters.{Counters}
 use Rattle.mem_account.specs.Tally.{same_of, packed_of, packed_bytes_of, huge_of, back_of}
 use Rattle.mem_account.specs.declared.weight.Weight.{Weight}
-use Rattle.plain_disk.specs.Ends.{failed_write, beyond}
+use Rattle.plain_disk.specs.Ends.{failed_write, beyond, compacted}
 use Rattle.plain_disk.specs.Calls.{Found, calls_sum, made_huge, freed}
 use Rattle.call_history.specs.declared.part.Part.{Part}
 use Rattle.call_history.specs.declared.part.PartEnd.{PartEnd}
@@ -29,6 +29,7 @@ use Rattle.slot_entry.specs.declared.kept.Kept.TheVariants as kept
 use Rattle.slot_entry.specs.Forms.{same_list, page_weight}
 use Rattle.slot_entry.specs.Entries.{weight_of}
 use Rattle.page_steps.specs.Steps.{DiskHeld, Here, spot}
+use Rattle.page_steps.specs.Compactions.{compaction_at}
 use Rattle.joint_rule.specs.Begins.{Begin, found, image, ever}
 
 -- ---- values and actors
@@ -243,18 +244,16 @@ ahead q l = by_option (measure q) l.ahead
 abbrev pub behind : Count → Here → ℕ
 behind q l = by_option (measure q) l.behind
 
--- ---- the counters that no event of pages changes
+-- ---- the counters that no event changes
 
--- The limit, the frames that compactions freed, and the reads that failed.
+-- The limit, and the reads that failed.
 pub data Fixed : Type 0 where
   Limit : Fixed
-  Compactions : Fixed
   FailedReads : Fixed
 
 -- the account's counter
 abbrev pub fixed_count : Fixed → Counters → ℕ
 fixed_count Limit c = c.limit
-fixed_count Compactions c = c.compacted
 fixed_count FailedReads c = c.failed_reads
 
 -- the account's counter, as a weight
@@ -295,6 +294,16 @@ refusal_count OutOfRange c = c.invalid_io
 abbrev pub refusal_counter : Refusal → ℕ → DiskHeld → ℕ
 refusal_counter q = on_account (refusal_count q)
 
+-- ---- the frames that compactions freed
+
+-- those that an actor tells: of the compactions that are over, and of the one in work
+abbrev pub freed_by : Here → ℕ
+freed_by l = done_sum compacted l.done + (compaction_at l.at).frames
+
+-- the account's counter, as a weight
+abbrev pub compactions : ℕ → DiskHeld → ℕ
+compactions = on_account (λ c. c.compacted)
+
 -- ---- the counters of calls
 
 -- Writes after which their page is kept as its 4096 bytes, and discards of pages that weren't
@@ -322,6 +331,7 @@ told_by HugeWrites op x = by_option huge_of x
 told_by FreedPages (Write start count stuff) x = 0
 told_by FreedPages (Read start count) x = 0
 told_by FreedPages (Discard start count) x = cond (is_some x) 1 0
+told_by FreedPages Compact x = 0
 
 -- what a piece at a stage gives that the account has counted, and the order hasn't got yet
 abbrev pub told_at : News → At → List Part → Option Weight → ℕ

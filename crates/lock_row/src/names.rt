@@ -39,7 +39,8 @@ pub enum Plan {
 
 /// The stage of an actor's piece, by its next event.
 pub enum At {
-    /// It takes the page's slot, or the account for a request beyond the disk.
+    /// It takes the page's slot, or the account for a request beyond the disk, or the first class
+    /// for a compaction.
     Start,
     /// It gives the account, which counted a request beyond the disk.
     Refusing,
@@ -71,6 +72,25 @@ pub enum At {
     Giving,
     /// It gives the slot, with the page's new form.
     Ready,
+    /// It takes the next class of a compaction.
+    Sweeping(Compaction),
+    /// It gives that class, where it has moved one object or none.
+    Moving(Compaction),
+    /// It takes the account, to give back the frames that a move freed.
+    Shrunk(Compaction),
+    /// It gives the account.
+    Shrinking(Compaction),
+}
+
+/// Where a compaction stands: the class that it is at; how many objects it may still move there,
+/// none before it has given the class for the first time; and how many objects it has moved so far,
+/// and how many frames of 4096 bytes it has given back.
+#[derive(Clone, Copy, PartialEq, Eq, Debug)]
+pub struct Compaction {
+    pub class: u8,
+    pub budget: Option<u32>,
+    pub moves: u64,
+    pub frames: u64,
 }
 
 /// An object of a pool, by its class and its handle, with its bytes. No running code makes one.

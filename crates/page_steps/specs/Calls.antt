@@ -63,6 +63,7 @@ end_of piece.Skipped = over.Carried
 end_of piece.Range = over.Whole ends.Range
 end_of (piece.AtLimit pages need limit) = over.AtLimit pages need limit
 end_of piece.NoMemory = over.NoMemory
+end_of (piece.Compacted moves frames) = over.Whole (ends.Compacted moves frames)
 
 -- the sectors that a piece with such an end has read, where its page is this one
 abbrev pub got_of : PieceEnd → List ℕ → Part → List (List ℕ)

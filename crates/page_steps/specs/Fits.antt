@@ -1,6 +1,6 @@
 -- What a value has to be for an actor to go on with it, by the stage at which the actor takes it.
 use Rattle.std.specs.Prelude.{◌≡◌, ℕ, ◌+◌, ◌-◌, ◌<◌, ◌≤◌, ◌^◌, ⊤, Bool, true, false, Contains, List, [], ◌∷◌, length, Option, Some, None}
-use Rattle.zr_base.specs.Plain.{is_beyond}
+use Rattle.zr_base.specs.Plain.{is_beyond, is_compaction}
 use Rattle.zspage.specs.Cells.{CellState, UsedCell}
 use Rattle.zspage.specs.Cells.{Fits as CellFits}
 use Rattle.class_pool.specs.Pool.{PoolState, used_cells, IsAtHome, IsLent, IsPool}
@@ -20,7 +20,8 @@ use Rattle.slot_entry.specs.Entries.{EntryState}
 use Rattle.slot_entry.specs.Forms.{PageForm, Pooled, form_of, form_weight}
 use Rattle.page_steps.specs.Pages.{next_form}
 use Rattle.page_steps.specs.Steps.{Terms, DiskHeld, Here, entry_in}
-use Rattle.page_steps.specs.Givings.{old_weight, repaid}
+use Rattle.page_steps.specs.Givings.{old_weight}
+use Rattle.page_steps.specs.Compactions.{repaid}
 
 -- The bytes of an object are those of a page in the pool.
 pub record IsKept (o : Stored) (bytes : List ℕ) : Type 0 where
@@ -76,10 +77,16 @@ AsAccount P _ = ⊥
 abbrev pub cell_of : Pin → CellState
 cell_of x = record { chain = x.chain; number = x.number; size = x.size; bytes = x.bytes }
 
--- the first value of a piece: the account for a request beyond the disk, or else the page's entry
-abbrev pub StartFits : Bool → DiskHeld → Type 0
-StartFits true v = AsAccount (λ c. ⊤) v
-StartFits false v = AsSlot HasPlace v
+-- the pool of a class that is compacted: its chains have at most so many frames
+abbrev pub SweepFits : ℕ → DiskHeld → Type 0
+SweepFits chain v = AsPool (λ q. q.chain ≤ chain) v
+
+-- the first value of a piece: a compaction's first pool, the account for a request beyond the disk, or
+-- else the page's entry
+abbrev pub StartFits : ℕ → Bool → Bool → DiskHeld → Type 0
+StartFits chain true beyond v = SweepFits chain v
+StartFits chain false true v = AsAccount (λ c. ⊤) v
+StartFits chain false false v = AsSlot HasPlace v
 
 -- the pool of an object that is to be pinned
 abbrev pub PinFits : Kept → DiskHeld → Type 0
@@ -105,7 +112,8 @@ StoreFits chain _ v = ⊤
 -- a value that a piece takes at its stage
 abbrev pub FitsAt : Terms → At → Part → EntryState → Option Pin → ℕ → Option Weight
     → Option (List ℕ) → DiskHeld → Type 0
-FitsAt t at.Start p e pin owed ahead page v = StartFits (is_beyond t.size p.op) v
+FitsAt t at.Start p e pin owed ahead page v =
+    StartFits t.chain (is_compaction p.op) (is_beyond t.size p.op) v
 FitsAt t at.Seen p e pin owed ahead page v = PinFits e.kept v
 FitsAt t at.Pinned p e pin owed ahead page v = PinnedFits pin v
 FitsAt t at.Wanting p e pin owed ahead page v = StoreFits t.chain (next_form p page e.kept) v
@@ -113,6 +121,8 @@ FitsAt t at.Inside p e pin owed ahead page v = AsAccount (CanCharge t.chain) v
 FitsAt t at.Old p e pin owed ahead page v = FreeFits e.kept pin v
 FitsAt t at.Owing p e pin owed ahead page v =
     AsAccount (CanPay owed (old_weight ahead e.kept) (form_weight (next_form p page e.kept))) v
+FitsAt t (at.Sweeping x) p e pin owed ahead page v = SweepFits t.chain v
+FitsAt t (at.Shrunk x) p e pin owed ahead page v = AsAccount (λ c. owed ≤ c.pages) v
 FitsAt t _ p e pin owed ahead page v = ⊤
 
 -- a value that an actor with these pieces to do takes

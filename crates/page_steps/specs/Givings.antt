@@ -1,8 +1,8 @@
 -- The givings of a page's events: which value is given, and which local follows.
-use Rattle.std.specs.Prelude.{◌≡◌, ℕ, ◌+◌, ◌-◌, ◌≤◌, Bool, length, List, [], ◌∷◌, ◌++◌, Option, Some, None}
+use Rattle.std.specs.Prelude.{◌≡◌, ℕ, ◌+◌, ◌≤◌, Bool, length, List, [], ◌∷◌, ◌++◌, Option, Some, None}
 use Rattle.zr_base.specs.declared.op.Tag.{Tag}
 use Rattle.zr_base.specs.declared.op.Op.{Op}
-use Rattle.zr_base.specs.declared.op.Op.TheVariants.{Write, Read, Discard}
+use Rattle.zr_base.specs.declared.op.Op.TheVariants.{Write, Read, Discard, Compact}
 use Rattle.zspage.specs.Cells.{CellState}
 use Rattle.class_pool.specs.Pool.{PoolState, PoolHasRoom}
 use Rattle.mem_account.specs.Counters.{Counters, charged, counted, IsPastLimit, IsWithinLimit}
@@ -24,6 +24,7 @@ use Rattle.slot_entry.specs.Forms.{PageForm, Blank, Word, Pooled, object_class, 
 use Rattle.page_steps.specs.Pages.{next_form}
 use Rattle.page_steps.specs.Pools.{IsNeed, Adds, Lends, Returns, DropsPinned}
 use Rattle.page_steps.specs.Steps.{Terms, DiskHeld, Here, slot}
+use Rattle.page_steps.specs.Compactions.{repaid, Compacts}
 use Rattle.page_steps.specs.Nexts.{refusing, reading, putting, failing, pinning, unpinning, charging, denying, stowing, quitting, freeing, repaying}
 
 -- the entry's form after a piece: its new object stands where it has one
@@ -56,10 +57,7 @@ abbrev pub tells : Op → Counters → Counters
 tells (Write start count stuff) c = c
 tells (Read start count) c = c
 tells (Discard start count) c = counted c delta.NotifyFree
-
--- so many frames are given back
-abbrev pub repaid : Counters → ℕ → Counters
-repaid c frames = record c { pages = c.pages - frames }
+tells Compact c = c
 
 -- the account once a page is counted: frames are given back, and the page has a new weight
 abbrev pub settled : Op → ℕ → Weight → Weight → Counters → Counters
@@ -145,3 +143,5 @@ pub data Works (t : Terms) (l : Here) (v : DiskHeld) (m : Here) : Type 0 where
       → l.todo ≡ p ∷ rest → l.at ≡ at.Leaving
       → l.held ≡ (slot p.page, holds.Slot e) ∷ [] → l.fail ≡ Some end
       → v ≡ holds.Slot e → m ≡ failing l v → Works t l v m
+  -- an event of a compaction
+  compacts : Compacts t l v m → Works t l v m

@@ -1,8 +1,8 @@
 -- What an actor does next on a page, and what a taking does to its local.
 use Rattle.std.specs.Prelude.{ℕ, ◌+◌, Bool, true, false, List, [], ◌∷◌, ◌++◌, Option, Some, None}
 use Rattle.zr_base.specs.declared.op.Op.{Op}
-use Rattle.zr_base.specs.declared.op.Op.TheVariants.{Write, Read, Discard}
-use Rattle.zr_base.specs.Plain.{is_beyond, has_whole}
+use Rattle.zr_base.specs.declared.op.Op.TheVariants.{Write, Read, Discard, Compact}
+use Rattle.zr_base.specs.Plain.{is_beyond, is_compaction, has_whole}
 use Rattle.class_pool.specs.Pool.{PoolState}
 use Rattle.mem_account.specs.Counters.{Counters}
 use Rattle.mem_account.specs.declared.weight.Weight.{Weight}
@@ -14,7 +14,8 @@ use Rattle.lock_row.specs.declared.names.LockNo.TheVariants as lock
 use Rattle.lock_row.specs.declared.names.Held.{Held}
 use Rattle.lock_row.specs.declared.names.Held.TheVariants as holds
 use Rattle.lock_row.specs.declared.names.At.{At}
-use Rattle.lock_row.specs.declared.names.At.TheVariants.{Start, Refusing, Seen, Pinning, Pinned, Unpinning, Leaving, Wanting, Inside, Both, Made, Old, Freeing, Owing, Giving, Ready}
+use Rattle.lock_row.specs.declared.names.At.TheVariants.{Start, Refusing, Seen, Pinning, Pinned, Unpinning, Leaving, Wanting, Inside, Both, Made, Old, Freeing, Owing, Giving, Ready, Sweeping, Moving, Shrunk, Shrinking}
+use Rattle.lock_row.specs.declared.names.Compaction.{Compaction}
 use Rattle.lock_row.specs.declared.names.Plan.{Plan}
 use Rattle.lock_row.specs.declared.names.Plan.TheVariants.{Finished, Take, Give}
 use Rattle.lock_row.specs.declared.names.Local.{Local}
@@ -61,14 +62,20 @@ class_by (kept.Obj o) = o.class
 
 -- ---- plans
 
--- the first event of a piece: a request beyond the disk takes the account
-abbrev pub start_plan : Bool → Part → Plan
-start_plan true p = Take lock.Account
-start_plan false p = Take (slot p.page)
+-- a compaction before its first event: it begins with class 0
+abbrev pub first_class : Compaction
+first_class = record { class = 0; budget = None; moves = 0; frames = 0 }
+
+-- the first event of a piece: a compaction takes its first class, and a request beyond the disk the
+-- account
+abbrev pub start_plan : Bool → Bool → Part → Plan
+start_plan true beyond p = Take (lock.Class first_class.class)
+start_plan false true p = Take lock.Account
+start_plan false false p = Take (slot p.page)
 
 -- c is the class of the old object, d that of the new one
 abbrev pub plan_at : ℕ → At → Part → ℕ → ℕ → Plan
-plan_at size Start p c d = start_plan (is_beyond size p.op) p
+plan_at size Start p c d = start_plan (is_compaction p.op) (is_beyond size p.op) p
 plan_at size Refusing p c d = Give lock.Account
 plan_at size Seen p c d = Take (lock.Class c)
 plan_at size Pinning p c d = Give (lock.Class c)
@@ -84,6 +91,10 @@ plan_at size Freeing p c d = Give (lock.Class c)
 plan_at size Owing p c d = Take lock.Account
 plan_at size Giving p c d = Give lock.Account
 plan_at size Ready p c d = Give (slot p.page)
+plan_at size (Sweeping x) p c d = Take (lock.Class x.class)
+plan_at size (Moving x) p c d = Give (lock.Class x.class)
+plan_at size (Shrunk x) p c d = Take lock.Account
+plan_at size (Shrinking x) p c d = Give lock.Account
 
 -- the next event of an actor with these pieces to do
 abbrev pub plan_by : ℕ → List Part → At → ℕ → ℕ → Plan
@@ -144,20 +155,22 @@ discard_at kept.Empty = Ready
 discard_at (kept.Same w) = Owing
 discard_at (kept.Obj o) = Old
 
--- a piece has its page's slot
+-- a piece has its page's slot; a compaction takes none
 abbrev pub entered_at : Op → ℕ → PageForm → Kept → At
 entered_at (Write start count stuff) page f k = write_at (has_whole start count page) f k
 entered_at (Read start count) page f k = seen_at k
 entered_at (Discard start count) page f k = discard_at k
+entered_at Compact page f k = Leaving
 
 -- a piece has its first lock
-abbrev pub begun_at : Bool → Part → PageForm → Kept → At
-begun_at true p f k = Refusing
-begun_at false p f k = entered_at p.op p.page f k
+abbrev pub begun_at : Bool → Bool → Part → PageForm → Kept → At
+begun_at true beyond p f k = Moving first_class
+begun_at false true p f k = Refusing
+begun_at false false p f k = entered_at p.op p.page f k
 
 -- a piece has the lock that it takes next
 abbrev pub after_take : ℕ → At → Part → PageForm → Kept → At
-after_take size Start p f k = begun_at (is_beyond size p.op) p f k
+after_take size Start p f k = begun_at (is_compaction p.op) (is_beyond size p.op) p f k
 after_take size Refusing p f k = Refusing
 after_take size Seen p f k = Pinning
 after_take size Pinning p f k = Pinning
@@ -173,6 +186,10 @@ after_take size Freeing p f k = Freeing
 after_take size Owing p f k = Giving
 after_take size Giving p f k = Giving
 after_take size Ready p f k = Ready
+after_take size (Sweeping x) p f k = Moving x
+after_take size (Moving x) p f k = Moving x
+after_take size (Shrunk x) p f k = Shrinking x
+after_take size (Shrinking x) p f k = Shrinking x
 
 -- an actor with these pieces to do has the lock that it takes next
 abbrev pub taken_at : ℕ → List Part → At → Option (List ℕ) → Kept → At
@@ -184,6 +201,7 @@ abbrev pub pinned_at : Op → PageForm → Kept → At
 pinned_at (Write start count stuff) f k = made_at f k
 pinned_at (Read start count) f k = Pinned
 pinned_at (Discard start count) f k = Pinned
+pinned_at Compact f k = Pinned
 
 -- a refused piece has nothing in the pool
 abbrev pub quit_at : Option Pin → At

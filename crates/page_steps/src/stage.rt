@@ -64,6 +64,8 @@ pub enum PieceEnd {
     AtLimit { pages: u64, need: u64, limit: u64 },
     /// It was refused for want of memory.
     NoMemory,
+    /// It was a compaction: the objects that it moved, and the frames that it freed.
+    Compacted { moves: u64, frames: u64 },
 }
 
 /// What a turn of a call was.

@@ -1,6 +1,6 @@
 -- How operations may end, the sectors that they then have to tell, and counts of them by their
 -- ends.
-use Rattle.std.specs.Prelude.{◌≡◌, ◌⊎◌, ℕ, ◌+◌, ◌-◌, ◌*◌, ◌<◌, Bool, true, false, List, [], ◌∷◌, map, ⊤}
+use Rattle.std.specs.Prelude.{◌≡◌, ◌⊎◌, ℕ, ◌+◌, ◌-◌, ◌*◌, ◌<◌, ◌≤◌, Bool, true, false, ◌||◌, List, [], ◌∷◌, map, ⊤}
 use Rattle.std.specs.List.{flat_map, range_with_len}
 use Rattle.zr_base.specs.declared.op.Stuff.{Stuff}
 use Rattle.zr_base.specs.declared.op.Op.{Op}
@@ -8,7 +8,7 @@ use Rattle.zr_base.specs.declared.op.Op.TheVariants.{Write, Read}
 use Rattle.zr_base.specs.declared.op.OpEnd.{OpEnd}
 use Rattle.zr_base.specs.declared.op.OpEnd.TheVariants as ends
 use Rattle.zr_base.specs.Pieces.{first_page, pages_of}
-use Rattle.zr_base.specs.Plain.{stuff_sector, has_whole, is_beyond}
+use Rattle.zr_base.specs.Plain.{stuff_sector, has_whole, is_beyond, is_compaction}
 use Rattle.mem_account.specs.declared.weight.Weight.{Weight}
 use Rattle.size_class.specs.Classes.{chain_of}
 use Rattle.plain_disk.specs.Forms.{is_pooled, in_class}
@@ -30,10 +30,10 @@ pub record Bounds : Type 0 where
 
 -- ---- the ends of an operation
 
--- whether an operation on a disk of so many pages is over in one piece, which stands in no order:
--- one beyond the disk
+-- whether an operation on a disk of so many pages is over in one piece, which stands in no order: a
+-- compaction, or one beyond the disk
 abbrev pub is_single : ℕ → Op → Bool
-is_single pages op = is_beyond pages op
+is_single pages op = is_compaction op || is_beyond pages op
 
 -- the bytes that a write of all sectors of a page puts there
 abbrev pub page_put : ℕ → Stuff → ℕ → List ℕ
@@ -67,9 +67,12 @@ pub record MayBeAtLimit (t : Ground) (op : Op) (page charged need limit : ℕ) :
   pub past : limit < charged + need
   pub needs : IsNeed t op page need
 
--- the ends of an operation that is over in one piece: `range` where it lies beyond the disk
+-- the ends of an operation that is over in one piece: `range` where it lies beyond the disk, and a
+-- compaction's numbers, which frees at most a chain's frames with each move
 abbrev pub MayBeSingle : Ground → Op → OpEnd → Type 0
 MayBeSingle t op ends.Range = is_beyond t.size op ≡ true
+MayBeSingle t op (ends.Compacted moves frames) =
+    (is_compaction op ≡ true) × (frames ≤ t.chain * moves)
 MayBeSingle t op _ = ⊥
 
 -- so many pieces of an operation on the disk were carried out, and not all
@@ -134,6 +137,11 @@ abbrev pub failed_write : Op → OpEnd → ℕ
 failed_write (Write start count stuff) (ends.AtLimit charged need limit done) = 1
 failed_write (Write start count stuff) (ends.NoMemory done) = 1
 failed_write _ _ = 0
+
+-- the frames that a compaction freed
+abbrev pub compacted : Op → OpEnd → ℕ
+compacted op (ends.Compacted moves frames) = frames
+compacted op _ = 0
 
 -- one for a request beyond the disk
 abbrev pub beyond : Op → OpEnd → ℕ

@@ -73,6 +73,7 @@ phase_lines es gots orders = actors_lines 0 es gots ++ order_lines 0 orders
 -- whether an operation with this end was refused
 abbrev pub is_refused : OpEnd → Bool
 is_refused ends.Ok = false
+is_refused (ends.Compacted moves frames) = false
 is_refused _ = true
 
 -- whether a line says that something was refused; the status is 1 where some line of the output

@@ -8,7 +8,7 @@ use Rattle.zr_base.specs.declared.op.OpEnd.{OpEnd}
 use Rattle.zr_base.specs.Plain.{content, order_before, IsOrder}
 use Rattle.mem_account.specs.declared.weight.Weight.{Weight}
 use Rattle.mem_account.specs.Counters.{at_most_end}
-use Rattle.plain_disk.specs.Ends.{Ground, Bounds, MayEndEach, due_from, ends_sum, failed_write, beyond}
+use Rattle.plain_disk.specs.Ends.{Ground, Bounds, MayEndEach, due_from, ends_sum, failed_write, beyond, compacted}
 use Rattle.plain_disk.specs.Output.{OutLine, phase_lines}
 use Rattle.plain_disk.specs.Calls.{Found, after_all, ever_pooled, calls_sum, made_huge, freed}
 use Rattle.plain_disk.specs.Rests.{SoFar, Rest, page_of, kept_pages, frames_of, AreUsed}
@@ -82,6 +82,7 @@ abbrev pub so_far_after : (List ℕ → Weight) → Rest → List (List Op) → 
 so_far_after form r actors ends orders = record r.so_far {
   huge = at_most_end
       (r.so_far.huge + phase_sum (λ p. calls_sum (made_huge form p) actors) r orders);
+  compacted = at_most_end (r.so_far.compacted + ends_sum compacted actors ends);
   failed_writes = at_most_end (r.so_far.failed_writes + ends_sum failed_write actors ends);
   beyond = at_most_end (r.so_far.beyond + ends_sum beyond actors ends);
   freed = at_most_end (r.so_far.freed + phase_sum (λ p. calls_sum freed actors) r orders);

@@ -8,7 +8,7 @@ use Rattle.zr_base.specs.declared.op.Tag.{Tag}
 use Rattle.zr_base.specs.declared.op.Stuff.{Stuff}
 use Rattle.zr_base.specs.declared.op.Stuff.TheVariants.{Fill, Seq, Hex}
 use Rattle.zr_base.specs.declared.op.Op.{Op}
-use Rattle.zr_base.specs.declared.op.Op.TheVariants.{Write, Read, Discard}
+use Rattle.zr_base.specs.declared.op.Op.TheVariants.{Write, Read, Discard, Compact}
 use Rattle.zr_base.specs.declared.op.OpEnd.{OpEnd}
 use Rattle.zr_base.specs.declared.op.OpEnd.TheVariants as ends
 
@@ -60,33 +60,45 @@ abbrev pub start_of : Op → ℕ
 start_of (Write start count stuff) = start
 start_of (Read start count) = start
 start_of (Discard start count) = start
+start_of Compact = 0
 
--- how many sectors it has
+-- how many sectors it has; what is no request has none
 abbrev pub count_of : Op → ℕ
 count_of (Write start count stuff) = count
 count_of (Read start count) = count
 count_of (Discard start count) = count
+count_of Compact = 0
+
+-- whether an operation is a compaction
+abbrev pub is_compaction : Op → Bool
+is_compaction (Write start count stuff) = false
+is_compaction (Read start count) = false
+is_compaction (Discard start count) = false
+is_compaction Compact = true
 
 -- a request begins below sector 2 ^ 32, and has one sector at least and at most so many
 abbrev pub InBounds : ℕ → ℕ → Type 0
 InBounds start count = (start < 2 ^ 32) × (1 ≤ count) × (count ≤ MOST_SECTORS)
 
--- what an operation asks for lies in these bounds; a write has its bytes
+-- what an operation asks for lies in these bounds; a write has its bytes, and a compaction asks for
+-- nothing
 abbrev pub IsRequest : Op → Type 0
 IsRequest (Write start count stuff) = InBounds start count × HasSectors stuff count × HasBytes stuff
 IsRequest (Read start count) = InBounds start count
 IsRequest (Discard start count) = InBounds start count
+IsRequest Compact = Unit {0}
 
 -- whether a request lies beyond a disk of so many pages
 abbrev pub is_beyond : ℕ → Op → Bool
 is_beyond pages op = nat_lt (8 * pages) (start_of op + count_of op)
 
 -- whether an operation's piece on a page is carried out: that of a discard only where it has the
--- whole page
+-- whole page; a compaction has none
 abbrev pub has_event : Op → ℕ → Bool
 has_event (Write start count stuff) page = true
 has_event (Read start count) page = true
 has_event (Discard start count) page = has_whole start count page
+has_event Compact page = false
 
 -- ---- contents
 
@@ -97,6 +109,7 @@ sector_after (Write start count stuff) s old =
 sector_after (Read start count) s old = old
 sector_after (Discard start count) s old =
     if has_whole start count (s / 8) then zero_sector else old
+sector_after Compact s old = old
 
 -- the operation that a tag names
 abbrev pub named : List (List Op) → Tag → Option Op
@@ -126,6 +139,7 @@ stands_on op ends.Ok page = touches (start_of op) (count_of op) page && has_even
 stands_on op ends.Range page = false
 stands_on op (ends.AtLimit pages need limit done) page = is_among (start_of op / 8) done page
 stands_on op (ends.NoMemory done) page = is_among (start_of op / 8) done page
+stands_on op (ends.Compacted moves frames) page = false
 
 -- whether the operation that is named stands in the order of a page with its end, where there are both
 abbrev pub stands_named : Option Op → Option OpEnd → ℕ → Bool

@@ -49,6 +49,12 @@ pub enum OpEnd {
     NoMemory {
         done: u32,
     },
+    /// A compaction was carried out: how many objects it moved, and how many frames of 4096 bytes
+    /// it freed.
+    Compacted {
+        moves: u64,
+        frames: u64,
+    },
 }
 
 /// A list of bytes.
@@ -108,6 +114,7 @@ fn put_bytes(bytes: &[u8], from: usize, out: &mut [u8; 512])
 }
 
 /// An operation of an actor. A request has `count` sectors of 512 bytes, from sector `start` on.
+/// What is no request has no sector.
 #[derive(Drop)]
 pub enum Op {
     Write {
@@ -124,6 +131,8 @@ pub enum Op {
         start: u64,
         count: u32,
     },
+    /// Compacts the pools: objects move out of the zspages that have few, which are then given up.
+    Compact,
 }
 
 /// The operations of an actor, in turn.

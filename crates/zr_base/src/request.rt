@@ -15,15 +15,17 @@ impl Op {
     {
         match self {
             Op::Write { start, .. } | Op::Read { start, .. } | Op::Discard { start, .. } => *start,
+            Op::Compact => 0,
         }
     }
 
-    /// How many sectors the request has.
+    /// How many sectors the request has; what is no request has none.
     pub fn count(&self) -> u32
         ensures { result ≡ count_of self.now }
     {
         match self {
             Op::Write { count, .. } | Op::Read { count, .. } | Op::Discard { count, .. } => *count,
+            Op::Compact => 0,
         }
     }
 
@@ -47,9 +49,12 @@ impl Op {
     pub fn pages(&self) -> u32
         requires { IsRequest self.now }
         ensures pages { result ≡ pages_of self.now }
-        ensures some { 1 ≤ result }
+        ensures some { 1 ≤ count_of self.now → 1 ≤ result }
         ensures few { result ≤ 257 }
     {
+        if self.count() == 0 {
+            return 0;
+        }
         ((self.end() - 1) / 8 + 1 - self.start() / 8) as u32
     }
 
@@ -73,6 +78,7 @@ impl Op {
                 let first = 8 * page as u64;
                 *start <= first && first + 8 <= self.end()
             }
+            Op::Compact => false,
         }
     }
 

@@ -1,13 +1,15 @@
 -- Runs of a world, and the events that are left.
-use Rattle.std.specs.Prelude.{◌≡◌, ◌⊎◌, ◌≢◌, ℕ, ◌+◌, ◌*◌, ◌<◌, ◌≤◌, List, [], ◌∷◌, ◌++◌, length, map, replicate, Some, slice_get}
+use Rattle.std.specs.Prelude.{◌≡◌, ◌⊎◌, ◌≢◌, ℕ, ◌+◌, ◌-◌, ◌*◌, ◌<◌, ◌≤◌, List, [], ◌∷◌, ◌++◌, length, map, replicate, Some, unwrap_or, if◌then◌else◌, slice_get}
 use Rattle.std.specs.List.{flat_map, range_with_len}
 use Rattle.zr_base.specs.declared.op.Op.{Op}
 use Rattle.zr_base.specs.declared.op.Turns.{Turns}
+use Rattle.zr_base.specs.Plain.{is_compaction}
 use Rattle.call_history.specs.declared.part.Part.{Part}
 use Rattle.call_history.specs.declared.part.Done.{Done}
 use Rattle.lock_row.specs.declared.names.LockNo.{LockNo}
 use Rattle.lock_row.specs.declared.names.At.{At}
-use Rattle.lock_row.specs.declared.names.At.TheVariants.{Start, Refusing, Seen, Pinning, Pinned, Unpinning, Leaving, Wanting, Inside, Both, Made, Old, Freeing, Owing, Giving, Ready}
+use Rattle.lock_row.specs.declared.names.At.TheVariants.{Start, Refusing, Seen, Pinning, Pinned, Unpinning, Leaving, Wanting, Inside, Both, Made, Old, Freeing, Owing, Giving, Ready, Sweeping, Moving, Shrunk, Shrinking}
+use Rattle.lock_row.specs.declared.names.Compaction.{Compaction}
 use Rattle.lock_row.specs.declared.names.Plan.TheVariants.{Finished, Take}
 use Rattle.lock_row.specs.declared.names.State.{State}
 use Rattle.lock_row.specs.Totals.{locals_sum}
@@ -53,37 +55,60 @@ abbrev pub AllOver : List (List Op) → List Worker → Type 0
 AllOver actors ws = (a : ℕ) (ops : List Op) (w : Worker) → slice_get actors a ≡ Some ops
     → slice_get ws a ≡ Some w → length ops ≤ w.place.nr
 
--- the most events that a piece at a stage has left
-abbrev pub stage_left : At → ℕ
-stage_left Start = 12
-stage_left Seen = 11
-stage_left Pinning = 10
-stage_left Wanting = 9
-stage_left Inside = 8
-stage_left Both = 7
-stage_left Made = 6
-stage_left Old = 5
-stage_left Freeing = 4
-stage_left Owing = 3
-stage_left Pinned = 3
-stage_left Giving = 2
-stage_left Unpinning = 2
-stage_left Ready = 1
-stage_left Leaving = 1
-stage_left Refusing = 1
+-- the most events of a compaction in a class with so many objects: four for each, and the last two
+abbrev pub class_left : ℕ → ℕ
+class_left n = 4 * n + 2
 
--- the most events that are left: those of the piece in work, and twelve for each later one
-abbrev pub left_at : List Part → At → ℕ
-left_at [] at = 0
-left_at (p ∷ ps) at = stage_left at + 12 * length ps
+-- the most events that a compaction has left from the taking of its class on, where no class has more
+-- than n objects
+abbrev pub compaction_left : ℕ → Compaction → ℕ
+compaction_left n x = class_left (unwrap_or x.budget n) + (254 - x.class) * class_left n
+
+-- the most events of a piece: twelve, or those of a compaction of all classes
+abbrev pub piece_left : ℕ → Part → ℕ
+piece_left n p = if is_compaction p.op then 255 * class_left n else 12
+
+-- those of some pieces
+abbrev pub pieces_left : ℕ → List Part → ℕ
+pieces_left n [] = 0
+pieces_left n (p ∷ ps) = piece_left n p + pieces_left n ps
+
+-- the most events that a piece at a stage has left
+abbrev pub stage_left : ℕ → Part → At → ℕ
+stage_left n p Start = piece_left n p
+stage_left n p Seen = 11
+stage_left n p Pinning = 10
+stage_left n p Wanting = 9
+stage_left n p Inside = 8
+stage_left n p Both = 7
+stage_left n p Made = 6
+stage_left n p Old = 5
+stage_left n p Freeing = 4
+stage_left n p Owing = 3
+stage_left n p Pinned = 3
+stage_left n p Giving = 2
+stage_left n p Unpinning = 2
+stage_left n p Ready = 1
+stage_left n p Leaving = 1
+stage_left n p Refusing = 1
+stage_left n p (Sweeping x) = compaction_left n x
+stage_left n p (Moving x) = compaction_left n x - 1
+stage_left n p (Shrunk x) = compaction_left n x + 2
+stage_left n p (Shrinking x) = compaction_left n x + 1
+
+-- the most events that are left: those of the piece in work, and those of each later one
+abbrev pub left_at : ℕ → List Part → At → ℕ
+left_at n [] at = 0
+left_at n (p ∷ ps) at = stage_left n p at + pieces_left n ps
 
 -- those that an actor has left
-abbrev pub left_by : Here → ℕ
-left_by l = left_at l.todo l.at
+abbrev pub left_by : ℕ → Here → ℕ
+left_by n l = left_at n l.todo l.at
 
--- those that all actors have left
-abbrev pub all_left : State DiskHeld → ℕ
-all_left w = locals_sum left_by w.locals
+-- those that all actors of a disk of so many pages have left: no class has more objects than there
+-- are pages and actors
+abbrev pub all_left : ℕ → State DiskHeld → ℕ
+all_left size w = locals_sum (left_by (size + length w.locals)) w.locals
 
 -- before the first turn no piece is over
 abbrev pub nothing_over : List Worker → List (List Done)
@@ -91,7 +116,7 @@ nothing_over ws = map (λ w. []) ws
 
 -- the events that workers have left, whatever is over
 abbrev pub left_of : Playing → ℕ
-left_of x = locals_sum left_by (heres x.terms x.actors x.workers (nothing_over x.workers))
+left_of x = all_left x.terms.size (state_of x (nothing_over x.workers))
 
 -- the next turn of this actor is an event
 abbrev pub IsFree : Terms → State DiskHeld → ℕ → Type 0
@@ -102,7 +127,7 @@ IsFree t w a = (l : Here) × (slice_get w.locals a ≡ Some l) × (plan t l ≢ 
 -- in a round so far, up to the actor i: fewer events are left, or nothing happened and no actor
 -- below i was free
 abbrev pub Round : Terms → State DiskHeld → State DiskHeld → ℕ → Type 0
-Round t start now i = (all_left now < all_left start)
+Round t start now i = (all_left t.size now < all_left t.size start)
     ⊎ ((now ≡ start) × ((f : ℕ) → IsFree t start f → i ≤ f))
 
 -- a round has come to the actor i
