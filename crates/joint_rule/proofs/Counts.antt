@@ -28,7 +28,7 @@ use Rattle.plain_disk.specs.Calls.{after}
 use Rattle.plain_disk.specs.Ends.{failed_write}
 use Rattle.slot_entry.specs.Forms.{form_weight}
 use Rattle.zr_base.specs.declared.op.Op.{Op}
-use Rattle.zr_base.specs.declared.op.Op.TheVariants.{Discard, Read, Write}
+use Rattle.zr_base.specs.declared.op.Op.TheVariants.{Compact, Discard, Read, Write}
 use Rattle.joint_rule.proofs.Events as event
 use Rattle.lock_row.specs.declared.names.LockNo.TheVariants as lock
 use Rattle.lock_row.specs.declared.names.Held.TheVariants as holds
@@ -105,16 +105,19 @@ write_gives : (op : Op) → IsWrite op → (c n l : ℕ) → piece_gives failed_
 write_gives (Write start count stuff) i c n l = refl
 write_gives (Read start count) i c n l = absurd i
 write_gives (Discard start count) i c n l = absurd i
+write_gives Compact i c n l = absurd i
 
 memory_gives : (op : Op) → IsWrite op → piece_gives failed_write op NoMemory ≡ 1
 memory_gives (Write start count stuff) i = refl
 memory_gives (Read start count) i = absurd i
 memory_gives (Discard start count) i = absurd i
+memory_gives Compact i = absurd i
 
 range_gives : (op : Op) → piece_gives failed_write op (Whole ends.Range) ≡ 0
 range_gives (Write start count stuff) = refl
 range_gives (Read start count) = refl
 range_gives (Discard start count) = refl
+range_gives Compact = refl
 
 charged_refusals : (q : Refusal) (c : Counters) (need : ℕ)
     → refusal_count q (charged c need) ≡ refusal_count q c

@@ -21,7 +21,7 @@ use Rattle.joint_rule.specs.Stages.{BlankBy, Changes, FailBy, Looks, NoneOf, Sta
 use Rattle.joint_rule.specs.Weights.{FreedPages, HugeWrites, Huges, News, news_count, news_counter, news_of, none, noted, order_news, same, told_ahead, told_at, told_by}
 use Rattle.lock_row.specs.Totals.{by_option, held_sum, mass, total}
 use Rattle.lock_row.specs.declared.names.At.{At}
-use Rattle.lock_row.specs.declared.names.At.TheVariants.{Both, Freeing, Giving, Inside, Leaving, Made, Old, Owing, Pinned, Pinning, Ready, Refusing, Seen, Start, Unpinning, Wanting}
+use Rattle.lock_row.specs.declared.names.At.TheVariants.{Both, Freeing, Giving, Inside, Leaving, Made, Old, Owing, Pinned, Pinning, Ready, Refusing, Seen, Start, Unpinning, Wanting, Sweeping, Moving, Shrunk, Shrinking}
 use Rattle.lock_row.specs.declared.names.LockNo.{LockNo}
 use Rattle.lock_row.specs.declared.names.Object.{Object}
 use Rattle.lock_row.specs.declared.names.Pin.{Pin}
@@ -30,7 +30,8 @@ use Rattle.lock_row.specs.declared.names.State.{State}
 use Rattle.mem_account.specs.Counters.{Counters, at_most_end, charged, counted, with_one, without_one}
 use Rattle.mem_account.specs.Tally.{huge_of}
 use Rattle.mem_account.specs.declared.weight.Weight.{Weight}
-use Rattle.page_steps.specs.Givings.{Notes, kept_by, old_weight, repaid, settled, tells}
+use Rattle.page_steps.specs.Compactions.{repaid}
+use Rattle.page_steps.specs.Givings.{Notes, kept_by, old_weight, settled, tells}
 use Rattle.page_steps.specs.Pages.{next_by, next_form, page_in, page_in_cell}
 use Rattle.page_steps.specs.Steps.{DiskHeld, Here, after_take, begun_at, entry_in, entry_or, lock_of, made_at, piece_over, pinned_at, plan, quit_at, settle_at, slot, spot, taken_at, took}
 use Rattle.plain_disk.specs.Calls.{Found, after, after_all, calls_sum, freed}
@@ -38,9 +39,9 @@ use Rattle.plain_disk.specs.Forms.{is_huge}
 use Rattle.slot_entry.specs.Entries.{EntryState}
 use Rattle.slot_entry.specs.Forms.{Blank, PageForm, Pooled, Word, form_weight}
 use Rattle.slot_entry.specs.declared.kept.Kept.{Kept}
-use Rattle.zr_base.specs.Plain.{is_beyond, named}
+use Rattle.zr_base.specs.Plain.{is_beyond, is_compaction, named}
 use Rattle.zr_base.specs.declared.op.Op.{Op}
-use Rattle.zr_base.specs.declared.op.Op.TheVariants.{Discard, Read, Write}
+use Rattle.zr_base.specs.declared.op.Op.TheVariants.{Compact, Discard, Read, Write}
 use Rattle.zr_base.specs.declared.op.Tag.{Tag}
 use Rattle.joint_rule.proofs.Events as event
 use Rattle.lock_row.specs.declared.names.Held.TheVariants as holds
@@ -91,6 +92,7 @@ told_none HugeWrites op = refl
 told_none FreedPages (Write start count stuff) = refl
 told_none FreedPages (Read start count) = refl
 told_none FreedPages (Discard start count) = refl
+told_none FreedPages Compact = refl
 
 told_quiet : (q : News) (at : At) (ps : List Part) → told_at q at ps None ≡ 0
 told_quiet q Ready [] = refl
@@ -110,6 +112,10 @@ told_quiet q Old ps = refl
 told_quiet q Freeing ps = refl
 told_quiet q Owing ps = refl
 told_quiet q Giving ps = refl
+told_quiet q (Sweeping x) ps = refl
+told_quiet q (Moving x) ps = refl
+told_quiet q (Shrunk x) ps = refl
+told_quiet q (Shrinking x) ps = refl
 
 told_free : (q : News) (at : At) (ps : List Part) (x : Option Weight) → NoneOf x
     → told_at q at ps x ≡ 0
@@ -133,6 +139,7 @@ told_pinned : (q : News) (op : Op) (f : PageForm) (k : Kept) (ps : List Part) (x
 told_pinned q (Write start count stuff) f k ps x = told_made q f k ps x
 told_pinned q (Read start count) f k ps x = refl
 told_pinned q (Discard start count) f k ps x = refl
+told_pinned q Compact f k ps x = refl
 
 told_quit : (q : News) (y : Option Pin) (ps : List Part) (x : Option Weight)
     → told_at q (quit_at y) ps x ≡ 0
@@ -146,7 +153,7 @@ told_after : (g : Begin) (q : News) (at : At) (p : Part) (ps : List Part) (e e' 
     → Stage g p e at fresh pin owed x y page fail → told_at q (after_take g.given.size at p f k)
     (p ∷ ps) x ≡ told_at q at (p ∷ ps) x
 told_after g q Start p ps e e' fresh pin owed x y page fail f k s =
-    told_free q (begun_at (is_beyond g.given.size p.op) p f k) (p ∷ ps) x s.counts.0
+    told_free q (begun_at (is_compaction p.op) (is_beyond g.given.size p.op) p f k) (p ∷ ps) x s.counts.0
 told_after g q Refusing p ps e e' fresh pin owed x y page fail f k s = refl
 told_after g q Seen p ps e e' fresh pin owed x y page fail f k s = refl
 told_after g q Pinning p ps e e' fresh pin owed x y page fail f k s = refl
@@ -162,6 +169,10 @@ told_after g q Freeing p ps e e' fresh pin owed x y page fail f k s = refl
 told_after g q Owing p ps e e' fresh pin owed x y page fail f k s = refl
 told_after g q Giving p ps e e' fresh pin owed x y page fail f k s = refl
 told_after g q Ready p ps e e' fresh pin owed x y page fail f k s = refl
+told_after g q (Sweeping z) p ps e e' fresh pin owed x y page fail f k s = refl
+told_after g q (Moving z) p ps e e' fresh pin owed x y page fail f k s = refl
+told_after g q (Shrunk z) p ps e e' fresh pin owed x y page fail f k s = refl
+told_after g q (Shrinking z) p ps e e' fresh pin owed x y page fail f k s = refl
 
 told_taken : (g : Begin) (q : News) (l : Here) (v : DiskHeld) (ps : List Part)
     → StageBy g ps (entry_in l.held) l.at l.fresh l.pin l.owed l.ahead l.behind l.page l.fail
@@ -204,12 +215,14 @@ tells_huge : (op : Op) (c : Counters) → (tells op c).huge_since ≡ c.huge_sin
 tells_huge (Write start count stuff) c = refl
 tells_huge (Read start count) c = refl
 tells_huge (Discard start count) c = refl
+tells_huge Compact c = refl
 
 tells_freed : (op : Op) (c : Counters) (w : Weight) → (tells op c).notify_free
     ≡ raised (told_by FreedPages op (Some w)) c.notify_free
 tells_freed (Write start count stuff) c w = refl
 tells_freed (Read start count) c w = refl
 tells_freed (Discard start count) c w = refl
+tells_freed Compact c w = refl
 
 settled_news : (q : News) (op : Op) (n : ℕ) (old new : Weight) (c : Counters)
     → news_count q (settled op n old new c) ≡ raised (told_by q op (Some new)) (news_count q c)
@@ -227,6 +240,7 @@ told_one HugeWrites op w = huge_one w
 told_one FreedPages (Write start count stuff) w = omega arith
 told_one FreedPages (Read start count) w = omega arith
 told_one FreedPages (Discard start count) w = omega arith
+told_one FreedPages Compact w = omega arith
 
 same_failed : (q : News) (c : Counters) → news_count q (counted c delta.FailedWrite)
     ≡ news_count q c
@@ -304,6 +318,7 @@ module _ (g : Begin) (ok : Known g) (w : State DiskHeld) (j : Joint g w) (a : �
           (kept_is g p.page (e.order ++ tag_by l.actor p ∷ []) ∙ ap form_weight now_form)
           ∙ huge_bit (form_weight (next_form p l.page e.kept)) ∙ sym (st.counts.ahead Huges)
       huge_told (Read start count) is c = absurd c
+      huge_told Compact is c = absurd c
       huge_told (Discard start count) is c = sym (st.counts.ahead Huges
           ∙ ap (λ (o : Op). huge_of (form_weight (next_by o p (page_in l.page e.kept)))) is)
 
@@ -312,6 +327,7 @@ module _ (g : Begin) (ok : Known g) (w : State DiskHeld) (j : Joint g w) (a : �
           (found_after g p.page (e.order ++ tag_by l.actor p ∷ [])) ≡ told_by FreedPages op x
       blank_told (Write start count stuff) x b c i = refl
       blank_told (Read start count) x b c i = absurd c
+      blank_told Compact x b c i = absurd c
       blank_told (Discard start count) None b c i = ap (λ (y : Bool). cond {A = ℕ} y 0 1) i
       blank_told (Discard start count) (Some x) b c i = ap (λ (y : Bool). cond {A = ℕ} y 0 1) i
 
@@ -354,6 +370,7 @@ module _ (g : Begin) (ok : Known g) (w : State DiskHeld) (j : Joint g w) (a : �
           → order_news g q p.page f.order ≡ order_news g q p.page e.order
       read_order q (Write start count stuff) is i b notes = absurd b
       read_order q (Discard start count) is i b notes = absurd b
+      read_order q Compact is i b notes = absurd b
       read_order q (Read start count) is i b notes =
           let s = ap (order_news g q p.page) notes.order in let o = order_more q p e.order is_op in
           let z = ap (λ (x : Op). news_of q p.page (Some x) (found_after g p.page e.order)
