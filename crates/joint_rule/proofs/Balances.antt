@@ -301,6 +301,9 @@ module _ (op : Op) (n : ℕ) (old new : Weight) (c : Counters) where
   settled_refusals FailedWrites = ap (λ (x : ℕ × ℕ × ℕ × ℕ × ℕ × ℕ). x.4) settled_rest
   settled_refusals OutOfRange = ap (λ (x : ℕ × ℕ × ℕ × ℕ × ℕ × ℕ). x.5) settled_rest
 
+  pub settled_compacted : (settled op n old new c).compacted ≡ c.compacted
+  settled_compacted = ap (λ (x : ℕ × ℕ × ℕ × ℕ × ℕ × ℕ). x.2) settled_rest
+
 pub failed_count : (q : Count) (c : Counters) → counter q (counted c delta.FailedWrite)
     ≡ counter q c
 failed_count Sames c = refl

@@ -1,12 +1,13 @@
 -- The account's counters of calls: each giving raises them by what its piece gives, and a piece
 -- that
 -- is noted gives that to its order.
-use Rattle.std.proofs.Common.{◌≡◌, ◌+◌, ◌≤◌, ◌∷◌, ◌++◌, ◌∙◌, ℕ, Bool, cond, List, [], Option, Some, None, slice_get, refl, sym, ap, subst, arith}
+use Rattle.std.proofs.Common.{◌≡◌, ◌+◌, ◌≤◌, ◌∷◌, ◌++◌, ◌∙◌, ℕ, zero, suc, Bool, cond, List, [], Option, Some, None, slice_get, refl, sym, ap, subst, arith}
 use Rattle.call_history.specs.Parts.{left_by}
 use Rattle.call_history.specs.Shows.{tag_by}
 use Rattle.call_history.specs.declared.part.Part.{Part}
 use Rattle.call_history.specs.declared.part.PartEnd.{PartEnd}
 use Rattle.call_history.specs.declared.part.PartEnd.TheVariants.{Carried, Whole}
+use Rattle.joint_rule.proofs.Balances.{shrunk}
 use Rattle.joint_rule.proofs.Counts.{Raises, raised, raises, rises_total, still}
 use Rattle.joint_rule.proofs.Events.{Event}
 use Rattle.joint_rule.proofs.Facts.{Known}
@@ -22,6 +23,7 @@ use Rattle.joint_rule.specs.Weights.{FreedPages, HugeWrites, Huges, News, news_c
 use Rattle.lock_row.specs.Totals.{by_option, held_sum, mass, total}
 use Rattle.lock_row.specs.declared.names.At.{At}
 use Rattle.lock_row.specs.declared.names.At.TheVariants.{Both, Freeing, Giving, Inside, Leaving, Made, Old, Owing, Pinned, Pinning, Ready, Refusing, Seen, Start, Unpinning, Wanting, Sweeping, Moving, Shrunk, Shrinking}
+use Rattle.lock_row.specs.declared.names.Compaction.{Compaction}
 use Rattle.lock_row.specs.declared.names.LockNo.{LockNo}
 use Rattle.lock_row.specs.declared.names.Object.{Object}
 use Rattle.lock_row.specs.declared.names.Pin.{Pin}
@@ -30,7 +32,7 @@ use Rattle.lock_row.specs.declared.names.State.{State}
 use Rattle.mem_account.specs.Counters.{Counters, at_most_end, charged, counted, with_one, without_one}
 use Rattle.mem_account.specs.Tally.{huge_of}
 use Rattle.mem_account.specs.declared.weight.Weight.{Weight}
-use Rattle.page_steps.specs.Compactions.{repaid}
+use Rattle.page_steps.specs.Compactions.{moved_at, repaid, with_move}
 use Rattle.page_steps.specs.Givings.{Notes, kept_by, old_weight, settled, tells}
 use Rattle.page_steps.specs.Pages.{next_by, next_form, page_in, page_in_cell}
 use Rattle.page_steps.specs.Steps.{DiskHeld, Here, after_take, begun_at, entry_in, entry_or, lock_of, made_at, piece_over, pinned_at, plan, quit_at, settle_at, slot, spot, taken_at, took}
@@ -146,6 +148,11 @@ told_quit : (q : News) (y : Option Pin) (ps : List Part) (x : Option Weight)
 told_quit q None ps x = refl
 told_quit q (Some y) ps x = refl
 
+told_moved : (q : News) (frames : ℕ) (y : Compaction) (ps : List Part) (x : Option Weight)
+    → told_at q (moved_at frames y) ps x ≡ 0
+told_moved q zero y ps x = refl
+told_moved q (suc frames) y ps x = refl
+
 -- a taking tells nothing
 told_after : (g : Begin) (q : News) (at : At) (p : Part) (ps : List Part) (e e' : EntryState)
     (fresh : Option Object) (pin : Option Pin) (owed : ℕ) (x y : Option Weight)
@@ -250,6 +257,10 @@ same_failed FreedPages c = refl
 same_invalid : (q : News) (c : Counters) → news_count q (counted c delta.InvalidIo) ≡ news_count q c
 same_invalid HugeWrites c = refl
 same_invalid FreedPages c = refl
+
+same_shrunk : (q : News) (c : Counters) (n : ℕ) → news_count q (shrunk n c) ≡ news_count q c
+same_shrunk HugeWrites c n = refl
+same_shrunk FreedPages c n = refl
 
 same_charged : (q : News) (c : Counters) (need : ℕ) → news_count q (charged c need) ≡ news_count q c
 same_charged HugeWrites c need = refl
@@ -448,6 +459,25 @@ module _ (g : Begin) (ok : Known g) (w : State DiskHeld) (j : Joint g w) (a : �
         same_news q _ _ v_is m_is (back_news p rest todo e e held at q x []
         (sym (given_lock g ok w j a l who k v m what (slot p.page)
         (event_is g ok w j a l who k v m what p rest _ Leaving todo held at))) refl)
+    news_gives q (event.moves p rest x y y' u u' budget frames todo at held sh v_is m_is) =
+        same_news q _ _ v_is m_is (quietly q _ _ (let z = ap (held_sum (spot n) (noted g q)) held in
+        let s = silent q (Moving x) at refl in let r = told_moved q frames (with_move x budget)
+        l.todo l.ahead in omega arith)
+        (let z = ap (held_sum (spot n) (news_counter q)) held in omega arith))
+    news_gives q (event.sweeps p rest x y todo at held v_is m_is) =
+        same_news q _ _ v_is m_is (quietly q _ _ (let z = ap (held_sum (spot n) (noted g q)) held in
+        let s = silent q (Moving x) at refl in omega arith)
+        (let z = ap (held_sum (spot n) (news_counter q)) held in omega arith))
+    news_gives q (event.closes p rest x y todo at held v_is m_is) =
+        same_news q _ _ v_is m_is (quietly q _ _ (let z = ap (held_sum (spot n) (noted g q)) held in
+        let s = silent q (Moving x) at refl in let r = told_quiet q Start
+        (left_by (Whole (ends.Compacted x.moves x.frames)) p.nr rest) in omega arith)
+        (let z = ap (held_sum (spot n) (news_counter q)) held in omega arith))
+    news_gives q (event.shrinks p rest x c todo at held v_is m_is) =
+        same_news q _ _ v_is m_is (quietly q _ _ (let z = ap (held_sum (spot n) (noted g q)) held in
+        let s = silent q (Shrinking x) at refl in omega arith)
+        (let z = ap (held_sum (spot n) (news_counter q)) held in let s = same_shrunk q c l.owed in
+        omega arith))
 
   pub news_give : (q : News) → slice_get w.row (spot n k) ≡ Some None → Announces q v m
       → CountsNews g q w → CountsNews g q (gone n w a l who k (Some v) m)

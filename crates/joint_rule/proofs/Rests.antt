@@ -27,6 +27,10 @@ pub none_weigh : {X : Type 0} (f : X → ℕ) (x : Option X) → NoneOf x → by
 none_weigh f None e = refl
 none_weigh f (Some x) e = absurd e
 
+pub no_held : (xs : List (LockNo × DiskHeld)) → map (λ (x : LockNo × DiskHeld). x.0) xs ≡ [] → xs ≡ []
+no_held [] e = refl
+no_held (x ∷ xs) e = absurd (cc)
+
 never_finished : (size : ℕ) (at : At) (p : Part) (c d : ℕ) → plan_at size at p c d ≡ Finished → ⊥
 never_finished size Start p c d e = started (is_compaction p.op) (is_beyond size p.op) e where
   started : (a b : Bool) → start_plan a b p ≡ Finished → ⊥
@@ -71,10 +75,6 @@ module _ (g : Begin) (w : State DiskHeld) (r : Rule g w) (fin : AllFinished g w)
 
   ended : (a : ℕ) (l : Here) → slice_get w.locals a ≡ Some l → IsActor g a l
   ended a l e = j.each.in_local a l e
-
-  no_held : (xs : List (LockNo × DiskHeld)) → map (λ (x : LockNo × DiskHeld). x.0) xs ≡ [] → xs ≡ []
-  no_held [] e = refl
-  no_held (x ∷ xs) e = absurd (cc)
 
   pub held_none : (a : ℕ) (l : Here) → slice_get w.locals a ≡ Some l → l.held ≡ []
   held_none a l e = let f = ended a l e in no_held l.held (f.locks

@@ -235,6 +235,15 @@ module _ (g : Begin) (ok : Known g) (w : State DiskHeld) (j : Joint g w) (a : 鈩
       (subst (FailBy g p p.op) bad st.fails)) (位 h.
       subst (位 (c : LockNo). OfOrder P (spot g.given.size c) (holds.Slot e)) k_is
       (subst (HeldAll g.given.size (OfOrder P)) held h).0) m_is)
+  tells_of (event.moves p rest x q q' u u' budget frames todo at held sh v_is m_is) =
+      same_tells _ _ v_is m_is (quiet refl refl (位 h. (tt, tt)))
+  tells_of (event.sweeps p rest x q todo at held v_is m_is) =
+      same_tells _ _ v_is m_is (quiet refl refl (位 h. (tt, tt)))
+  tells_of (event.closes p rest x q todo at held v_is m_is) =
+      same_tells _ m v_is refl (refused p rest (Whole (ends.Compacted x.moves x.frames)) todo refl
+      (位 h. tt) m_is)
+  tells_of (event.shrinks p rest x c todo at held v_is m_is) =
+      same_tells _ _ v_is m_is (quiet refl refl (位 h. (tt, tt)))
 
 -- ---- the law
 
