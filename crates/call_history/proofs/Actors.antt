@@ -8,13 +8,13 @@ use Rattle.std.proofs.lemmas.List.Sums.{sum_by-cons}
 use Rattle.zr_base.specs.declared.op.Op.{Op}
 use Rattle.zr_base.specs.declared.op.Op.TheVariants.{Read}
 use Rattle.zr_base.specs.declared.op.OpEnd.{OpEnd}
-use Rattle.zr_base.specs.Plain.{count_of, stands_on, stands_named}
+use Rattle.zr_base.specs.Plain.{stands_on, stands_named}
 use Rattle.plain_disk.specs.Ends.{Ground, Bounds, MayEnd, MayEndAll, read_by, due_from}
 use Rattle.call_history.specs.declared.part.Part.{Part}
 use Rattle.call_history.specs.declared.part.PartEnd.{PartEnd}
 use Rattle.call_history.specs.declared.part.Done.{Done}
 use Rattle.call_history.specs.Parts.{parts, program, Follows, noted_on, got_of, end_of, ends_from, shown, told_from}
-use Rattle.call_history.specs.Histories.{SomeEach}
+use Rattle.call_history.specs.Histories.{HasSome, SomeEach}
 use Rattle.call_history.proofs.Orders.{Rising}
 use Rattle.call_history.proofs.Ends.{Mine, split, every_parts_of, program_above, every_done, every_mine, noted_append, got_append, end_none, end_front, got_none, all_map, Else, Of, Above}
 use Rattle.call_history.proofs.Operations.{By, Reads, one_op, one_read}
@@ -165,10 +165,11 @@ module _ (t : Ground) (b : Bounds) where
       (λ i. shown op (end i) (got i) ∷ told i)
       ∙ (λ i. one op some.0 c.front c.mine (all_front (Reads R) c.front c.back both) i ∷ more i)
       ∙ (λ i. read_by op (sym end i) (R nr) ∷ due_from (nr + 1) ops (back i) R) where
-        one : (o : Op) → 1 ≤ count_of o → (front : List Done) → Mine (By t b) (parts t.size nr o) front
+        one : (o : Op) → HasSome o → (front : List Done) → Mine (By t b) (parts t.size nr o) front
             → AllByRecursion (Reads R) front
             → shown o (end_of nr front) (got_of nr front) ≡ read_by o (end_of nr front) (R nr)
-        one (Read start count) some front m all = one_read t b R nr start count front some m all
+        one (Read start count) some front m all =
+            one_read t b R nr start count front (some refl) m all
         one _ some front m all = refl
 
 -- ---- the tags that an order has

@@ -3,7 +3,7 @@ use Rattle.std.proofs.Common.{◌≡◌, ℕ, zero, suc, ◌+◌, ◌-◌, ◌*�
 use Rattle.std.specs.List.{range_with_len, AllByRecursion}
 use Rattle.std.proofs.lemmas.Bool.{cases_Bool, eq-eqb, ne_eqb, and_right, and_parts, and_from, ltb-true, leb-true, le-leb, lt-ltb, cases_lt}
 use Rattle.zr_base.specs.declared.op.Op.{Op}
-use Rattle.zr_base.specs.declared.op.Op.TheVariants.{Write, Read, Discard}
+use Rattle.zr_base.specs.declared.op.Op.TheVariants.{Write, Read, Discard, Compact}
 use Rattle.zr_base.specs.declared.op.OpEnd.{OpEnd}
 use Rattle.zr_base.specs.declared.op.OpEnd.TheVariants as ends
 use Rattle.zr_base.specs.Plain.{start_of, count_of, has_event, touches, is_among, stands_on}
@@ -13,6 +13,7 @@ use Rattle.call_history.specs.declared.part.Part.{Part}
 use Rattle.call_history.specs.declared.part.PartEnd.{PartEnd}
 use Rattle.call_history.specs.declared.part.PartEnd.TheVariants as over
 use Rattle.call_history.specs.declared.part.Done.{Done}
+use Rattle.call_history.specs.Histories.{HasSome}
 use Rattle.call_history.specs.Parts.{parts_from, parts, EndsSo, KeepsTo, is_carried, stands_so, op_end, noted_on, got_by, got_of, end_by, end_of, shown}
 use Rattle.call_history.proofs.Ends.{Mine, carried, bool_same, mine_on, none_left, piece_of, noted_one, end_here, pages_noted, pages_end, wholes_noted}
 
@@ -116,17 +117,20 @@ module _ (t : Ground) (b : Bounds) where
   -- such an end is one that the operation may have, and it stands in no order
   single_may : (op : Op) (end : OpEnd) → MayBeSingle t op end → MayEnd t b op end
   single_may op ends.Range may = may
+  single_may op (ends.Compacted moves frames) may = may
   single_may op _ may = absurd may
 
   single_stands : (op : Op) (end : OpEnd) (p : ℕ) → MayBeSingle t op end
       → stands_on op end p ≡ false
   single_stands op ends.Range p may = refl
+  single_stands op (ends.Compacted moves frames) p may = refl
   single_stands op _ p may = absurd may
 
   single_shown : (start count : ℕ) (end : OpEnd) (got : List (List ℕ)) (f : ℕ → List ℕ)
       → MayBeSingle t (Read start count) end
       → shown (Read start count) end got ≡ read_by (Read start count) end f
   single_shown start count ends.Range got f may = refl
+  single_shown start count (ends.Compacted moves frames) got f may = refl
   single_shown start count _ got f may = absurd may
 
   -- the only piece of an operation
@@ -255,21 +259,23 @@ module _ (t : Ground) (b : Bounds) where
   discard_ends nr start count inside q (over.Whole end) so =
       absurd (clash (is_single t.size (Discard start count)) so.0.0 inside)
 
-  pub one_op : (p nr : ℕ) (op : Op) (front : List Done) → 1 ≤ count_of op
+  pub one_op : (p nr : ℕ) (op : Op) (front : List Done) → HasSome op
       → Mine By (parts t.size nr op) front → IsOp p nr op (end_of nr front) front
   one_op p nr op front some m = elim (cases_Bool (is_single t.size op)) [
     | inl on ↦ only_op p nr op front (only_is nr op front on (mine_single nr op front on m))
     | inr off ↦ by_kind op some off (mine_several nr op front off m)
   ] where
-    by_kind : (o : Op) → 1 ≤ count_of o → is_single t.size o ≡ false
+    by_kind : (o : Op) → HasSome o → is_single t.size o ≡ false
         → Mine By (parts_from nr o (first_page o) (pages_of o)) front
         → IsOp p nr o (end_by nr 0 front) front
     by_kind (Write start count stuff) some off k =
-        by_pages p nr (Write start count stuff) front some (λ q. refl) off k
+        by_pages p nr (Write start count stuff) front (some refl) (λ q. refl) off k
     by_kind (Read start count) some off k =
-        by_pages p nr (Read start count) front some (λ q. refl) off k
+        by_pages p nr (Read start count) front (some refl) (λ q. refl) off k
     by_kind (Discard start count) some off k =
-        by_wholes p nr (Discard start count) front some (discard_ends nr start count off) off k
+        by_wholes p nr (Discard start count) front (some refl) (discard_ends nr start count off) off
+        k
+    by_kind Compact some off k = absurd (cc)
 
   -- ---- what a read tells
 

@@ -3,16 +3,16 @@
 use Rattle.std.proofs.Common.{◌≡◌, ℕ, zero, suc, ◌+◌, ◌*◌, ◌/◌, ◌<◌, ◌≤◌, cond, eqb, List, [], ◌∷◌, length, take, get_or, Option, Some, None, option_and_then, slice_get, refl, sym, ap, ◌∙◌, subst, arith, zero-add, true, false, ◌⊎◌, inl, inr, ⊎_elim}
 use Rattle.std.specs.Prelude.{count_by}
 use Rattle.std.specs.List.{AllByRecursion}
-use Rattle.std.proofs.lemmas.Bool.{cases_Bool, cases_lt, ltb-false}
+use Rattle.std.proofs.lemmas.Bool.{cases_Bool, cases_lt, ltb-false, or_parts}
 use Rattle.std.proofs.lemmas.Option.{get_or_from_slice_get}
 use Rattle.zr_base.specs.declared.op.Tag.{Tag}
 use Rattle.zr_base.specs.declared.op.Op.{Op}
 use Rattle.zr_base.specs.declared.op.OpEnd.{OpEnd}
-use Rattle.zr_base.specs.Plain.{count_of, start_of, has_event, stands_named, is_noted, same_tag, Rises, IsOrder, order_before}
+use Rattle.zr_base.specs.Plain.{count_of, start_of, is_beyond, is_compaction, has_event, stands_named, is_noted, same_tag, Rises, IsOrder, order_before}
 use Rattle.zr_base.specs.Pieces.{first_page, pages_of}
 use Rattle.mem_account.specs.declared.weight.Weight.{Weight}
 use Rattle.mem_account.specs.Counters.{Counters, at_most_end}
-use Rattle.plain_disk.specs.Ends.{Ground, Bounds, is_single, MayEndAll, MayEndEach, due_from, ends_sum, failed_write, beyond}
+use Rattle.plain_disk.specs.Ends.{Ground, Bounds, is_single, MayEndAll, MayEndEach, due_from, ends_sum, failed_write, compacted, beyond}
 use Rattle.plain_disk.specs.Output.{phase_lines}
 use Rattle.plain_disk.specs.Rests.{SoFar, Rest, stats}
 use Rattle.plain_disk.specs.Phases.{Given, held_after, nth_order, sector_read, due, begun, phase_ground, bounds, Leaves, IsPhase}
@@ -28,7 +28,7 @@ use Rattle.call_history.proofs.Ends.{every_done}
 use Rattle.call_history.proofs.Orders.{Rising, count_is, rises_is, before_is}
 use Rattle.call_history.proofs.Operations.{By, Reads, never_stands, pages_some}
 use Rattle.call_history.proofs.Actors.{stood, actor_noted, actor_ends, actor_reads, stood_rises, stood_once}
-use Rattle.call_history.proofs.Sums.{IsSteady, failed_write-is, beyond-is, all_sum}
+use Rattle.call_history.proofs.Sums.{IsSteady, failed_write-is, compacted-is, beyond-is, all_sum}
 
 -- ---- lists
 
@@ -93,9 +93,9 @@ program_on pages nr (op ∷ ops) some =
     (elim (cases_Bool (is_single pages op)) [
       | inl on ↦ rw on (inl on, tt)
       | inr off ↦ rw off
-          (parts_on nr op (first_page op) (pages_of op) pages (let n = pages_some op some.0 in
-          let z = ltb-false (8 * pages) (start_of op + count_of op) off in
-          let y = some.0 in omega arith))
+          (parts_on nr op (first_page op) (pages_of op) pages (let on = or_parts (is_compaction op) (is_beyond pages op) off in
+          let y = some.0 on.0 in let n = pages_some op y in
+          let z = ltb-false (8 * pages) (start_of op + count_of op) on.1 in omega arith))
     ]) (program_on pages (nr + 1) ops some.1)
 
 -- each piece that is over ended as it may
@@ -330,7 +330,8 @@ module _ (form : List ℕ → Weight) (r : Rest) (actors : List (List Op)) (done
         pages = told.pages;
         so_far = told.so_far ∙ (λ i. record {
           huge = told.huge_since i;
-          compacted = told.compacted i;
+          compacted =
+              counted compacted compacted-is r.so_far.compacted c.compacted told.compacted i;
           failed_reads = told.failed_reads i;
           failed_writes = counted failed_write failed_write-is r.so_far.failed_writes
               c.failed_writes told.failed_writes i;

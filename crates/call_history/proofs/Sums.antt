@@ -6,7 +6,7 @@ use Rattle.zr_base.specs.declared.op.Op.{Op}
 use Rattle.zr_base.specs.declared.op.Op.TheVariants.{Write}
 use Rattle.zr_base.specs.declared.op.OpEnd.{OpEnd}
 use Rattle.zr_base.specs.declared.op.OpEnd.TheVariants as ends
-use Rattle.plain_disk.specs.Ends.{ops_sum, ends_sum, failed_write, beyond}
+use Rattle.plain_disk.specs.Ends.{ops_sum, ends_sum, failed_write, compacted, beyond}
 use Rattle.call_history.specs.declared.part.Part.{Part}
 use Rattle.call_history.specs.declared.part.PartEnd.{PartEnd}
 use Rattle.call_history.specs.declared.part.PartEnd.TheVariants as over
@@ -43,6 +43,14 @@ beyond-steady op _ n = refl
 
 pub beyond-is : IsSteady beyond
 beyond-is = record { whole = λ op. refl; steady = beyond-steady }
+
+compacted-steady : (op : Op) (x : PartEnd) (n : ℕ)
+    → compacted op (op_end x n) ≡ compacted op (op_end x 0)
+compacted-steady op over.Carried n = refl
+compacted-steady op _ n = refl
+
+pub compacted-is : IsSteady compacted
+compacted-is = record { whole = λ op. refl; steady = compacted-steady }
 
 -- ---- sums
 

@@ -1,5 +1,5 @@
 -- Where no object may move and none is out, there are as few zspages as can be.
-use Rattle.std.proofs.Common.{◌≡◌, ◌≢◌, ℕ, zero, suc, ◌+◌, ◌-◌, ◌*◌, ◌<◌, ◌≤◌, List, [], ◌∷◌, Option, None, Some, Bool, true, false, cond, not, length, sum_by, refl, sym, ◌∙◌, ap, subst, inl, inr, arith, Contains}
+use Rattle.std.proofs.Common.{◌≡◌, ℕ, zero, suc, ◌+◌, ◌-◌, ◌*◌, ◌<◌, ◌≤◌, List, [], ◌∷◌, Option, None, Some, false, length, sum_by, refl, sym, ◌∙◌, ap, inl, inr, arith}
 use Rattle.std.specs.Prelude.{is_some}
 use Rattle.std.specs.Int.{div_ceil}
 use Rattle.std.proofs.Math.ListN.{set}
@@ -9,15 +9,15 @@ use Rattle.std.proofs.lemmas.Nat.{mul-le}
 use Rattle.std.proofs.lemmas.List.{length-map}
 use Rattle.std.proofs.lemmas.List.Sums.{sum_by-cons, count_by-le-length}
 use Rattle.zspage.specs.Cells.{UsedCell, used_of, home_of, entry}
-use Rattle.class_pool.specs.Zspages.{Cells, AreWhole, used_in, use_at}
-use Rattle.class_pool.specs.Rows.{row_of, rows}
+use Rattle.class_pool.specs.Zspages.{Cells, AreWhole}
+use Rattle.class_pool.specs.Rows.{row_of}
 use Rattle.class_pool.specs.Pool.{PoolState, object_of, objects, used_cells, IsPool}
 use Rattle.class_pool.specs.Compaction.{home_in_partial, MayMove, IsNothingOut, IsLeast}
 use Rattle.class_pool.proofs.SumLaws.{one_of, in_zspage, sum_ones, sum_all, length_sum}
 use Rattle.class_pool.proofs.UseLaws.{entry-set_same, entry-set_other, use_there, contains_use}
 use Rattle.class_pool.proofs.PlanLaws.{row_among}
 use Rattle.class_pool.proofs.SettledLaws.{one_home}
-use Rattle.class_pool.proofs.RestLaws.{partial_home, full_home, without, all_zero, entry_le}
+use Rattle.class_pool.proofs.RestLaws.{partial_home, without, all_zero, entry_le}
 use Rattle.class_pool.proofs.Ranks.{entry_within}
 
 -- ---- objects and free cells are the cells of all zspages

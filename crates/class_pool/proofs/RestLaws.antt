@@ -1,13 +1,13 @@
 -- How many objects may still move: fewer with each move, and none in the end.
-use Rattle.std.proofs.Common.{◌≡◌, ◌≢◌, ℕ, zero, suc, ◌+◌, ◌-◌, ◌*◌, ◌<◌, ◌≤◌, ◌⊎◌, ◌==◌, if◌then◌else◌, List, [], ◌∷◌, Option, None, Some, length, sum_by, refl, sym, ◌∙◌, ap, subst, inl, inr, arith, Contains}
+use Rattle.std.proofs.Common.{◌≡◌, ◌≢◌, ℕ, zero, suc, ◌+◌, ◌-◌, ◌<◌, ◌≤◌, List, [], ◌∷◌, Option, None, Some, length, sum_by, refl, sym, ◌∙◌, ap, subst, inl, inr, arith}
 use Rattle.std.specs.Prelude.{is_some}
 use Rattle.std.proofs.Math.ListN.{set}
-use Rattle.std.proofs.lemmas.Bool.{cases_eq, cases_lt, lt-ltb}
+use Rattle.std.proofs.lemmas.Bool.{cases_eq, lt-ltb}
 use Rattle.std.proofs.lemmas.Bool.Decides.{nat_tests}
 use Rattle.std.proofs.lemmas.List.{length-map}
 use Rattle.std.proofs.lemmas.List.Sums.{sum_by-cons, sum_by-set, get_or-le-sum_by, count_by-le-length}
-use Rattle.zspage.specs.Cells.{UsedCell, used_of, home_of, entry}
-use Rattle.zs_plan.specs.Plan.{IsPartial, IsDestination, IsPlan, HasNoPlan, GoesOn}
+use Rattle.zspage.specs.Cells.{used_of, home_of, entry}
+use Rattle.zs_plan.specs.Plan.{IsDestination, IsPlan, HasNoPlan, GoesOn}
 use Rattle.class_pool.specs.Zspages.{Cells, AreWhole, used_in}
 use Rattle.class_pool.specs.Rows.{row_of, rows}
 use Rattle.class_pool.specs.Pool.{PoolState, object_of, objects, used_cells, IsPool}

@@ -1,15 +1,14 @@
 -- What a move by the plan leaves of the rows: an object that moved does not move again.
-use Rattle.std.proofs.Common.{◌≡◌, ◌≢◌, ℕ, ◌+◌, ◌-◌, ◌<◌, ◌≤◌, ◌⊎◌, List, Option, None, Some, true, false, cond, length, refl, sym, ◌∙◌, ap, subst, inl, inr, arith, Contains}
+use Rattle.std.proofs.Common.{◌≡◌, ◌≢◌, ℕ, ◌+◌, ◌<◌, ◌≤◌, ◌⊎◌, List, Option, None, Some, cond, length, refl, sym, ◌∙◌, ap, subst, inl, inr, arith}
 use Rattle.std.proofs.Math.ListN.{set, length-set}
-use Rattle.std.proofs.lemmas.Bool.{cases_eq, cases_lt}
 use Rattle.std.proofs.lemmas.List.Sums.{sum_by-set}
 use Rattle.std.proofs.lemmas.Option.{slice_get_within, get_or_from_slice_get}
 use Rattle.zspage.specs.Cells.{UsedCell, used_of, is_home, home_of, entry}
 use Rattle.zs_plan.specs.declared.Row.{Row}
-use Rattle.zs_plan.specs.Plan.{IsPartial, IsFuller, IsDestination, IsPlan, IsMove, GoesOn}
-use Rattle.class_pool.specs.Zspages.{Cells, AreWhole, used_in, use_at}
+use Rattle.zs_plan.specs.Plan.{IsFuller, IsDestination, IsPlan, IsMove, GoesOn}
+use Rattle.class_pool.specs.Zspages.{Cells, used_in, use_at}
 use Rattle.class_pool.specs.Rows.{row_of, rows}
-use Rattle.class_pool.specs.Pool.{PoolState, IsPlace, IsPool}
+use Rattle.class_pool.specs.Pool.{PoolState, IsPool}
 use Rattle.class_pool.specs.Moves.{Move, Moves}
 use Rattle.class_pool.specs.Compaction.{IsSettled}
 use Rattle.class_pool.proofs.Ranks.{entry_within}

@@ -1,15 +1,16 @@
 -- What each call does to sums over the used cells, and to the frames of the zspages.
-use Rattle.std.proofs.Common.{◌≡◌, ℕ, zero, suc, ◌+◌, ◌*◌, ◌≤◌, ◌<◌, List, [], ◌∷◌, length, replicate, sum_by, Option, Some, None, refl, sym, ap, ◌∙◌, subst, arith, ◌⊎◌, inl, inr}
+use Rattle.std.proofs.Common.{◌≡◌, ℕ, zero, suc, ◌+◌, ◌*◌, ◌≤◌, List, [], ◌∷◌, length, replicate, sum_by, Option, Some, None, refl, sym, ap, ◌∙◌, subst, arith, inl, inr, false, ◌≢◌}
 use Rattle.std.specs.Prelude.{slice_set, slice_get}
 use Rattle.std.proofs.lemmas.List.Sums.{sum_by-set, sum_by-cons}
 use Rattle.zspage.specs.Cells.{CellState, UsedCell, used_of, entry}
-use Rattle.class_pool.specs.Zspages.{Cells, IsLeastAbsent, put_at}
+use Rattle.class_pool.specs.Zspages.{Cells, put_at}
 use Rattle.class_pool.specs.Pool.{PoolState, used_cells, HasOneMore, IsPlace, Stores, Makes, Frees, with_cells, new_use}
 use Rattle.class_pool.specs.Laws.{frames_of}
+use Rattle.class_pool.specs.Moves.{Move, Moves}
 use Rattle.class_pool.proofs.Ranks.{entry_within}
 use Rattle.class_pool.proofs.SumLaws.{at_use, one_of, sum_change, sum_gone, used_cells-put}
 use Rattle.class_pool.proofs.PoolLaws.{fill_more, clear_more}
-use Rattle.class_pool.proofs.UseLaws.{entry-put_same}
+use Rattle.class_pool.proofs.UseLaws.{entry-put_same, entry-set_other}
 
 module _ (zs : List (Option Cells)) (i : ℕ) (old : Cells) (at : entry zs i ≡ Some old) where
   same_used : (new : Cells) → used_of (slice_set zs i (Some new)) ≡ used_of zs
@@ -125,3 +126,62 @@ module _ (p : PoolState) where
         → f u ≤ sum_by f (used_cells p.zspages)
     part_weighs at f =
         let a = clear_more p.zspages id ix cells u at.zspage at.cell f in omega arith
+
+-- ---- a move
+
+-- a pool has another's numbers, and its zspages but for one
+record Beside (p : PoolState) (id : ℕ) (q : PoolState) : Type 0 where
+  class_is : q.class ≡ p.class
+  size_is : q.size ≡ p.size
+  chain_is : q.chain ≡ p.chain
+  per_is : q.per ≡ p.per
+  others : (k : ℕ) → k ≢ id → entry q.zspages k ≡ entry p.zspages k
+
+beside : (p : PoolState) (id : ℕ) (o : Option Cells)
+    → Beside p id (record p { zspages = slice_set p.zspages id o })
+beside p id o = record {
+  class_is = refl;
+  size_is = refl;
+  chain_is = refl;
+  per_is = refl;
+  others = λ k other. entry-set_other p.zspages id k o other;
+}
+
+freed_beside : (p q : PoolState) (id ix frames : ℕ) (cells : Cells)
+    → Frees p q id cells ix frames → Beside p id q
+freed_beside p q id ix frames cells (inl last) =
+    subst (Beside p id) (sym last.1) (beside p id None)
+freed_beside p q id ix frames cells (inr more) =
+    subst (Beside p id) (sym more.1) (beside p id (Some (slice_set cells ix None)))
+
+pub moved_weighs : (p q : PoolState) (m : Move) (frames : ℕ) → Moves p q m frames
+    → ((f : UsedCell → ℕ) → sum_by f (used_cells q.zspages) + f m.object
+    ≡ sum_by f (used_cells p.zspages) + f (new_use m.object.handle m.object.bytes m.cell))
+    × (m.object.out ≡ false) × (frames_of q + frames ≡ frames_of p) × (frames ≤ p.chain)
+    × (q.class ≡ p.class) × (q.size ≡ p.size) × (q.chain ≡ p.chain) × (q.per ≡ p.per)
+moved_weighs p q m frames moves =
+    let u = new_use m.object.handle m.object.bytes m.cell in
+    let at : IsPlace p m.object.handle m.from m.ix m.source m.object =
+    record { zspage = moves.leaves; cell = moves.lowest.used; handle_is = refl } in
+    let left =
+    freed_weighs p m.between m.object.handle m.from m.ix frames m.source m.object at moves.freed in
+    let b = freed_beside p m.between m.from m.ix frames m.source moves.freed in
+    let there : entry m.between.zspages m.to ≡ Some m.target =
+    b.others m.to (λ e. moves.apart (sym e)) ∙ moves.comes in
+    let come = fill_more m.between.zspages m.to m.at m.target u there moves.free.free in
+    let list = ap (λ (x : PoolState). x.zspages) moves.after in
+    let same = ap frames_of moves.after
+    ∙ ap (λ (n : ℕ). m.between.chain * n)
+    (same_used m.between.zspages m.to m.target there (slice_set m.target m.at (Some u))) in (
+      (λ f.
+          let now = ap (λ zs. sum_by f (used_cells zs)) list in
+          let gone = left.0 f in
+          let here = come f in omega arith),
+      moves.lowest.home,
+      (let before = left.1 in omega arith),
+      left.2,
+      ap (λ (x : PoolState). x.class) moves.after ∙ b.class_is,
+      ap (λ (x : PoolState). x.size) moves.after ∙ b.size_is,
+      ap (λ (x : PoolState). x.chain) moves.after ∙ b.chain_is,
+      ap (λ (x : PoolState). x.per) moves.after ∙ b.per_is,
+    )

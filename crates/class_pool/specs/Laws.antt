@@ -1,9 +1,10 @@
 -- What each call does to sums over the used cells and to the frames of the zspages: statements that
 -- the laws claim.
-use Rattle.std.specs.Prelude.{◌≡◌, ℕ, ◌+◌, ◌*◌, ◌≤◌, List, Some, sum_by, slice_set}
+use Rattle.std.specs.Prelude.{◌≡◌, ℕ, ◌+◌, ◌*◌, ◌≤◌, List, Some, false, sum_by, slice_set}
 use Rattle.zspage.specs.Cells.{CellState, UsedCell, used_of}
 use Rattle.class_pool.specs.Zspages.{Cells}
 use Rattle.class_pool.specs.Pool.{PoolState, used_cells, HasOneMore, IsPlace, Stores, Makes, Frees, with_cells, new_use}
+use Rattle.class_pool.specs.Moves.{Move, Moves}
 
 -- the frames of all zspages of a pool
 abbrev pub frames_of : PoolState → ℕ
@@ -48,3 +49,13 @@ abbrev pub UseIsPart : Type 0
 UseIsPart =
     (p : PoolState) (handle id ix : ℕ) (cells : Cells) (u : UsedCell)
     → IsPlace p handle id ix cells u → (f : UsedCell → ℕ) → f u ≤ sum_by f (used_cells p.zspages)
+
+-- an object that moves keeps its handle and its bytes and is at home before and after it; so many
+-- frames are free, at most a chain
+abbrev pub MovingKeepsAll : Type 0
+MovingKeepsAll =
+    (p q : PoolState) (m : Move) (frames : ℕ) → Moves p q m frames
+    → ((f : UsedCell → ℕ) → sum_by f (used_cells q.zspages) + f m.object
+    ≡ sum_by f (used_cells p.zspages) + f (new_use m.object.handle m.object.bytes m.cell))
+    × (m.object.out ≡ false) × (frames_of q + frames ≡ frames_of p) × (frames ≤ p.chain)
+    × (q.class ≡ p.class) × (q.size ≡ p.size) × (q.chain ≡ p.chain) × (q.per ≡ p.per)

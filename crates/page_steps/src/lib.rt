@@ -15,6 +15,8 @@ mod values;
 
 pub use call::PageCall;
 pub use laws::{calls_are_events, refusals_leave_all};
+pub use nexts::{Chosen, Takes, Told, give_by, take_by};
 pub use stage::{
     DiskHeld, Due, Head, Lent, New, Outcome, Own, PieceEnd, Progress, Scratch, Stage, Work,
 };
+pub use values::{account_of, pool_of};

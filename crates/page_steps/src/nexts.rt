@@ -27,7 +27,7 @@ impl NextLocal<DiskHeld> for Asks {
 }
 
 /// A taking within a piece, by the plan.
-pub(crate) struct Takes;
+pub struct Takes;
 
 impl NextLocal<DiskHeld> for Takes {
     ghost use Rattle.page_steps.specs.Steps.{took};
@@ -99,8 +99,9 @@ impl NextLocal<DiskHeld> for Puts {
     ghost next = { putting };
 }
 
-/// Names the local after an event by what the call chose in it.
-pub(crate) trait Chosen {
+/// Names the local after an event by what the call chose in it. It has no method that runs: a call
+/// tells its event at `Brand`, and names the local in its proof.
+pub trait Chosen {
     ghost next: { Local DiskHeld → DiskHeld → Local DiskHeld };
 }
 
@@ -109,7 +110,7 @@ impl Chosen for Brand {
 }
 
 /// An event after which the chosen local stands.
-pub(crate) struct Told<C: Chosen> {
+pub struct Told<C: Chosen> {
     of: PhantomData<C>,
 }
 
@@ -117,8 +118,8 @@ impl<C: Chosen> NextLocal<DiskHeld> for Told<C> {
     ghost next = { C.next };
 }
 
-/// Takes a lock; the local after is named by the value beside.
-pub(crate) fn take_by<H: Hand<Value = DiskHeld>, C: Chosen, A>(
+/// Takes a lock; the local after is named by the value beside, which is for the proof alone.
+pub fn take_by<H: Hand<Value = DiskHeld>, C: Chosen, A>(
     hand: &mut H,
     lock: LockNo,
     _a: &A,
@@ -130,8 +131,8 @@ pub(crate) fn take_by<H: Hand<Value = DiskHeld>, C: Chosen, A>(
     hand.try_take::<Told<C>>(lock)
 }
 
-/// Gives a lock; the local after is named by the values beside.
-pub(crate) fn give_by<H: Hand<Value = DiskHeld>, C: Chosen, X, Y, Z>(
+/// Gives a lock; the local after is named by the values beside, which are for the proof alone.
+pub fn give_by<H: Hand<Value = DiskHeld>, C: Chosen, X, Y, Z>(
     hand: &mut H,
     lock: LockNo,
     value: DiskHeld,

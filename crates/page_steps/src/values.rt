@@ -21,8 +21,8 @@ pub(crate) fn entry_of(value: DiskHeld) -> Entry
     }
 }
 
-/// The pool of a class.
-pub(crate) fn pool_of(value: DiskHeld) -> ClassPool
+/// The pool of a class, from what its lock guards.
+pub fn pool_of(value: DiskHeld) -> ClassPool
     requires { (q : _) × (value ≡ holds.Class q) }
     ensures { value ≡ holds.Class result }
 {
@@ -32,8 +32,8 @@ pub(crate) fn pool_of(value: DiskHeld) -> ClassPool
     }
 }
 
-/// The account.
-pub(crate) fn account_of(value: DiskHeld) -> Account
+/// The account, from what its lock guards.
+pub fn account_of(value: DiskHeld) -> Account
     requires { (a : _) × (value ≡ holds.Account a) }
     ensures { value ≡ holds.Account result }
 {

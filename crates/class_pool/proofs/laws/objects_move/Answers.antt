@@ -1,4 +1,4 @@
-use Rattle.class_pool.proofs.WeightLaws.{stored_weighs, made_weighs, freed_weighs, changed_weighs, part_weighs}
+use Rattle.class_pool.proofs.WeightLaws.{stored_weighs, made_weighs, freed_weighs, changed_weighs, moved_weighs, part_weighs}
 use Rattle.class_pool.proofs.laws.objects_move.Goals as goal
 
 pub returns-clause-stored : goal.returns-clause-stored
@@ -14,6 +14,9 @@ returns-clause-freed c p q handle id ix frames cells u at s =
 
 pub returns-clause-changed : goal.returns-clause-changed
 returns-clause-changed c p handle id ix cells u v at = changed_weighs p handle id ix cells u v at
+
+pub returns-clause-moved : goal.returns-clause-moved
+returns-clause-moved c p q m frames s = moved_weighs p q m frames s
 
 pub returns-clause-part : goal.returns-clause-part
 returns-clause-part c p handle id ix cells u at f = part_weighs p handle id ix cells u at f

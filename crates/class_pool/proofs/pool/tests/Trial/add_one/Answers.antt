@@ -1,7 +1,6 @@
 -- The new object is at home, and the others stay there.
-use Rattle.std.proofs.Common.{◌≡◌, ◌⊎◌, ◌++◌, ◌∷◌, [], ℕ, suc, zero, List, Option, Some, None, inl, inr, subst, arith, rules}
+use Rattle.std.proofs.Common.{◌≡◌, ◌⊎◌, ◌++◌, ◌∷◌, [], ℕ, suc, zero, List, Option, Some, inl, inr, subst, rules}
 use Rattle.zspage.specs.Cells.{entry}
-use Rattle.zr_base.specs.declared.page.Handle.{Handle}
 use Rattle.class_pool.specs.Pool.{IsAtHome}
 use Rattle.class_pool.proofs.pool.tests.Trial.add_one.Goals as goal
 

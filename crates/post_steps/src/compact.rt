@@ -1,0 +1,71 @@
+//! Compaction: for each class that stands for itself, in rising order, objects move out of the
+//! zspages that have few, one at a time. A zspage that has none left is given up, and its frames are
+//! given back to the account before the next object moves.
+//!
+//! | Stage | Holds | Next event | Function | The event's work |
+//! |---|---|---|---|---|
+//! | `Start` | | takes class 0 | `begin` | none |
+//! | `Sweeping` | | takes the class | `sweep` | none |
+//! | `Moving` | class | gives the class | `move_one` | moves an object, or goes on to the next class |
+//! | `Shrunk` | | takes the account | `owe` | none |
+//! | `Shrinking` | account | gives the account | `shrink` | gives the frames back and counts them |
+//! | `Over` | | none | | |
+
+ghost use Rattle.std.specs.Prelude.{◌≡◌};
+ghost use Rattle.page_steps.specs.Calls.{Frame};
+ghost use Rattle.post_steps.specs.declared.compact.CompactStage.TheVariants as stage;
+ghost use Rattle.post_steps.specs.Compact.{IsFit, IsGoing, IsWork, here, next_event};
+ghost use Rattle.post_steps.specs.Turns.{Allows, Advanced};
+
+use class_pool::ClassPool;
+use lock_row::{Compaction, Hand};
+use mem_account::Account;
+use page_steps::{DiskHeld, Progress};
+use size_class::ClassTable;
+
+/// What a compaction is at, with the value that it holds.
+#[derive(Drop)]
+pub enum CompactStage {
+    Start,
+    Sweeping(Compaction),
+    Moving(Compaction, ClassPool),
+    /// The frames that are to be given back.
+    Shrunk(Compaction, u32),
+    Shrinking(Compaction, u32, Account),
+    Over,
+}
+
+/// A compaction in work.
+#[derive(Drop)]
+pub struct CompactCall {
+    pub stage: CompactStage,
+}
+
+impl CompactCall {
+    /// Begins a compaction.
+    pub fn new() -> CompactCall
+        ensures { result.stage ≡ stage.Start }
+    {
+        CompactCall {
+            stage: CompactStage::Start,
+        }
+    }
+
+    /// Makes the next event, or misses. The table has the classes for the disk's longest chains.
+    pub fn advance<H: Hand<Value = DiskHeld>>(
+        &mut self,
+        table: &ClassTable,
+        hand: &mut H,
+    ) -> Progress
+        requires going { IsGoing self.old.stage }
+        requires fit { IsFit table.now self.old.stage }
+        requires allows { Allows H.can_take H.takes H.can_give (IsWork table.now)
+            (λ x. here x self.old.stage) (next_event self.old.stage) hand.old }
+        ensures fit { IsFit table.now self.new.stage }
+        ensures turn { Advanced H.takes H.misses H.gives (IsWork table.now)
+            (λ x. here x self.old.stage) hand.old (λ x. here x self.new.stage) hand.new result }
+        ensures over { IsOnward result self.new.stage }
+    {
+        // TODO
+    }
+}

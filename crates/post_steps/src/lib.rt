@@ -1,0 +1,7 @@
+//! The calls that tend the pools as steps: each is one event, the taking or the giving of one lock,
+//! by any hand.
+#![tactic(auto)]
+
+mod compact;
+
+pub use compact::{CompactCall, CompactStage};
