@@ -4,7 +4,7 @@ use Rattle.call_history.specs.Parts.{EndsSo, Follows, program}
 use Rattle.call_history.specs.Shows.{tag_by}
 use Rattle.call_history.specs.declared.part.Part.{Part}
 use Rattle.call_history.specs.declared.part.PartEnd.{PartEnd}
-use Rattle.class_pool.specs.Pool.{IsAtHome, IsLent, PoolState, used_cells}
+use Rattle.class_pool.specs.Pool.{IsAtHome, IsLent, PoolState, objects, used_cells}
 use Rattle.joint_rule.proofs.Balances.{counted_count, same_repaid}
 use Rattle.joint_rule.proofs.Bounds.{bounded, scaled, times_both, times_le, total_scaled}
 use Rattle.joint_rule.proofs.Facts.{Known}
@@ -24,7 +24,7 @@ use Rattle.joint_rule.specs.Joint.{AtHome, IsActor, Joint, PoolFits, Sound}
 use Rattle.joint_rule.specs.Rule.{OfOrder, Rule, ShowsOrder, owed, owed_by}
 use Rattle.joint_rule.specs.Stages.{Changes, CountAt, GoneBy, IsForm, IsPinned, IsRight, IsSmall, MayPin, Names, NoneOf, Stage, StageBy, locks_at, locks_by}
 use Rattle.joint_rule.specs.Weights.{Backs, Count, HeldAll, Huges, PackedBytes, Packs, Sames, ahead, behind, cell_weight, counter, counters, each_one, ever_at, measure, none, one, out_weight, pages, pin_in, same_pin, shown, stored}
-use Rattle.lock_row.specs.Totals.{by_option, held_sum, locals_sum, total}
+use Rattle.lock_row.specs.Totals.{by_option, held_sum, locals_sum, mass, total}
 use Rattle.lock_row.specs.declared.names.At.{At}
 use Rattle.lock_row.specs.declared.names.At.TheVariants.{Both, Freeing, Giving, Inside, Leaving, Made, Old, Owing, Pinned, Pinning, Ready, Refusing, Seen, Start, Unpinning, Wanting, Sweeping, Moving, Shrunk, Shrinking}
 use Rattle.lock_row.specs.declared.names.Compaction.{Compaction}
@@ -47,6 +47,7 @@ use Rattle.slot_entry.specs.Forms.{Blank, PageForm, Pooled, Word, class_for, cla
 use Rattle.slot_entry.specs.declared.kept.Kept.{Kept}
 use Rattle.slot_entry.specs.declared.kept.Stored.{Stored}
 use Rattle.std.proofs.lemmas.Bool.{cases_Bool, or_from}
+use Rattle.std.proofs.lemmas.List.{length-map}
 use Rattle.std.proofs.lemmas.List.Sums.{sum_by-cons}
 use Rattle.std.specs.Prelude.{Contains, ⊤}
 use Rattle.zr_base.specs.Plain.{is_beyond, is_compaction}
@@ -682,3 +683,23 @@ module _ (g : Begin) (ok : Known g) (w : State DiskHeld) (r : Rule g w) (a : ℕ
   -- what the actor takes fits its stage
   pub stage_fits : StageFits (terms g) l v
   stage_fits = fits_todo l.todo refl
+
+-- ---- a class that is compacted
+
+module _ (g : Begin) (w : State DiskHeld) (j : Joint g w) (a : ℕ) (l : Here)
+    (who : slice_get w.locals a ≡ Some l) (p : Part) (rest : List Part) (x : Compaction)
+    (q : PoolState) (todo : l.todo ≡ p ∷ rest) (at : l.at ≡ Moving x)
+    (held : l.held ≡ (lock.Class x.class, holds.Class q) ∷ []) where
+  -- it is one of the disk's, and has few objects
+  pub compacted_few : (x.class < 255) × (length (objects q) ≤ g.given.size + length w.locals)
+  compacted_few =
+      let st : Stage g p (entry_in l.held) (Moving x) l.fresh l.pin l.owed l.ahead l.behind l.page
+      l.fail = subst (λ (y : List Part × At). StageBy g y.0 (entry_in l.held) y.1 l.fresh l.pin
+      l.owed l.ahead l.behind l.page l.fail) (λ i. (todo i, at i)) (j.each.in_local a l who).stage in
+      let few = few_objects g w j in
+      let mine = locals_le g.given.size (mass (spot g.given.size) (stored each_one) none) w.locals a l
+      who in
+      let r = ap (held_sum (spot g.given.size) (stored each_one)) held in
+      let len = ones (used_cells q.zspages) (cell_weight (each_one q.class)) (λ u. refl) in
+      let all : length (objects q) ≡ length (used_cells q.zspages) = length-map _ _ in
+      (st.compacts.class, omega arith)
