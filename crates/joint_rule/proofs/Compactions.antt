@@ -1,20 +1,19 @@
 -- What each giving of a compaction does.
-use Rattle.std.proofs.Common.{◌≡◌, ◌+◌, ◌-◌, ◌*◌, ◌≤◌, ◌<◌, ◌∷◌, ℕ, zero, suc, true, List, [], Some, None, slice_get, refl, sym, ap, subst, arith, inl, inr}
-use Rattle.call_history.specs.Parts.{EndsSo}
+use Rattle.std.proofs.Common.{◌≡◌, ◌+◌, ◌-◌, ◌*◌, ◌≤◌, ◌<◌, ◌∷◌, ℕ, zero, suc, true, List, [], Some, slice_get, refl, ap, arith, inl, inr}
 use Rattle.call_history.specs.declared.part.Part.{Part}
 use Rattle.call_history.specs.declared.part.PartEnd.TheVariants.{Whole}
 use Rattle.class_pool.specs.Pool.{PoolState}
 use Rattle.joint_rule.proofs.Balances.{none_fresh, shift_outs, shift_stored, shrunk, shrunk_count, shrunk_fixed}
 use Rattle.joint_rule.proofs.Facts.{Known}
-use Rattle.joint_rule.proofs.Gifts.{Gift, all, fit, goes_on, is_over, none_pin, some_one, stage}
+use Rattle.joint_rule.proofs.Gifts.{Gift, all, goes_on, is_over, none_pin, some_one, stage}
 use Rattle.joint_rule.proofs.Lookups.{can_repay, none_weight}
 use Rattle.joint_rule.proofs.Pools.{Shifts, chain_low, fits_shift}
 use Rattle.joint_rule.specs.Begins.{Begin, ground_of}
 use Rattle.joint_rule.specs.Joint.{Joint, Sound}
-use Rattle.joint_rule.specs.Stages.{IsCompacting, Stage, locks_at}
+use Rattle.joint_rule.specs.Stages.{Stage, locks_at}
 use Rattle.joint_rule.specs.Weights.{at_place, chains, claims, counters, each_one, ever_at, fixed, mosts, nothing, outs, pages, shown, stored}
 use Rattle.lock_row.specs.Totals.{held_sum}
-use Rattle.lock_row.specs.declared.names.At.TheVariants.{Moving, Shrinking, Shrunk, Sweeping}
+use Rattle.lock_row.specs.declared.names.At.TheVariants.{Moving, Shrinking, Sweeping}
 use Rattle.lock_row.specs.declared.names.Compaction.{Compaction}
 use Rattle.lock_row.specs.declared.names.LockNo.{LockNo}
 use Rattle.lock_row.specs.declared.names.State.{State}
@@ -22,11 +21,11 @@ use Rattle.mem_account.specs.Counters.{Counters}
 use Rattle.page_steps.specs.Compactions.{moved_at, with_frames, with_move, with_next}
 use Rattle.page_steps.specs.Steps.{DiskHeld, Here, entry_in, on, piece_over, spot}
 use Rattle.plain_disk.specs.Ends.{MayBeSingle, is_single}
-use Rattle.size_class.specs.Classes.{shares_next, stands_below, stands_of}
+use Rattle.size_class.specs.Classes.{shares_next, stands_below}
 use Rattle.slot_entry.specs.Entries.{EntryState}
 use Rattle.std.proofs.lemmas.Bool.{cases_Bool}
 use Rattle.zspage.specs.Cells.{UsedCell}
-use Rattle.zr_base.specs.Plain.{is_beyond, is_compaction}
+use Rattle.zr_base.specs.Plain.{is_compaction}
 use Rattle.zr_base.specs.declared.op.Op.{Op}
 use Rattle.lock_row.specs.declared.names.LockNo.TheVariants as lock
 use Rattle.lock_row.specs.declared.names.Held.TheVariants as holds
@@ -125,16 +124,16 @@ module _ (g : Begin) (ok : Known g) (w : State DiskHeld) (j : Joint g w) (a : �
             (let y = none_fresh each_one l.fresh st.made in let z = some_one frames in omega arith);
         alone = λ i. let r = ap (held_sum (spot n) (at_place i)) held in omega arith;
         owners = λ f. let r = ap (held_sum (spot n) (claims g f)) held in
-            let x = ap (held_sum (spot n) (stored f)) held in
+            let t = ap (held_sum (spot n) (stored f)) held in
             let s = shift_stored q q' u u' frames sh f in omega arith;
         pins = λ f. let r = ap (held_sum (spot n) (outs f)) held in
-            let x = ap (held_sum (spot n) nothing) held in
+            let t = ap (held_sum (spot n) nothing) held in
             let s = shift_outs q q' u u' frames sh f in omega arith;
         frames = let r = ap (held_sum (spot n) pages) held in
-            let x = ap (held_sum (spot n) chains) held in let s = sh.frames in
+            let t = ap (held_sum (spot n) chains) held in let s = sh.frames in
             let z = st.owes in omega arith;
         counts = λ i. let r = ap (held_sum (spot n) (counters i)) held in
-            let x = ap (held_sum (spot n) (shown i)) held in omega arith;
+            let t = ap (held_sum (spot n) (shown i)) held in omega arith;
         stays = λ y. let r = ap (held_sum (spot n) (fixed y)) held in omega arith;
         rises = let r = ap (held_sum (spot n) (ever_at g)) held in omega arith;
         most = inl (
@@ -169,13 +168,13 @@ module _ (g : Begin) (ok : Known g) (w : State DiskHeld) (j : Joint g w) (a : �
           (let y = none_fresh each_one l.fresh st.made in let z = some_one l.owed in omega arith);
       alone = λ i. let r = ap (held_sum (spot n) (at_place i)) held in omega arith;
       owners = λ f. let r = ap (held_sum (spot n) (claims g f)) held in
-          let x = ap (held_sum (spot n) (stored f)) held in omega arith;
+          let t = ap (held_sum (spot n) (stored f)) held in omega arith;
       pins = λ f. let r = ap (held_sum (spot n) (outs f)) held in
-          let x = ap (held_sum (spot n) nothing) held in omega arith;
+          let t = ap (held_sum (spot n) nothing) held in omega arith;
       frames = let r = ap (held_sum (spot n) pages) held in
-          let x = ap (held_sum (spot n) chains) held in omega arith;
+          let t = ap (held_sum (spot n) chains) held in omega arith;
       counts = λ i. let r = ap (held_sum (spot n) (counters i)) held in
-          let x = ap (held_sum (spot n) (shown i)) held in omega arith;
+          let t = ap (held_sum (spot n) (shown i)) held in omega arith;
       stays = λ y. let r = ap (held_sum (spot n) (fixed y)) held in omega arith;
       rises = let r = ap (held_sum (spot n) (ever_at g)) held in omega arith;
       most = inl (
@@ -196,15 +195,15 @@ module _ (g : Begin) (ok : Known g) (w : State DiskHeld) (j : Joint g w) (a : �
           (compaction_single n p.op st.begun, may_end);
       alone = λ i. let r = ap (held_sum (spot n) (at_place i)) held in omega arith;
       owners = λ f. let r = ap (held_sum (spot n) (claims g f)) held in
-          let x = ap (held_sum (spot n) (stored f)) held in
+          let t = ap (held_sum (spot n) (stored f)) held in
           let y = none_fresh f l.fresh st.made in omega arith;
       pins = λ f. let r = ap (held_sum (spot n) (outs f)) held in
-          let x = ap (held_sum (spot n) nothing) held in let y = none_pin f l.pin st.pins in
+          let t = ap (held_sum (spot n) nothing) held in let y = none_pin f l.pin st.pins in
           omega arith;
       frames = let r = ap (held_sum (spot n) pages) held in
-          let x = ap (held_sum (spot n) chains) held in let y = st.owes in omega arith;
+          let t = ap (held_sum (spot n) chains) held in let y = st.owes in omega arith;
       counts = λ i. let r = ap (held_sum (spot n) (counters i)) held in
-          let x = ap (held_sum (spot n) (shown i)) held in
+          let t = ap (held_sum (spot n) (shown i)) held in
           let y = none_weight i l.ahead st.counts.0 in
           let z = none_weight i l.behind st.counts.1 in omega arith;
       stays = λ y. let r = ap (held_sum (spot n) (fixed y)) held in omega arith;
@@ -250,13 +249,13 @@ module _ (g : Begin) (ok : Known g) (w : State DiskHeld) (j : Joint g w) (a : �
           (let y = none_fresh each_one l.fresh ss.made in omega arith);
       alone = λ i. let r = ap (held_sum (spot n) (at_place i)) held in omega arith;
       owners = λ f. let r = ap (held_sum (spot n) (claims g f)) held in
-          let x = ap (held_sum (spot n) (stored f)) held in omega arith;
+          let t = ap (held_sum (spot n) (stored f)) held in omega arith;
       pins = λ f. let r = ap (held_sum (spot n) (outs f)) held in
-          let x = ap (held_sum (spot n) nothing) held in omega arith;
+          let t = ap (held_sum (spot n) nothing) held in omega arith;
       frames = let r = ap (held_sum (spot n) pages) held in
-          let x = ap (held_sum (spot n) chains) held in let y = pays in omega arith;
+          let t = ap (held_sum (spot n) chains) held in let y = pays in omega arith;
       counts = λ i. let r = ap (held_sum (spot n) (counters i)) held in
-          let x = ap (held_sum (spot n) (shown i)) held in let s = shrunk_count i c l.owed in
+          let t = ap (held_sum (spot n) (shown i)) held in let s = shrunk_count i c l.owed in
           omega arith;
       stays = λ y. let r = ap (held_sum (spot n) (fixed y)) held in
           let z = shrunk_fixed y c l.owed in omega arith;

@@ -140,7 +140,6 @@ pub data Event (g : Begin) (l : Here) (v : DiskHeld) (m : Here) : Type 0 where
       → l.at ≡ Leaving
       → l.held ≡ (slot p.page, holds.Slot e) ∷ [] → l.fail ≡ Some x → v ≡ holds.Slot e
       → m ≡ piece_over l p x [] rest → Event g l v m
-
   -- a compaction moves an object
   moves : (p : Part) (rest : List Part) (x : Compaction) (q q' : PoolState) (u u' : UsedCell)
       (budget frames : ℕ) → l.todo ≡ p ∷ rest → l.at ≡ Moving x

@@ -160,7 +160,8 @@ told_after : (g : Begin) (q : News) (at : At) (p : Part) (ps : List Part) (e e' 
     → Stage g p e at fresh pin owed x y page fail → told_at q (after_take g.given.size at p f k)
     (p ∷ ps) x ≡ told_at q at (p ∷ ps) x
 told_after g q Start p ps e e' fresh pin owed x y page fail f k s =
-    told_free q (begun_at (is_compaction p.op) (is_beyond g.given.size p.op) p f k) (p ∷ ps) x s.counts.0
+    told_free q (begun_at (is_compaction p.op) (is_beyond g.given.size p.op) p f k) (p ∷ ps) x
+    s.counts.0
 told_after g q Refusing p ps e e' fresh pin owed x y page fail f k s = refl
 told_after g q Seen p ps e e' fresh pin owed x y page fail f k s = refl
 told_after g q Pinning p ps e e' fresh pin owed x y page fail f k s = refl
