@@ -296,9 +296,14 @@ refusal_counter q = on_account (refusal_count q)
 
 -- ---- the frames that compactions freed
 
+-- those of the compaction in work
+abbrev pub freed_at : List Part → At → ℕ
+freed_at [] at = 0
+freed_at (p ∷ ps) at = (compaction_at at).frames
+
 -- those that an actor tells: of the compactions that are over, and of the one in work
 abbrev pub freed_by : Here → ℕ
-freed_by l = done_sum compacted l.done + (compaction_at l.at).frames
+freed_by l = done_sum compacted l.done + freed_at l.todo l.at
 
 -- the account's counter, as a weight
 abbrev pub compactions : ℕ → DiskHeld → ℕ
