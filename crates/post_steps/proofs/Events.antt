@@ -1,5 +1,5 @@
 -- The events of a compaction: what a taken value is, which local an event may name, and where it leads.
-use Rattle.std.proofs.Common.{◌≡◌, ℕ, zero, suc, ◌+◌, ◌≤◌, ◌⊎◌, ◌==◌, Bool, true, [], None, refl, sym, ap, subst, arith}
+use Rattle.std.proofs.Common.{◌≡◌, ℕ, zero, suc, ◌+◌, ◌≤◌, ◌⊎◌, ◌==◌, Bool, [], None, refl, sym, ap, subst, arith}
 use Rattle.std.proofs.lemmas.Bool.{ne_eqb}
 use Rattle.zr_base.specs.Plain.{is_beyond}
 use Rattle.zs_plan.specs.Plan.{HasNoPlan}
@@ -10,7 +10,7 @@ use Rattle.mem_account.specs.declared.weight.Delta.TheVariants as delta
 use Rattle.lock_row.specs.declared.names.Held.TheVariants as holds
 use Rattle.lock_row.specs.declared.names.Compaction.{Compaction}
 use Rattle.page_steps.specs.Pages.{next_form}
-use Rattle.page_steps.specs.Steps.{DiskHeld, took, with_lock, begun_at, entry_or, entry_in, lock_of, start_plan}
+use Rattle.page_steps.specs.Steps.{DiskHeld, with_lock, begun_at, entry_or, entry_in, lock_of, start_plan}
 use Rattle.page_steps.specs.Givings.{compacts}
 use Rattle.page_steps.specs.Compactions.{repaid, budget_in, with_move, with_next, moving, resting, resting_by, shrinking, MovesOne, moves, rests, shrinks}
 use Rattle.page_steps.specs.Fits.{AsPool, AsAccount, StartFits}
