@@ -3,7 +3,7 @@ use Rattle.std.proofs.Common.{◌≡◌, ◌⊎◌, ℕ, ◌+◌, ◌≤◌, tru
 use Rattle.std.proofs.lemmas.Option.{get_or_from_slice_get}
 use Rattle.zr_base.specs.declared.limits.TheConstants.{MOST_PAGES, MOST_ACTORS}
 use Rattle.zr_base.specs.declared.op.Op.{Op}
-use Rattle.zr_base.specs.declared.op.Op.TheVariants.{Write, Read, Discard}
+use Rattle.zr_base.specs.declared.op.Op.TheVariants.{Write, Read, Discard, Compact}
 use Rattle.zr_base.specs.Plain.{IsRequest, count_of}
 use Rattle.mem_account.specs.Counters.{Counters, no_counts}
 use Rattle.mem_account.specs.Stat.{mm_stat_of, io_stat_of}
@@ -11,7 +11,7 @@ use Rattle.plain_disk.specs.Output.{OutLine, memory, calls}
 use Rattle.plain_disk.specs.Rests.{Rest, nothing_yet, stats, report, states, classes}
 use Rattle.plain_disk.specs.Phases.{IsPhase}
 use Rattle.plain_disk.specs.Legal.{IsNew, first_settings, sets}
-use Rattle.call_history.specs.Histories.{SomeEach, HasSomeEach}
+use Rattle.call_history.specs.Histories.{HasSome, SomeEach, HasSomeEach}
 use Rattle.lock_row.specs.declared.names.Held.TheVariants as holds
 use Rattle.page_steps.specs.Steps.{DiskHeld, Terms}
 use Rattle.slot_entry.specs.Forms.{page_weight}
@@ -39,10 +39,11 @@ use Rattle.job_session.proofs.Standing.{phase_on, disk_on}
 
 -- ---- requests
 
-some_of : (op : Op) → IsRequest op → 1 ≤ count_of op
-some_of (Write start count stuff) is = is.0.1
-some_of (Read start count) is = is.1
-some_of (Discard start count) is = is.1
+some_of : (op : Op) → IsRequest op → HasSome op
+some_of (Write start count stuff) is = λ request. is.0.1
+some_of (Read start count) is = λ request. is.1
+some_of (Discard start count) is = λ request. is.1
+some_of Compact is = λ request. absurd (cc)
 
 some_each : (u : Used) (ops : List Op) → MayOperate u ops → SomeEach ops
 some_each u [] may = tt

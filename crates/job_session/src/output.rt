@@ -46,7 +46,7 @@ fn is_refused(end: OpEnd) -> bool
     ensures { (tag : Tag) → result ≡ is_refusal (ended tag end) }
 {
     match end {
-        OpEnd::Ok => false,
+        OpEnd::Ok | OpEnd::Compacted { .. } => false,
         OpEnd::Range | OpEnd::AtLimit { .. } | OpEnd::NoMemory { .. } => true,
     }
 }

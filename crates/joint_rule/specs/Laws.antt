@@ -1,5 +1,5 @@
 -- What the rule of pages, pools and the account gives: statements that the laws claim.
-use Rattle.std.specs.Prelude.{◌≡◌, ℕ, ◌+◌, ◌*◌, ◌<◌, ◌≤◌, true, List, [], length, Option, Some, None, slice_get, ⊤}
+use Rattle.std.specs.Prelude.{◌≡◌, ℕ, ◌+◌, ◌*◌, ◌<◌, ◌≤◌, true, List, [], ◌∷◌, length, Option, Some, None, slice_get, ⊤}
 use Rattle.zr_base.specs.declared.op.Op.{Op}
 use Rattle.zr_base.specs.Plain.{zero_sector}
 use Rattle.mem_account.specs.Counters.{no_counts}
@@ -7,11 +7,15 @@ use Rattle.plain_disk.specs.Rests.{Settings, Rest, stats}
 use Rattle.plain_disk.specs.Phases.{begun, bounds}
 use Rattle.plain_disk.specs.Legal.{sets}
 use Rattle.plain_disk.specs.Legal.{IsNew as IsNewDisk}
+use Rattle.class_pool.specs.Pool.{PoolState, objects}
+use Rattle.call_history.specs.declared.part.Part.{Part}
 use Rattle.call_history.specs.Histories.{Agree}
 use Rattle.call_history.specs.Tallies.{Tallies}
 use Rattle.lock_row.specs.declared.names.LockNo.{LockNo}
 use Rattle.lock_row.specs.declared.names.LockNo.TheVariants as lock
 use Rattle.lock_row.specs.declared.names.Held.TheVariants as holds
+use Rattle.lock_row.specs.declared.names.At.TheVariants.{Moving}
+use Rattle.lock_row.specs.declared.names.Compaction.{Compaction}
 use Rattle.lock_row.specs.declared.names.Plan.TheVariants.{Finished, Take, Give}
 use Rattle.lock_row.specs.declared.names.State.{State}
 use Rattle.lock_row.specs.Machine.{Turn, Reached}
@@ -100,6 +104,14 @@ TakenValueFits = (g : Begin) (w : State DiskHeld) (a : ℕ) (l : Here) (k : Lock
 abbrev pub ObjectsAreFew : Type 0
 ObjectsAreFew = (g : Begin) (w : State DiskHeld) → Rule g w
     → total (spot g.given.size) (stored each_one) none w ≤ g.given.size + length w.locals
+
+-- a compaction that holds a class is at one of the disk's, which has no more objects than there are
+-- pages and actors
+abbrev pub CompactedIsFew : Type 0
+CompactedIsFew = (g : Begin) (w : State DiskHeld) (a : ℕ) (l : Here) (p : Part) (rest : List Part)
+    (x : Compaction) (q : PoolState) → Rule g w → slice_get w.locals a ≡ Some l
+    → l.todo ≡ p ∷ rest → l.at ≡ Moving x → l.held ≡ (lock.Class x.class, holds.Class q) ∷ []
+    → (x.class < 255) × (length (objects q) ≤ g.given.size + length w.locals)
 
 -- ---- finished phases
 

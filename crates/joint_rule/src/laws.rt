@@ -2,7 +2,7 @@
 //! function whose body calls the laws that it rests on: who wants it calls it, and has its clauses.
 
 ghost use Rattle.joint_rule.specs.Facts.{Facts};
-ghost use Rattle.joint_rule.specs.Laws.{StartHasRule, TurnKeepsRule, ReachedHasRule, NobodyWaitsForever, TakesLock, GivesLock, TakenValueFits, ObjectsAreFew, FinishedIsAtRest, FinishedAgrees, FinishedTallies, RestGoesOn, EntryGoesOn, NextIsProper, NewIsAtRest, RequestsAreProper, NewIsProper, NewCountsNothing, NewIsNew};
+ghost use Rattle.joint_rule.specs.Laws.{StartHasRule, TurnKeepsRule, ReachedHasRule, NobodyWaitsForever, TakesLock, GivesLock, TakenValueFits, ObjectsAreFew, CompactedIsFew, FinishedIsAtRest, FinishedAgrees, FinishedTallies, RestGoesOn, EntryGoesOn, NextIsProper, NewIsAtRest, RequestsAreProper, NewIsProper, NewCountsNothing, NewIsNew};
 
 use call_history::{histories_go_on, pieces_keep};
 use class_pool::{ClassPool, objects_move};
@@ -45,10 +45,12 @@ pub fn locks_are_of_the_disk()
     lower_laws();
 }
 
-/// The value that an actor's next taking takes fits the actor's stage, and there are few objects.
+/// The value that an actor's next taking takes fits the actor's stage, and there are few objects, in a
+/// class that is compacted too.
 pub fn values_fit()
     ensures fits { TakenValueFits }
     ensures few { ObjectsAreFew }
+    ensures compacted { CompactedIsFew }
 {
     lower_laws();
 }

@@ -19,7 +19,8 @@ use Rattle.slot_entry.specs.Forms.{PageForm, form_weight, object_class, class_in
 use Rattle.page_steps.specs.Pages.{next_form}
 use Rattle.page_steps.specs.Pools.{IsNeed, Adds, Lends, Returns, DropsPinned}
 use Rattle.page_steps.specs.Steps.{DiskHeld, piece_over, settle_at}
-use Rattle.page_steps.specs.Givings.{Notes, kept_by, old_weight, repaid, settled, refuses, pins, unpins, charges, limits, starves, stows, quits, frees, repays, puts, reads, fails}
+use Rattle.page_steps.specs.Givings.{Notes, kept_by, old_weight, settled, refuses, pins, unpins, charges, limits, starves, stows, quits, frees, repays, puts, reads, fails}
+use Rattle.page_steps.specs.Compactions.{repaid}
 use Rattle.page_steps.specs.Nexts.{refusing, pinning, unpinning, charging, denying, stowing, quitting, freeing, repaying, putting, reading, failing, emptied}
 use Rattle.page_steps.specs.Calls.{Frame, here, IsWithin, IsPlaced, IsCallOf, IsOwn, IsNew, IsNext, IsToPut, IsFit, IsGoing, IsDue, IsLentOf, IsRefusal, AreRefusals, HasObject, is_count, form_by, bytes_by, object_of, page_if, pin_by, end_of, tells_by, settled_by, quit_by, unpinned_by}
 use Rattle.page_steps.specs.Turns.{GivesAs, after, owning}

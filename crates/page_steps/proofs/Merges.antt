@@ -107,6 +107,7 @@ pub work_merged : (c : Head) (r r' : Scratch) (x : Frame) → KeepsPiece c.piece
     → r'.table ≡ r.table → IsWork c r x → IsWork c r' x
 work_merged c r r' x kept table w = record {
   chain = table ∙ w.chain;
+  request = w.request;
   beyond = w.beyond;
   call = λ piece. let of = w.call piece in record {
     tag = of.tag;

@@ -59,8 +59,9 @@ told_is c r x of a = tells_is c.work c.piece r.fresh x.part.op of.asks a
 pub plan_is : (c : Head) (r : Scratch) (x : Frame) (s : Stage) → IsFit c r s → IsGoing s
     → IsWork c r x → plan x.terms (here x r s) ≡ next_event c s
 plan_is c r x stage.Start fit on w =
-    (λ i. start_plan ((w.beyond ∙ fit.0) i) x.part) ∙ ap (λ n. Take (slot n)) (sym (w.call fit.0).page)
-plan_is c r x stage.Beyond fit on w = λ i. start_plan ((w.beyond ∙ fit) i) x.part
+    (λ i. start_plan (w.request i) ((w.beyond ∙ fit.0) i) x.part)
+    ∙ ap (λ n. Take (slot n)) (sym (w.call fit.0).page)
+plan_is c r x stage.Beyond fit on w = λ i. start_plan (w.request i) ((w.beyond ∙ fit) i) x.part
 plan_is c r x (stage.Refusing a) fit on w = refl
 plan_is c r x (stage.Seen e o) fit on w = ap (λ k. Take (lock.Class (class_by k))) fit.kept
 plan_is c r x (stage.Pinning e o q) fit on w = ap (λ k. Give (lock.Class (class_by k))) fit.0.kept

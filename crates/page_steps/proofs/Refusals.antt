@@ -1,5 +1,5 @@
 -- The events of a refused piece give back what they found.
-use Rattle.std.proofs.Common.{◌≡◌, ◌⊎◌, ℕ, zero, suc, true, false, List, [], ◌∷◌, ◌++◌, length, map, Option, Some, None, refl, sym, ap, ◌∙◌, subst, inl, inr, arith, length-append}
+use Rattle.std.proofs.Common.{◌≡◌, ◌⊎◌, ℕ, zero, suc, ◌==◌, Bool, true, false, List, [], ◌∷◌, ◌++◌, length, map, Option, Some, None, refl, sym, ap, ◌∙◌, subst, inl, inr, arith, length-append}
 use Rattle.std.proofs.lemmas.List.{append_cancel_left, map-append}
 use Rattle.std.specs.Prelude.{⊤, slice_set}
 use Rattle.zspage.specs.Cells.{CellState, UsedCell, entry}
@@ -14,12 +14,14 @@ use Rattle.zr_base.specs.declared.op.OpEnd.TheVariants as ends
 use Rattle.lock_row.specs.declared.names.LockNo.{LockNo}
 use Rattle.lock_row.specs.declared.names.At.{At}
 use Rattle.lock_row.specs.declared.names.At.TheVariants as at
+use Rattle.lock_row.specs.declared.names.Compaction.{Compaction}
 use Rattle.lock_row.specs.declared.names.Pin.{Pin}
 use Rattle.slot_entry.specs.declared.kept.Kept.{Kept}
 use Rattle.slot_entry.specs.declared.kept.Kept.TheVariants as kept
 use Rattle.page_steps.specs.Pools.{Lends, Returns}
 use Rattle.page_steps.specs.Steps.{Terms, DiskHeld, Here, taken_at, settle_at, quit_at, took, entry_or, entry_in}
-use Rattle.page_steps.specs.Givings.{Works, refuses, pins, unpins, charges, limits, starves, stows, quits, frees, repays, puts, reads, fails}
+use Rattle.page_steps.specs.Givings.{Works, refuses, pins, unpins, charges, limits, starves, stows, quits, frees, repays, puts, reads, fails, compacts}
+use Rattle.page_steps.specs.Compactions.{Compacts, moves, rests, shrinks, moved_at, with_move, compaction_at, resting_by}
 use Rattle.page_steps.specs.Nexts.{ending_by, failing_by, tail_of, own_entry, pinning}
 use Rattle.page_steps.specs.Pages.{page_in}
 use Rattle.page_steps.specs.Refusals.{Event, Takes, Gives, IsRefusedEnd, AreRefused, GivesLast, GiveBack, RefusalsLeaveAll}
@@ -99,7 +101,7 @@ IsEarly at.Both f = HasNone f
 IsEarly at.Made f = HasSome f
 IsEarly a f = ⊥
 
--- the piece isn't refused any more
+-- the piece isn't refused any more; a compaction never is
 abbrev IsLate : At → Option PartEnd → Type 0
 IsLate at.Refusing f = ⊤
 IsLate at.Made f = HasNone f
@@ -108,6 +110,10 @@ IsLate at.Freeing f = ⊤
 IsLate at.Owing f = ⊤
 IsLate at.Giving f = ⊤
 IsLate at.Ready f = ⊤
+IsLate (at.Sweeping x) f = ⊤
+IsLate (at.Moving x) f = ⊤
+IsLate (at.Shrunk x) f = ⊤
+IsLate (at.Shrinking x) f = ⊤
 IsLate a f = ⊥
 
 -- without a refusal each stage is one or the other
@@ -128,6 +134,10 @@ split at.Freeing f none = inr tt
 split at.Owing f none = inr tt
 split at.Giving f none = inr tt
 split at.Ready f none = inr tt
+split (at.Sweeping x) f none = inr tt
+split (at.Moving x) f none = inr tt
+split (at.Shrunk x) f none = inr tt
+split (at.Shrinking x) f none = inr tt
 
 early_take : (size : ℕ) (todo : List Part) (a : At) (page : Option (List ℕ)) (k : Kept)
     (f : Option PartEnd) → IsEarly a f
@@ -150,6 +160,10 @@ late_take size (p ∷ ps) at.Freeing page k f late = tt
 late_take size (p ∷ ps) at.Owing page k f late = tt
 late_take size (p ∷ ps) at.Giving page k f late = tt
 late_take size (p ∷ ps) at.Ready page k f late = tt
+late_take size (p ∷ ps) (at.Sweeping x) page k f late = tt
+late_take size (p ∷ ps) (at.Moving x) page k f late = tt
+late_take size (p ∷ ps) (at.Shrunk x) page k f late = tt
+late_take size (p ∷ ps) (at.Shrinking x) page k f late = tt
 late_take size (p ∷ ps) a page k f late = absurd late
 
 -- ---- givings
@@ -168,9 +182,34 @@ settle_late kept.Empty f = tt
 settle_late (kept.Same w) f = tt
 settle_late (kept.Obj o) f = tt
 
-late_step : (t : Terms) (l : Here) (v : DiskHeld) (m : Here) → Works t l v m → IsLate l.at l.fail
-    → (IsLate m.at m.fail × (m.done ≡ l.done))
+-- what a giving of a piece leaves that isn't refused any more: it goes on, or it ends without a refusal
+abbrev Goes : Here → Here → Type 0
+Goes l m = (IsLate m.at m.fail × (m.done ≡ l.done))
     ⊎ ((d : Done) × (m.done ≡ l.done ++ d ∷ []) × (IsRefusedEnd d.end → ⊥))
+
+moved_late : (frames : ℕ) (x : Compaction) (f : Option PartEnd) → IsLate (moved_at frames x) f
+moved_late zero x f = tt
+moved_late (suc n) x f = tt
+
+rest_step : (chain : ℕ) (x : Compaction) (last : Bool) (l : Here) (v : DiskHeld) (p : Part)
+    (rest : List Part) → l.todo ≡ p ∷ rest → Goes l (resting_by chain x last l v)
+rest_step chain x true l v p rest todo =
+    let end = over.Whole (ends.Compacted x.moves x.frames) in
+    inr (record { part = p; end = end; got = [] }, over_is l end (λ p. []) p rest l.todo todo, λ r. r)
+rest_step chain x false l v p rest todo = inl (tt, refl)
+
+compact_step : (t : Terms) (l : Here) (v : DiskHeld) (m : Here) → Compacts t l v m → Goes l m
+compact_step t l v m (moves p rest x q q' budget frames todo stage held more one give is) =
+    inl (subst (λ (y : Here). IsLate y.at y.fail × (y.done ≡ l.done)) (sym is)
+    (moved_late frames (with_move (compaction_at l.at) budget) l.fail, refl))
+compact_step t l v m (rests p rest x q todo stage held none give is) =
+    subst (λ (y : Here). Goes l y) (sym is)
+    (rest_step t.chain (compaction_at l.at) ((compaction_at l.at).class == 254) l v p rest todo)
+compact_step t l v m (shrinks p rest x c todo stage held give is) =
+    inl (subst (λ (y : Here). IsLate y.at y.fail × (y.done ≡ l.done)) (sym is) (tt, refl))
+
+late_step : (t : Terms) (l : Here) (v : DiskHeld) (m : Here) → Works t l v m → IsLate l.at l.fail
+    → Goes l m
 late_step t l v m (refuses p rest c todo stage held give is) late =
     inr (
       record { part = p; end = over.Whole ends.Range; got = [] },
@@ -207,6 +246,7 @@ late_step t l v m (reads p rest e f todo stage held fail notes give is) late =
     absurd (subst (λ (a : At). IsLate a l.fail) stage late)
 late_step t l v m (fails p rest e end todo stage held fail give is) late =
     absurd (subst (λ (a : At). IsLate a l.fail) stage late)
+late_step t l v m (compacts c) late = compact_step t l v m c
 
 -- What a giving of a piece leaves that may still be refused: it goes on with what it took, or it is
 -- past a refusal, or it ends.
@@ -281,6 +321,14 @@ early_step t l v m (fails p rest e end todo stage held fail give is) early =
       ap (λ (y : Here). y.held) so ∙ held_is l end (λ p. []) p rest l.todo todo
           ∙ sym (ap tail_of held),
     ))
+early_step t l v m (compacts c) early = absurd (by c) where
+  by : Compacts t l v m → ⊥
+  by (moves p rest x q q' budget frames todo stage held more one give is) =
+      subst (λ (a : At). IsEarly a l.fail) stage early
+  by (rests p rest x q todo stage held none give is) =
+      subst (λ (a : At). IsEarly a l.fail) stage early
+  by (shrinks p rest x c todo stage held give is) =
+      subst (λ (a : At). IsEarly a l.fail) stage early
 
 -- ---- a refused piece
 

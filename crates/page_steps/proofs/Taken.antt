@@ -1,6 +1,7 @@
 -- What a taken value is, by the stage of the call that takes it.
 use Rattle.std.specs.Prelude.{is_some}
 use Rattle.std.proofs.Common.{◌≡◌, ℕ, Bool, true, false, [], length, Option, Some, None, refl, sym, ap, ◌∙◌, subst}
+use Rattle.zr_base.specs.Plain.{is_beyond}
 use Rattle.class_pool.specs.Pool.{PoolState, IsLent}
 use Rattle.mem_account.specs.Counters.{Counters}
 use Rattle.mem_account.specs.declared.weight.Weight.{Weight}
@@ -51,11 +52,17 @@ account_in P {v = v} fits = absurd fits
 
 pub fits_start : (c : Head) (r : Scratch) (v : DiskHeld) → is_count c.work ≡ false
     → FitsSome c r stage.Start v → AsSlot HasPlace v
-fits_start c r v piece (x, w, fits) = subst (λ (b : Bool). StartFits b v) (w.beyond ∙ piece) fits
+fits_start c r v piece (x, w, fits) =
+    subst (λ (b : Bool). StartFits x.terms.chain false b v) (w.beyond ∙ piece)
+    (subst (λ (b : Bool). StartFits x.terms.chain b (is_beyond x.terms.size x.part.op) v) w.request
+    fits)
 
 pub fits_beyond : (c : Head) (r : Scratch) (v : DiskHeld) → is_count c.work ≡ true
     → FitsSome c r stage.Beyond v → AsAccount (λ a. Unit {0}) v
-fits_beyond c r v count (x, w, fits) = subst (λ (b : Bool). StartFits b v) (w.beyond ∙ count) fits
+fits_beyond c r v count (x, w, fits) =
+    subst (λ (b : Bool). StartFits x.terms.chain false b v) (w.beyond ∙ count)
+    (subst (λ (b : Bool). StartFits x.terms.chain b (is_beyond x.terms.size x.part.op) v) w.request
+    fits)
 
 pub fits_seen : (c : Head) (r : Scratch) (e : EntryState) (o : Stored) (v : DiskHeld)
     → e.kept ≡ kept.Obj o → FitsSome c r (stage.Seen e o) v → AsPool (CanPin o) v
@@ -110,19 +117,21 @@ took_old l a k o v q is v_is = λ i. with_lock l a (lock.Class (class_by (sym is
 pub asks : (c : Head) (r : Scratch) → is_count c.work ≡ true → TakesAs c r stage.Beyond asking
 asks c r count x v w =
     let e = sym (w.beyond ∙ count) in
+    let d = sym w.request in
     λ i. with_lock (here x r stage.Beyond)
-    (begun_at (e i) x.part (next_form x.part None (entry_or v (entry_in [])).kept)
+    (begun_at (d i) (e i) x.part (next_form x.part None (entry_or v (entry_in [])).kept)
     (entry_or v (entry_in [])).kept)
-    (lock_of (start_plan (e i) x.part)) v
+    (lock_of (start_plan (d i) (e i) x.part)) v
 
 -- a piece on the disk takes its slot
 pub enters : (c : Head) (r : Scratch) → is_count c.work ≡ false → TakesAs c r stage.Start entering
 enters c r piece x v w =
     let e = sym (w.beyond ∙ piece) in
+    let d = sym w.request in
     λ i. with_lock (here x r stage.Start)
-    (begun_at (e i) x.part (next_form x.part None (entry_or v (entry_in [])).kept)
+    (begun_at (d i) (e i) x.part (next_form x.part None (entry_or v (entry_in [])).kept)
     (entry_or v (entry_in [])).kept)
-    (lock_of (start_plan (e i) x.part)) v
+    (lock_of (start_plan (d i) (e i) x.part)) v
 
 -- a new object's class is taken
 pub wants : (c : Head) (r : Scratch) (own : Own) (new : New) → IsOwn c r own → IsNew c r new

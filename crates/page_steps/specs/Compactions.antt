@@ -1,6 +1,6 @@
 -- The events of a compaction: for each class that stands for itself, in rising order, one object moves
 -- at a time; the frames that a move frees are given back before the next one.
-use Rattle.std.specs.Prelude.{◌≡◌, ◌⊎◌, ℕ, zero, suc, ◌+◌, ◌-◌, ◌==◌, Bool, true, false, length, List, [], ◌∷◌, Option, Some, None, unwrap_or}
+use Rattle.std.specs.Prelude.{◌≡◌, ◌⊎◌, ℕ, zero, suc, ◌+◌, ◌-◌, ◌==◌, Bool, true, false, length, List, [], ◌∷◌, Some, None, unwrap_or}
 use Rattle.zr_base.specs.declared.op.OpEnd.TheVariants as ends
 use Rattle.size_class.specs.Classes.{stands_of}
 use Rattle.zs_plan.specs.Plan.{IsPlan, HasNoPlan}

@@ -4,7 +4,7 @@ use Rattle.std.specs.List.{AllByRecursion}
 use Rattle.std.specs.Prelude.{option_and_then}
 use Rattle.zr_base.specs.declared.op.Tag.{Tag}
 use Rattle.zr_base.specs.declared.op.Op.{Op}
-use Rattle.zr_base.specs.declared.op.Op.TheVariants.{Write, Read, Discard}
+use Rattle.zr_base.specs.declared.op.Op.TheVariants.{Write, Read, Discard, Compact}
 use Rattle.zr_base.specs.Plain.{content, named, has_whole, sector_after_named, zero_sector, IsRequest}
 use Rattle.plain_disk.specs.Calls.{Found, after, after_all, blank_by}
 use Rattle.plain_disk.specs.Phases.{held_after}
@@ -19,6 +19,7 @@ blank_one : (p k : ℕ) (f : Found) (o : Option Op) → k < 8 → HasEvent p o
 blank_one p k f None lt does zeros e = zeros e
 blank_one p k f (Some (Write start count stuff)) lt does zeros e = absurd (cc)
 blank_one p k f (Some (Read start count)) lt does zeros e = zeros e
+blank_one p k f (Some Compact) lt does zeros e = zeros e
 blank_one p k f (Some (Discard start count)) lt does zeros e =
     ap (λ (b : Bool). cond b zero_sector (f.holds (8 * p + k)))
     (ap (has_whole start count) (let q : (8 * p + k) / 8 ≡ p = omega arith in q) ∙ does)

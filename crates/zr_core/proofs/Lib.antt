@@ -5,6 +5,7 @@ pub mod Places
 pub mod States
 pub mod Worlds
 pub mod Falls
+pub mod Fewer
 pub mod Runs
 pub mod Shown
 pub mod Matches

@@ -24,7 +24,8 @@ use Rattle.joint_rule.specs.Begins.{Begin, terms}
 use Rattle.joint_rule.specs.Laws.{TurnKeepsRule, CanMove, takes, gives, NobodyWaitsForever}
 use Rattle.zr_core.specs.Machines.{OneTurn, Turns, IsReached, AllFinished, rounds_of}
 use Rattle.zr_core.specs.States.{heres, state, Playing, state_of, AreKept, CanGoOn, HasRule, IsReachedFrom, TurnIs, TurnsOnce}
-use Rattle.zr_core.specs.Runs.{turns_of, Plays, RunsOut, IsBusy, AllOver, left_by, all_left, nothing_over, left_of, IsFree, Round, RoundTo}
+use Rattle.zr_core.specs.Runs.{turns_of, Plays, RunsOut, IsBusy, AllOver, left_by, all_left, nothing_over, left_of, AreFew, IsFree, Round, RoundTo}
+use Rattle.zr_core.proofs.Fewer.{AllFew, count_same, of_here}
 use Rattle.zr_core.proofs.Falls.{falls, free_falls}
 use Rattle.zr_core.proofs.Lists.{there_is}
 use Rattle.zr_core.proofs.Machines.{run_on, run_both, rule_run}
@@ -38,31 +39,31 @@ round_none t start = inr (refl, (λ f free. omega arith))
 module _ (sums : SumMoves DiskHeld) (t : Terms) where
   -- ---- a round
 
-  pub round_more : (start now next : State DiskHeld) (i : ℕ) → Round t start now i
-      → OneTurn t i now next
-      → Round t start next (i + 1)
-  round_more start now next i (inl less) e =
-      inl (⊎_elim (λ same. let q : all_left next ≡ all_left now = ap all_left same in omega arith)
-      (λ fell. omega arith) (falls sums t i now next e))
-  round_more start now next i (inr r) e =
-      let base : all_left now ≡ all_left start = ap all_left r.0 in ⊎_elim
+  pub round_more : (start now next : State DiskHeld) (i : ℕ) → AreFew t.size now
+      → Round t start now i → OneTurn t i now next → Round t start next (i + 1)
+  round_more start now next i few (inl less) e =
+      inl (⊎_elim (λ same. let q : all_left t.size next ≡ all_left t.size now =
+      ap (all_left t.size) same in omega arith)
+      (λ fell. omega arith) (falls sums t i now next few e))
+  round_more start now next i few (inr r) e =
+      let base : all_left t.size now ≡ all_left t.size start = ap (all_left t.size) r.0 in ⊎_elim
       (λ same. inr (
         same ∙ r.0,
         λ f free. dite (ℕ_discrete f i)
             (λ is. absurd
             (let g : IsFree t now i =
             subst (λ (p : State DiskHeld × ℕ). IsFree t p.0 p.1) (λ k. (sym r.0 k, is k)) free in
-            let h = free_falls sums t i now next g e in
-            let q : all_left next ≡ all_left now = ap all_left same in
+            let h = free_falls sums t i now next few g e in
+            let q : all_left t.size next ≡ all_left t.size now = ap (all_left t.size) same in
             let none : ⊥ = omega arith in none))
             (λ ne. let h = r.1 f free in omega arith),
       ))
       (λ fell. inl (omega arith))
-      (falls sums t i now next e)
+      (falls sums t i now next few e)
 
   pub round_falls : (start now : State DiskHeld) (n : ℕ) → length start.locals ≤ n → (f : ℕ)
       → IsFree t start f
-      → Round t start now n → all_left now < all_left start
+      → Round t start now n → all_left t.size now < all_left t.size start
   round_falls start now n many f free (inl less) = less
   round_falls start now n many f free (inr r) =
       absurd (let b = slice_get_within start.locals f free.0 free.1 in
@@ -71,16 +72,25 @@ module _ (sums : SumMoves DiskHeld) (t : Terms) where
 -- ---- workers
 
 -- what is left doesn't depend on what is over
-pub left_same : (t : Terms) (actors : List (List Op)) (ws : List Worker) (dones : List (List Done))
-    → length dones ≡ length ws
-    → locals_sum left_by (heres t actors ws dones)
-    ≡ locals_sum left_by (heres t actors ws (nothing_over ws))
-left_same t [] ws ds e = refl
-left_same t (ops ∷ more) [] ds e = refl
-left_same t (ops ∷ more) (w ∷ ws) [] e = absurd (let q : 0 ≡ suc (length ws) = e in
+sum_same : (n : ℕ) (t : Terms) (actors : List (List Op)) (ws : List Worker)
+    (dones : List (List Done)) → length dones ≡ length ws
+    → locals_sum (left_by n) (heres t actors ws dones)
+    ≡ locals_sum (left_by n) (heres t actors ws (nothing_over ws))
+sum_same n t [] ws ds e = refl
+sum_same n t (ops ∷ more) [] ds e = refl
+sum_same n t (ops ∷ more) (w ∷ ws) [] e = absurd (let q : 0 ≡ suc (length ws) = e in
     let none : ⊥ = omega arith in none)
-left_same t (ops ∷ more) (w ∷ ws) (d ∷ ds) e =
-    ap (λ (n : ℕ). left_by (here t.size ops w d) + n) (left_same t more ws ds (omega arith))
+sum_same n t (ops ∷ more) (w ∷ ws) (d ∷ ds) e =
+    ap (λ (k : ℕ). left_by n (here t.size ops w d) + k) (sum_same n t more ws ds (omega arith))
+
+pub left_same : (x : Playing) (dones : List (List Done)) → length dones ≡ length x.workers
+    → all_left x.terms.size (state_of x dones) ≡ left_of x
+left_same x dones e =
+    sum_same (x.terms.size + length (heres x.terms x.actors x.workers dones)) x.terms x.actors
+    x.workers dones e
+    ∙ ap (λ (k : ℕ). locals_sum (left_by (x.terms.size + k))
+    (heres x.terms x.actors x.workers (nothing_over x.workers)))
+    (count_same x.terms x.actors x.workers dones e)
 
 pub heres_length : (t : Terms) (actors : List (List Op)) (ws : List Worker)
     (dones : List (List Done))
@@ -151,29 +161,19 @@ module _ (free : NobodyWaitsForever) (x : Playing) (can : CanGoOn x) (busy : IsB
         let less = round_falls sums x.terms (state_of x j.dones) (state_of y r.0) n
         (let q = heres_length x.terms x.actors x.workers j.dones in omega arith) f.0 f.1
         (subst (λ (t : Terms). Round t (state_of x j.dones) (state_of y r.0) n) same r.3) in
-        let a = left_same x.terms x.actors x.workers j.dones j.kept.count in
-        let b = left_same y.terms y.actors y.workers r.0 r.1.count in omega arith
+        let a = left_same x j.dones j.kept.count in
+        let b : all_left x.terms.size (state_of y r.0) ≡ left_of y =
+        ap (λ (u : Terms). all_left u.size (state_of y r.0)) (sym same)
+        ∙ left_same y r.0 r.1.count in omega arith
 
 -- where all workers are past their operations, all actors are finished
 pub all_finished : (t : Terms) (actors : List (List Op)) (cells : List (Option DiskHeld))
     (ws : List Worker) (dones : List (List Done)) → AllOver actors ws
     → AllFinished (state t actors cells ws dones)
 all_finished t actors cells ws dones over a l who =
-    let x = of_here actors ws dones a who in
+    let x = of_here t actors ws dones a l who in
     subst (λ (m : Here). m.todo ≡ []) x.4
     (no_todo t.size x.1.place.nr x.0 x.1.place.page x.1.place.left (over a x.0 x.1 x.3.0 x.3.1))
-  where
-    of_here : (actors : List (List Op)) (ws : List Worker) (dones : List (List Done)) (a : ℕ)
-        → slice_get (heres t actors ws dones) a ≡ Some l
-        → (ops : List Op) × (w : Worker) × (done : List Done)
-        × ((slice_get actors a ≡ Some ops) × (slice_get ws a ≡ Some w))
-        × (here t.size ops w done ≡ l)
-    of_here [] ws ds a e = absurd (cc)
-    of_here (x ∷ xs) [] ds a e = absurd (cc)
-    of_here (x ∷ xs) (y ∷ ys) [] a e = absurd (cc)
-    of_here (x ∷ xs) (y ∷ ys) (z ∷ zs) zero e =
-        (x, y, z, (refl, refl), (let q : Some (here t.size x y z) ≡ Some l = e in cc))
-    of_here (x ∷ xs) (y ∷ ys) (z ∷ zs) (suc a) e = of_here xs ys zs a e
 
 -- one more actor that is finished
 pub more_over : (actors : List (List Op)) (ws : List Worker) (n : ℕ) (ops : List Op) (w : Worker)
@@ -200,10 +200,10 @@ range_push : (a n j : ℕ) → a + n ≡ j → range_with_len a (n + 1) ≡ rang
 range_push a n j e = rw add-one (range_suc a n j e)
 
 pub turn_more : SumMoves DiskHeld → (start : State DiskHeld) (x y : Playing) → y.terms ≡ x.terms
-    → (i : ℕ) (t : WasTurn) → RoundTo start x i
+    → (i : ℕ) (t : WasTurn) → AllFew x → RoundTo start x i
     → ((dones : List (List Done)) → AreKept x.workers dones → TurnsOnce i x y t dones)
     → RoundTo start y (i + 1)
-turn_more sums start x y same i t r turn =
+turn_more sums start x y same i t few r turn =
     let n = turn r.0 r.1 in
     let once = one_turn x.terms i (state_of x r.0) (state_of y n.0) t n.2 in
     subst (λ (u : Terms). (dones : List (List Done)) × AreKept y.workers dones
@@ -214,7 +214,7 @@ turn_more sums start x y same i t r turn =
       subst (λ (ts : List ℕ). Turns x.terms ts start (state_of y n.0))
           (sym (range_push 0 i i (omega arith)))
           (run_on x.terms (range_with_len 0 i) i start (state_of x r.0) (state_of y n.0) r.2 once),
-      round_more sums x.terms start (state_of x r.0) (state_of y n.0) i r.3 once,
+      round_more sums x.terms start (state_of x r.0) (state_of y n.0) i (few r.0 r.1) r.3 once,
     )
 
 -- ---- turns after turns

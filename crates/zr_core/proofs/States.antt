@@ -1,7 +1,7 @@
 -- The state that a row and its workers stand for, and its turns.
 use Rattle.std.proofs.Common.{◌≡◌, ℕ, zero, suc, ◌<◌, Bool, true, false, List, [], ◌∷◌, length, Option, Some, None, slice_get, slice_set, refl, sym, ap, ◌∙◌, subst, arith, ⊎_elim, length-set}
 use Rattle.zr_base.specs.declared.op.Op.{Op}
-use Rattle.zr_base.specs.Plain.{is_beyond}
+use Rattle.zr_base.specs.Plain.{is_beyond, is_compaction}
 use Rattle.call_history.specs.declared.part.Part.{Part}
 use Rattle.call_history.specs.declared.part.Done.{Done}
 use Rattle.lock_row.specs.declared.names.LockNo.{LockNo}
@@ -98,10 +98,11 @@ no_plan t l e = todo l.todo refl where
       (sym (ap (λ (qs : List Part). plan_by t.size qs l.at (class_by (entry_in l.held).kept)
       (new_class t.chain qs l.page (entry_in l.held).kept)) is) ∙ e)) where
         going : (at : At) (c d : ℕ) → plan_at t.size at p c d ≡ Finished → ⊥
-        going at.Start c d f = started (is_beyond t.size p.op) f where
-          started : (b : Bool) → start_plan b p ≡ Finished → ⊥
-          started true g = cc
-          started false g = cc
+        going at.Start c d f = started (is_compaction p.op) (is_beyond t.size p.op) f where
+          started : (c b : Bool) → start_plan c b p ≡ Finished → ⊥
+          started true b g = cc
+          started false true g = cc
+          started false false g = cc
         going at.Refusing c d f = cc
         going at.Seen c d f = cc
         going at.Pinning c d f = cc
@@ -117,6 +118,10 @@ no_plan t l e = todo l.todo refl where
         going at.Owing c d f = cc
         going at.Giving c d f = cc
         going at.Ready c d f = cc
+        going (at.Sweeping x) c d f = cc
+        going (at.Moving x) c d f = cc
+        going (at.Shrunk x) c d f = cc
+        going (at.Shrinking x) c d f = cc
 
 -- ---- a turn by a hand over the row
 

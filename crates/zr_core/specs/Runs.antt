@@ -6,7 +6,10 @@ use Rattle.zr_base.specs.declared.op.Turns.{Turns}
 use Rattle.zr_base.specs.Plain.{is_compaction}
 use Rattle.call_history.specs.declared.part.Part.{Part}
 use Rattle.call_history.specs.declared.part.Done.{Done}
+use Rattle.class_pool.specs.Pool.{PoolState, objects}
 use Rattle.lock_row.specs.declared.names.LockNo.{LockNo}
+use Rattle.lock_row.specs.declared.names.LockNo.TheVariants as lock
+use Rattle.lock_row.specs.declared.names.Held.TheVariants as holds
 use Rattle.lock_row.specs.declared.names.At.{At}
 use Rattle.lock_row.specs.declared.names.At.TheVariants.{Start, Refusing, Seen, Pinning, Pinned, Unpinning, Leaving, Wanting, Inside, Both, Made, Old, Freeing, Owing, Giving, Ready, Sweeping, Moving, Shrunk, Shrinking}
 use Rattle.lock_row.specs.declared.names.Compaction.{Compaction}
@@ -104,6 +107,18 @@ left_at n (p ∷ ps) at = stage_left n p at + pieces_left n ps
 -- those that an actor has left
 abbrev pub left_by : ℕ → Here → ℕ
 left_by n l = left_at n l.todo l.at
+
+-- a compaction in hand is at a class, and the class hasn't more than n objects
+abbrev pub Few : ℕ → Here → Type 0
+Few n l = (p : Part) (rest : List Part) (x : Compaction) (q : PoolState)
+    → l.todo ≡ p ∷ rest → l.at ≡ Moving x
+    → l.held ≡ (lock.Class x.class, holds.Class q) ∷ []
+    → (x.class < 255) × (length (objects q) ≤ n)
+
+-- no class has more objects than there are pages and actors
+abbrev pub AreFew : ℕ → State DiskHeld → Type 0
+AreFew size w = (a : ℕ) (l : Here) → slice_get w.locals a ≡ Some l
+    → Few (size + length w.locals) l
 
 -- those that all actors of a disk of so many pages have left: no class has more objects than there
 -- are pages and actors

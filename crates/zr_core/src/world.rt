@@ -119,6 +119,7 @@ impl World {
             < left_of (playing self.old phase.old actors.now) }
     {
         rule_keeps();
+        values_fit();
         sums_move::<DiskHeld>();
         for actor in 0..actors.len() as u32 {
             let _turn = self.step(phase, actors, actor);

@@ -3,6 +3,7 @@ use Rattle.std.specs.List.{range_with_len}
 use Rattle.zr_core.specs.Playing.{playing}
 use Rattle.zr_core.specs.Runs.{Plays}
 use Rattle.zr_core.specs.States.{state_of}
+use Rattle.zr_core.proofs.Fewer.{can_few}
 use Rattle.zr_core.proofs.Runs.{plays_none, plays_once, then_turn, turn_more, round_none, rule, round_left}
 use Rattle.zr_core.proofs.disk.World.round.Goals as goal
 
@@ -24,6 +25,8 @@ loop-actor-preserved c =
           (playing c.step-turn.new.self c.step-turn.new.phase c.args.actors.now) t.same
           c.loop-actor.actor
           c.step-turn.result
+          (can_few c.values_fit.ensures.compacted
+          (playing c.loop-actor.self c.loop-actor.phase c.args.actors.now) i.plays.can)
           (i.falls dones kept) t.turn;
     }
 

@@ -1,0 +1,60 @@
+-- Whatever is over, no class has more objects than there are pages and actors in a phase that can go on.
+use Rattle.std.proofs.Common.{◌≡◌, ℕ, zero, suc, ◌+◌, ◌<◌, ◌≤◌, List, [], ◌∷◌, length, Some, slice_get, refl, sym, ap, ◌∙◌, subst, arith}
+use Rattle.std.proofs.lemmas.Option.{slice_get_within}
+use Rattle.zr_base.specs.declared.op.Op.{Op}
+use Rattle.call_history.specs.declared.part.Part.{Part}
+use Rattle.call_history.specs.declared.part.Done.{Done}
+use Rattle.page_steps.specs.Steps.{Terms, DiskHeld, Here}
+use Rattle.actor_steps.specs.declared.worker.Worker.{Worker}
+use Rattle.actor_steps.specs.Workers.{here}
+use Rattle.joint_rule.specs.Laws.{CompactedIsFew}
+use Rattle.zr_core.specs.Runs.{nothing_over, Few, AreFew}
+use Rattle.zr_core.specs.States.{heres, Playing, state_of, AreKept, CanGoOn}
+use Rattle.zr_core.proofs.Lists.{there_is}
+use Rattle.zr_core.proofs.States.{heres_get}
+use Rattle.zr_core.proofs.Worlds.{ruled_by}
+
+-- an actor is that of a worker
+pub of_here : (t : Terms) (actors : List (List Op)) (ws : List Worker) (dones : List (List Done))
+    (a : ℕ) (l : Here) → slice_get (heres t actors ws dones) a ≡ Some l
+    → (ops : List Op) × (w : Worker) × (done : List Done)
+    × ((slice_get actors a ≡ Some ops) × (slice_get ws a ≡ Some w)) × (here t.size ops w done ≡ l)
+of_here t [] ws ds a l e = absurd (cc)
+of_here t (x ∷ xs) [] ds a l e = absurd (cc)
+of_here t (x ∷ xs) (y ∷ ys) [] a l e = absurd (cc)
+of_here t (x ∷ xs) (y ∷ ys) (z ∷ zs) zero l e =
+    (x, y, z, (refl, refl), (let q : Some (here t.size x y z) ≡ Some l = e in cc))
+of_here t (x ∷ xs) (y ∷ ys) (z ∷ zs) (suc a) l e = of_here t xs ys zs a l e
+
+-- there are as many, whatever is over
+pub count_same : (t : Terms) (actors : List (List Op)) (ws : List Worker) (dones : List (List Done))
+    → length dones ≡ length ws
+    → length (heres t actors ws dones) ≡ length (heres t actors ws (nothing_over ws))
+count_same t [] ws ds e = refl
+count_same t (ops ∷ more) [] ds e = refl
+count_same t (ops ∷ more) (w ∷ ws) [] e = absurd (let q : 0 ≡ suc (length ws) = e in
+    let none : ⊥ = omega arith in none)
+count_same t (ops ∷ more) (w ∷ ws) (d ∷ ds) e =
+    ap (λ (k : ℕ). suc k) (count_same t more ws ds (omega arith))
+
+-- no class has more objects than there are pages and actors
+abbrev pub AllFew : Playing → Type 0
+AllFew x = (dones : List (List Done)) → AreKept x.workers dones
+    → AreFew x.terms.size (state_of x dones)
+
+pub can_few : CompactedIsFew → (x : Playing) → CanGoOn x → AllFew x
+can_few law x can dones kept a l who =
+    let o = of_here x.terms x.actors x.workers dones a l who in
+    let r = ruled_by x a o.0 can.ruled o.3.0 in
+    let j = r.1 in
+    let d = there_is j.dones a (let n = j.kept.count in
+    let q = slice_get_within x.workers a o.1 o.3.1 in omega arith) in
+    let there = heres_get x.terms x.actors x.workers j.dones a o.0 o.1 d.0 o.3.0 o.3.1 d.1 in
+    let size : r.0.given.size ≡ x.terms.size = ap (λ (u : Terms). u.size) j.of.goes_by in
+    let long = count_same x.terms x.actors x.workers dones kept.count in
+    let as_long = count_same x.terms x.actors x.workers j.dones j.kept.count in
+    let few : Few (x.terms.size + length (state_of x dones).locals) (here x.terms.size o.0 o.1 o.2) =
+    λ p rest y q todo at held.
+    let z = law r.0 (state_of x j.dones) a (here x.terms.size o.0 o.1 d.0) p rest y q j.rule there todo
+    at held in (z.0, (let b = z.1 in omega arith)) in
+    subst (Few (x.terms.size + length (state_of x dones).locals)) o.4 few
