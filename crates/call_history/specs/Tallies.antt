@@ -1,5 +1,5 @@
 -- What the account and the pages tell at the end of a phase, beside the histories.
-use Rattle.std.specs.Prelude.{◌≡◌, ℕ, ◌+◌, List}
+use Rattle.std.specs.Prelude.{◌≡◌, ℕ, ◌+◌, List, [], ◌∷◌}
 use Rattle.zr_base.specs.declared.op.Tag.{Tag}
 use Rattle.zr_base.specs.declared.op.Op.{Op}
 use Rattle.mem_account.specs.declared.weight.Weight.{Weight}
@@ -10,6 +10,7 @@ use Rattle.plain_disk.specs.Calls.{calls_sum, made_huge, freed}
 use Rattle.plain_disk.specs.Rests.{Rest, kept_pages, frames_of, so_far_of}
 use Rattle.plain_disk.specs.Phases.{phase_sum, LeavesPages}
 use Rattle.call_history.specs.declared.part.Done.{Done}
+use Rattle.call_history.specs.Alone.{IsAloneOver}
 use Rattle.call_history.specs.Parts.{dones_sum}
 
 -- The phase leaves the pages of the rest m, and c is what the account has counted: sums over these
@@ -32,3 +33,4 @@ pub record Tallies (form : List ℕ → Weight) (r : Rest) (actors : List (List 
   pub invalid_io : c.invalid_io ≡ at_most_end (r.so_far.beyond + dones_sum beyond dones)
   pub notify_free : c.notify_free ≡ at_most_end
       (r.so_far.freed + phase_sum (λ p. calls_sum freed actors) r orders)
+  pub alone : (done : List Done) → dones ≡ done ∷ [] → IsAloneOver form r done m

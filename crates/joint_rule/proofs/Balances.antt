@@ -3,20 +3,21 @@ use Rattle.std.proofs.Common.{◌≡◌, ◌+◌, ◌-◌, ◌≤◌, ◌∙◌,
 use Rattle.class_pool.specs.Laws.{frames_of}
 use Rattle.class_pool.specs.Pool.{PoolState, used_cells}
 use Rattle.joint_rule.proofs.Events.{BackBy}
-use Rattle.joint_rule.proofs.Pools.{Alike, Allocates, GivesUp, Swaps, fits_swap}
+use Rattle.joint_rule.proofs.Pools.{Alike, Allocates, GivesUp, Shifts, Swaps, fits_swap}
 use Rattle.joint_rule.specs.Joint.{PoolFits}
 use Rattle.joint_rule.specs.Stages.{Bears, IsForm, NoneOf}
-use Rattle.joint_rule.specs.Weights.{Backs, Compactions, Count, FailedReads, FailedWrites, Fixed, Huges, Limit, OutOfRange, PackedBytes, Packs, PinWeigh, Refusal, Sames, Weigh, cell_weight, claim_by, counter, fixed_count, measure, object_weight, out_weight, pin_in, refusal_count}
+use Rattle.joint_rule.specs.Weights.{Backs, Count, FailedReads, FailedWrites, Fixed, Huges, Limit, OutOfRange, PackedBytes, Packs, PinWeigh, Refusal, Sames, Weigh, cell_weight, claim_by, counter, fixed_count, measure, object_weight, out_weight, pin_in, refusal_count}
 use Rattle.lock_row.specs.Totals.{by_option}
 use Rattle.lock_row.specs.declared.names.Object.{Object}
 use Rattle.lock_row.specs.declared.names.Pin.{Pin}
 use Rattle.mem_account.specs.Counters.{Counters, charged, counted, with_one, without_one}
 use Rattle.mem_account.specs.declared.weight.Weight.{Weight}
-use Rattle.page_steps.specs.Givings.{kept_by, repaid, settled, tells}
+use Rattle.page_steps.specs.Compactions.{repaid}
+use Rattle.page_steps.specs.Givings.{kept_by, settled, tells}
 use Rattle.slot_entry.specs.Entries.{weight_of}
 use Rattle.slot_entry.specs.Forms.{Blank, PageForm, Pooled, Word, bytes_in, form_weight}
 use Rattle.zr_base.specs.declared.op.Op.{Op}
-use Rattle.zr_base.specs.declared.op.Op.TheVariants.{Discard, Read, Write}
+use Rattle.zr_base.specs.declared.op.Op.TheVariants.{Compact, Discard, Read, Write}
 use Rattle.zspage.specs.Cells.{UsedCell}
 use Rattle.mem_account.specs.declared.weight.Weight.TheVariants as weight
 use Rattle.mem_account.specs.declared.weight.Delta.TheVariants as delta
@@ -88,6 +89,24 @@ module _ (p q : PoolState) where
       cond b (f (pin_in p.class v)) 0) home in
       let z : out_weight f p.class u ≡ f (pin_in p.class u) =
       ap (λ (b : Bool). cond b (f (pin_in p.class u)) 0) out in omega arith
+
+  pub shift_stored : (u v : UsedCell) (n : ℕ) → Shifts p q u v n → (f : Weigh)
+      → sum_by (cell_weight (f q.class)) (used_cells q.zspages)
+      ≡ sum_by (cell_weight (f p.class)) (used_cells p.zspages)
+  shift_stored u v n a f = let r = a.swap (cell_weight (f p.class)) in
+      let s = same_stored a.alike f (used_cells q.zspages) in
+      let e : f p.class v.handle v.bytes ≡ f p.class u.handle u.bytes =
+      (λ i. f p.class (a.handle i) (a.bytes i)) in omega arith
+
+  pub shift_outs : (u v : UsedCell) (n : ℕ) → Shifts p q u v n → (f : PinWeigh)
+      → sum_by (out_weight f q.class) (used_cells q.zspages)
+      ≡ sum_by (out_weight f p.class) (used_cells p.zspages)
+  shift_outs u v n a f = let r = a.swap (out_weight f p.class) in
+      let s = same_outs a.alike f (used_cells q.zspages) in
+      let y : out_weight f p.class u ≡ 0 = ap (λ (b : Bool).
+      cond b (f (pin_in p.class u)) 0) a.home in
+      let z : out_weight f p.class v ≡ 0 = ap (λ (b : Bool).
+      cond b (f (pin_in p.class v)) 0) a.stays in omega arith
 
 -- where the cell that was pinned is back, the pool is of its class, with the same objects and
 -- frames
@@ -207,6 +226,7 @@ told_rest : (op : Op) (c : Counters) → rest_of (tells op c) ≡ rest_of c
 told_rest (Write start count stuff) c = refl
 told_rest (Read start count) c = refl
 told_rest (Discard start count) c = refl
+told_rest Compact c = refl
 
 less_pages : (c : Counters) (w : Weight) → (without_one c w).pages ≡ c.pages
 less_pages c weight.Empty = refl
@@ -226,10 +246,12 @@ told_pages : (op : Op) (c : Counters) → (tells op c).pages ≡ c.pages
 told_pages (Write start count stuff) c = refl
 told_pages (Read start count) c = refl
 told_pages (Discard start count) c = refl
+told_pages Compact c = refl
 
 told_count : (op : Op) (q : Count) (c : Counters) → counter q (tells op c) ≡ counter q c
 told_count (Write start count stuff) q c = refl
 told_count (Read start count) q c = refl
+told_count Compact q c = refl
 told_count (Discard start count) Sames c = refl
 told_count (Discard start count) Packs c = refl
 told_count (Discard start count) PackedBytes c = refl
@@ -272,13 +294,15 @@ module _ (op : Op) (n : ℕ) (old new : Weight) (c : Counters) where
 
   pub settled_fixed : (q : Fixed) → fixed_count q (settled op n old new c) ≡ fixed_count q c
   settled_fixed Limit = ap (λ (x : ℕ × ℕ × ℕ × ℕ × ℕ × ℕ). x.1) settled_rest
-  settled_fixed Compactions = ap (λ (x : ℕ × ℕ × ℕ × ℕ × ℕ × ℕ). x.2) settled_rest
   settled_fixed FailedReads = ap (λ (x : ℕ × ℕ × ℕ × ℕ × ℕ × ℕ). x.3) settled_rest
 
   pub settled_refusals : (q : Refusal) → refusal_count q (settled op n old new c)
       ≡ refusal_count q c
   settled_refusals FailedWrites = ap (λ (x : ℕ × ℕ × ℕ × ℕ × ℕ × ℕ). x.4) settled_rest
   settled_refusals OutOfRange = ap (λ (x : ℕ × ℕ × ℕ × ℕ × ℕ × ℕ). x.5) settled_rest
+
+  pub settled_compacted : (settled op n old new c).compacted ≡ c.compacted
+  settled_compacted = ap (λ (x : ℕ × ℕ × ℕ × ℕ × ℕ × ℕ). x.2) settled_rest
 
 pub failed_count : (q : Count) (c : Counters) → counter q (counted c delta.FailedWrite)
     ≡ counter q c
@@ -302,22 +326,35 @@ charged_count PackedBytes c need = refl
 charged_count Huges c need = refl
 charged_count Backs c need = refl
 
+-- the account once so many frames are given back, and counted as those that compactions freed
+abbrev pub shrunk : ℕ → Counters → Counters
+shrunk n c = counted (repaid c n) (delta.Compacted n)
+
+pub shrunk_count : (q : Count) (c : Counters) (n : ℕ) → counter q (shrunk n c) ≡ counter q c
+shrunk_count Sames c n = refl
+shrunk_count Packs c n = refl
+shrunk_count PackedBytes c n = refl
+shrunk_count Huges c n = refl
+shrunk_count Backs c n = refl
+
+pub shrunk_fixed : (q : Fixed) (c : Counters) (n : ℕ)
+    → fixed_count q (shrunk n c) ≡ fixed_count q c
+shrunk_fixed Limit c n = refl
+shrunk_fixed FailedReads c n = refl
+
 pub failed_fixed : (q : Fixed) (c : Counters) → fixed_count q (counted c delta.FailedWrite)
     ≡ fixed_count q c
 failed_fixed Limit c = refl
-failed_fixed Compactions c = refl
 failed_fixed FailedReads c = refl
 
 pub invalid_fixed : (q : Fixed) (c : Counters) → fixed_count q (counted c delta.InvalidIo)
     ≡ fixed_count q c
 invalid_fixed Limit c = refl
-invalid_fixed Compactions c = refl
 invalid_fixed FailedReads c = refl
 
 pub charged_fixed : (q : Fixed) (c : Counters) (need : ℕ)
     → fixed_count q (charged c need) ≡ fixed_count q c
 charged_fixed Limit c need = refl
-charged_fixed Compactions c need = refl
 charged_fixed FailedReads c need = refl
 
 -- ---- forms

@@ -18,7 +18,7 @@ use Rattle.joint_rule.specs.Stages.{OweAt, StageBy}
 use Rattle.joint_rule.specs.Weights.{Limit, cell_weight, chains, claims, each_one, ever_at, fixed, fixed_count, fresh_claim, leaning, mosts, none, one, owing, pages, some_of, stored}
 use Rattle.lock_row.specs.Totals.{held_sum, locals_sum, mass, row_sum, total}
 use Rattle.lock_row.specs.declared.names.At.{At}
-use Rattle.lock_row.specs.declared.names.At.TheVariants.{Both, Freeing, Giving, Inside, Leaving, Made, Old, Owing, Pinned, Pinning, Ready, Refusing, Seen, Start, Unpinning, Wanting}
+use Rattle.lock_row.specs.declared.names.At.TheVariants.{Both, Freeing, Giving, Inside, Leaving, Made, Old, Owing, Pinned, Pinning, Ready, Refusing, Seen, Start, Unpinning, Wanting, Sweeping, Moving, Shrunk, Shrinking}
 use Rattle.lock_row.specs.declared.names.LockNo.{LockNo}
 use Rattle.lock_row.specs.declared.names.Object.{Object}
 use Rattle.lock_row.specs.declared.names.Pin.{Pin}
@@ -156,6 +156,10 @@ module _ (g : Begin) (ok : Known g) where
   owed_at Old n o = owed_none n o
   owed_at Freeing n o = owed_none n o
   owed_at Ready n o = owed_none n o
+  owed_at (Sweeping x) n o = owed_none n o
+  owed_at (Moving x) n o = owed_none n o
+  owed_at (Shrunk x) n o = owed_some n o
+  owed_at (Shrinking x) n o = owed_some n o
 
   owed_by : (ps : List Part) (e : EntryState) (at : At) (fresh : Option Object) (pin : Option Pin)
       (owed : ℕ) (x y : Option Weight) (page : Option (List ℕ)) (fail : Option PartEnd)

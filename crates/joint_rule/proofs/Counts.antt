@@ -4,7 +4,7 @@ use Rattle.call_history.specs.Parts.{done_sum, left_by, piece_gives}
 use Rattle.call_history.specs.declared.part.Part.{Part}
 use Rattle.call_history.specs.declared.part.PartEnd.{PartEnd}
 use Rattle.call_history.specs.declared.part.PartEnd.TheVariants.{AtLimit, Carried, NoMemory, Whole}
-use Rattle.joint_rule.proofs.Balances.{settled_refusals}
+use Rattle.joint_rule.proofs.Balances.{settled_refusals, shrunk}
 use Rattle.joint_rule.proofs.Events.{Event}
 use Rattle.joint_rule.proofs.Facts.{Known}
 use Rattle.joint_rule.proofs.Gifts.{stage}
@@ -16,7 +16,7 @@ use Rattle.joint_rule.specs.Rule.{CountsRefusals}
 use Rattle.joint_rule.specs.Stages.{IsWrite, NoneOf}
 use Rattle.joint_rule.specs.Weights.{FailedWrites, OutOfRange, Refusal, none, on_account, refusal_count, refusal_counter, refusal_of, refusals, refused_by, same}
 use Rattle.lock_row.specs.Totals.{by_option, held_sum, locals_sum, mass, total}
-use Rattle.lock_row.specs.declared.names.At.TheVariants.{Both, Made, Ready, Refusing}
+use Rattle.lock_row.specs.declared.names.At.TheVariants.{Both, Made, Moving, Ready, Refusing}
 use Rattle.lock_row.specs.declared.names.LockNo.{LockNo}
 use Rattle.lock_row.specs.declared.names.Plan.TheVariants.{Take}
 use Rattle.lock_row.specs.declared.names.State.{State}
@@ -28,7 +28,7 @@ use Rattle.plain_disk.specs.Calls.{after}
 use Rattle.plain_disk.specs.Ends.{failed_write}
 use Rattle.slot_entry.specs.Forms.{form_weight}
 use Rattle.zr_base.specs.declared.op.Op.{Op}
-use Rattle.zr_base.specs.declared.op.Op.TheVariants.{Discard, Read, Write}
+use Rattle.zr_base.specs.declared.op.Op.TheVariants.{Compact, Discard, Read, Write}
 use Rattle.joint_rule.proofs.Events as event
 use Rattle.lock_row.specs.declared.names.LockNo.TheVariants as lock
 use Rattle.lock_row.specs.declared.names.Held.TheVariants as holds
@@ -46,12 +46,11 @@ module _ (g : Begin) (f : Counters → ℕ) where
   pub data Raises (l : Here) (k : LockNo) (v : DiskHeld) (m : Here) (n : ℕ) : Type 0 where
     still : mass (spot g.given.size) (on_account f) none m + on_account f (spot g.given.size k) v
         ≡ mass (spot g.given.size) (on_account f) none l → n ≡ 0 → Raises l k v m n
-    once : (c : Counters) (rest : List (LockNo × DiskHeld))
+    by : (c : Counters) (rest : List (LockNo × DiskHeld))
         → l.held ≡ (lock.Account, holds.Account c) ∷ rest
         → held_sum (spot g.given.size) (on_account f) rest ≡ 0
         → mass (spot g.given.size) (on_account f) none m ≡ 0
-        → on_account f (spot g.given.size k) v ≡ at_most_end (f c + 1) → n ≡ 1
-        → Raises l k v m n
+        → on_account f (spot g.given.size k) v ≡ at_most_end (f c + n) → Raises l k v m n
 
   -- one that is raised so many times, none or one
   pub raises : (l : Here) (k : LockNo) (v : DiskHeld) (m : Here) (n : ℕ) (c : Counters)
@@ -62,12 +61,11 @@ module _ (g : Begin) (f : Counters → ℕ) where
       → Raises l k v m n
   raises l k v m zero c rest held none_there after le now =
       still (let r = ap (held_sum (spot g.given.size) (on_account f)) held in omega arith) refl
-  raises l k v m (suc zero) c rest held none_there after le now =
-      once c rest held none_there after now refl
+  raises l k v m (suc zero) c rest held none_there after le now = by c rest held none_there after now
   raises l k v m (suc (suc n)) c rest held none_there after le now = absurd (omega arith)
 
-end_once : (a b : ℕ) → a ≡ at_most_end b → at_most_end (a + 1) ≡ at_most_end (b + 1)
-end_once a b e = omega arith
+end_more : (a b n : ℕ) → a ≡ at_most_end b → at_most_end (a + n) ≡ at_most_end (b + n)
+end_more a b n e = omega arith
 
 module _ (g : Begin) (ok : Known g) (w : State DiskHeld) (j : Joint g w) (a : ℕ) (l : Here)
     (who : slice_get w.locals a ≡ Some l) (k : LockNo) (v : DiskHeld) (m : Here)
@@ -82,7 +80,7 @@ module _ (g : Begin) (ok : Known g) (w : State DiskHeld) (j : Joint g w) (a : �
       (gone g.given.size w a l who k (Some v) m)
       ≡ total (spot g.given.size) (on_account f) none w = omega arith in q) ∙ e
       ∙ ap at_most_end (let q : x ≡ x + y = omega arith in q)
-  rises_total x y e (once c rest was none_there after now z) =
+  rises_total x y e (by c rest was none_there after now) =
       let r = ok.facts.give (spot g.given.size) (on_account f) none w a l k v m who there in
       let mine = mine_account g w j a l who c rest was in
       let z0 = lone g w j a l who lock.Account (on_account f) (under_account g f) mine in
@@ -90,9 +88,8 @@ module _ (g : Begin) (ok : Known g) (w : State DiskHeld) (j : Joint g w) (a : �
       (let q : total (spot g.given.size) (on_account f) none
       (gone g.given.size w a l who k (Some v) m)
       ≡ on_account f (spot g.given.size k) v = omega arith in q) ∙ now
-      ∙ end_once (f c) x ((let q : f c ≡ total (spot g.given.size) (on_account f) none w =
+      ∙ end_more (f c) x y ((let q : f c ≡ total (spot g.given.size) (on_account f) none w =
       omega arith in q) ∙ e)
-      ∙ ap at_most_end (let q : x + 1 ≡ x + y = omega arith in q)
 
 -- ---- refusals
 
@@ -105,16 +102,33 @@ write_gives : (op : Op) → IsWrite op → (c n l : ℕ) → piece_gives failed_
 write_gives (Write start count stuff) i c n l = refl
 write_gives (Read start count) i c n l = absurd i
 write_gives (Discard start count) i c n l = absurd i
+write_gives Compact i c n l = absurd i
 
 memory_gives : (op : Op) → IsWrite op → piece_gives failed_write op NoMemory ≡ 1
 memory_gives (Write start count stuff) i = refl
 memory_gives (Read start count) i = absurd i
 memory_gives (Discard start count) i = absurd i
+memory_gives Compact i = absurd i
 
 range_gives : (op : Op) → piece_gives failed_write op (Whole ends.Range) ≡ 0
 range_gives (Write start count stuff) = refl
 range_gives (Read start count) = refl
 range_gives (Discard start count) = refl
+range_gives Compact = refl
+
+-- a compaction is no refusal
+compacted_gives : (q : Refusal) (op : Op) (moves frames : ℕ)
+    → piece_gives (refusal_of q) op (Whole (ends.Compacted moves frames)) ≡ 0
+compacted_gives FailedWrites (Write start count stuff) moves frames = refl
+compacted_gives FailedWrites (Read start count) moves frames = refl
+compacted_gives FailedWrites (Discard start count) moves frames = refl
+compacted_gives FailedWrites Compact moves frames = refl
+compacted_gives OutOfRange op moves frames = refl
+
+shrunk_refusals : (q : Refusal) (c : Counters) (n : ℕ)
+    → refusal_count q (shrunk n c) ≡ refusal_count q c
+shrunk_refusals FailedWrites c n = refl
+shrunk_refusals OutOfRange c n = refl
 
 charged_refusals : (q : Refusal) (c : Counters) (need : ℕ)
     → refusal_count q (charged c need) ≡ refusal_count q c
@@ -225,6 +239,24 @@ module _ (g : Begin) (ok : Known g) (w : State DiskHeld) (j : Joint g w) (a : �
   refuses_of q (event.fails p rest e x todo at held bad v_is m_is) =
       same_refuses q _ _ v_is m_is (stays_so q _ _ (failed_over q p rest x todo bad)
       (let r = ap (held_sum (spot n) (refusal_counter q)) held in omega arith))
+  refuses_of q (event.moves p rest y x x' u u' budget frames todo at held sh v_is m_is) =
+      same_refuses q _ _ v_is m_is (stays_so q _ _ refl
+      (let r = ap (held_sum (spot n) (refusal_counter q)) held in omega arith))
+  refuses_of q (event.sweeps p rest y x todo at held v_is m_is) =
+      same_refuses q _ _ v_is m_is (stays_so q _ _ refl
+      (let r = ap (held_sum (spot n) (refusal_counter q)) held in omega arith))
+  refuses_of q (event.closes p rest y x todo at held v_is m_is) =
+      let st = stage g ok w j a l who p rest todo _ (Moving y) held at in
+      same_refuses q _ _ v_is m_is (stays_so q _ _
+      (over_told q p (Whole (ends.Compacted y.moves y.frames)) [] rest
+      ∙ ap (λ (i : ℕ). done_sum (refusal_of q) l.done + i)
+      (compacted_gives q p.op y.moves y.frames)
+      ∙ sym (now_told q p rest None todo (none_fail l.fail st.fails)))
+      (let r = ap (held_sum (spot n) (refusal_counter q)) held in omega arith))
+  refuses_of q (event.shrinks p rest y c todo at held v_is m_is) =
+      same_refuses q _ _ v_is m_is (stays_so q _ _ refl
+      (let r = ap (held_sum (spot n) (refusal_counter q)) held in
+      let s = shrunk_refusals q c l.owed in omega arith))
   refuses_of FailedWrites (event.refuses p rest c todo at held v_is m_is) =
       let st = stage g ok w j a l who p rest todo _ Refusing held at in
       same_refuses FailedWrites _ _ v_is m_is (stays_so FailedWrites _ _
@@ -239,7 +271,7 @@ module _ (g : Begin) (ok : Known g) (w : State DiskHeld) (j : Joint g w) (a : �
         told = (let x = over_told OutOfRange p (Whole ends.Range) [] rest in
             let y = now_told OutOfRange p rest None todo (none_fail l.fail st.fails) in
             omega arith);
-        rises = once c _ held refl refl refl refl;
+        rises = by c _ held refl refl refl;
       })
   refuses_of FailedWrites (event.limits p rest e c x cl need todo at held is_need past v_is m_is) =
       let st = stage g ok w j a l who p rest todo _ Both held at in
@@ -249,7 +281,7 @@ module _ (g : Begin) (ok : Known g) (w : State DiskHeld) (j : Joint g w) (a : �
             ((lock.Class cl, holds.Class x) ∷ (slot p.page, holds.Slot e) ∷ []) todo
             (none_fail l.fail st.fails) ∙ ap (λ (y : ℕ). refusals FailedWrites l + y)
             (write_gives p.op st.kind.0 c.pages need c.limit);
-        rises = once c _ held refl refl refl refl;
+        rises = by c _ held refl refl refl;
       })
   refuses_of OutOfRange (event.limits p rest e c x cl need todo at held is_need past v_is m_is) =
       let st = stage g ok w j a l who p rest todo _ Both held at in
@@ -267,7 +299,7 @@ module _ (g : Begin) (ok : Known g) (w : State DiskHeld) (j : Joint g w) (a : �
           holds.Slot e,
         ) ∷ []) todo (none_fail l.fail st.fails)
             ∙ ap (λ (y : ℕ). refusals FailedWrites l + y) (memory_gives p.op st.kind.0);
-        rises = once c _ held refl refl refl refl;
+        rises = by c _ held refl refl refl;
       })
   refuses_of OutOfRange (event.starves p rest e c x cl todo at held v_is m_is) =
       let st = stage g ok w j a l who p rest todo _ Both held at in

@@ -19,20 +19,22 @@ use Rattle.joint_rule.proofs.Starts.{account_at, account_sum}
 use Rattle.joint_rule.proofs.Sums.{total_split}
 use Rattle.joint_rule.proofs.Takes.{IsEntry, IsPoolOf, class_kind, entry_kind}
 use Rattle.joint_rule.specs.Begins.{Begin, ever, form_at, found_after, ground_of, image}
-use Rattle.joint_rule.specs.Ends.{AllFinished, account_in, account_of, begin_at, histories, order_in, orders_of, rest_after, used_each, used_in, value_at}
+use Rattle.joint_rule.specs.Ends.{AllFinished, account_in, account_of, begin_at, histories, order_in, orders_of, rest_after, used_in, value_at}
+use Rattle.joint_rule.specs.Weights.{used_each}
 use Rattle.joint_rule.specs.Joint.{AtHome}
 use Rattle.joint_rule.specs.Rule.{OfOrder, Rule, ShowsOrder, done_by, dones, reach_at}
 use Rattle.joint_rule.specs.Stages.{IsForm}
 use Rattle.joint_rule.specs.Starts.{AtRest}
-use Rattle.joint_rule.specs.Weights.{Backs, Compactions, Count, FailedReads, FailedWrites, Fixed, FreedPages, HugeWrites, Huges, Limit, News, OutOfRange, PackedBytes, Packs, Refusal, Sames, Weigh, cell_weight, claim_by, counter, ever_at, fixed, fixed_count, measure, mosts, news_count, news_counter, news_of, none, noted, on_account, on_entry, on_pool, one, order_news, pages, refusal_count, refusal_counter, refusal_of, refusals, refused_by, stored, told_ahead, told_at}
+use Rattle.joint_rule.specs.Weights.{Backs, Count, FailedReads, FailedWrites, Fixed, FreedPages, HugeWrites, Huges, Limit, News, OutOfRange, PackedBytes, Packs, Refusal, Sames, Weigh, cell_weight, claim_by, compactions, counter, ever_at, fixed, fixed_count, freed_at, freed_by, measure, mosts, news_count, news_counter, news_of, none, noted, on_account, on_entry, on_pool, one, order_news, pages, refusal_count, refusal_counter, refusal_of, refusals, refused_by, stored, told_ahead, told_at}
 use Rattle.lock_row.specs.Totals.{by_option, locals_sum, row_sum, total}
 use Rattle.lock_row.specs.declared.names.At.{At}
-use Rattle.lock_row.specs.declared.names.At.TheVariants.{Both, Freeing, Giving, Inside, Leaving, Made, Old, Owing, Pinned, Pinning, Ready, Refusing, Seen, Start, Unpinning, Wanting}
+use Rattle.lock_row.specs.declared.names.At.TheVariants.{Both, Freeing, Giving, Inside, Leaving, Made, Old, Owing, Pinned, Pinning, Ready, Refusing, Seen, Start, Unpinning, Wanting, Sweeping, Moving, Shrunk, Shrinking}
 use Rattle.lock_row.specs.declared.names.State.{State}
 use Rattle.mem_account.specs.Counters.{Counters, at_most_end}
 use Rattle.mem_account.specs.declared.weight.Weight.{Weight}
 use Rattle.page_steps.specs.Steps.{DiskHeld, Here, spot}
 use Rattle.plain_disk.specs.Calls.{after_all, calls_sum, ever_pooled, kept_as}
+use Rattle.plain_disk.specs.Ends.{compacted}
 use Rattle.plain_disk.specs.Forms.{of_class}
 use Rattle.plain_disk.specs.Phases.{IsMost, begun, bounds, held_after, nth_order, phase_sum, reach}
 use Rattle.plain_disk.specs.Rests.{AreUsed, Rest, frames_of, kept_at, kept_pages, page_of}
@@ -488,6 +490,16 @@ module _ (r : Rest) (actors : List (List Op)) (ok : Known (begin_at r actors)) (
       (over g w rule fin a l e) in omega arith)
       ∙ sym (dones_are (refusal_of q) w.locals))
 
+  freed_is : c.compacted ≡ at_most_end
+      (g.was.compacted + dones_sum compacted (histories w.locals))
+  freed_is = sym (account_weighs (λ x. x.compacted))
+      ∙ sym (left_over compactions none (λ a l e. refl)) ∙ rule.freed
+      ∙ ap (λ (n : ℕ). at_most_end (g.was.compacted + n)) (
+      locals_same freed_by (λ l. done_sum compacted l.done) w.locals
+      (λ a l e. let z = ap (λ (ps : List Part). freed_at ps l.at) (over g w rule fin a l e) in
+      omega arith)
+      ∙ sym (dones_are compacted w.locals))
+
   news_are : (q : News) → news_count q c ≡ at_most_end (news_count q g.was + phase_sum
       (λ p. calls_sum (news_of q p) actors) r orders)
   news_are q = sym (account_weighs (news_count q)) ∙ sym
@@ -512,6 +524,10 @@ module _ (r : Rest) (actors : List (List Op)) (ok : Known (begin_at r actors)) (
         told_end q Freeing x = refl
         told_end q Owing x = refl
         told_end q Giving x = refl
+        told_end q (Sweeping y) x = refl
+        told_end q (Moving y) x = refl
+        told_end q (Shrunk y) x = refl
+        told_end q (Shrinking y) x = refl
 
         told_over : (q : News) (l : Here) → l.todo ≡ [] → told_ahead q l ≡ 0
         told_over q l e = ap (λ (ps : List Part). told_at q l.at ps l.ahead) e
@@ -563,7 +579,7 @@ module _ (r : Rest) (actors : List (List Op)) (ok : Known (begin_at r actors)) (
     limit = fixed_is Limit;
     most = refl;
     huge_since = news_are HugeWrites;
-    compacted = fixed_is Compactions;
+    compacted = freed_is;
     failed_reads = fixed_is FailedReads;
     failed_writes = refusals_are FailedWrites;
     invalid_io = refusals_are OutOfRange;

@@ -1,19 +1,22 @@
 -- The givings of an actor, by what they do to sums over pools.
-use Rattle.std.proofs.Common.{◌≡◌, ◌∷◌, ◌∙◌, ℕ, Bool, true, false, List, [], Option, Some, None, refl, ap, subst}
+use Rattle.std.proofs.Common.{◌≡◌, ◌∷◌, ◌∙◌, ◌==◌, ℕ, Bool, true, false, List, [], Option, Some, None, refl, ap, subst}
 use Rattle.call_history.specs.Shows.{got_from, tag_by}
 use Rattle.call_history.specs.declared.part.Part.{Part}
 use Rattle.call_history.specs.declared.part.PartEnd.{PartEnd}
 use Rattle.call_history.specs.declared.part.PartEnd.TheVariants.{AtLimit, Carried, NoMemory, Whole}
 use Rattle.class_pool.specs.Pool.{PoolState}
 use Rattle.joint_rule.proofs.Facts.{Known}
-use Rattle.joint_rule.proofs.Pools.{Allocates, GivesUp, Swaps, adds_weigh, drops_weigh, lends_weigh, returns_weigh, some_cell}
+use Rattle.joint_rule.proofs.Pools.{Allocates, GivesUp, Shifts, Swaps, adds_weigh, drops_weigh, lends_weigh, moves_weigh, returns_weigh, some_cell}
 use Rattle.joint_rule.specs.Begins.{Begin, terms}
 use Rattle.joint_rule.specs.Facts.{Facts}
 use Rattle.joint_rule.specs.Joint.{Sound}
 use Rattle.joint_rule.specs.Weights.{HeldAll}
-use Rattle.lock_row.specs.declared.names.At.TheVariants.{Both, Freeing, Giving, Leaving, Made, Owing, Pinning, Ready, Refusing, Unpinning}
+use Rattle.lock_row.specs.declared.names.At.{At}
+use Rattle.lock_row.specs.declared.names.At.TheVariants.{Both, Freeing, Giving, Leaving, Made, Owing, Pinning, Ready, Refusing, Unpinning, Sweeping, Moving, Shrinking}
+use Rattle.lock_row.specs.declared.names.Compaction.{Compaction}
 use Rattle.lock_row.specs.declared.names.Pin.{Pin}
 use Rattle.mem_account.specs.Counters.{Counters, IsPastLimit, IsWithinLimit, charged, counted}
+use Rattle.page_steps.specs.Compactions.{Compacts, compaction_at, moved_at, repaid, resting_by, with_frames, with_move, with_next}
 use Rattle.page_steps.specs.Givings.{Notes, Works, kept_by, old_weight, settled}
 use Rattle.page_steps.specs.Nexts.{emptied, ending_by, failing_by, pin_at, pin_of, slot_by, tail_of}
 use Rattle.page_steps.specs.Pages.{next_form, page_in, page_in_cell}
@@ -29,6 +32,7 @@ use Rattle.slot_entry.specs.declared.kept.Kept.TheVariants as kept
 use Rattle.mem_account.specs.declared.weight.Delta.TheVariants as delta
 use Rattle.zr_base.specs.declared.op.OpEnd.TheVariants as ends
 use Rattle.page_steps.specs.Givings as work
+use Rattle.page_steps.specs.Compactions as compact
 
 -- The pinned cell, if there is one, is back.
 abbrev pub BackBy : Option Pin → PoolState → PoolState → Type 0
@@ -136,6 +140,30 @@ pub data Event (g : Begin) (l : Here) (v : DiskHeld) (m : Here) : Type 0 where
       → l.at ≡ Leaving
       → l.held ≡ (slot p.page, holds.Slot e) ∷ [] → l.fail ≡ Some x → v ≡ holds.Slot e
       → m ≡ piece_over l p x [] rest → Event g l v m
+  -- a compaction moves an object
+  moves : (p : Part) (rest : List Part) (x : Compaction) (q q' : PoolState) (u u' : UsedCell)
+      (budget frames : ℕ) → l.todo ≡ p ∷ rest → l.at ≡ Moving x
+      → l.held ≡ (lock.Class x.class, holds.Class q) ∷ [] → Shifts q q' u u' frames
+      → v ≡ holds.Class q'
+      → m ≡ on l (moved_at frames (with_move x budget)) [] l.fresh l.pin frames l.ahead l.behind
+      l.page l.fail
+      → Event g l v m
+  -- it moves nothing, and goes on to the next class
+  sweeps : (p : Part) (rest : List Part) (x : Compaction) (q : PoolState) → l.todo ≡ p ∷ rest
+      → l.at ≡ Moving x → l.held ≡ (lock.Class x.class, holds.Class q) ∷ [] → v ≡ holds.Class q
+      → m ≡ on l (Sweeping (with_next g.chain x)) [] l.fresh l.pin l.owed l.ahead l.behind l.page
+      l.fail
+      → Event g l v m
+  -- or there is none
+  closes : (p : Part) (rest : List Part) (x : Compaction) (q : PoolState) → l.todo ≡ p ∷ rest
+      → l.at ≡ Moving x → l.held ≡ (lock.Class x.class, holds.Class q) ∷ [] → v ≡ holds.Class q
+      → m ≡ piece_over l p (Whole (ends.Compacted x.moves x.frames)) [] rest → Event g l v m
+  -- it gives frames back
+  shrinks : (p : Part) (rest : List Part) (x : Compaction) (c : Counters) → l.todo ≡ p ∷ rest
+      → l.at ≡ Shrinking x → l.held ≡ (lock.Account, holds.Account c) ∷ []
+      → v ≡ holds.Account (counted (repaid c l.owed) (delta.Compacted l.owed))
+      → m ≡ on l (Sweeping (with_frames x l.owed)) [] l.fresh l.pin 0 l.ahead l.behind l.page l.fail
+      → Event g l v m
 
 module _ (facts : Facts) where
   back_by : (pin : Option Pin) (p q : PoolState) → ReturnsBy pin p q → BackBy pin p q
@@ -162,6 +190,31 @@ module _ (facts : Facts) where
 
 module _ (g : Begin) (ok : Known g) (l : Here) (sound : HeldAll g.given.size (Sound g) l.held)
     (v : DiskHeld) (m : Here) where
+  -- a class has nothing to move
+  rest_of : (p : Part) (rest : List Part) (x : Compaction) (q : PoolState) → l.todo ≡ p ∷ rest
+      → l.at ≡ Moving x → l.held ≡ (lock.Class x.class, holds.Class q) ∷ [] → v ≡ holds.Class q
+      → (last : Bool) → m ≡ resting_by g.chain x last l v → Event g l v m
+  rest_of p rest x q todo at held v_is true m_is = closes p rest x q todo at held v_is
+      (m_is ∙ ap (ending_by l (Whole (ends.Compacted x.moves x.frames)) (λ q. [])) todo)
+  rest_of p rest x q todo at held v_is false m_is = sweeps p rest x q todo at held v_is
+      (m_is ∙ (λ i. on l (Sweeping (with_next g.chain x)) (tail_of (held i)) l.fresh l.pin l.owed
+      l.ahead l.behind l.page l.fail))
+
+  compact_of : Compacts (terms g) l v m → Event g l v m
+  compact_of (compact.moves p rest x q q' budget frames todo at held some d v_is m_is) =
+      moves p rest x q q' d.move.object _ budget frames todo at held
+      (moves_weigh ok.facts q q' frames d) v_is
+      (m_is ∙ (λ i. on l (moved_at frames (with_move (compaction_at (at i)) budget))
+      (tail_of (held i)) l.fresh l.pin frames l.ahead l.behind l.page l.fail))
+  compact_of (compact.rests p rest x q todo at held nothing v_is m_is) =
+      rest_of p rest x q todo at held v_is (x.class == 254)
+      (m_is ∙ ap (λ (s : At). resting_by g.chain (compaction_at s) ((compaction_at s).class == 254) l
+      v) at)
+  compact_of (compact.shrinks p rest x c todo at held v_is m_is) =
+      shrinks p rest x c todo at held v_is
+      (m_is ∙ (λ i. on l (Sweeping (with_frames (compaction_at (at i)) l.owed)) (tail_of (held i))
+      l.fresh l.pin 0 l.ahead l.behind l.page l.fail))
+
   -- what the step of a giving says of pools
   pub event_of : Works (terms g) l v m → Event g l v m
   event_of (work.refuses p rest c todo at held v_is m_is) =
@@ -223,3 +276,4 @@ module _ (g : Begin) (ok : Known g) (l : Here) (sound : HeldAll g.given.size (So
   event_of (work.fails p rest e x todo at held bad v_is m_is) =
       fails p rest e x todo at held bad v_is
       (m_is ∙ ap (failing_by l) bad ∙ ap (ending_by l x (λ q. [])) todo)
+  event_of (work.compacts c) = compact_of c

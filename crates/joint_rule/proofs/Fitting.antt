@@ -4,7 +4,7 @@ use Rattle.call_history.specs.Parts.{EndsSo, Follows, program}
 use Rattle.call_history.specs.Shows.{tag_by}
 use Rattle.call_history.specs.declared.part.Part.{Part}
 use Rattle.call_history.specs.declared.part.PartEnd.{PartEnd}
-use Rattle.class_pool.specs.Pool.{IsAtHome, IsLent, PoolState, used_cells}
+use Rattle.class_pool.specs.Pool.{IsAtHome, IsLent, PoolState, objects, used_cells}
 use Rattle.joint_rule.proofs.Balances.{counted_count, same_repaid}
 use Rattle.joint_rule.proofs.Bounds.{bounded, scaled, times_both, times_le, total_scaled}
 use Rattle.joint_rule.proofs.Facts.{Known}
@@ -14,6 +14,7 @@ use Rattle.joint_rule.proofs.Keeps.{take_keeps}
 use Rattle.joint_rule.proofs.Lookups.{can_repay, has_counted, none_weight, object_is, pin_out}
 use Rattle.joint_rule.proofs.Pages.{content_page, ever_one, form_low, form_next, image_form, image_len}
 use Rattle.joint_rule.proofs.Pools.{bit, chain_low, same_pin_is}
+use Rattle.joint_rule.proofs.Rests.{no_held}
 use Rattle.joint_rule.proofs.Stages.{OnDisk, old_low, on_disk, write_changes}
 use Rattle.joint_rule.proofs.Sums.{get_here, gone, locals_le, locals_mono, row_le, total_mono, total_split}
 use Rattle.joint_rule.proofs.Takes.{IsAccount, IsEntry, IsPoolOf, account_kind, class_kind, entry_kind}
@@ -23,9 +24,10 @@ use Rattle.joint_rule.specs.Joint.{AtHome, IsActor, Joint, PoolFits, Sound}
 use Rattle.joint_rule.specs.Rule.{OfOrder, Rule, ShowsOrder, owed, owed_by}
 use Rattle.joint_rule.specs.Stages.{Changes, CountAt, GoneBy, IsForm, IsPinned, IsRight, IsSmall, MayPin, Names, NoneOf, Stage, StageBy, locks_at, locks_by}
 use Rattle.joint_rule.specs.Weights.{Backs, Count, HeldAll, Huges, PackedBytes, Packs, Sames, ahead, behind, cell_weight, counter, counters, each_one, ever_at, measure, none, one, out_weight, pages, pin_in, same_pin, shown, stored}
-use Rattle.lock_row.specs.Totals.{by_option, held_sum, locals_sum, total}
+use Rattle.lock_row.specs.Totals.{by_option, held_sum, locals_sum, mass, total}
 use Rattle.lock_row.specs.declared.names.At.{At}
-use Rattle.lock_row.specs.declared.names.At.TheVariants.{Both, Freeing, Giving, Inside, Leaving, Made, Old, Owing, Pinned, Pinning, Ready, Refusing, Seen, Start, Unpinning, Wanting}
+use Rattle.lock_row.specs.declared.names.At.TheVariants.{Both, Freeing, Giving, Inside, Leaving, Made, Old, Owing, Pinned, Pinning, Ready, Refusing, Seen, Start, Unpinning, Wanting, Sweeping, Moving, Shrunk, Shrinking}
+use Rattle.lock_row.specs.declared.names.Compaction.{Compaction}
 use Rattle.lock_row.specs.declared.names.LockNo.{LockNo}
 use Rattle.lock_row.specs.declared.names.Object.{Object}
 use Rattle.lock_row.specs.declared.names.Pin.{Pin}
@@ -33,19 +35,22 @@ use Rattle.lock_row.specs.declared.names.Plan.TheVariants.{Take}
 use Rattle.lock_row.specs.declared.names.State.{State}
 use Rattle.mem_account.specs.Counters.{Counters, IsCounted, counted}
 use Rattle.mem_account.specs.declared.weight.Weight.{Weight}
-use Rattle.page_steps.specs.Fits.{AsAccount, AsPool, AsSlot, CanCharge, CanPay, CanPin, CanStore, FitsAt, FitsBy, FreeFits, HasPlace, IsKept, PinFits, PinnedFits, StageFits, StartFits, StoreFits, cell_of}
-use Rattle.page_steps.specs.Givings.{old_weight, repaid}
+use Rattle.page_steps.specs.Compactions.{repaid}
+use Rattle.page_steps.specs.Fits.{AsAccount, AsPool, AsSlot, CanCharge, CanPay, CanPin, CanStore, FitsAt, FitsBy, FreeFits, HasPlace, IsKept, PinFits, PinnedFits, StageFits, StartFits, StoreFits, SweepFits, cell_of}
+use Rattle.page_steps.specs.Givings.{old_weight}
 use Rattle.page_steps.specs.Pages.{new_class, next_form, page_in}
 use Rattle.page_steps.specs.Steps.{DiskHeld, Here, class_by, entry_in, lock_of, on, plan, plan_at, plan_by, slot, spot, start_plan, took}
+use Rattle.plain_disk.specs.Ends.{is_single}
 use Rattle.size_class.specs.Classes.{class_size, shares_next, stands_below}
 use Rattle.slot_entry.specs.Entries.{EntryState, weight_of}
 use Rattle.slot_entry.specs.Forms.{Blank, PageForm, Pooled, Word, class_for, class_in, form_of, form_weight, object_class}
 use Rattle.slot_entry.specs.declared.kept.Kept.{Kept}
 use Rattle.slot_entry.specs.declared.kept.Stored.{Stored}
-use Rattle.std.proofs.lemmas.Bool.{cases_Bool}
+use Rattle.std.proofs.lemmas.Bool.{cases_Bool, or_from}
+use Rattle.std.proofs.lemmas.List.{length-map}
 use Rattle.std.proofs.lemmas.List.Sums.{sum_by-cons}
 use Rattle.std.specs.Prelude.{Contains, ⊤}
-use Rattle.zr_base.specs.Plain.{is_beyond}
+use Rattle.zr_base.specs.Plain.{is_beyond, is_compaction}
 use Rattle.zr_base.specs.declared.op.Tag.{Tag}
 use Rattle.zspage.specs.Cells.{UsedCell, header_size}
 use Rattle.zspage.specs.Cells.{Fits as CellFits}
@@ -210,6 +215,10 @@ module _ (g : Begin) where
   ahead_at q Made x y f k c = ahead_none q x c.0
   ahead_at q Old x y f k c = ahead_none q x c.0
   ahead_at q Freeing x y f k c = ahead_none q x c.0
+  ahead_at q (Sweeping z) x y f k c = ahead_none q x c.0
+  ahead_at q (Moving z) x y f k c = ahead_none q x c.0
+  ahead_at q (Shrunk z) x y f k c = ahead_none q x c.0
+  ahead_at q (Shrinking z) x y f k c = ahead_none q x c.0
 
   ahead_by : (q : Count) (ps : List Part) (e : EntryState) (at : At) (fresh : Option Object)
       (pin : Option Pin) (owed : ℕ) (x y : Option Weight) (page : Option (List ℕ))
@@ -308,7 +317,7 @@ module _ (g : Begin) (ok : Known g) (w : State DiskHeld) (r : Rule g w) (a : ℕ
 
     -- ---- the first lock
 
-    slot_fits : is_beyond n p.op ≡ false → k ≡ slot p.page → AsSlot HasPlace v
+    slot_fits : is_single n p.op ≡ false → k ≡ slot p.page → AsSlot HasPlace v
     slot_fits off k_is = as_slot HasPlace v
         (entry_kind g p.page (disk off).0 v (subst (λ (i : LockNo).
         Sound g (spot n i) v) k_is home.sound))
@@ -323,15 +332,36 @@ module _ (g : Begin) (ok : Known g) (w : State DiskHeld) (r : Rule g w) (a : ℕ
         let s = o.spare in let f = o.few in let few = ok.proper.pieces p.page (disk off).0 in
         record { room = omega arith; few = omega arith })
 
-    start_by : (b : Bool) → is_beyond n p.op ≡ b → start_plan b p ≡ Take k → StartFits b v
-    start_by true b what_is = as_account (λ c. ⊤) v (account_kind g v
+    -- the pool of a class that is compacted
+    sweep_fits : (c : ℕ) → c < 255 → k ≡ lock.Class c → SweepFits g.chain v
+    sweep_fits c low k_is = as_pool (λ q. q.chain ≤ g.chain) v
+        (class_kind g c low v (subst (λ (i : LockNo). Sound g (spot n i) v) k_is home.sound))
+        (λ q v_is. chain_low g.chain q (subst (λ (x : LockNo × DiskHeld). Sound g (spot n x.0) x.1)
+        (λ i. (k_is i, v_is i)) home.sound).1 ok.proper.least)
+
+    start_by : (a b : Bool) → is_compaction p.op ≡ a → is_beyond n p.op ≡ b
+        → start_plan a b p ≡ Take k → StartFits g.chain a b v
+    start_by true b a e what_is = sweep_fits 0 (omega arith) (taken_lock (lock.Class 0) what_is)
+    start_by false true a b what_is = as_account (λ c. ⊤) v (account_kind g v
         (subst (λ (i : LockNo). Sound g (spot n i) v) (taken_lock lock.Account what_is) home.sound))
         (λ c e. tt)
-    start_by false b what_is = slot_fits b (taken_lock (slot p.page) what_is)
+    start_by false false a b what_is = slot_fits (or_from _ _ a b)
+        (taken_lock (slot p.page) what_is)
+
+    -- frames that a compaction gives back are charged
+    shrunk_fits : (x : Compaction) → l.at ≡ Shrunk x → k ≡ lock.Account
+        → AsAccount (λ c. l.owed ≤ c.pages) v
+    shrunk_fits x at_is k_is = as_account (λ c. l.owed ≤ c.pages) v
+        (account_kind g v (subst (λ (i : LockNo). Sound g (spot n i) v) k_is home.sound))
+        (λ c v_is. can_repay g after joint a m who_after c l.held
+        (held_after_it ∙ (λ i. (k_is i, v_is i) ∷ l.held))
+        (ap (held_sum (spot n) pages) (no_held l.held (fit.locks ∙ (λ i. locks_by (todo i)
+        (at_is i) (class_by (entry_in l.held).kept)
+        (new_class g.chain (todo i) l.page (entry_in l.held).kept))))))
 
     -- ---- where the slot is held
 
-    module _ (at : At) (at_is : l.at ≡ at) (off : is_beyond n p.op ≡ false) (locks_is : (c d : ℕ)
+    module _ (at : At) (at_is : l.at ≡ at) (off : is_single n p.op ≡ false) (locks_is : (c d : ℕ)
         → locks_at at p c d ≡ slot p.page ∷ []) where
       names_slot : map (λ (x : LockNo × DiskHeld). x.0) l.held ≡ slot p.page ∷ []
       names_slot = subst (λ (x : List Part × At). map (λ (y : LockNo × DiskHeld). y.0) l.held
@@ -597,7 +627,12 @@ module _ (g : Begin) (ok : Known g) (w : State DiskHeld) (r : Rule g w) (a : ℕ
     FitsAs at x = FitsAt (terms g) at p x l.pin l.owed l.ahead l.page v
 
     fits_at : (at : At) → l.at ≡ at → FitsAs at (entry_in l.held)
-    fits_at Start i = start_by (is_beyond n p.op) refl (plan_is Start l.held i refl)
+    fits_at Start i = start_by (is_compaction p.op) (is_beyond n p.op) refl refl
+        (plan_is Start l.held i refl)
+    fits_at (Sweeping x) i = sweep_fits x.class (here (Sweeping x) i).compacts.class
+        (taken_lock (lock.Class x.class) (plan_is (Sweeping x) l.held i refl))
+    fits_at (Shrunk x) i = shrunk_fits x i
+        (taken_lock lock.Account (plan_is (Shrunk x) l.held i refl))
     fits_at Seen i =
         let off = (here Seen i).begun in let s = st Seen i off (λ c d. refl) in
         subst (λ (xs : List (LockNo × DiskHeld)). FitsAs Seen (entry_in xs))
@@ -638,6 +673,8 @@ module _ (g : Begin) (ok : Known g) (w : State DiskHeld) (r : Rule g w) (a : ℕ
     fits_at Freeing i = tt
     fits_at Giving i = tt
     fits_at Ready i = tt
+    fits_at (Moving x) i = tt
+    fits_at (Shrinking x) i = tt
 
   fits_todo : (ps : List Part) → l.todo ≡ ps → FitsBy (terms g) l ps v
   fits_todo [] todo = tt
@@ -646,3 +683,23 @@ module _ (g : Begin) (ok : Known g) (w : State DiskHeld) (r : Rule g w) (a : ℕ
   -- what the actor takes fits its stage
   pub stage_fits : StageFits (terms g) l v
   stage_fits = fits_todo l.todo refl
+
+-- ---- a class that is compacted
+
+module _ (g : Begin) (w : State DiskHeld) (j : Joint g w) (a : ℕ) (l : Here)
+    (who : slice_get w.locals a ≡ Some l) (p : Part) (rest : List Part) (x : Compaction)
+    (q : PoolState) (todo : l.todo ≡ p ∷ rest) (at : l.at ≡ Moving x)
+    (held : l.held ≡ (lock.Class x.class, holds.Class q) ∷ []) where
+  -- it is one of the disk's, and has few objects
+  pub compacted_few : (x.class < 255) × (length (objects q) ≤ g.given.size + length w.locals)
+  compacted_few =
+      let st : Stage g p (entry_in l.held) (Moving x) l.fresh l.pin l.owed l.ahead l.behind l.page
+      l.fail = subst (λ (y : List Part × At). StageBy g y.0 (entry_in l.held) y.1 l.fresh l.pin
+      l.owed l.ahead l.behind l.page l.fail) (λ i. (todo i, at i)) (j.each.in_local a l who).stage in
+      let few = few_objects g w j in
+      let mine = locals_le g.given.size (mass (spot g.given.size) (stored each_one) none) w.locals a l
+      who in
+      let r = ap (held_sum (spot g.given.size) (stored each_one)) held in
+      let len = ones (used_cells q.zspages) (cell_weight (each_one q.class)) (λ u. refl) in
+      let all : length (objects q) ≡ length (used_cells q.zspages) = length-map _ _ in
+      (st.compacts.class, omega arith)

@@ -17,7 +17,7 @@ use Rattle.joint_rule.specs.Stages.{Stage, locks_at, locks_by}
 use Rattle.joint_rule.specs.Weights.{HeldAll, at_place, none, same}
 use Rattle.lock_row.specs.Totals.{held_sum, locals_sum, mass, row_sum}
 use Rattle.lock_row.specs.declared.names.At.{At}
-use Rattle.lock_row.specs.declared.names.At.TheVariants.{Both, Freeing, Giving, Inside, Leaving, Made, Old, Owing, Pinned, Pinning, Ready, Refusing, Seen, Start, Unpinning, Wanting}
+use Rattle.lock_row.specs.declared.names.At.TheVariants.{Both, Freeing, Giving, Inside, Leaving, Made, Old, Owing, Pinned, Pinning, Ready, Refusing, Seen, Start, Unpinning, Wanting, Sweeping, Moving, Shrunk, Shrinking}
 use Rattle.lock_row.specs.declared.names.LockNo.{LockNo}
 use Rattle.lock_row.specs.declared.names.Plan.{Plan}
 use Rattle.lock_row.specs.declared.names.Plan.TheVariants.{Finished, Give, Take}
@@ -25,7 +25,8 @@ use Rattle.lock_row.specs.declared.names.State.{State}
 use Rattle.page_steps.specs.Pages.{new_class, next_form}
 use Rattle.page_steps.specs.Steps.{DiskHeld, Here, class_by, entry_in, plan, plan_at, plan_by, slot, spot, start_plan}
 use Rattle.slot_entry.specs.Forms.{class_in}
-use Rattle.zr_base.specs.Plain.{is_beyond}
+use Rattle.std.proofs.lemmas.Bool.{or_from}
+use Rattle.zr_base.specs.Plain.{is_beyond, is_compaction}
 use Rattle.lock_row.specs.declared.names.LockNo.TheVariants as lock
 use Rattle.lock_row.specs.declared.names.Held.TheVariants as holds
 
@@ -69,13 +70,29 @@ cell_at_place (x ∷ xs) (suc k) lt = cell_at_place xs k (omega arith)
 
 -- ---- stages
 
+-- a piece begins with a taking
+no_start_gives : (p : Part) (k : LockNo) (a b : Bool) → start_plan a b p ≡ Give k → ⊥
+no_start_gives p k true b e = cc
+no_start_gives p k false true e = cc
+no_start_gives p k false false e = cc
+
 -- what an actor gives it took last
 gives_last : (size : ℕ) (at : At) (p : Part) (c d : ℕ) (k : LockNo) → plan_at size at p c d ≡ Give k
     → (ks : List LockNo) × (locks_at at p c d ≡ k ∷ ks)
-gives_last size Start p c d k e = absurd (started (is_beyond size p.op) e) where
-  started : (b : Bool) → start_plan b p ≡ Give k → ⊥
-  started true x = cc
-  started false x = cc
+gives_last size Start p c d k e = absurd (no_start_gives p k (is_compaction p.op)
+    (is_beyond size p.op) e)
+gives_last size (Sweeping x) p c d k e = absurd (cc)
+gives_last size (Moving x) p c d k e = (
+  [],
+  (let q : lock.Class x.class ≡ k = cc in
+      ap (λ (y : LockNo). y ∷ []) q),
+)
+gives_last size (Shrunk x) p c d k e = absurd (cc)
+gives_last size (Shrinking x) p c d k e = (
+  [],
+  (let q : lock.Account ≡ k = cc in
+      ap (λ (y : LockNo). y ∷ []) q),
+)
 gives_last size Refusing p c d k e = (
   [],
   (let q : lock.Account ≡ k = cc in
@@ -150,6 +167,14 @@ module _ (size : ℕ) (p : Part) (c d : ℕ) (k : LockNo) where
             let r = same_one j p.page (omega arith) in omega arith),
       )
 
+  above_none : (at : At) (m : LockNo) → m ≡ k → spot size m < size + 258 → locks_at at p c d ≡ []
+      → IsAbove at
+  above_none at m e lt is =
+      let q : spot size m ≡ spot size k = ap (spot size) e in (
+        omega arith,
+        (λ j le. let s = ap (places_sum size j) is in absurd (omega arith)),
+      )
+
   above_both : lock.Account ≡ k → p.page < size → d < 255 → IsAbove Inside
   above_both e lt low =
       let q : size + 255 ≡ spot size k = ap (spot size) e in (
@@ -191,19 +216,24 @@ module _ (g : Begin) (ok : Known g) (w : State DiskHeld) (j : Joint g w) where
       locks_here = fit.locks ∙ ap (λ (ps : List Part). locks_by ps l.at c
           (new_class g.chain ps l.page (entry_in l.held).kept)) todo
 
-      above_start : (k : LockNo) (b : Bool) → is_beyond n p.op ≡ b → start_plan b p ≡ Take k
-          → IsAbove n p c d k Start
-      above_start k true b e =
-          let q : n + 255 ≡ spot n k = ap (spot n) (let z : lock.Account ≡ k = cc in z) in
-          (omega arith, (λ i le. absurd (omega arith)))
-      above_start k false b e =
-          let lt = (disk b).0 in let q : p.page ≡ spot n k =
-          ap (spot n) (let z : slot p.page ≡ k = cc in z) in
-          (omega arith, (λ i le. absurd (omega arith)))
+      above_start : (k : LockNo) (a b : Bool) → is_compaction p.op ≡ a → is_beyond n p.op ≡ b
+          → start_plan a b p ≡ Take k → IsAbove n p c d k Start
+      above_start k true b a b_is e = above_none n p c d k Start (lock.Class 0)
+          (let z : lock.Class 0 ≡ k = cc in z) (omega arith) refl
+      above_start k false true a b e = above_none n p c d k Start lock.Account
+          (let z : lock.Account ≡ k = cc in z) (omega arith) refl
+      above_start k false false a b e =
+          let lt = (disk (or_from _ _ a b)).0 in above_none n p c d k Start (slot p.page)
+          (let z : slot p.page ≡ k = cc in z) (omega arith) refl
 
       above : (k : LockNo) (at : At) → l.at ≡ at → plan_at n at p c d ≡ Take k
           → IsAbove n p c d k at
-      above k Start is e = above_start k (is_beyond n p.op) refl e
+      above k Start is e = above_start k (is_compaction p.op) (is_beyond n p.op) refl refl e
+      above k (Sweeping x) is e = let low = (here (Sweeping x) is).compacts.class in
+          above_none n p c d k (Sweeping x) (lock.Class x.class)
+          (let q : lock.Class x.class ≡ k = cc in q) (omega arith) refl
+      above k (Shrunk x) is e = above_none n p c d k (Shrunk x) lock.Account
+          (let q : lock.Account ≡ k = cc in q) (omega arith) refl
       above k Seen is e = let s = here Seen is in above_class n p c d k Seen c
           (let q : lock.Class c ≡ k = cc in q) (old_low g.chain _ _ s.stands) (disk s.begun).0 refl
       above k Pinned is e = let s = here Pinned is in above_class n p c d k Pinned c
@@ -226,18 +256,26 @@ module _ (g : Begin) (ok : Known g) (w : State DiskHeld) (j : Joint g w) where
       above k Freeing is e = absurd (cc)
       above k Giving is e = absurd (cc)
       above k Ready is e = absurd (cc)
+      above k (Moving x) is e = absurd (cc)
+      above k (Shrinking x) is e = absurd (cc)
 
       on_new : IsLock n (lock.Class d)
       on_new = form_low g.chain _
 
-      start_lock : (k : LockNo) (b : Bool) → is_beyond n p.op ≡ b → start_plan b p ≡ Take k
-          → IsLock n k
-      start_lock k true b e = subst (IsLock n) (let q : lock.Account ≡ k = cc in q) tt
-      start_lock k false b e = subst (IsLock n) (let q : slot p.page ≡ k = cc in q) (disk b).0
+      start_lock : (k : LockNo) (a b : Bool) → is_compaction p.op ≡ a → is_beyond n p.op ≡ b
+          → start_plan a b p ≡ Take k → IsLock n k
+      start_lock k true b a b_is e = subst (IsLock n) (let q : lock.Class 0 ≡ k = cc in q)
+          (let z : 0 < 255 = omega arith in z)
+      start_lock k false true a b e = subst (IsLock n) (let q : lock.Account ≡ k = cc in q) tt
+      start_lock k false false a b e = subst (IsLock n) (let q : slot p.page ≡ k = cc in q)
+          (disk (or_from _ _ a b)).0
 
       -- what it takes is a lock of the disk
       take_lock : (k : LockNo) (at : At) → l.at ≡ at → plan_at n at p c d ≡ Take k → IsLock n k
-      take_lock k Start is e = start_lock k (is_beyond n p.op) refl e
+      take_lock k Start is e = start_lock k (is_compaction p.op) (is_beyond n p.op) refl refl e
+      take_lock k (Sweeping x) is e = subst (IsLock n) (let q : lock.Class x.class ≡ k = cc in q)
+          (here (Sweeping x) is).compacts.class
+      take_lock k (Shrunk x) is e = subst (IsLock n) (let q : lock.Account ≡ k = cc in q) tt
       take_lock k Seen is e = subst (IsLock n) (let q : lock.Class c ≡ k = cc in q)
           (old_low g.chain _ _ (here Seen is).stands)
       take_lock k Pinned is e = subst (IsLock n) (let q : lock.Class c ≡ k = cc in q)
@@ -256,13 +294,16 @@ module _ (g : Begin) (ok : Known g) (w : State DiskHeld) (j : Joint g w) where
       take_lock k Freeing is e = absurd (cc)
       take_lock k Giving is e = absurd (cc)
       take_lock k Ready is e = absurd (cc)
+      take_lock k (Moving x) is e = absurd (cc)
+      take_lock k (Shrinking x) is e = absurd (cc)
 
       -- and so is what it gives
       give_lock : (k : LockNo) (at : At) → l.at ≡ at → plan_at n at p c d ≡ Give k → IsLock n k
-      give_lock k Start is e = absurd (started (is_beyond n p.op) e) where
-        started : (b : Bool) → start_plan b p ≡ Give k → ⊥
-        started true x = cc
-        started false x = cc
+      give_lock k Start is e = absurd (no_start_gives p k (is_compaction p.op)
+          (is_beyond n p.op) e)
+      give_lock k (Moving x) is e = subst (IsLock n) (let q : lock.Class x.class ≡ k = cc in q)
+          (here (Moving x) is).compacts.class
+      give_lock k (Shrinking x) is e = subst (IsLock n) (let q : lock.Account ≡ k = cc in q) tt
       give_lock k Refusing is e = subst (IsLock n) (let q : lock.Account ≡ k = cc in q) tt
       give_lock k Pinning is e = subst (IsLock n) (let q : lock.Class c ≡ k = cc in q)
           (old_low g.chain _ _ (here Pinning is).stands)
@@ -283,6 +324,8 @@ module _ (g : Begin) (ok : Known g) (w : State DiskHeld) (j : Joint g w) where
       give_lock k Inside is e = absurd (cc)
       give_lock k Old is e = absurd (cc)
       give_lock k Owing is e = absurd (cc)
+      give_lock k (Sweeping x) is e = absurd (cc)
+      give_lock k (Shrunk x) is e = absurd (cc)
 
     todo_of : (ps : List Part) → l.todo ≡ ps → (plan (terms g) l ≡ Finished → ⊥)
         → (p : Part) × (rest : List Part) × (l.todo ≡ p ∷ rest)

@@ -13,7 +13,7 @@ use Rattle.joint_rule.specs.Stages.{IsPinned, MayPin, Names, NoneOf, PinAt, Stag
 use Rattle.joint_rule.specs.Weights.{PinWeigh, at_place, cell_weight, claim_by, claims, each_one, fresh_claim, none, nothing, object_weight, one, out_weight, outs, pinned, same, stored}
 use Rattle.lock_row.specs.Totals.{by_option, held_sum, locals_sum, mass, row_sum, total}
 use Rattle.lock_row.specs.declared.names.At.{At}
-use Rattle.lock_row.specs.declared.names.At.TheVariants.{Both, Freeing, Giving, Inside, Leaving, Made, Old, Owing, Pinned, Pinning, Ready, Refusing, Seen, Start, Unpinning, Wanting}
+use Rattle.lock_row.specs.declared.names.At.TheVariants.{Both, Freeing, Giving, Inside, Leaving, Made, Old, Owing, Pinned, Pinning, Ready, Refusing, Seen, Start, Unpinning, Wanting, Sweeping, Moving, Shrunk, Shrinking}
 use Rattle.lock_row.specs.declared.names.LockNo.{LockNo}
 use Rattle.lock_row.specs.declared.names.Object.{Object}
 use Rattle.lock_row.specs.declared.names.Pin.{Pin}
@@ -88,6 +88,10 @@ pin_at c h Freeing k b x i = may_claim c h k b x i
 pin_at c h Owing k b x i = let r = none_pins (cell_at c h) x i in omega arith
 pin_at c h Giving k b x i = let r = none_pins (cell_at c h) x i in omega arith
 pin_at c h Ready k b x i = let r = none_pins (cell_at c h) x i in omega arith
+pin_at c h (Sweeping y) k b x i = let r = none_pins (cell_at c h) x i in omega arith
+pin_at c h (Moving y) k b x i = let r = none_pins (cell_at c h) x i in omega arith
+pin_at c h (Shrunk y) k b x i = let r = none_pins (cell_at c h) x i in omega arith
+pin_at c h (Shrinking y) k b x i = let r = none_pins (cell_at c h) x i in omega arith
 
 any_bytes : (c h : ℕ) (k : Kept) (b d : List ℕ) → claim_by (name_at c h) k b
     ≡ claim_by (name_at c h) k d

@@ -1,5 +1,5 @@
 -- What each giving does, whatever else there is.
-use Rattle.std.proofs.Common.{◌≡◌, ◌+◌, ◌≤◌, ◌<◌, ◌∷◌, ◌++◌, ◌∙◌, ◌⊎◌, ℕ, zero, suc, true, false, List, [], map, Option, Some, None, option_and_then, slice_get, refl, sym, ap, subst, arith, inl}
+use Rattle.std.proofs.Common.{◌≡◌, ◌+◌, ◌≤◌, ◌<◌, ◌∷◌, ◌++◌, ◌∙◌, ◌⊎◌, ℕ, zero, suc, true, false, List, [], map, Option, Some, None, option_and_then, slice_get, refl, sym, ap, subst, arith, inl, inr}
 use Rattle.call_history.specs.Parts.{EndsSo, Follows, left_by, program}
 use Rattle.call_history.specs.Shows.{got_from, tag_by}
 use Rattle.call_history.specs.declared.part.Part.{Part}
@@ -27,13 +27,15 @@ use Rattle.mem_account.specs.declared.weight.Weight.{Weight}
 use Rattle.page_steps.specs.Givings.{Notes, kept_by, old_weight}
 use Rattle.page_steps.specs.Pages.{new_class, next_form, page_in}
 use Rattle.page_steps.specs.Steps.{DiskHeld, Here, class_by, entry_in, on, piece_over, slot, spot}
+use Rattle.plain_disk.specs.Ends.{is_single}
 use Rattle.plain_disk.specs.Phases.{begun, touched_by}
 use Rattle.slot_entry.specs.Entries.{EntryState, weight_of}
 use Rattle.slot_entry.specs.Forms.{PageForm, bytes_in, class_in, form_weight}
 use Rattle.slot_entry.specs.declared.kept.Kept.{Kept}
-use Rattle.zr_base.specs.Plain.{has_event, is_beyond, named}
+use Rattle.std.proofs.lemmas.Bool.{cases_Bool}
+use Rattle.zr_base.specs.Plain.{has_event, is_beyond, is_compaction, named}
 use Rattle.zr_base.specs.declared.op.Op.{Op}
-use Rattle.zr_base.specs.declared.op.Op.TheVariants.{Discard, Read, Write}
+use Rattle.zr_base.specs.declared.op.Op.TheVariants.{Compact, Discard, Read, Write}
 use Rattle.zr_base.specs.declared.op.Tag.{Tag}
 use Rattle.lock_row.specs.declared.names.LockNo.TheVariants as lock
 use Rattle.lock_row.specs.declared.names.Held.TheVariants as holds
@@ -88,6 +90,13 @@ pub none_pin : (f : PinWeigh) (x : Option Pin) → NoneOf x → by_option f x �
 none_pin f None e = refl
 none_pin f (Some x) e = absurd e
 
+-- a request beyond the disk is over in one piece
+beyond_single : (size : ℕ) (op : Op) → is_beyond size op ≡ true → is_single size op ≡ true
+beyond_single size op e = elim (cases_Bool (is_compaction op)) [
+  | inl on ↦ rw on refl
+  | inr off ↦ rw off e
+]
+
 pub some_one : (n : ℕ) → some_of n ≤ 1
 some_one zero = omega arith
 some_one (suc n) = omega arith
@@ -100,6 +109,7 @@ ends_badly g p (Write start count stuff) (AtLimit c n l) f = f
 ends_badly g p (Write start count stuff) NoMemory f = f
 ends_badly g p (Read start count) x f = absurd f
 ends_badly g p (Discard start count) x f = absurd f
+ends_badly g p Compact x f = absurd f
 
 -- what was counted of the page is what the entry and the actor tell
 pub old_is : (k : Kept) (x : Option Weight) → GoneBy x k → (i : Count)
@@ -136,6 +146,7 @@ start_stage g (p ∷ ps) e = record {
   blank = tt;
   fails = tt;
   begun = tt;
+  compacts = tt;
 }
 
 module _ (g : Begin) (ok : Known g) (w : State DiskHeld) (j : Joint g w) (a : ℕ) (l : Here)
@@ -233,7 +244,7 @@ module _ (g : Begin) (ok : Known g) (w : State DiskHeld) (j : Joint g w) (a : �
   give_refuses c at held =
       let q = stage _ Refusing held at in record {
         home = record { sound = refl; stands = tt };
-        fits = is_over (Whole ends.Range) [] (q.begun, q.begun);
+        fits = is_over (Whole ends.Range) [] (beyond_single n p.op q.begun, q.begun);
         alone = λ i. let r = ap (held_sum (spot n) (at_place i)) held in omega arith;
         owners = λ f. let r = ap (held_sum (spot n) (claims g f)) held in
             let x = ap (held_sum (spot n) (stored f)) held in let y = none_fresh f l.fresh q.made in
@@ -259,7 +270,7 @@ module _ (g : Begin) (ok : Known g) (w : State DiskHeld) (j : Joint g w) (a : �
   -- ---- the slot
 
   module _ (e f : EntryState) (held : l.held ≡ (slot p.page, holds.Slot e) ∷ []) where
-    place : is_beyond n p.op ≡ false → (p.page < n) × (has_event p.op p.page ≡ true)
+    place : is_single n p.op ≡ false → (p.page < n) × (has_event p.op p.page ≡ true)
     place b = on_disk (EndsSo (ground_of g)) n fit.ops l.done p rest next b
 
     calls_on : (order : List Tag) (t : Tag) → AreCarried g p.page order
@@ -273,7 +284,7 @@ module _ (g : Begin) (ok : Known g) (w : State DiskHeld) (j : Joint g w) (a : �
     touched_now (x ∷ xs) t was = refl
 
     -- an entry with one more tag fits its place
-    noted_fits : (x y : EntryState) (k : Kept) → is_beyond n p.op ≡ false → EntryFits g p.page x
+    noted_fits : (x y : EntryState) (k : Kept) → is_single n p.op ≡ false → EntryFits g p.page x
         → Notes g.clock x y k (tag_by l.actor p) → IsSmall (weight_of k) → EntryFits g p.page y
     noted_fits x y k begun fits notes small = record {
       small = subst (λ (i : Kept). IsSmall (weight_of i)) (sym notes.kept) small;
@@ -395,6 +406,7 @@ module _ (g : Begin) (ok : Known g) (w : State DiskHeld) (j : Joint g w) (a : �
       read_op (Read start count) is k b = form_read g ok p e.order
           (tag_by l.actor p) is_named start count is
       read_op (Discard start count) is k b = absurd b
+      read_op Compact is k b = absurd b
 
       pub give_reads : l.fail ≡ None → Notes g.clock e f e.kept (tag_by l.actor p)
           → Gift g a l (slot p.page) (holds.Slot f) (piece_over l p Carried

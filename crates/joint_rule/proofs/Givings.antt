@@ -2,6 +2,7 @@
 use Rattle.std.proofs.Common.{◌≡◌, ◌∷◌, ◌∙◌, ℕ, List, Some, slice_get, sym, ap, subst}
 use Rattle.call_history.specs.declared.part.Part.{Part}
 use Rattle.call_history.specs.declared.part.PartEnd.TheVariants.{AtLimit, NoMemory}
+use Rattle.joint_rule.proofs.Compactions.{give_closes, give_moves, give_shrinks, give_sweeps}
 use Rattle.joint_rule.proofs.Events.{Event}
 use Rattle.joint_rule.proofs.Facts.{Known}
 use Rattle.joint_rule.proofs.Gifts.{Gift, give_fails, give_puts, give_reads, give_refuses, locks}
@@ -9,7 +10,7 @@ use Rattle.joint_rule.proofs.Objects.{give_charges, give_frees, give_pins, give_
 use Rattle.joint_rule.specs.Begins.{Begin, terms}
 use Rattle.joint_rule.specs.Joint.{Joint}
 use Rattle.lock_row.specs.declared.names.At.{At}
-use Rattle.lock_row.specs.declared.names.At.TheVariants.{Both, Freeing, Giving, Leaving, Made, Pinning, Ready, Refusing, Unpinning}
+use Rattle.lock_row.specs.declared.names.At.TheVariants.{Both, Freeing, Giving, Leaving, Made, Pinning, Ready, Refusing, Unpinning, Moving, Shrinking}
 use Rattle.lock_row.specs.declared.names.LockNo.{LockNo}
 use Rattle.lock_row.specs.declared.names.Plan.TheVariants.{Give}
 use Rattle.lock_row.specs.declared.names.State.{State}
@@ -104,3 +105,19 @@ module _ (g : Begin) (ok : Known g) (w : State DiskHeld) (j : Joint g w) (a : �
   gift (event.fails p rest e x todo at held bad v_is m_is) =
       at_lock _ (slot p.page) _ (given_lock (slot p.page) (event_is p rest _ Leaving todo held at))
       v_is m_is (give_fails g ok w j a l who p rest todo e e held at x bad)
+  gift (event.moves p rest x q q' u u' budget frames todo at held sh v_is m_is) =
+      at_lock _ (lock.Class x.class) _ (given_lock (lock.Class x.class)
+      (event_is p rest _ (Moving x) todo held at)) v_is m_is
+      (give_moves g ok w j a l who p rest todo x q at held q' u u' frames sh budget)
+  gift (event.sweeps p rest x q todo at held v_is m_is) =
+      at_lock _ (lock.Class x.class) _ (given_lock (lock.Class x.class)
+      (event_is p rest _ (Moving x) todo held at)) v_is m_is
+      (give_sweeps g ok w j a l who p rest todo x q at held)
+  gift (event.closes p rest x q todo at held v_is m_is) =
+      at_lock _ (lock.Class x.class) _ (given_lock (lock.Class x.class)
+      (event_is p rest _ (Moving x) todo held at)) v_is m_is
+      (give_closes g ok w j a l who p rest todo x q at held)
+  gift (event.shrinks p rest x c todo at held v_is m_is) =
+      at_lock _ lock.Account _ (given_lock lock.Account
+      (event_is p rest _ (Shrinking x) todo held at)) v_is m_is
+      (give_shrinks g ok w j a l who p rest todo x c at held)

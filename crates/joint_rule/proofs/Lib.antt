@@ -9,11 +9,13 @@ pub mod Events
 pub mod Balances
 pub mod Gifts
 pub mod Objects
+pub mod Compactions
 pub mod Givings
 pub mod Keeps
 pub mod Bounds
 pub mod Tells
 pub mod Counts
+pub mod Freed
 pub mod News
 pub mod Turns
 pub mod Starts

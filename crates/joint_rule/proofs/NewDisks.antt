@@ -8,7 +8,7 @@ use Rattle.joint_rule.specs.Begins.{AreCarried, Begin, content, form_at, form_by
 use Rattle.joint_rule.specs.Joint.{AtHome}
 use Rattle.joint_rule.specs.Stages.{IsForm, IsSmall}
 use Rattle.joint_rule.specs.Starts.{AtRest, IsNew}
-use Rattle.joint_rule.specs.Weights.{Backs, Count, FailedWrites, FreedPages, HugeWrites, Huges, News, OutOfRange, PackedBytes, Packs, PinWeigh, Refusal, Sames, Weigh, cell_weight, chains, claim_by, claims, counter, counters, measure, names, news_count, news_counter, on_account, out_weight, outs, pages, refusal_count, refusal_counter, shown, stored}
+use Rattle.joint_rule.specs.Weights.{Backs, Count, FailedWrites, FreedPages, HugeWrites, Huges, News, OutOfRange, PackedBytes, Packs, PinWeigh, Refusal, Sames, Weigh, cell_weight, chains, claim_by, claims, compactions, counter, counters, measure, names, news_count, news_counter, on_account, out_weight, outs, pages, refusal_count, refusal_counter, shown, stored}
 use Rattle.lock_row.specs.Totals.{row_sum}
 use Rattle.mem_account.specs.Counters.{Counters, no_counts}
 use Rattle.page_steps.specs.Steps.{DiskHeld}
@@ -161,6 +161,8 @@ module _ (g : Begin) where
         most = let x = zero_sum pages (no_account (λ c. c.pages) (λ limit. refl)) in omega arith;
         refusals = λ q. let x = zero_sum (refusal_counter q)
             (no_account (refusal_count q) (no_refusals q)) in omega arith;
+        compacted = let x = zero_sum compactions (no_account (λ c. c.compacted) (λ limit. refl)) in
+            omega arith;
         news = λ q. let x = zero_sum (news_counter q) (no_account (news_count q) (no_news q)) in
             omega arith;
       }

@@ -1,12 +1,13 @@
 -- The account's counters of calls: each giving raises them by what its piece gives, and a piece
 -- that
 -- is noted gives that to its order.
-use Rattle.std.proofs.Common.{◌≡◌, ◌+◌, ◌≤◌, ◌∷◌, ◌++◌, ◌∙◌, ℕ, Bool, cond, List, [], Option, Some, None, slice_get, refl, sym, ap, subst, arith}
+use Rattle.std.proofs.Common.{◌≡◌, ◌+◌, ◌≤◌, ◌∷◌, ◌++◌, ◌∙◌, ℕ, zero, suc, Bool, cond, List, [], Option, Some, None, slice_get, refl, sym, ap, subst, arith}
 use Rattle.call_history.specs.Parts.{left_by}
 use Rattle.call_history.specs.Shows.{tag_by}
 use Rattle.call_history.specs.declared.part.Part.{Part}
 use Rattle.call_history.specs.declared.part.PartEnd.{PartEnd}
 use Rattle.call_history.specs.declared.part.PartEnd.TheVariants.{Carried, Whole}
+use Rattle.joint_rule.proofs.Balances.{shrunk}
 use Rattle.joint_rule.proofs.Counts.{Raises, raised, raises, rises_total, still}
 use Rattle.joint_rule.proofs.Events.{Event}
 use Rattle.joint_rule.proofs.Facts.{Known}
@@ -21,7 +22,8 @@ use Rattle.joint_rule.specs.Stages.{BlankBy, Changes, FailBy, Looks, NoneOf, Sta
 use Rattle.joint_rule.specs.Weights.{FreedPages, HugeWrites, Huges, News, news_count, news_counter, news_of, none, noted, order_news, same, told_ahead, told_at, told_by}
 use Rattle.lock_row.specs.Totals.{by_option, held_sum, mass, total}
 use Rattle.lock_row.specs.declared.names.At.{At}
-use Rattle.lock_row.specs.declared.names.At.TheVariants.{Both, Freeing, Giving, Inside, Leaving, Made, Old, Owing, Pinned, Pinning, Ready, Refusing, Seen, Start, Unpinning, Wanting}
+use Rattle.lock_row.specs.declared.names.At.TheVariants.{Both, Freeing, Giving, Inside, Leaving, Made, Old, Owing, Pinned, Pinning, Ready, Refusing, Seen, Start, Unpinning, Wanting, Sweeping, Moving, Shrunk, Shrinking}
+use Rattle.lock_row.specs.declared.names.Compaction.{Compaction}
 use Rattle.lock_row.specs.declared.names.LockNo.{LockNo}
 use Rattle.lock_row.specs.declared.names.Object.{Object}
 use Rattle.lock_row.specs.declared.names.Pin.{Pin}
@@ -30,7 +32,8 @@ use Rattle.lock_row.specs.declared.names.State.{State}
 use Rattle.mem_account.specs.Counters.{Counters, at_most_end, charged, counted, with_one, without_one}
 use Rattle.mem_account.specs.Tally.{huge_of}
 use Rattle.mem_account.specs.declared.weight.Weight.{Weight}
-use Rattle.page_steps.specs.Givings.{Notes, kept_by, old_weight, repaid, settled, tells}
+use Rattle.page_steps.specs.Compactions.{moved_at, repaid, with_move}
+use Rattle.page_steps.specs.Givings.{Notes, kept_by, old_weight, settled, tells}
 use Rattle.page_steps.specs.Pages.{next_by, next_form, page_in, page_in_cell}
 use Rattle.page_steps.specs.Steps.{DiskHeld, Here, after_take, begun_at, entry_in, entry_or, lock_of, made_at, piece_over, pinned_at, plan, quit_at, settle_at, slot, spot, taken_at, took}
 use Rattle.plain_disk.specs.Calls.{Found, after, after_all, calls_sum, freed}
@@ -38,9 +41,9 @@ use Rattle.plain_disk.specs.Forms.{is_huge}
 use Rattle.slot_entry.specs.Entries.{EntryState}
 use Rattle.slot_entry.specs.Forms.{Blank, PageForm, Pooled, Word, form_weight}
 use Rattle.slot_entry.specs.declared.kept.Kept.{Kept}
-use Rattle.zr_base.specs.Plain.{is_beyond, named}
+use Rattle.zr_base.specs.Plain.{is_beyond, is_compaction, named}
 use Rattle.zr_base.specs.declared.op.Op.{Op}
-use Rattle.zr_base.specs.declared.op.Op.TheVariants.{Discard, Read, Write}
+use Rattle.zr_base.specs.declared.op.Op.TheVariants.{Compact, Discard, Read, Write}
 use Rattle.zr_base.specs.declared.op.Tag.{Tag}
 use Rattle.joint_rule.proofs.Events as event
 use Rattle.lock_row.specs.declared.names.Held.TheVariants as holds
@@ -91,6 +94,7 @@ told_none HugeWrites op = refl
 told_none FreedPages (Write start count stuff) = refl
 told_none FreedPages (Read start count) = refl
 told_none FreedPages (Discard start count) = refl
+told_none FreedPages Compact = refl
 
 told_quiet : (q : News) (at : At) (ps : List Part) → told_at q at ps None ≡ 0
 told_quiet q Ready [] = refl
@@ -110,6 +114,10 @@ told_quiet q Old ps = refl
 told_quiet q Freeing ps = refl
 told_quiet q Owing ps = refl
 told_quiet q Giving ps = refl
+told_quiet q (Sweeping x) ps = refl
+told_quiet q (Moving x) ps = refl
+told_quiet q (Shrunk x) ps = refl
+told_quiet q (Shrinking x) ps = refl
 
 told_free : (q : News) (at : At) (ps : List Part) (x : Option Weight) → NoneOf x
     → told_at q at ps x ≡ 0
@@ -133,11 +141,17 @@ told_pinned : (q : News) (op : Op) (f : PageForm) (k : Kept) (ps : List Part) (x
 told_pinned q (Write start count stuff) f k ps x = told_made q f k ps x
 told_pinned q (Read start count) f k ps x = refl
 told_pinned q (Discard start count) f k ps x = refl
+told_pinned q Compact f k ps x = refl
 
 told_quit : (q : News) (y : Option Pin) (ps : List Part) (x : Option Weight)
     → told_at q (quit_at y) ps x ≡ 0
 told_quit q None ps x = refl
 told_quit q (Some y) ps x = refl
+
+told_moved : (q : News) (frames : ℕ) (y : Compaction) (ps : List Part) (x : Option Weight)
+    → told_at q (moved_at frames y) ps x ≡ 0
+told_moved q zero y ps x = refl
+told_moved q (suc frames) y ps x = refl
 
 -- a taking tells nothing
 told_after : (g : Begin) (q : News) (at : At) (p : Part) (ps : List Part) (e e' : EntryState)
@@ -146,7 +160,8 @@ told_after : (g : Begin) (q : News) (at : At) (p : Part) (ps : List Part) (e e' 
     → Stage g p e at fresh pin owed x y page fail → told_at q (after_take g.given.size at p f k)
     (p ∷ ps) x ≡ told_at q at (p ∷ ps) x
 told_after g q Start p ps e e' fresh pin owed x y page fail f k s =
-    told_free q (begun_at (is_beyond g.given.size p.op) p f k) (p ∷ ps) x s.counts.0
+    told_free q (begun_at (is_compaction p.op) (is_beyond g.given.size p.op) p f k) (p ∷ ps) x
+    s.counts.0
 told_after g q Refusing p ps e e' fresh pin owed x y page fail f k s = refl
 told_after g q Seen p ps e e' fresh pin owed x y page fail f k s = refl
 told_after g q Pinning p ps e e' fresh pin owed x y page fail f k s = refl
@@ -162,6 +177,10 @@ told_after g q Freeing p ps e e' fresh pin owed x y page fail f k s = refl
 told_after g q Owing p ps e e' fresh pin owed x y page fail f k s = refl
 told_after g q Giving p ps e e' fresh pin owed x y page fail f k s = refl
 told_after g q Ready p ps e e' fresh pin owed x y page fail f k s = refl
+told_after g q (Sweeping z) p ps e e' fresh pin owed x y page fail f k s = refl
+told_after g q (Moving z) p ps e e' fresh pin owed x y page fail f k s = refl
+told_after g q (Shrunk z) p ps e e' fresh pin owed x y page fail f k s = refl
+told_after g q (Shrinking z) p ps e e' fresh pin owed x y page fail f k s = refl
 
 told_taken : (g : Begin) (q : News) (l : Here) (v : DiskHeld) (ps : List Part)
     → StageBy g ps (entry_in l.held) l.at l.fresh l.pin l.owed l.ahead l.behind l.page l.fail
@@ -204,12 +223,14 @@ tells_huge : (op : Op) (c : Counters) → (tells op c).huge_since ≡ c.huge_sin
 tells_huge (Write start count stuff) c = refl
 tells_huge (Read start count) c = refl
 tells_huge (Discard start count) c = refl
+tells_huge Compact c = refl
 
 tells_freed : (op : Op) (c : Counters) (w : Weight) → (tells op c).notify_free
     ≡ raised (told_by FreedPages op (Some w)) c.notify_free
 tells_freed (Write start count stuff) c w = refl
 tells_freed (Read start count) c w = refl
 tells_freed (Discard start count) c w = refl
+tells_freed Compact c w = refl
 
 settled_news : (q : News) (op : Op) (n : ℕ) (old new : Weight) (c : Counters)
     → news_count q (settled op n old new c) ≡ raised (told_by q op (Some new)) (news_count q c)
@@ -227,6 +248,7 @@ told_one HugeWrites op w = huge_one w
 told_one FreedPages (Write start count stuff) w = omega arith
 told_one FreedPages (Read start count) w = omega arith
 told_one FreedPages (Discard start count) w = omega arith
+told_one FreedPages Compact w = omega arith
 
 same_failed : (q : News) (c : Counters) → news_count q (counted c delta.FailedWrite)
     ≡ news_count q c
@@ -236,6 +258,10 @@ same_failed FreedPages c = refl
 same_invalid : (q : News) (c : Counters) → news_count q (counted c delta.InvalidIo) ≡ news_count q c
 same_invalid HugeWrites c = refl
 same_invalid FreedPages c = refl
+
+same_shrunk : (q : News) (c : Counters) (n : ℕ) → news_count q (shrunk n c) ≡ news_count q c
+same_shrunk HugeWrites c n = refl
+same_shrunk FreedPages c n = refl
 
 same_charged : (q : News) (c : Counters) (need : ℕ) → news_count q (charged c need) ≡ news_count q c
 same_charged HugeWrites c need = refl
@@ -304,6 +330,7 @@ module _ (g : Begin) (ok : Known g) (w : State DiskHeld) (j : Joint g w) (a : �
           (kept_is g p.page (e.order ++ tag_by l.actor p ∷ []) ∙ ap form_weight now_form)
           ∙ huge_bit (form_weight (next_form p l.page e.kept)) ∙ sym (st.counts.ahead Huges)
       huge_told (Read start count) is c = absurd c
+      huge_told Compact is c = absurd c
       huge_told (Discard start count) is c = sym (st.counts.ahead Huges
           ∙ ap (λ (o : Op). huge_of (form_weight (next_by o p (page_in l.page e.kept)))) is)
 
@@ -312,6 +339,7 @@ module _ (g : Begin) (ok : Known g) (w : State DiskHeld) (j : Joint g w) (a : �
           (found_after g p.page (e.order ++ tag_by l.actor p ∷ [])) ≡ told_by FreedPages op x
       blank_told (Write start count stuff) x b c i = refl
       blank_told (Read start count) x b c i = absurd c
+      blank_told Compact x b c i = absurd c
       blank_told (Discard start count) None b c i = ap (λ (y : Bool). cond {A = ℕ} y 0 1) i
       blank_told (Discard start count) (Some x) b c i = ap (λ (y : Bool). cond {A = ℕ} y 0 1) i
 
@@ -354,6 +382,7 @@ module _ (g : Begin) (ok : Known g) (w : State DiskHeld) (j : Joint g w) (a : �
           → order_news g q p.page f.order ≡ order_news g q p.page e.order
       read_order q (Write start count stuff) is i b notes = absurd b
       read_order q (Discard start count) is i b notes = absurd b
+      read_order q Compact is i b notes = absurd b
       read_order q (Read start count) is i b notes =
           let s = ap (order_news g q p.page) notes.order in let o = order_more q p e.order is_op in
           let z = ap (λ (x : Op). news_of q p.page (Some x) (found_after g p.page e.order)
@@ -431,6 +460,25 @@ module _ (g : Begin) (ok : Known g) (w : State DiskHeld) (j : Joint g w) (a : �
         same_news q _ _ v_is m_is (back_news p rest todo e e held at q x []
         (sym (given_lock g ok w j a l who k v m what (slot p.page)
         (event_is g ok w j a l who k v m what p rest _ Leaving todo held at))) refl)
+    news_gives q (event.moves p rest x y y' u u' budget frames todo at held sh v_is m_is) =
+        same_news q _ _ v_is m_is (quietly q _ _ (let z = ap (held_sum (spot n) (noted g q)) held in
+        let s = silent q (Moving x) at refl in let r = told_moved q frames (with_move x budget)
+        l.todo l.ahead in omega arith)
+        (let z = ap (held_sum (spot n) (news_counter q)) held in omega arith))
+    news_gives q (event.sweeps p rest x y todo at held v_is m_is) =
+        same_news q _ _ v_is m_is (quietly q _ _ (let z = ap (held_sum (spot n) (noted g q)) held in
+        let s = silent q (Moving x) at refl in omega arith)
+        (let z = ap (held_sum (spot n) (news_counter q)) held in omega arith))
+    news_gives q (event.closes p rest x y todo at held v_is m_is) =
+        same_news q _ _ v_is m_is (quietly q _ _ (let z = ap (held_sum (spot n) (noted g q)) held in
+        let s = silent q (Moving x) at refl in let r = told_quiet q Start
+        (left_by (Whole (ends.Compacted x.moves x.frames)) p.nr rest) in omega arith)
+        (let z = ap (held_sum (spot n) (news_counter q)) held in omega arith))
+    news_gives q (event.shrinks p rest x c todo at held v_is m_is) =
+        same_news q _ _ v_is m_is (quietly q _ _ (let z = ap (held_sum (spot n) (noted g q)) held in
+        let s = silent q (Shrinking x) at refl in omega arith)
+        (let z = ap (held_sum (spot n) (news_counter q)) held in let s = same_shrunk q c l.owed in
+        omega arith))
 
   pub news_give : (q : News) → slice_get w.row (spot n k) ≡ Some None → Announces q v m
       → CountsNews g q w → CountsNews g q (gone n w a l who k (Some v) m)

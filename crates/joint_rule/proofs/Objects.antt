@@ -37,7 +37,7 @@ use Rattle.slot_entry.specs.declared.kept.Kept.{Kept}
 use Rattle.slot_entry.specs.declared.kept.Stored.{Stored}
 use Rattle.zr_base.specs.Plain.{has_whole}
 use Rattle.zr_base.specs.declared.op.Op.{Op}
-use Rattle.zr_base.specs.declared.op.Op.TheVariants.{Discard, Read, Write}
+use Rattle.zr_base.specs.declared.op.Op.TheVariants.{Compact, Discard, Read, Write}
 use Rattle.zr_base.specs.declared.op.Stuff.{Stuff}
 use Rattle.zspage.specs.Cells.{CellState, IsStored, UsedCell, object_in}
 use Rattle.lock_row.specs.declared.names.LockNo.TheVariants as lock
@@ -132,8 +132,10 @@ module _ (g : Begin) (ok : Known g) (w : State DiskHeld) (j : Joint g w) (a : â„
           blank = tt;
           fails = subst (Î» (x : Op). FailBy g p x l.fail) (sym e_op) st.fails;
           begun = st.begun;
+          compacts = tt;
         }
         pinned_stage (Discard start count) e_op = absurd (subst Looks e_op st.kind.0)
+        pinned_stage Compact e_op = absurd (subst Looks e_op st.kind.0)
 
         is_pin : (y : UsedCell) â†’ y.handle â‰¡ o.handle.0 â†’ y.cell â‰¡ cell
             â†’ pin_in q.class y â‰¡ pin_of o cell
@@ -151,6 +153,7 @@ module _ (g : Begin) (ok : Known g) (w : State DiskHeld) (j : Joint g w) (a : â„
         pinned_locks (Write start count stuff) f c d = made_locks f e.kept p c d
         pinned_locks (Read start count) f c d = refl
         pinned_locks (Discard start count) f c d = refl
+        pinned_locks Compact f c d = refl
 
         pub give_pins : Gift g a l (lock.Class o.class) (holds.Class q')
             (on l (pinned_at p.op (next_form p (Some page) e.kept) e.kept)
@@ -217,6 +220,7 @@ module _ (g : Begin) (ok : Known g) (w : State DiskHeld) (j : Joint g w) (a : â„
                 blank = tt;
                 fails = su.fails;
                 begun = su.begun;
+                compacts = tt;
               }) (let lr =
               ap (held_sum (spot n) (claims g each_one)) held in
               let lx = ap (held_sum (spot n) (ever_at g)) held in
@@ -301,6 +305,7 @@ module _ (g : Begin) (ok : Known g) (w : State DiskHeld) (j : Joint g w) (a : â„
         blank = sf.blank;
         fails = sf.fails;
         begun = sf.begun;
+        compacts = tt;
       }
 
       emptied_fits : EntryFits g p.page e â†’ EntryFits g p.page (emptied e)
@@ -389,6 +394,7 @@ module _ (g : Begin) (ok : Known g) (w : State DiskHeld) (j : Joint g w) (a : â„
         blank = tt;
         fails = may_by l.fail sb.fails;
         begun = sb.begun;
+        compacts = tt;
       } where
         made_by : (x : Option PartEnd) â†’ NoneOf x â†’ MadeBy g.chain x (next_form p l.page e.kept)
             (Some new_object)
@@ -468,6 +474,7 @@ module _ (g : Begin) (ok : Known g) (w : State DiskHeld) (j : Joint g w) (a : â„
         âˆ™ pooled_weight (next_form p l.page e.kept) sb.kind.1
     may_want (Read start count) e_op i = absurd i
     may_want (Discard start count) e_op i = absurd i
+    may_want Compact e_op i = absurd i
 
     class_num : cl â‰¡ class_in g.chain (next_form p l.page e.kept)
     class_num = let y = in_class_lock in cc
@@ -481,6 +488,7 @@ module _ (g : Begin) (ok : Known g) (w : State DiskHeld) (j : Joint g w) (a : â„
         class_num in omega arith)
     of_class_is (Read start count) e_op i = absurd i
     of_class_is (Discard start count) e_op i = absurd i
+    of_class_is Compact e_op i = absurd i
 
     pub memory_refusal : IsRefusal g p NoMemory
     memory_refusal = (sb.begun, may_want p.op refl sb.kind.0)
@@ -532,6 +540,7 @@ module _ (g : Begin) (ok : Known g) (w : State DiskHeld) (j : Joint g w) (a : â„
             blank = tt;
             fails = is;
             begun = sb.begun;
+            compacts = tt;
           }) (let lr = ap (held_sum (spot n) (claims g each_one)) held in
           let lx = ap (held_sum (spot n) (ever_at g)) held in
           let lz = (fit g ok w j a l who p rest todo).lean in omega arith);
@@ -562,6 +571,7 @@ module _ (g : Begin) (ok : Known g) (w : State DiskHeld) (j : Joint g w) (a : â„
     writes_change (Write start count stuff) i = tt
     writes_change (Read start count) i = absurd i
     writes_change (Discard start count) i = absurd i
+    writes_change Compact i = absurd i
 
     pub give_stows : l.fail â‰¡ None â†’ Gift g a l (lock.Class cl) (holds.Class q)
         (on l (settle_at e.kept) ((slot p.page, holds.Slot e) âˆ· []) l.fresh l.pin l.owed l.ahead
@@ -606,11 +616,13 @@ module _ (g : Begin) (ok : Known g) (w : State DiskHeld) (j : Joint g w) (a : â„
       write_fails (Write start count stuff) (Some y) i k f = f
       write_fails (Read start count) y i k f = absurd k
       write_fails (Discard start count) y i k f = absurd k
+      write_fails Compact y i k f = absurd k
 
       write_looks : (op : Op) â†’ IsWrite op â†’ Looks op
       write_looks (Write start count stuff) k = tt
       write_looks (Read start count) k = absurd k
       write_looks (Discard start count) k = absurd k
+      write_looks Compact k = absurd k
 
       named_obj : (k : Kept) (y : Pin) â†’ Names k y â†’ IsObj k
       named_obj kept.Empty y i = absurd i
@@ -630,6 +642,7 @@ module _ (g : Begin) (ok : Known g) (w : State DiskHeld) (j : Joint g w) (a : â„
         blank = tt;
         fails = write_fails p.op l.fail bad sm.kind.0 sm.fails;
         begun = sm.begun;
+        compacts = tt;
       }
       quit_stage (Some y) i = record {
         kind = (write_looks p.op sm.kind.0, named_obj e.kept y i);
@@ -642,6 +655,7 @@ module _ (g : Begin) (ok : Known g) (w : State DiskHeld) (j : Joint g w) (a : â„
         blank = tt;
         fails = write_fails p.op l.fail bad sm.kind.0 sm.fails;
         begun = sm.begun;
+        compacts = tt;
       }
 
       quit_locks : (pin : Option Pin) (c d : â„•) â†’ slot p.page âˆ· [] â‰¡ locks_at (quit_at pin) p c d
@@ -716,6 +730,7 @@ module _ (g : Begin) (ok : Known g) (w : State DiskHeld) (j : Joint g w) (a : â„
       blank = sg.blank;
       fails = sg.fails;
       begun = sg.begun;
+      compacts = tt;
     }
 
     pub give_repays : Gift g a l lock.Account (holds.Account now)

@@ -7,6 +7,7 @@ use Rattle.joint_rule.specs.Facts.{Facts}
 use Rattle.joint_rule.specs.Joint.{PoolFits}
 use Rattle.joint_rule.specs.Weights.{cell_weight, names, same, same_pin, same_ptr}
 use Rattle.lock_row.specs.declared.names.Pin.{Pin}
+use Rattle.page_steps.specs.Compactions.{MovesOne}
 use Rattle.page_steps.specs.Pools.{Adds, Drops, IsNeed, Lends, Returns}
 use Rattle.page_steps.specs.Steps.{on}
 use Rattle.plain_disk.specs.Calls.{after}
@@ -192,6 +193,18 @@ pub record Swaps (p q : PoolState) (u v : UsedCell) : Type 0 where
   pub cell : v.cell ≡ u.cell
   pub frames : frames_of q ≡ frames_of p
 
+-- An object is in another cell now, at home before it and after it, and so many frames are free.
+pub record Shifts (p q : PoolState) (u v : UsedCell) (n : ℕ) : Type 0 where
+  pub alike : Alike p q
+  pub swap : (f : UsedCell → ℕ)
+      → sum_by f (used_cells q.zspages) + f u ≡ sum_by f (used_cells p.zspages) + f v
+  pub handle : v.handle ≡ u.handle
+  pub bytes : v.bytes ≡ u.bytes
+  pub home : u.out ≡ false
+  pub stays : v.out ≡ false
+  pub frames : frames_of q + n ≡ frames_of p
+  pub few : n ≤ p.chain
+
 alike_same : (p q : PoolState) (zs : List (Option Cells)) → q ≡ record p { zspages = zs } → IsPool q
     → Alike p q
 alike_same p q zs e pool = record {
@@ -261,6 +274,21 @@ module _ (facts : Facts) (p q : PoolState) where
   returns_weigh h d = swap_weigh h d.id d.ix d.cells d.object (record d.object { out = false })
       d.place d.after d.pool refl refl refl
 
+  -- an object that was moved
+  pub moves_weigh : (n : ℕ) (d : MovesOne p q n)
+      → Shifts p q d.move.object (new_use d.move.object.handle d.move.object.bytes d.move.cell) n
+  moves_weigh n d =
+      let r = facts.moved p q d.move n d.moves in record {
+        alike = record { class = r.4; size = r.5; chain = r.6; per = r.7; pool = d.pool };
+        swap = r.0;
+        handle = refl;
+        bytes = refl;
+        home = r.1;
+        stays = refl;
+        frames = r.2;
+        few = r.3;
+      }
+
 -- ---- what a pool has to be
 
 chain_some : (m k : ℕ) → 1 ≤ chain_of m k
@@ -324,6 +352,11 @@ module _ (chain : ℕ) (p : PoolState) (f : PoolFits chain p) where
   pub fits_less : (q : PoolState) (u : UsedCell) (n : ℕ) → GivesUp p q u n → PoolFits chain q
   fits_less q u n a = alike_fits q a.alike (λ i.
       let m = a.less (cell_weight (names i)) in let o = f.once i in omega arith)
+
+  pub fits_shift : (q : PoolState) (u v : UsedCell) (n : ℕ) → Shifts p q u v n → PoolFits chain q
+  fits_shift q u v n a = alike_fits q a.alike (λ i.
+      let m = a.swap (cell_weight (names i)) in let o = f.once i in
+      let h : same i v.handle ≡ same i u.handle = ap (same i) a.handle in omega arith)
 
   pub fits_swap : (q : PoolState) (u v : UsedCell) → Swaps p q u v → PoolFits chain q
   fits_swap q u v a = alike_fits q a.alike (λ i.

@@ -33,7 +33,7 @@ use Rattle.std.specs.Prelude.{All}
 use Rattle.zr_base.specs.Plain.{HasBytes, HasSectors, covers, has_whole, named, sector_after_named, stuff_sector, words_from, zero_sector}
 use Rattle.zr_base.specs.Plain.{content as contents}
 use Rattle.zr_base.specs.declared.op.Op.{Op}
-use Rattle.zr_base.specs.declared.op.Op.TheVariants.{Discard, Read, Write}
+use Rattle.zr_base.specs.declared.op.Op.TheVariants.{Compact, Discard, Read, Write}
 use Rattle.zr_base.specs.declared.op.Stuff.{Stuff}
 use Rattle.zr_base.specs.declared.op.Stuff.TheVariants.{Fill, Hex, Seq}
 use Rattle.zr_base.specs.declared.op.Tag.{Tag}
@@ -107,6 +107,7 @@ module _ (actors : List (List Op)) (requests : AreRequests actors) where
         put_sector stuff count (s - start) q.1 q.2 (omega arith))
     | inr off ↦ rw off h
   ]
+  one_call t (Some Compact) s old e h = h
   one_call t (Some (Discard start count)) s old e h = elim
       (cases_Bool (has_whole start count (s / 8))) [ inl on ↦ rw on zero_is | inr off ↦ rw off h ]
 

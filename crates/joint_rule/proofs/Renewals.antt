@@ -5,7 +5,7 @@ use Rattle.joint_rule.specs.Begins.{AreCarried, Begin, content, form_at, form_by
 use Rattle.joint_rule.specs.Joint.{AtHome, PoolFits}
 use Rattle.joint_rule.specs.Stages.{IsForm, IsSmall}
 use Rattle.joint_rule.specs.Starts.{AtRest, IsNextDisk, IsOther, IsRenewed, Matched, Renewed}
-use Rattle.joint_rule.specs.Weights.{Backs, Count, FailedWrites, FreedPages, HugeWrites, Huges, News, OutOfRange, PackedBytes, Packs, Refusal, Sames, Weigh, chains, claim_by, claims, counter, counters, measure, mosts, news_count, news_counter, outs, pages, refusal_count, refusal_counter, shown, stored}
+use Rattle.joint_rule.specs.Weights.{Backs, Count, FailedWrites, FreedPages, HugeWrites, Huges, News, OutOfRange, PackedBytes, Packs, Refusal, Sames, Weigh, chains, claim_by, claims, compactions, counter, counters, measure, mosts, news_count, news_counter, outs, pages, refusal_count, refusal_counter, shown, stored}
 use Rattle.lock_row.specs.Totals.{row_sum}
 use Rattle.mem_account.specs.Counters.{Counters}
 use Rattle.page_steps.specs.Steps.{DiskHeld}
@@ -188,6 +188,8 @@ module _ (g h : Begin) where
               let y = same mosts (λ j e d r. refl) (λ j c n. refl) in let z = a.most in omega arith;
           refusals = λ q. let x = same (refusal_counter q) (λ j e d r. refl)
               (λ j c n. any_refusals q c n) in let z = a.refusals q in omega arith;
+          compacted = let x = same compactions (λ j e d r. refl) (λ j c n. refl) in
+              let z = a.compacted in omega arith;
           news = λ q. let x = same (news_counter q) (λ j e d r. refl) (λ j c n. any_news q c n) in
               let z = a.news q in omega arith;
         } where

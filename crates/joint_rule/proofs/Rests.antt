@@ -9,17 +9,17 @@ use Rattle.joint_rule.specs.Joint.{IsActor, Joint}
 use Rattle.joint_rule.specs.Rule.{Rule}
 use Rattle.joint_rule.specs.Stages.{NoneOf, StageBy, locks_by}
 use Rattle.joint_rule.specs.Starts.{AtRest}
-use Rattle.joint_rule.specs.Weights.{ahead, at_place, behind, chains, claims, counters, fresh_claim, measure, mosts, news_counter, none, nothing, object_weight, outs, owing, pages, pinned, refusal_counter, shown, stored}
+use Rattle.joint_rule.specs.Weights.{ahead, at_place, behind, chains, claims, compactions, counters, fresh_claim, measure, mosts, news_counter, none, nothing, object_weight, outs, owing, pages, pinned, refusal_counter, shown, stored}
 use Rattle.lock_row.specs.Totals.{by_option, row_sum, total}
 use Rattle.lock_row.specs.declared.names.At.{At}
-use Rattle.lock_row.specs.declared.names.At.TheVariants.{Both, Freeing, Giving, Inside, Leaving, Made, Old, Owing, Pinned, Pinning, Ready, Refusing, Seen, Start, Unpinning, Wanting}
+use Rattle.lock_row.specs.declared.names.At.TheVariants.{Both, Freeing, Giving, Inside, Leaving, Made, Old, Owing, Pinned, Pinning, Ready, Refusing, Seen, Start, Unpinning, Wanting, Sweeping, Moving, Shrunk, Shrinking}
 use Rattle.lock_row.specs.declared.names.LockNo.{LockNo}
 use Rattle.lock_row.specs.declared.names.Plan.TheVariants.{Finished}
 use Rattle.lock_row.specs.declared.names.State.{State}
 use Rattle.mem_account.specs.Counters.{at_most_end}
 use Rattle.page_steps.specs.Pages.{new_class}
 use Rattle.page_steps.specs.Steps.{DiskHeld, Here, class_by, entry_in, plan_at, plan_by, spot, start_plan}
-use Rattle.zr_base.specs.Plain.{is_beyond}
+use Rattle.zr_base.specs.Plain.{is_beyond, is_compaction}
 
 -- ---- a finished phase
 
@@ -27,11 +27,16 @@ pub none_weigh : {X : Type 0} (f : X → ℕ) (x : Option X) → NoneOf x → by
 none_weigh f None e = refl
 none_weigh f (Some x) e = absurd e
 
+pub no_held : (xs : List (LockNo × DiskHeld)) → map (λ (x : LockNo × DiskHeld). x.0) xs ≡ [] → xs ≡ []
+no_held [] e = refl
+no_held (x ∷ xs) e = absurd (cc)
+
 never_finished : (size : ℕ) (at : At) (p : Part) (c d : ℕ) → plan_at size at p c d ≡ Finished → ⊥
-never_finished size Start p c d e = started (is_beyond size p.op) e where
-  started : (b : Bool) → start_plan b p ≡ Finished → ⊥
-  started true x = cc
-  started false x = cc
+never_finished size Start p c d e = started (is_compaction p.op) (is_beyond size p.op) e where
+  started : (a b : Bool) → start_plan a b p ≡ Finished → ⊥
+  started true b x = cc
+  started false true x = cc
+  started false false x = cc
 never_finished size Refusing p c d e = cc
 never_finished size Seen p c d e = cc
 never_finished size Pinning p c d e = cc
@@ -47,6 +52,10 @@ never_finished size Freeing p c d e = cc
 never_finished size Owing p c d e = cc
 never_finished size Giving p c d e = cc
 never_finished size Ready p c d e = cc
+never_finished size (Sweeping x) p c d e = cc
+never_finished size (Moving x) p c d e = cc
+never_finished size (Shrunk x) p c d e = cc
+never_finished size (Shrinking x) p c d e = cc
 
 -- a counter stands still at its end
 within_end : (a b : ℕ) → a ≡ at_most_end b → a < 2 ^ 64
@@ -66,10 +75,6 @@ module _ (g : Begin) (w : State DiskHeld) (r : Rule g w) (fin : AllFinished g w)
 
   ended : (a : ℕ) (l : Here) → slice_get w.locals a ≡ Some l → IsActor g a l
   ended a l e = j.each.in_local a l e
-
-  no_held : (xs : List (LockNo × DiskHeld)) → map (λ (x : LockNo × DiskHeld). x.0) xs ≡ [] → xs ≡ []
-  no_held [] e = refl
-  no_held (x ∷ xs) e = absurd (cc)
 
   pub held_none : (a : ℕ) (l : Here) → slice_get w.locals a ≡ Some l → l.held ≡ []
   held_none a l e = let f = ended a l e in no_held l.held (f.locks
@@ -117,6 +122,8 @@ module _ (g : Begin) (w : State DiskHeld) (r : Rule g w) (fin : AllFinished g w)
         let z = r.most.now in omega arith;
     refusals = λ q. let x = left (refusal_counter q) none (λ a l e. refl) in
         let z = within_end _ _ (r.refusals q) in omega arith;
+    compacted = let x = left compactions none (λ a l e. refl) in
+        let z = within_end _ _ r.freed in omega arith;
     news = λ q. let x = left (news_counter q) none (λ a l e. refl) in
         let z = within_end _ _ (r.news q) in omega arith;
   }

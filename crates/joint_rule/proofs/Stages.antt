@@ -13,15 +13,16 @@ use Rattle.lock_row.specs.declared.names.Pin.{Pin}
 use Rattle.mem_account.specs.declared.weight.Weight.{Weight}
 use Rattle.page_steps.specs.Pages.{next_form, page_in}
 use Rattle.page_steps.specs.Steps.{class_by, made_at, on, settle_at, slot}
+use Rattle.plain_disk.specs.Ends.{is_single}
 use Rattle.slot_entry.specs.Entries.{EntryState}
 use Rattle.slot_entry.specs.Forms.{Blank, PageForm, Pooled, Word}
 use Rattle.slot_entry.specs.declared.kept.Kept.{Kept}
-use Rattle.std.proofs.lemmas.Bool.{cases_Bool, eqb-false, ltb-false}
+use Rattle.std.proofs.lemmas.Bool.{cases_Bool, eqb-false, ltb-false, or_parts}
 use Rattle.std.specs.List.{AllByRecursion}
 use Rattle.zr_base.specs.Pieces.{first_page, pages_of}
-use Rattle.zr_base.specs.Plain.{count_of, has_event, is_beyond, start_of}
+use Rattle.zr_base.specs.Plain.{count_of, has_event, is_beyond, is_compaction, start_of}
 use Rattle.zr_base.specs.declared.op.Op.{Op}
-use Rattle.zr_base.specs.declared.op.Op.TheVariants.{Discard, Read, Write}
+use Rattle.zr_base.specs.declared.op.Op.TheVariants.{Compact, Discard, Read, Write}
 use Rattle.slot_entry.specs.declared.kept.Kept.TheVariants as kept
 
 gone_none : (x : Option Weight) (k : Kept) → NoneOf x → GoneBy x k
@@ -45,7 +46,7 @@ module _ (g : Begin) (p : Part) (e : EntryState) (fresh : Option Object) (pin : 
     (found_after g p.page e.order).blank) (right : IsRight p.op p.page (page_in page e.kept)
     (content g p.page e.order))
     (more : NoneOf ahead) (less : NoneOf behind) (well : NoneOf fail)
-    (begun : is_beyond g.given.size p.op ≡ false) where
+    (begun : is_single g.given.size p.op ≡ false) where
   abbrev f : PageForm
   f = next_form p page e.kept
 
@@ -65,6 +66,7 @@ module _ (g : Begin) (p : Part) (e : EntryState) (fresh : Option Object) (pin : 
       blank = blank;
       fails = well;
       begun = begun;
+      compacts = tt;
     }
 
     pub settle_stage : (k : Kept) → e.kept ≡ k → Stage g p e
@@ -82,12 +84,14 @@ module _ (g : Begin) (p : Part) (e : EntryState) (fresh : Option Object) (pin : 
       blank = blank;
       fails = well;
       begun = begun;
+      compacts = tt;
     }
 
   writes_change : (op : Op) → IsWrite op → Changes op
   writes_change (Write start count stuff) w = tt
   writes_change (Read start count) w = absurd w
   writes_change (Discard start count) w = absurd w
+  writes_change Compact w = absurd w
 
   pub made_stage : IsWrite p.op → NoneOf fresh → (h : PageForm) → f ≡ h → (k : Kept) → e.kept ≡ k
       → Stage g p e (made_at h k) fresh pin owed ahead behind page fail
@@ -106,17 +110,20 @@ module _ (g : Begin) (p : Part) (e : EntryState) (fresh : Option Object) (pin : 
     blank = tt;
     fails = well;
     begun = begun;
+    compacts = tt;
   }
 
 pub write_changes : (op : Op) → IsWrite op → Changes op
 write_changes (Write start count stuff) i = tt
 write_changes (Read start count) i = absurd i
 write_changes (Discard start count) i = absurd i
+write_changes Compact i = absurd i
 
 pub write_blank : (op : Op) → IsWrite op → (x : Option Weight) (b : Bool) → BlankAt Old op x b
 write_blank (Write start count stuff) i x b = tt
 write_blank (Read start count) i x b = absurd i
 write_blank (Discard start count) i x b = absurd i
+write_blank Compact i x b = absurd i
 
 -- ---- locks
 
@@ -169,7 +176,7 @@ module _ (P : Part → Type 0) where
   every_append (p ∷ ps) qs a b = (a.0, every_append ps qs a.1 b)
 
 abbrev pub OnDisk : ℕ → Part → Type 0
-OnDisk size p = is_beyond size p.op ≡ false → (p.page < size) × (has_event p.op p.page ≡ true)
+OnDisk size p = is_single size p.op ≡ false → (p.page < size) × (has_event p.op p.page ≡ true)
 
 module _ (size nr : ℕ) (op : Op) where
   from_disk : (page n : ℕ) → page + n ≤ size → Every (OnDisk size) (parts_from nr op page n)
@@ -191,9 +198,10 @@ module _ (size nr : ℕ) (op : Op) where
         positive (suc n) h = omega arith
 
   op_disk : Every (OnDisk size) (parts size nr op)
-  op_disk = elim (cases_Bool (is_beyond size op)) [
+  op_disk = elim (cases_Bool (is_single size op)) [
     | inl on ↦ rw on ((λ b. absurd (let q : true ≡ false = sym on ∙ b in cc)), tt)
-    | inr off ↦ rw off (from_disk (first_page op) (pages_of op) (last_page off))
+    | inr off ↦ rw off (from_disk (first_page op) (pages_of op)
+        (last_page (or_parts (is_compaction op) (is_beyond size op) off).1))
   ]
 
 program_disk : (size nr : ℕ) (ops : List Op) → Every (OnDisk size) (program size nr ops)

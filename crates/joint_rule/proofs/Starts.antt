@@ -5,6 +5,7 @@ use Rattle.call_history.specs.declared.part.Done.{Done}
 use Rattle.call_history.specs.declared.part.Part.{Part}
 use Rattle.call_history.specs.declared.part.PartEnd.{PartEnd}
 use Rattle.joint_rule.proofs.Facts.{Known}
+use Rattle.joint_rule.proofs.Freed.{freed_start}
 use Rattle.joint_rule.proofs.Gifts.{start_locks, start_stage}
 use Rattle.joint_rule.proofs.Pages.{content_sector}
 use Rattle.joint_rule.proofs.Sums.{row_nothing}
@@ -14,7 +15,7 @@ use Rattle.joint_rule.specs.Joint.{AtHome, IsActor, Joint, Sound}
 use Rattle.joint_rule.specs.Rule.{FailKeeps, OfOrder, Rule, ShowsOrder, done_by, dones, owed, owed_by, reach_at}
 use Rattle.joint_rule.specs.Stages.{StageBy, locks_by}
 use Rattle.joint_rule.specs.Starts.{IsStart}
-use Rattle.joint_rule.specs.Weights.{HeldAll, News, Refusal, ahead, at_place, behind, chains, claims, counters, each_one, ever_at, fixed, fixed_count, fresh_claim, measure, mosts, news_count, news_counter, none, noted, nothing, object_weight, on_account, order_news, outs, owing, pages, pinned, refusal_count, refusal_counter, refusal_of, refusals, refused_by, same, shown, some_of, stored, told_ahead, told_at}
+use Rattle.joint_rule.specs.Weights.{HeldAll, News, Refusal, ahead, at_place, behind, chains, claims, compactions, counters, each_one, ever_at, fixed, fixed_count, freed_at, freed_by, fresh_claim, measure, mosts, news_count, news_counter, none, noted, nothing, object_weight, on_account, order_news, outs, owing, pages, pinned, refusal_count, refusal_counter, refusal_of, refusals, refused_by, same, shown, some_of, stored, told_ahead, told_at}
 use Rattle.lock_row.specs.Totals.{by_option, held_sum, locals_sum, mass, row_sum, total}
 use Rattle.lock_row.specs.declared.names.At.{At}
 use Rattle.lock_row.specs.declared.names.At.TheVariants.{Start}
@@ -26,6 +27,7 @@ use Rattle.mem_account.specs.Counters.{Counters, at_most_end}
 use Rattle.mem_account.specs.declared.weight.Weight.{Weight}
 use Rattle.page_steps.specs.Pages.{new_class}
 use Rattle.page_steps.specs.Steps.{DiskHeld, Here, class_by, entry_in, spot}
+use Rattle.plain_disk.specs.Ends.{compacted}
 use Rattle.zr_base.specs.declared.op.Op.{Op}
 use Rattle.zr_base.specs.declared.op.Tag.{Tag}
 use Rattle.lock_row.specs.declared.names.Held.TheVariants as holds
@@ -282,6 +284,16 @@ module _ (g : Begin) (ok : Known g) (w : State DiskHeld) (s : IsStart g w) where
         only (refusal_counter q) none (λ a l e. refl) ∙ c
         ∙ within_end (refusal_count q g.was) (omega arith)
         ∙ ap (λ (i : ℕ). at_most_end (refusal_count q g.was + i)) (sym z);
+    freed =
+        let c = account_of (λ c. c.compacted) in
+        let z = locals_none freed_by w.locals (λ a l e. let h = s.actors a l e in
+        let ds : List Done = [] in
+        let x : freed_by l ≡ done_sum compacted ds + freed_at l.todo Start =
+        (λ i. done_sum compacted (h.done i) + freed_at l.todo (h.at i)) in
+        let y = freed_start l.todo in omega arith) in
+        let r = s.rest.compacted in
+        only compactions none (λ a l e. refl) ∙ c ∙ within_end g.was.compacted (omega arith)
+        ∙ ap (λ (i : ℕ). at_most_end (g.was.compacted + i)) (sym z);
     news = λ q.
         let c = account_of (news_count q) in
         let z : total (spot n) (noted g q) (told_ahead q) w ≡ 0 =

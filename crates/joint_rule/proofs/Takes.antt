@@ -12,21 +12,23 @@ use Rattle.joint_rule.specs.Joint.{AtHome, EntryFits, IsActor, Sound, Stands}
 use Rattle.joint_rule.specs.Stages.{Bears, BlankAt, BlankBy, Changes, FailBy, IsForm, IsNothing, IsObj, IsRight, IsSmall, IsWrite, Looks, NoObj, NoneOf, Stage, StageBy, WasBlank, locks_at, locks_by}
 use Rattle.joint_rule.specs.Weights.{claim_by, claims, each_one, ever_at, measure}
 use Rattle.lock_row.specs.declared.names.At.{At}
-use Rattle.lock_row.specs.declared.names.At.TheVariants.{Both, Freeing, Giving, Inside, Leaving, Made, Old, Owing, Pinned, Pinning, Ready, Refusing, Seen, Start, Unpinning, Wanting}
+use Rattle.lock_row.specs.declared.names.At.TheVariants.{Both, Freeing, Giving, Inside, Leaving, Made, Old, Owing, Pinned, Pinning, Ready, Refusing, Seen, Start, Unpinning, Wanting, Sweeping, Moving, Shrunk, Shrinking}
 use Rattle.lock_row.specs.declared.names.LockNo.{LockNo}
 use Rattle.lock_row.specs.declared.names.Object.{Object}
 use Rattle.lock_row.specs.declared.names.Pin.{Pin}
 use Rattle.lock_row.specs.declared.names.Plan.TheVariants.{Take}
 use Rattle.mem_account.specs.declared.weight.Weight.{Weight}
 use Rattle.page_steps.specs.Pages.{new_class, next_by, next_form, page_in}
-use Rattle.page_steps.specs.Steps.{DiskHeld, Here, after_take, begun_at, class_by, discard_at, entered_at, entry_in, entry_or, lock_of, made_at, part_at, plan, plan_at, plan_by, seen_at, settle_at, slot, spot, start_plan, taken_at, took, write_at}
+use Rattle.page_steps.specs.Steps.{DiskHeld, Here, after_take, begun_at, class_by, discard_at, entered_at, entry_in, entry_or, first_class, lock_of, made_at, part_at, plan, plan_at, plan_by, seen_at, settle_at, slot, spot, start_plan, taken_at, took, write_at}
+use Rattle.plain_disk.specs.Ends.{is_single}
 use Rattle.slot_entry.specs.Entries.{EntryState, weight_of}
 use Rattle.slot_entry.specs.Forms.{Blank, PageForm, Pooled, Word, class_in, form_weight, pooled}
 use Rattle.slot_entry.specs.declared.kept.Kept.{Kept}
+use Rattle.std.proofs.lemmas.Bool.{or_from}
 use Rattle.std.specs.Prelude.{⊤}
-use Rattle.zr_base.specs.Plain.{has_whole, is_beyond}
+use Rattle.zr_base.specs.Plain.{has_whole, is_beyond, is_compaction}
 use Rattle.zr_base.specs.declared.op.Op.{Op}
-use Rattle.zr_base.specs.declared.op.Op.TheVariants.{Discard, Read, Write}
+use Rattle.zr_base.specs.declared.op.Op.TheVariants.{Compact, Discard, Read, Write}
 use Rattle.zr_base.specs.declared.op.Stuff.{Stuff}
 use Rattle.lock_row.specs.declared.names.LockNo.TheVariants as lock
 use Rattle.lock_row.specs.declared.names.Held.TheVariants as holds
@@ -111,7 +113,7 @@ module _ (g : Begin) (ok : Known g) (p : Part) (fresh : Option Object) (pin : Op
   -- a slot is taken
   module _ (e : EntryState) (start : Stays e Start) (x : EntryState) (fit : EntryFits g p.page x)
       (stands : IsForm g.chain (form_at g p.page x.order) x.kept)
-      (begun : is_beyond n p.op ≡ false) where
+      (begun : is_single n p.op ≡ false) where
     abbrev Goes : At → Type 0
     Goes at = (slot p.page ∷ [] ≡ locks_at at p (class_by x.kept)
         (class_in g.chain (next_form p page x.kept))) × Stays x at
@@ -126,6 +128,7 @@ module _ (g : Begin) (ok : Known g) (p : Part) (fresh : Option Object) (pin : Op
     no_blank (Write start_ count stuff) i = tt
     no_blank (Read start_ count) i = absurd i
     no_blank (Discard start_ count) i = absurd i
+    no_blank Compact i = absurd i
 
     made_there : IsWrite p.op → IsRight p.op p.page (page_in page x.kept) (content g p.page x.order)
         → Goes (made_at (next_form p page x.kept) x.kept)
@@ -153,6 +156,7 @@ module _ (g : Begin) (ok : Known g) (p : Part) (fresh : Option Object) (pin : Op
         blank = tt;
         fails = subst (λ (o : Op). FailBy g p o fail) (sym is) start.fails;
         begun = begun;
+        compacts = tt;
       },
     )
 
@@ -170,6 +174,7 @@ module _ (g : Begin) (ok : Known g) (p : Part) (fresh : Option Object) (pin : Op
         blank = tt;
         fails = start.fails;
         begun = begun;
+        compacts = tt;
       },
     )
 
@@ -258,6 +263,7 @@ module _ (g : Begin) (ok : Known g) (p : Part) (fresh : Option Object) (pin : Op
               stands)));
           fails = start.fails;
           begun = begun;
+          compacts = tt;
         },
       )
       discard_by (kept.Same w) e = subst (λ (k : Kept). Goes (settle_at k)) e
@@ -265,55 +271,21 @@ module _ (g : Begin) (ok : Known g) (p : Part) (fresh : Option Object) (pin : Op
       discard_by (kept.Obj o) e = subst (λ (k : Kept). Goes (settle_at k)) e
           (settles (subst (λ (k : Kept). IsNothing k → ⊥) (sym e) (λ i. i)))
 
+    on_page : (o : Op) → p.op ≡ o → is_single n o ≡ false
+    on_page o is = subst (λ (x : Op). is_single n x ≡ false) is begun
+
     entered : (o : Op) → p.op ≡ o → Goes (entered_at o p.page (next_form p page x.kept) x.kept)
     entered (Write start_ count stuff) is = write_by start_ count stuff is
         (has_whole start_ count p.page) refl
     entered (Read start_ count) is = read_by start_ count is x.kept refl
     entered (Discard start_ count) is = discard_by start_ count is x.kept refl
+    entered Compact is = absurd (let e = on_page Compact is in cc)
 
   -- ---- takings
 
   module _ (e : EntryState) (v : DiskHeld) (k : LockNo) (ks : List LockNo) (disk : OnDisk n p) where
     abbrev Taken : LockNo → At → Type 0
     Taken m at = Moved ks m (entry_or v e) at
-
-    start_take : (b : Bool) → is_beyond n p.op ≡ b → start_plan b p ≡ Take k
-        → Sound g (spot n (lock_of (start_plan b p))) v
-        → Stands g (spot n (lock_of (start_plan b p))) v
-        → ks ≡ [] → Stays e Start → Taken (lock_of (start_plan b p))
-        (begun_at b p (next_form p page (entry_or v e).kept) (entry_or v e).kept)
-    start_take true b what kind stands locks s = account v (account_kind g v kind) where
-      account : (u : DiskHeld) → IsAccount u → Moved ks lock.Account (entry_or u e) Refusing
-      account (holds.Account c) i = (
-        ap (λ (xs : List LockNo). lock.Account ∷ xs) locks,
-        record {
-          kind = tt;
-          made = s.made;
-          pins = s.pins;
-          owes = s.owes;
-          stands = tt;
-          right = s.right;
-          counts = s.counts;
-          blank = tt;
-          fails = s.fails;
-          begun = b;
-        },
-      )
-      account (holds.Slot c) i = absurd i
-      account (holds.Class c) i = absurd i
-      account (holds.Blocks c) i = absurd i
-      account (holds.Device c) i = absurd i
-    start_take false b what kind stands locks s = slot_of v
-        (entry_kind g p.page (disk b).0 v kind) kind stands where
-          slot_of : (u : DiskHeld) → IsEntry u → Sound g p.page u → Stands g p.page u
-              → Moved ks (slot p.page) (entry_or u e) (entered_at p.op p.page
-              (next_form p page (entry_or u e).kept) (entry_or u e).kept)
-          slot_of (holds.Slot x) i so st = let r = entered e s x so st b p.op refl in
-              (ap (λ (xs : List LockNo). slot p.page ∷ xs) locks ∙ r.0, r.1)
-          slot_of (holds.Class c) i so st = absurd i
-          slot_of (holds.Account c) i so st = absurd i
-          slot_of (holds.Blocks c) i so st = absurd i
-          slot_of (holds.Device c) i so st = absurd i
 
     -- a pool or the account is taken, and the entry in hand stays
     by_pool : (c : ℕ) (at : At) → c < 255 → Sound g (n + c) v
@@ -338,6 +310,61 @@ module _ (g : Begin) (ok : Known g) (p : Part) (fresh : Option Object) (pin : Op
       account (holds.Blocks y) i = absurd i
       account (holds.Device y) i = absurd i
 
+    start_take : (a b : Bool) → is_compaction p.op ≡ a → is_beyond n p.op ≡ b
+        → start_plan a b p ≡ Take k
+        → Sound g (spot n (lock_of (start_plan a b p))) v
+        → Stands g (spot n (lock_of (start_plan a b p))) v
+        → ks ≡ [] → Stays e Start → Taken (lock_of (start_plan a b p))
+        (begun_at a b p (next_form p page (entry_or v e).kept) (entry_or v e).kept)
+    start_take true b a c what kind stands locks s = by_pool 0 (Moving first_class) (omega arith) kind
+        (ap (λ (xs : List LockNo). lock.Class 0 ∷ xs) locks)
+        (record {
+          kind = tt;
+          made = s.made;
+          pins = s.pins;
+          owes = s.owes;
+          stands = tt;
+          right = s.right;
+          counts = s.counts;
+          blank = tt;
+          fails = s.fails;
+          begun = a;
+          compacts = record { class = omega arith; frames = (let o = s.owes in omega arith) };
+        })
+    start_take false true a b what kind stands locks s = account v (account_kind g v kind) where
+      account : (u : DiskHeld) → IsAccount u → Moved ks lock.Account (entry_or u e) Refusing
+      account (holds.Account c) i = (
+        ap (λ (xs : List LockNo). lock.Account ∷ xs) locks,
+        record {
+          kind = tt;
+          made = s.made;
+          pins = s.pins;
+          owes = s.owes;
+          stands = tt;
+          right = s.right;
+          counts = s.counts;
+          blank = tt;
+          fails = s.fails;
+          begun = b;
+          compacts = tt;
+        },
+      )
+      account (holds.Slot c) i = absurd i
+      account (holds.Class c) i = absurd i
+      account (holds.Blocks c) i = absurd i
+      account (holds.Device c) i = absurd i
+    start_take false false a b what kind stands locks s = slot_of v
+        (entry_kind g p.page (disk (or_from _ _ a b)).0 v kind) kind stands where
+          slot_of : (u : DiskHeld) → IsEntry u → Sound g p.page u → Stands g p.page u
+              → Moved ks (slot p.page) (entry_or u e) (entered_at p.op p.page
+              (next_form p page (entry_or u e).kept) (entry_or u e).kept)
+          slot_of (holds.Slot x) i so st = let r = entered e s x so st (or_from _ _ a b) p.op refl in
+              (ap (λ (xs : List LockNo). slot p.page ∷ xs) locks ∙ r.0, r.1)
+          slot_of (holds.Class c) i so st = absurd i
+          slot_of (holds.Account c) i so st = absurd i
+          slot_of (holds.Blocks c) i so st = absurd i
+          slot_of (holds.Device c) i so st = absurd i
+
     abbrev c : ℕ
     c = class_by e.kept
 
@@ -349,8 +376,8 @@ module _ (g : Begin) (ok : Known g) (p : Part) (fresh : Option Object) (pin : Op
         (spot n (lock_of (plan_at n at p c d))) v
         → ks ≡ locks_at at p c d → Stays e at → Taken (lock_of (plan_at n at p c d))
         (after_take n at p (next_form p page (entry_or v e).kept) (entry_or v e).kept)
-    at_take Start what kind stands locks s = start_take
-        (is_beyond n p.op) refl what kind stands locks s
+    at_take Start what kind stands locks s = start_take (is_compaction p.op)
+        (is_beyond n p.op) refl refl what kind stands locks s
     at_take Seen what kind stands locks s = by_pool c Pinning
         (old_low g.chain (form_at g p.page e.order) e.kept s.stands) kind
         (ap (λ (xs : List LockNo). lock.Class c ∷ xs) locks)
@@ -365,6 +392,7 @@ module _ (g : Begin) (ok : Known g) (p : Part) (fresh : Option Object) (pin : Op
           blank = s.blank;
           fails = s.fails;
           begun = s.begun;
+          compacts = tt;
         })
     at_take Pinned what kind stands locks s = by_pool c Unpinning
         (old_low g.chain (form_at g p.page e.order) e.kept s.stands) kind
@@ -380,6 +408,7 @@ module _ (g : Begin) (ok : Known g) (p : Part) (fresh : Option Object) (pin : Op
           blank = s.blank;
           fails = s.fails;
           begun = s.begun;
+          compacts = tt;
         })
     at_take Wanting what kind stands locks s = by_pool d Inside
         (form_low g.chain (next_form p page e.kept)) kind
@@ -395,6 +424,7 @@ module _ (g : Begin) (ok : Known g) (p : Part) (fresh : Option Object) (pin : Op
           blank = s.blank;
           fails = s.fails;
           begun = s.begun;
+          compacts = tt;
         })
     at_take Inside what kind stands locks s = by_account Both kind
         (ap (λ (xs : List LockNo). lock.Account ∷ xs) locks)
@@ -409,6 +439,7 @@ module _ (g : Begin) (ok : Known g) (p : Part) (fresh : Option Object) (pin : Op
           blank = s.blank;
           fails = s.fails;
           begun = s.begun;
+          compacts = tt;
         })
     at_take Old what kind stands locks s = by_pool c Freeing
         (old_low g.chain (form_at g p.page e.order) e.kept s.stands) kind
@@ -424,6 +455,7 @@ module _ (g : Begin) (ok : Known g) (p : Part) (fresh : Option Object) (pin : Op
           blank = s.blank;
           fails = s.fails;
           begun = s.begun;
+          compacts = tt;
         })
     at_take Owing what kind stands locks s = by_account Giving kind
         (ap (λ (xs : List LockNo). lock.Account ∷ xs) locks)
@@ -438,6 +470,37 @@ module _ (g : Begin) (ok : Known g) (p : Part) (fresh : Option Object) (pin : Op
           blank = s.blank;
           fails = s.fails;
           begun = s.begun;
+          compacts = tt;
+        })
+    at_take (Sweeping x) what kind stands locks s = by_pool x.class (Moving x) s.compacts.class kind
+        (ap (λ (xs : List LockNo). lock.Class x.class ∷ xs) locks)
+        (record {
+          kind = tt;
+          made = s.made;
+          pins = s.pins;
+          owes = s.owes;
+          stands = tt;
+          right = s.right;
+          counts = s.counts;
+          blank = tt;
+          fails = s.fails;
+          begun = s.begun;
+          compacts = s.compacts;
+        })
+    at_take (Shrunk x) what kind stands locks s = by_account (Shrinking x) kind
+        (ap (λ (xs : List LockNo). lock.Account ∷ xs) locks)
+        (record {
+          kind = tt;
+          made = s.made;
+          pins = s.pins;
+          owes = s.owes;
+          stands = tt;
+          right = s.right;
+          counts = s.counts;
+          blank = tt;
+          fails = s.fails;
+          begun = s.begun;
+          compacts = s.compacts;
         })
     at_take Refusing what kind stands locks s = absurd (cc)
     at_take Pinning what kind stands locks s = absurd (cc)
@@ -448,6 +511,8 @@ module _ (g : Begin) (ok : Known g) (p : Part) (fresh : Option Object) (pin : Op
     at_take Freeing what kind stands locks s = absurd (cc)
     at_take Giving what kind stands locks s = absurd (cc)
     at_take Ready what kind stands locks s = absurd (cc)
+    at_take (Moving x) what kind stands locks s = absurd (cc)
+    at_take (Shrinking x) what kind stands locks s = absurd (cc)
 
 module _ (g : Begin) (ok : Known g) where
   by_take : (l : Here) (v : DiskHeld) (k : LockNo) (ps : List Part) (e : EntryState)

@@ -25,13 +25,14 @@ use Rattle.lock_row.specs.declared.names.Plan.TheVariants.{Give, Take}
 use Rattle.lock_row.specs.declared.names.State.{State}
 use Rattle.page_steps.specs.Pages.{page_in}
 use Rattle.page_steps.specs.Steps.{DiskHeld, Here, lock_of, on, piece_over, plan, slot, spot, took}
+use Rattle.plain_disk.specs.Ends.{is_single}
 use Rattle.plain_disk.specs.Phases.{begun}
 use Rattle.slot_entry.specs.Entries.{EntryState}
 use Rattle.std.proofs.lemmas.Bool.{and_left, and_right, cases_Bool, eq-eqb, ne_eqb}
-use Rattle.zr_base.specs.Plain.{is_beyond, named}
+use Rattle.zr_base.specs.Plain.{named}
 use Rattle.zr_base.specs.Sectors.{page_sector}
 use Rattle.zr_base.specs.declared.op.Op.{Op}
-use Rattle.zr_base.specs.declared.op.Op.TheVariants.{Discard, Read, Write}
+use Rattle.zr_base.specs.declared.op.Op.TheVariants.{Compact, Discard, Read, Write}
 use Rattle.zr_base.specs.declared.op.Tag.{Tag}
 use mathlib.Core.Logic.{dite}
 use mathlib.Core.Path.{fun_ext}
@@ -79,7 +80,7 @@ module _ (size page : ℕ) where
   ]
 
 -- a piece that is on the disk is on its page
-pub once : (size : ℕ) (p : Part) → is_beyond size p.op ≡ false → piece_on size p.page p ≡ 1
+pub once : (size : ℕ) (p : Part) → is_single size p.op ≡ false → piece_on size p.page p ≡ 1
 once size p off =
     ap (λ (b : Bool). cond {A = ℕ} b 0 (cond (eqb p.page p.page) 1 0)) off
     ∙ ap (λ (b : Bool). cond {A = ℕ} b 1 0) (eq-eqb p.page p.page refl)
@@ -129,7 +130,7 @@ module _ (g : Begin) (P : ℕ → List Tag → ℕ → Type 0) where
     noted : (p : Part) (rest : List Part) (e f : EntryState) (got : List (List ℕ))
         → l.todo ≡ p ∷ rest → k ≡ slot p.page → l.held ≡ (slot p.page, holds.Slot e) ∷ []
         → v ≡ holds.Slot f
-        → is_beyond g.given.size p.op ≡ false → f.order ≡ e.order ++ tag_by l.actor p ∷ []
+        → is_single g.given.size p.op ≡ false → f.order ≡ e.order ++ tag_by l.actor p ∷ []
         → e.room ≤ f.room + 1 → got ≡ got_from (content g p.page e.order) p
         → m ≡ piece_over l p Carried got rest → Tells l k v m
     refused : (p : Part) (rest : List Part) (end : PartEnd) → l.todo ≡ p ∷ rest
@@ -143,6 +144,7 @@ no_got : (op : Op) (p : Part) (page : List ℕ) → p.op ≡ op → Changes op
 no_got (Write start count stuff) p page e c = ap (λ (o : Op). got_at o p page) (sym e)
 no_got (Read start count) p page e c = absurd c
 no_got (Discard start count) p page e c = ap (λ (o : Op). got_at o p page) (sym e)
+no_got Compact p page e c = absurd c
 
 bad_stands : (g : Begin) (p : Part) (op : Op) (x : PartEnd) → FailBy g p op (Some x)
     → stands_so op x ≡ false
@@ -152,12 +154,14 @@ bad_stands g p (Write start count stuff) (AtLimit c n l) f = refl
 bad_stands g p (Write start count stuff) NoMemory f = refl
 bad_stands g p (Read start count) x f = absurd f
 bad_stands g p (Discard start count) x f = absurd f
+bad_stands g p Compact x f = absurd f
 
 right_read : (g : Begin) (q : Part) (op : Op) (p : ℕ) (page was : List ℕ) → Looks op
     → FailBy g q op None → IsRight op p page was → page ≡ was
 right_read g q (Write start count stuff) p page was k f r = absurd f
 right_read g q (Read start count) p page was k f r = r
 right_read g q (Discard start count) p page was k f r = absurd k
+right_read g q Compact p page was k f r = absurd k
 
 module _ (g : Begin) (ok : Known g) (w : State DiskHeld) (j : Joint g w) (a : ℕ) (l : Here)
     (who : slice_get w.locals a ≡ Some l) (k : LockNo) (v : DiskHeld) (m : Here)
@@ -231,6 +235,15 @@ module _ (g : Begin) (ok : Known g) (w : State DiskHeld) (j : Joint g w) (a : �
       (subst (FailBy g p p.op) bad st.fails)) (λ h.
       subst (λ (c : LockNo). OfOrder P (spot g.given.size c) (holds.Slot e)) k_is
       (subst (HeldAll g.given.size (OfOrder P)) held h).0) m_is)
+  tells_of (event.moves p rest x q q' u u' budget frames todo at held sh v_is m_is) =
+      same_tells _ _ v_is m_is (quiet refl refl (λ h. (tt, tt)))
+  tells_of (event.sweeps p rest x q todo at held v_is m_is) =
+      same_tells _ _ v_is m_is (quiet refl refl (λ h. (tt, tt)))
+  tells_of (event.closes p rest x q todo at held v_is m_is) =
+      same_tells _ m v_is refl (refused p rest (Whole (ends.Compacted x.moves x.frames)) todo refl
+      (λ h. tt) m_is)
+  tells_of (event.shrinks p rest x c todo at held v_is m_is) =
+      same_tells _ _ v_is m_is (quiet refl refl (λ h. (tt, tt)))
 
 -- ---- the law
 
@@ -344,7 +357,7 @@ module _ (g : Begin) (ok : Known g) (w : State DiskHeld) (j : Joint g w) (t : To
         }
 
     note_here : (p : Part) (rest : List Part) (e f : EntryState) (got : List (List ℕ))
-        → l.todo ≡ p ∷ rest → is_beyond n p.op ≡ false → f.order ≡ e.order ++ tag_by l.actor p ∷ []
+        → l.todo ≡ p ∷ rest → is_single n p.op ≡ false → f.order ≡ e.order ++ tag_by l.actor p ∷ []
         → e.room ≤ f.room + 1
         → got ≡ got_from (content g p.page e.order) p → m ≡ piece_over l p Carried got rest
         → P p.page e.order e.room → Q p.page f.order f.room

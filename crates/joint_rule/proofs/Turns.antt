@@ -11,6 +11,7 @@ use Rattle.joint_rule.proofs.Bounds.{below, most_give, most_take, risen, times_l
 use Rattle.joint_rule.proofs.Counts.{refusals_give, refusals_take, refuses_of}
 use Rattle.joint_rule.proofs.Events.{Event}
 use Rattle.joint_rule.proofs.Facts.{Known}
+use Rattle.joint_rule.proofs.Freed.{freed_give, freed_take, frees_of}
 use Rattle.joint_rule.proofs.Gifts.{stage}
 use Rattle.joint_rule.proofs.Givings.{gift}
 use Rattle.joint_rule.proofs.Keeps.{OneTurn, event_at, give_keeps, take_keeps}
@@ -163,6 +164,15 @@ module _ (g : Begin) (ok : Known g) (w : State DiskHeld) (j : Joint g w) (a : �
   limits_of c up (event.fails p rest e x todo at held bad v_is m_is) h =
       subst (KeepsLimits g c) (sym m_is) (limits_over g (reach_at g w) c up l p x [] rest
       (fail_up g (reach_at g w) c up (Some x) (subst (FailKeeps g (reach_at g w)) bad h.now)) h)
+  limits_of c up (event.moves p rest x q q' u u' budget frames todo at held sh v_is m_is) h =
+      subst (KeepsLimits g c) (sym m_is) (limits_same g (reach_at g w) c up l _ refl refl h)
+  limits_of c up (event.sweeps p rest x q todo at held v_is m_is) h =
+      subst (KeepsLimits g c) (sym m_is) (limits_same g (reach_at g w) c up l _ refl refl h)
+  limits_of c up (event.closes p rest x q todo at held v_is m_is) h =
+      subst (KeepsLimits g c) (sym m_is) (limits_over g (reach_at g w) c up l p
+      (Whole (ends.Compacted x.moves x.frames)) [] rest tt h)
+  limits_of c up (event.shrinks p rest x y todo at held v_is m_is) h =
+      subst (KeepsLimits g c) (sym m_is) (limits_same g (reach_at g w) c up l _ refl refl h)
 
 -- ---- the rule
 
@@ -181,6 +191,7 @@ module _ (g : Begin) (ok : Known g) (w : State DiskHeld) (r : Rule g w) (a : ℕ
         told = told_take g ok w r.joint r.told a l who k v what there;
         most = most_take g ok w r.joint a l who k v what there r.most;
         refusals = λ q. refusals_take g ok w r.joint a l who k v m q what there (r.refusals q);
+        freed = freed_take g ok w r.joint a l who k v what there r.freed;
         news = λ q. news_take g ok w r.joint a l who k v m q what there (r.news q);
         limits = λ b y e. ⊎_elim
             (λ s. subst (KeepsLimits g _) s.1 (limits_same g (reach_at g w) _
@@ -200,6 +211,8 @@ module _ (g : Begin) (ok : Known g) (w : State DiskHeld) (r : Rule g w) (a : ℕ
         most = most_give g ok w r.joint a l who k v m there x r.most;
         refusals = λ q. refusals_give g ok w r.joint a l who k v m q there
             (refuses_of g ok w r.joint a l who k v m q ev) (r.refusals q);
+        freed = freed_give g ok w r.joint a l who k v m there
+            (frees_of g ok w r.joint a l who k v m ev) r.freed;
         news = λ q. news_give g ok w r.joint a l who k v m q there
             (news_gives g ok w r.joint a l who k v m what q ev) (r.news q);
         limits = λ b y e. ⊎_elim

@@ -15,9 +15,8 @@ use Rattle.slot_entry.specs.Forms.{PageForm, Blank, form_of, bytes_in, page_weig
 use Rattle.page_steps.specs.Steps.{Terms}
 
 -- What a phase begins with: a plain disk and its calls; the pages on which no write stands; when
--- each page was touched; the most frames of a chain; the time; and the account's counters, the
--- limit
--- among them.
+-- each page was touched; the most frames of a chain; the time; the account's counters, the limit
+-- among them; and whether each class is known to have at most one zspage with a free cell.
 pub record Begin : Type 0 where
   pub given : Given
   pub blank : ℕ → Bool
@@ -25,6 +24,7 @@ pub record Begin : Type 0 where
   pub chain : ℕ
   pub clock : ℕ
   pub was : Counters
+  pub tight : Bool
 
 -- what the phase's steps go by
 abbrev pub terms : Begin → Terms

@@ -6,9 +6,8 @@ use Rattle.zr_base.specs.declared.op.Tag.{Tag}
 use Rattle.zr_base.specs.declared.op.Op.{Op}
 use Rattle.zr_base.specs.Plain.{zero_sector}
 use Rattle.mem_account.specs.Counters.{Counters, no_counts}
-use Rattle.zspage.specs.Cells.{used_of}
-use Rattle.class_pool.specs.Zspages.{Cells}
 use Rattle.plain_disk.specs.Calls.{after_all}
+use Rattle.plain_disk.specs.Compactions.{are_tight}
 use Rattle.plain_disk.specs.Rests.{Settings, Rest, page_of, stats, nothing_yet, so_far_of}
 use Rattle.plain_disk.specs.Phases.{begun, held_after, nth_order, touched_by}
 use Rattle.call_history.specs.declared.part.Done.{Done}
@@ -18,6 +17,7 @@ use Rattle.lock_row.specs.declared.names.State.{State}
 use Rattle.slot_entry.specs.Forms.{page_weight}
 use Rattle.page_steps.specs.Steps.{DiskHeld, Here, plan}
 use Rattle.joint_rule.specs.Begins.{Begin, terms}
+use Rattle.joint_rule.specs.Weights.{used_each}
 
 -- a phase of these actors begins at a rest of the plain disk
 abbrev pub begin_at : Rest → List (List Op) → Begin
@@ -28,6 +28,7 @@ begin_at r actors = record {
   chain = r.set.chain;
   clock = r.set.clock;
   was = stats page_weight r;
+  tight = are_tight r.set.chain r.used;
 }
 
 -- all actors are finished
@@ -50,12 +51,6 @@ orders_of size row = map (λ p. order_in (value_at row p)) (range_with_len 0 siz
 -- the pieces of all actors that are over
 abbrev pub histories : List Here → List (List Done)
 histories ls = map (λ (l : Here). l.done) ls
-
--- how many cells of each zspage are used
-abbrev pub used_each : List (Option Cells) → List ℕ
-used_each [] = []
-used_each (None ∷ zs) = used_each zs
-used_each (Some cells ∷ zs) = used_of cells ∷ used_each zs
 
 -- those of the pool at a place
 abbrev pub used_in : Option DiskHeld → List ℕ

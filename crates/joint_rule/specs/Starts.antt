@@ -13,7 +13,7 @@ use Rattle.slot_entry.specs.declared.kept.Kept.TheVariants as kept
 use Rattle.slot_entry.specs.Entries.{EntryState}
 use Rattle.page_steps.specs.Steps.{DiskHeld, Here}
 use Rattle.joint_rule.specs.Begins.{Begin, found_after}
-use Rattle.joint_rule.specs.Weights.{Weigh, claims, stored, PinWeigh, outs, pages, chains, Count, counters, shown, mosts, Refusal, refusal_counter, compactions, News, news_counter}
+use Rattle.joint_rule.specs.Weights.{Weigh, claims, stored, PinWeigh, outs, pages, chains, Count, counters, shown, mosts, Refusal, refusal_counter, compactions, loose_pools, News, news_counter}
 use Rattle.joint_rule.specs.Joint.{AtHome}
 use Rattle.joint_rule.specs.Rule.{owed}
 
@@ -61,6 +61,7 @@ pub record IsStart (g : Begin) (w : State DiskHeld) : Type 0 where
       → c ≡ g.was
   pub actors : (a : ℕ) (l : Here) → slice_get w.locals a ≡ Some l → Starts g a l
   pub count : length w.locals ≡ length g.given.actors
+  pub tight : g.tight ≡ true → row_sum loose_pools w.row ≡ 0
 
 -- ---- from one phase to the next
 

@@ -1,17 +1,19 @@
 -- What values and actors weigh: the sums over them that the joint rule compares.
-use Rattle.std.specs.Prelude.{◌≡◌, ℕ, zero, suc, ◌+◌, ◌==◌, ◌&&◌, Bool, true, false, cond, is_some, List, [], ◌∷◌, sum_by, Option, Some, slice_get}
+use Rattle.std.specs.Prelude.{◌≡◌, ℕ, zero, suc, ◌+◌, ◌==◌, ◌&&◌, Bool, true, false, cond, is_some, List, [], ◌∷◌, sum_by, Option, Some, None, slice_get}
 use denote.RawPtr.{Ptr, block_ptr, null_ptr}
 use Rattle.zr_base.specs.declared.op.Tag.{Tag}
 use Rattle.zr_base.specs.declared.op.Op.{Op}
 use Rattle.zr_base.specs.declared.op.Op.TheVariants.{Write, Read, Discard, Compact}
 use Rattle.zr_base.specs.declared.op.OpEnd.{OpEnd}
-use Rattle.zspage.specs.Cells.{UsedCell}
+use Rattle.zspage.specs.Cells.{UsedCell, used_of}
+use Rattle.class_pool.specs.Zspages.{Cells}
 use Rattle.class_pool.specs.Pool.{PoolState, used_cells}
 use Rattle.class_pool.specs.Laws.{frames_of}
 use Rattle.mem_account.specs.Counters.{Counters}
 use Rattle.mem_account.specs.Tally.{same_of, packed_of, packed_bytes_of, huge_of, back_of}
 use Rattle.mem_account.specs.declared.weight.Weight.{Weight}
 use Rattle.plain_disk.specs.Ends.{failed_write, beyond, compacted}
+use Rattle.plain_disk.specs.Compactions.{loose}
 use Rattle.plain_disk.specs.Calls.{Found, calls_sum, made_huge, freed}
 use Rattle.call_history.specs.declared.part.Part.{Part}
 use Rattle.call_history.specs.declared.part.PartEnd.{PartEnd}
@@ -296,13 +298,30 @@ refusal_counter q = on_account (refusal_count q)
 
 -- ---- the frames that compactions freed
 
+-- those of the compaction in work
+abbrev pub freed_at : List Part → At → ℕ
+freed_at [] at = 0
+freed_at (p ∷ ps) at = (compaction_at at).frames
+
 -- those that an actor tells: of the compactions that are over, and of the one in work
 abbrev pub freed_by : Here → ℕ
-freed_by l = done_sum compacted l.done + (compaction_at l.at).frames
+freed_by l = done_sum compacted l.done + freed_at l.todo l.at
 
 -- the account's counter, as a weight
 abbrev pub compactions : ℕ → DiskHeld → ℕ
 compactions = on_account (λ c. c.compacted)
+
+-- ---- the zspages of a class
+
+-- how many cells of each zspage are used
+abbrev pub used_each : List (Option Cells) → List ℕ
+used_each [] = []
+used_each (None ∷ zs) = used_each zs
+used_each (Some cells ∷ zs) = used_of cells ∷ used_each zs
+
+-- 1 for a pool of which more than one zspage has a free cell
+abbrev pub loose_pools : ℕ → DiskHeld → ℕ
+loose_pools = on_pool (λ p. loose p.per (used_each p.zspages))
 
 -- ---- the counters of calls
 

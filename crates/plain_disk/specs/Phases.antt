@@ -11,6 +11,7 @@ use Rattle.mem_account.specs.Counters.{at_most_end}
 use Rattle.plain_disk.specs.Ends.{Ground, Bounds, MayEndEach, due_from, ends_sum, failed_write, beyond, compacted}
 use Rattle.plain_disk.specs.Output.{OutLine, phase_lines}
 use Rattle.plain_disk.specs.Calls.{Found, after_all, ever_pooled, calls_sum, made_huge, freed}
+use Rattle.plain_disk.specs.Compactions.{IsAlone}
 use Rattle.plain_disk.specs.Rests.{SoFar, Rest, page_of, kept_pages, frames_of, AreUsed}
 
 -- ---- orders and contents
@@ -133,3 +134,5 @@ pub record IsPhase (form : List ℕ → Weight) (r : Rest) (actors : List (List 
   pub each : (p : ℕ) → p < r.size → IsOrder actors ends p (nth_order orders p)
   pub lines_are : lines ≡ phase_lines ends (due (begun r actors) orders 0 actors ends) orders
   pub leaves : Leaves form r actors ends orders m
+  pub alone : (ops : List Op) (es : List OpEnd) → actors ≡ ops ∷ [] → ends ≡ es ∷ []
+      → IsAlone form r ops es m

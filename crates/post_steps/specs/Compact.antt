@@ -1,5 +1,5 @@
 -- A compaction: what it stands for as an actor's local, and what its values are.
-use Rattle.std.specs.Prelude.{◌≡◌, ℕ, ◌+◌, ◌*◌, ◌^◌, ◌<◌, ◌≤◌, ⊤, ⊥, true, List, [], ◌∷◌, Option, Some, None}
+use Rattle.std.specs.Prelude.{◌≡◌, ℕ, zero, suc, ◌+◌, ◌*◌, ◌^◌, ◌<◌, ◌≤◌, ⊤, true, List, [], ◌∷◌, Option, Some, None}
 use Rattle.zr_base.specs.Plain.{is_compaction}
 use Rattle.lock_row.specs.declared.names.LockNo.{LockNo}
 use Rattle.lock_row.specs.declared.names.LockNo.TheVariants as lock
@@ -9,10 +9,12 @@ use Rattle.lock_row.specs.declared.names.At.TheVariants as at
 use Rattle.lock_row.specs.declared.names.Compaction.{Compaction}
 use Rattle.lock_row.specs.declared.names.Plan.{Plan}
 use Rattle.lock_row.specs.declared.names.Plan.TheVariants.{Finished, Take, Give}
-use Rattle.page_steps.specs.Steps.{DiskHeld, Here, first_class}
+use Rattle.page_steps.specs.Steps.{DiskHeld, Here, first_class, with_lock}
+use Rattle.page_steps.specs.Nexts.{Next}
 use Rattle.page_steps.specs.Calls.{Frame}
 use Rattle.page_steps.specs.declared.stage.Progress.{Progress}
 use Rattle.page_steps.specs.declared.stage.Progress.TheVariants as progress
+use Rattle.post_steps.specs.Turns.{Allows, Advanced}
 use Rattle.post_steps.specs.declared.compact.CompactStage.{CompactStage}
 use Rattle.post_steps.specs.declared.compact.CompactStage.TheVariants as stage
 
@@ -110,3 +112,32 @@ IsGoing s = ⊤
 abbrev pub IsOnward : Progress → CompactStage → Type 0
 IsOnward (progress.Done end) s = s ≡ stage.Over
 IsOnward t s = IsGoing s
+
+-- ---- events and turns
+
+-- it takes its first class
+abbrev pub beginning : Next
+beginning l v = with_lock l (at.Moving first_class) (lock.Class first_class.class) v
+
+-- the stage after a move that freed so many frames
+abbrev pub moved_by : ℕ → Compaction → CompactStage
+moved_by zero x = stage.Sweeping x
+moved_by (suc n) x = stage.Shrunk x (suc n)
+
+module _ {X : Type 0} (can_take : X → LockNo → Next → Type 0)
+    (takes : X → LockNo → Next → DiskHeld → X → Type 0)
+    (can_give : X → LockNo → Next → DiskHeld → Type 0) where
+  -- A compaction at its stage, before a turn by a hand.
+  pub record IsReady (chain : ℕ) (s : CompactStage) (h : X) : Type 0 where
+    pub fit : IsFit chain s
+    pub allows : Allows can_take takes can_give (IsWork chain) (λ x. here x s) (next_event s) h
+
+module _ {X : Type 0} (takes : X → LockNo → Next → DiskHeld → X → Type 0)
+    (misses : X → LockNo → X → Type 0)
+    (gives : X → LockNo → Next → DiskHeld → X → Type 0) where
+  -- What a turn of a compaction leaves.
+  pub record HasAdvanced (chain : ℕ) (s : CompactStage) (h : X) (s' : CompactStage) (g : X)
+      (p : Progress) : Type 0 where
+    pub fit : IsFit chain s'
+    pub turn : Advanced takes misses gives (IsWork chain) (λ x. here x s) h (λ x. here x s') g p
+    pub onward : IsOnward p s'

@@ -14,14 +14,16 @@
 ghost use Rattle.std.specs.Prelude.{◌≡◌};
 ghost use Rattle.page_steps.specs.Calls.{Frame};
 ghost use Rattle.post_steps.specs.declared.compact.CompactStage.TheVariants as stage;
-ghost use Rattle.post_steps.specs.Compact.{IsFit, IsGoing, IsWork, here, next_event};
+ghost use Rattle.post_steps.specs.Compact.{IsFit, IsGoing, IsOnward, IsWork, here, next_event, IsReady, HasAdvanced};
 ghost use Rattle.post_steps.specs.Turns.{Allows, Advanced};
 
+use crate::sweep::{begin, move_one, owe, shrink, sweep};
 use class_pool::ClassPool;
 use lock_row::{Compaction, Hand};
 use mem_account::Account;
 use page_steps::{DiskHeld, Progress};
 use size_class::ClassTable;
+use std::mem;
 
 /// What a compaction is at, with the value that it holds.
 #[derive(Drop)]
@@ -66,6 +68,30 @@ impl CompactCall {
             (λ x. here x self.old.stage) hand.old (λ x. here x self.new.stage) hand.new result }
         ensures over { IsOnward result self.new.stage }
     {
-        // TODO
+        let at = mem::replace(&mut self.stage, CompactStage::Over);
+        let (next, progress) = step(at, table, hand);
+        self.stage = next;
+        progress
+    }
+}
+
+// One event, or a miss, of a compaction that isn't over.
+fn step<H: Hand<Value = DiskHeld>>(
+    at: CompactStage,
+    table: &ClassTable,
+    hand: &mut H,
+) -> (CompactStage, Progress)
+    requires going { IsGoing at }
+    requires ready { IsReady H.can_take H.takes H.can_give table.now at hand.old }
+    ensures { HasAdvanced H.takes H.misses H.gives table.now at hand.old result.0 hand.new
+        result.1 }
+{
+    match at {
+        CompactStage::Start => begin(table, hand),
+        CompactStage::Sweeping(x) => sweep(x, table, hand),
+        CompactStage::Moving(x, pool) => move_one(x, pool, table, hand),
+        CompactStage::Shrunk(x, frames) => owe(x, frames, table, hand),
+        CompactStage::Shrinking(x, frames, account) => shrink(x, frames, account, table, hand),
+        CompactStage::Over => unreachable!(),
     }
 }

@@ -3,5 +3,9 @@
 #![tactic(auto)]
 
 mod compact;
+mod laws;
+mod nexts;
+mod sweep;
 
 pub use compact::{CompactCall, CompactStage};
+pub use laws::compactions_are_events;

@@ -16,6 +16,7 @@ returns c = record {
   freed = c.objects_move.ensures.freed;
   changed = c.objects_move.ensures.changed;
   among = c.objects_move.ensures.part;
+  moved = c.objects_move.ensures.moved;
   kept_as = c.kept_bytes_have_one_page.ensures;
   packed_short = λ page bytes is form. (c.forms_tell_pages.ensures.packed page bytes is form).0.short;
   huge_page = λ page bytes is form. (c.forms_tell_pages.ensures.huge page bytes is form).0;

@@ -1,4 +1,4 @@
-use Rattle.joint_rule.proofs.Fitting.{stage_fits}
+use Rattle.joint_rule.proofs.Fitting.{compacted_few, stage_fits}
 use Rattle.joint_rule.proofs.Gets.{few_objects}
 use Rattle.joint_rule.proofs.laws.values_fit.Goals as goal
 
@@ -8,3 +8,7 @@ returns-clause-fits c g w a l k v ok r who what there =
 
 pub returns-clause-few : goal.returns-clause-few
 returns-clause-few c g w r = few_objects g w r.joint
+
+pub returns-clause-compacted : goal.returns-clause-compacted
+returns-clause-compacted c g w a l p rest x q r who todo at held =
+    compacted_few g w r.joint a l who p rest x q todo at held

@@ -1,0 +1,295 @@
+-- The account's counter of the frames that compactions freed: each giving raises it by what its actor
+-- tells then.
+use Rattle.std.proofs.Common.{◌≡◌, ◌+◌, ◌∷◌, ◌∙◌, ℕ, zero, suc, Bool, true, false, List, [], Option, Some, None, slice_get, slice_set, refl, sym, ap, subst, arith}
+use Rattle.call_history.specs.Parts.{done_sum, left_by, piece_gives}
+use Rattle.call_history.specs.declared.part.Part.{Part}
+use Rattle.call_history.specs.declared.part.PartEnd.{PartEnd}
+use Rattle.call_history.specs.declared.part.PartEnd.TheVariants.{AtLimit, Carried, NoMemory, Whole}
+use Rattle.joint_rule.proofs.Balances.{settled_compacted}
+use Rattle.joint_rule.proofs.Counts.{Raises, by, rises_total, still}
+use Rattle.joint_rule.proofs.Events.{Event}
+use Rattle.joint_rule.proofs.Facts.{Known}
+use Rattle.joint_rule.proofs.Gifts.{stage}
+use Rattle.joint_rule.proofs.Sums.{gone}
+use Rattle.joint_rule.specs.Begins.{Begin, terms}
+use Rattle.joint_rule.specs.Joint.{Joint}
+use Rattle.joint_rule.specs.Rule.{CountsFreed}
+use Rattle.joint_rule.specs.Stages.{FailBy}
+use Rattle.joint_rule.specs.Weights.{compactions, freed_at, freed_by, none}
+use Rattle.lock_row.specs.Totals.{held_sum, locals_sum, mass}
+use Rattle.lock_row.specs.declared.names.At.{At}
+use Rattle.lock_row.specs.declared.names.At.TheVariants.{Both, Freeing, Giving, Inside, Leaving, Made, Moving, Old, Owing, Pinned, Pinning, Ready, Refusing, Seen, Shrinking, Shrunk, Start, Sweeping, Unpinning, Wanting}
+use Rattle.lock_row.specs.declared.names.Compaction.{Compaction}
+use Rattle.lock_row.specs.declared.names.LockNo.{LockNo}
+use Rattle.lock_row.specs.declared.names.Object.{Object}
+use Rattle.lock_row.specs.declared.names.Pin.{Pin}
+use Rattle.lock_row.specs.declared.names.Plan.TheVariants.{Take}
+use Rattle.lock_row.specs.declared.names.State.{State}
+use Rattle.mem_account.specs.Counters.{at_most_end}
+use Rattle.mem_account.specs.declared.weight.Weight.{Weight}
+use Rattle.page_steps.specs.Compactions.{compaction_at, moved_at, with_frames, with_move}
+use Rattle.page_steps.specs.Givings.{old_weight}
+use Rattle.page_steps.specs.Pages.{next_form}
+use Rattle.page_steps.specs.Steps.{DiskHeld, Here, after_take, begun_at, discard_at, entered_at, entry_in, entry_or, lock_of, made_at, on, part_at, piece_over, pinned_at, plan, quit_at, seen_at, settle_at, spot, taken_at, took, write_at}
+use Rattle.plain_disk.specs.Ends.{compacted}
+use Rattle.slot_entry.specs.Forms.{Blank, PageForm, Pooled, Word, form_weight}
+use Rattle.slot_entry.specs.declared.kept.Kept.{Kept}
+use Rattle.zr_base.specs.Plain.{has_whole, is_beyond, is_compaction}
+use Rattle.zr_base.specs.declared.op.Op.{Op}
+use Rattle.zr_base.specs.declared.op.Op.TheVariants.{Compact, Discard, Read, Write}
+use Rattle.joint_rule.proofs.Events as event
+use Rattle.slot_entry.specs.declared.kept.Kept.TheVariants as kept
+use Rattle.zr_base.specs.declared.op.OpEnd.TheVariants as ends
+
+-- ---- stages
+
+-- the frames of a stage
+abbrev freed : At → ℕ
+freed at = (compaction_at at).frames
+
+freed_settle : (k : Kept) → freed (settle_at k) ≡ 0
+freed_settle kept.Empty = refl
+freed_settle (kept.Same w) = refl
+freed_settle (kept.Obj o) = refl
+
+freed_made : (f : PageForm) (k : Kept) → freed (made_at f k) ≡ 0
+freed_made Blank k = freed_settle k
+freed_made (Word w) k = freed_settle k
+freed_made (Pooled b h) k = refl
+
+freed_seen : (k : Kept) → freed (seen_at k) ≡ 0
+freed_seen kept.Empty = refl
+freed_seen (kept.Same w) = refl
+freed_seen (kept.Obj o) = refl
+
+freed_part : (f : PageForm) (k : Kept) → freed (part_at f k) ≡ 0
+freed_part f kept.Empty = freed_made f kept.Empty
+freed_part f (kept.Same w) = freed_made f (kept.Same w)
+freed_part f (kept.Obj o) = refl
+
+freed_write : (b : Bool) (f : PageForm) (k : Kept) → freed (write_at b f k) ≡ 0
+freed_write true f k = freed_made f k
+freed_write false f k = freed_part f k
+
+freed_discard : (k : Kept) → freed (discard_at k) ≡ 0
+freed_discard kept.Empty = refl
+freed_discard (kept.Same w) = refl
+freed_discard (kept.Obj o) = refl
+
+freed_entered : (op : Op) (page : ℕ) (f : PageForm) (k : Kept) → freed (entered_at op page f k) ≡ 0
+freed_entered (Write start count stuff) page f k = freed_write (has_whole start count page) f k
+freed_entered (Read start count) page f k = freed_seen k
+freed_entered (Discard start count) page f k = freed_discard k
+freed_entered Compact page f k = refl
+
+freed_pinned : (op : Op) (f : PageForm) (k : Kept) → freed (pinned_at op f k) ≡ 0
+freed_pinned (Write start count stuff) f k = freed_made f k
+freed_pinned (Read start count) f k = refl
+freed_pinned (Discard start count) f k = refl
+freed_pinned Compact f k = refl
+
+freed_quit : (x : Option Pin) → freed (quit_at x) ≡ 0
+freed_quit None = refl
+freed_quit (Some x) = refl
+
+freed_moved : (m : ℕ) (x : Compaction) → freed (moved_at m x) ≡ x.frames
+freed_moved zero x = refl
+freed_moved (suc m) x = refl
+
+freed_begun : (a b : Bool) (p : Part) (f : PageForm) (k : Kept) → freed (begun_at a b p f k) ≡ 0
+freed_begun true b p f k = refl
+freed_begun false true p f k = refl
+freed_begun false false p f k = freed_entered p.op p.page f k
+
+-- a taking frees nothing
+freed_after : (size : ℕ) (at : At) (p : Part) (f : PageForm) (k : Kept)
+    → freed (after_take size at p f k) ≡ freed at
+freed_after size Start p f k = freed_begun (is_compaction p.op) (is_beyond size p.op) p f k
+freed_after size Refusing p f k = refl
+freed_after size Seen p f k = refl
+freed_after size Pinning p f k = refl
+freed_after size Pinned p f k = refl
+freed_after size Unpinning p f k = refl
+freed_after size Leaving p f k = refl
+freed_after size Wanting p f k = refl
+freed_after size Inside p f k = refl
+freed_after size Both p f k = refl
+freed_after size Made p f k = refl
+freed_after size Old p f k = refl
+freed_after size Freeing p f k = refl
+freed_after size Owing p f k = refl
+freed_after size Giving p f k = refl
+freed_after size Ready p f k = refl
+freed_after size (Sweeping x) p f k = refl
+freed_after size (Moving x) p f k = refl
+freed_after size (Shrunk x) p f k = refl
+freed_after size (Shrinking x) p f k = refl
+
+freed_taken : (size : ℕ) (ps : List Part) (at : At) (page : Option (List ℕ)) (k : Kept)
+    → freed_at ps (taken_at size ps at page k) ≡ freed_at ps at
+freed_taken size [] at page k = refl
+freed_taken size (p ∷ ps) at page k = freed_after size at p (next_form p page k) k
+
+freed_same : (ps : List Part) (x y : At) → freed x ≡ freed y → freed_at ps x ≡ freed_at ps y
+freed_same [] x y e = refl
+freed_same (p ∷ ps) x y e = e
+
+pub freed_start : (ps : List Part) → freed_at ps Start ≡ 0
+freed_start [] = refl
+freed_start (p ∷ ps) = refl
+
+-- a refused piece freed nothing
+refusal_frees : (g : Begin) (p : Part) (op : Op) (x : PartEnd) → FailBy g p op (Some x)
+    → piece_gives compacted op x ≡ 0
+refusal_frees g p (Write start count stuff) Carried f = absurd f
+refusal_frees g p (Write start count stuff) (Whole end) f = absurd f
+refusal_frees g p (Write start count stuff) (AtLimit c n l) f = refl
+refusal_frees g p (Write start count stuff) NoMemory f = refl
+refusal_frees g p (Read start count) x f = absurd f
+refusal_frees g p (Discard start count) x f = absurd f
+refusal_frees g p Compact x f = absurd f
+
+-- ---- givings
+
+module _ (g : Begin) (ok : Known g) (w : State DiskHeld) (j : Joint g w) (a : ℕ) (l : Here)
+    (who : slice_get w.locals a ≡ Some l) (k : LockNo) (v : DiskHeld) (m : Here) where
+  abbrev n : ℕ
+  n = g.given.size
+
+  -- What the actor tells rises as the account's counter does.
+  pub record Frees (u : DiskHeld) (m' : Here) : Type 0 where
+    pub more : ℕ
+    pub told : freed_by m' ≡ freed_by l + more
+    pub rises : Raises g (λ c. c.compacted) l k u m' more
+
+  same_frees : (v₀ : DiskHeld) (m₀ : Here) → v ≡ v₀ → m ≡ m₀ → Frees v₀ m₀ → Frees v m
+  same_frees v₀ m₀ e f t = subst (λ (x : DiskHeld × Here). Frees x.0 x.1)
+      (λ i. (sym e i, sym f i)) t
+
+  still_so : (u : DiskHeld) (m' : Here) → freed_by m' ≡ freed_by l
+      → mass (spot n) compactions none m' + compactions (spot n k) u
+      ≡ mass (spot n) compactions none l
+      → Frees u m'
+  still_so u m' told same = record { more = 0; told = (omega arith); rises = still same refl }
+
+  -- the piece goes on at a stage with the same frames
+  stays_so : {u : DiskHeld} {held : List (LockNo × DiskHeld)} {fresh : Option Object}
+      {pin : Option Pin} {owed : ℕ} {more less : Option Weight} {page : Option (List ℕ)}
+      {fail : Option PartEnd} (x y : At) → l.at ≡ x → freed y ≡ freed x
+      → mass (spot n) compactions none (on l y held fresh pin owed more less page fail)
+      + compactions (spot n k) u ≡ mass (spot n) compactions none l
+      → Frees u (on l y held fresh pin owed more less page fail)
+  stays_so x y at e same = still_so _ _ (ap (λ (i : ℕ). done_sum compacted l.done + i)
+      (freed_same l.todo y x e ∙ ap (freed_at l.todo) (sym at))) same
+
+  -- the piece is over
+  over_told : (p : Part) (end : PartEnd) (got : List (List ℕ)) (rest : List Part)
+      → freed_by (piece_over l p end got rest)
+      ≡ done_sum compacted l.done + piece_gives compacted p.op end
+  over_told p end got rest =
+      let r = ok.facts.counted compacted l.done (record { part = p; end = end; got = got } ∷ []) in
+      let z = freed_start (left_by end p.nr rest) in omega arith
+
+  at_work : (p : Part) (rest : List Part) → l.todo ≡ p ∷ rest → (x : At) → l.at ≡ x
+      → freed_at l.todo l.at ≡ freed x
+  at_work p rest todo x at = λ i. freed_at (todo i) (at i)
+
+  ends_so : {u : DiskHeld} (p : Part) (rest : List Part) (end : PartEnd) (got : List (List ℕ))
+      → l.todo ≡ p ∷ rest → (x : At) → l.at ≡ x → freed x ≡ 0 → piece_gives compacted p.op end ≡ 0
+      → mass (spot n) compactions none (piece_over l p end got rest) + compactions (spot n k) u
+      ≡ mass (spot n) compactions none l
+      → Frees u (piece_over l p end got rest)
+  ends_so p rest end got todo x at e z same = still_so _ _ (over_told p end got rest
+      ∙ ap (λ (i : ℕ). done_sum compacted l.done + i)
+      (z ∙ sym (at_work p rest todo x at ∙ e))) same
+
+  pub frees_of : Event g l v m → Frees v m
+  frees_of (event.pins p rest e o x x' u u' cell todo at held is sw named_u free outside is_cell
+      in_cell v_is m_is) =
+      same_frees _ _ v_is m_is (stays_so Pinning _ at (freed_pinned p.op _ e.kept)
+      (let r = ap (held_sum (spot n) compactions) held in omega arith))
+  frees_of (event.unpins p rest e o x x' u u' todo at held is sw named_u outside free v_is m_is) =
+      same_frees _ _ v_is m_is (stays_so Unpinning _ at refl
+      (let r = ap (held_sum (spot n) compactions) held in omega arith))
+  frees_of (event.charges p rest e c x x' cl h need bytes huge todo at held is_form is_class within al
+      v_is m_is) =
+      same_frees _ _ v_is m_is (stays_so Both _ at refl
+      (let r = ap (held_sum (spot n) compactions) held in omega arith))
+  frees_of (event.limits p rest e c x cl need todo at held is_need past v_is m_is) =
+      same_frees _ _ v_is m_is (stays_so Both _ at refl
+      (let r = ap (held_sum (spot n) compactions) held in omega arith))
+  frees_of (event.starves p rest e c x cl todo at held v_is m_is) =
+      same_frees _ _ v_is m_is (stays_so Both _ at refl
+      (let r = ap (held_sum (spot n) compactions) held in omega arith))
+  frees_of (event.stows p rest e x cl todo at held well v_is m_is) =
+      same_frees _ _ v_is m_is (stays_so Made _ at (freed_settle e.kept)
+      (let r = ap (held_sum (spot n) compactions) held in omega arith))
+  frees_of (event.quits p rest e x cl y todo at held bad v_is m_is) =
+      same_frees _ _ v_is m_is (stays_so Made _ at (freed_quit l.pin)
+      (let r = ap (held_sum (spot n) compactions) held in omega arith))
+  frees_of (event.frees p rest e o x x' frames todo at held is fp v_is m_is) =
+      same_frees _ _ v_is m_is (stays_so Freeing _ at refl
+      (let r = ap (held_sum (spot n) compactions) held in omega arith))
+  frees_of (event.repays p rest e c todo at held v_is m_is) =
+      same_frees _ _ v_is m_is (stays_so Giving _ at refl
+      (let r = ap (held_sum (spot n) compactions) held in
+      let s = settled_compacted p.op l.owed (old_weight l.ahead e.kept)
+      (form_weight (next_form p l.page e.kept)) c in omega arith))
+  frees_of (event.refuses p rest c todo at held v_is m_is) =
+      same_frees _ _ v_is m_is (ends_so p rest (Whole ends.Range) [] todo Refusing at refl refl
+      (let r = ap (held_sum (spot n) compactions) held in omega arith))
+  frees_of (event.puts p rest e f todo at held notes v_is m_is) =
+      same_frees _ _ v_is m_is (ends_so p rest Carried [] todo Ready at refl refl
+      (let r = ap (held_sum (spot n) compactions) held in omega arith))
+  frees_of (event.reads p rest e f todo at held well notes v_is m_is) =
+      same_frees _ _ v_is m_is (ends_so p rest Carried _ todo Leaving at refl refl
+      (let r = ap (held_sum (spot n) compactions) held in omega arith))
+  frees_of (event.fails p rest e x todo at held bad v_is m_is) =
+      let st = stage g ok w j a l who p rest todo _ Leaving held at in
+      same_frees _ _ v_is m_is (ends_so p rest x [] todo Leaving at refl
+      (refusal_frees g p p.op x (subst (FailBy g p p.op) bad st.fails))
+      (let r = ap (held_sum (spot n) compactions) held in omega arith))
+  frees_of (event.moves p rest x y y' u u' budget frames todo at held sh v_is m_is) =
+      same_frees _ _ v_is m_is (stays_so (Moving x) _ at (freed_moved frames (with_move x budget))
+      (let r = ap (held_sum (spot n) compactions) held in omega arith))
+  frees_of (event.sweeps p rest x y todo at held v_is m_is) =
+      same_frees _ _ v_is m_is (stays_so (Moving x) _ at refl
+      (let r = ap (held_sum (spot n) compactions) held in omega arith))
+  frees_of (event.closes p rest x y todo at held v_is m_is) =
+      same_frees _ _ v_is m_is (still_so _ _
+      (over_told p (Whole (ends.Compacted x.moves x.frames)) [] rest
+      ∙ ap (λ (i : ℕ). done_sum compacted l.done + i) (sym (at_work p rest todo (Moving x) at)))
+      (let r = ap (held_sum (spot n) compactions) held in omega arith))
+  frees_of (event.shrinks p rest x c todo at held v_is m_is) =
+      same_frees _ _ v_is m_is (record {
+        more = l.owed;
+        told = (let r = at_work p rest todo (Shrinking x) at in
+            let s : freed_at l.todo (Sweeping (with_frames x l.owed)) ≡ x.frames + l.owed =
+            ap (λ (ps : List Part). freed_at ps (Sweeping (with_frames x l.owed))) todo in
+            omega arith);
+        rises = by c _ held refl refl refl;
+      })
+
+  pub freed_give : slice_get w.row (spot n k) ≡ Some None → Frees v m → CountsFreed g w
+      → CountsFreed g (gone n w a l who k (Some v) m)
+  freed_give there x t =
+      rises_total g ok w j a l who k v m there (λ c. c.compacted)
+      (g.was.compacted + locals_sum freed_by w.locals) x.more t x.rises
+      ∙ ap at_most_end (
+      let s = ok.facts.moves freed_by w.locals a l m who in let y = x.told in
+      let z : g.was.compacted + locals_sum freed_by w.locals + x.more
+      ≡ g.was.compacted + locals_sum freed_by (slice_set w.locals a m) = omega arith in z)
+
+module _ (g : Begin) (ok : Known g) (w : State DiskHeld) (j : Joint g w) (a : ℕ) (l : Here)
+    (who : slice_get w.locals a ≡ Some l) (k : LockNo) (v : DiskHeld) where
+  pub freed_take : plan (terms g) l ≡ Take k → slice_get w.row (spot g.given.size k) ≡ Some (Some v)
+      → CountsFreed g w → CountsFreed g (gone g.given.size w a l who k None (took (terms g) l v))
+  freed_take what there t =
+      let m = took (terms g) l v in
+      ok.facts.take (spot g.given.size) compactions none w a l k v m who there
+      (ap (λ p. (lock_of p, v) ∷ l.held) what) refl ∙ t
+      ∙ ap (λ (i : ℕ). at_most_end (g.was.compacted + i)) (
+      let r = ok.facts.moves freed_by w.locals a l m who in
+      let s = freed_taken g.given.size l.todo l.at l.page (entry_or v (entry_in l.held)).kept in
+      let z : locals_sum freed_by w.locals ≡ locals_sum freed_by (slice_set w.locals a m) =
+      omega arith in z)

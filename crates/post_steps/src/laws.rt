@@ -1,0 +1,15 @@
+//! What follows of the definitions alone, for those who run these calls.
+
+ghost use Rattle.std.specs.Prelude.{◌≡◌, ℕ};
+ghost use Rattle.page_steps.specs.Steps.{plan};
+ghost use Rattle.page_steps.specs.Calls.{Frame};
+ghost use Rattle.post_steps.specs.declared.compact.CompactStage.{CompactStage};
+ghost use Rattle.post_steps.specs.Compact.{IsGoing, IsWork, here, next_event};
+
+/// Between two events, what a compaction does next is what the plan of each actor says whose work it
+/// does.
+#[inline]
+pub fn compactions_are_events()
+    ensures plan { (chain : ℕ) (s : CompactStage) (x : Frame)
+        → IsGoing s → IsWork chain x → plan x.terms (here x s) ≡ next_event s }
+{}
