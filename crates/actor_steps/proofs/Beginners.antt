@@ -88,34 +88,34 @@ pub is_new_worker : (size chain actor : ℕ) (ops : List Op) (w : Worker) → Ar
     → AreNewReplies size ops w.replies.items → IsNewWorker size chain actor ops w
 is_new_worker size chain actor ops w requests few who at carried table most place settled todo new =
     record {
-  who = who;
-  at = at;
-  todo = todo;
-  fit = λ now. let t : Terms = record { size = size; chain = chain; clock = now } in record {
-    requests = requests;
-    few = few;
-    place = place;
-    settled = settled;
-    chain = table;
-    most = most;
-    carried = omega arith;
-    call = subst (HasCall t ops w) (sym at) tt;
-    replies = new.count;
-    reads = λ k op r e f. new_fits size w.place k op r (new.each k op r e f);
-  };
-  keeps = record {
-    ends = λ k r f. (reply k r f).1.end;
-    sectors = λ k r f. (reply k r f).1.none;
-    count = sym carried;
-    carried = tt;
-    later = λ k lt. refl;
-  };
-} where
-  reply : (k : ℕ) (r : Reply) → slice_get w.replies.items k ≡ Some r
-      → (op : Op) × IsNewReply size op r
-  reply k r f =
-      let op = there_is ops k (let q = slice_get_within w.replies.items k r f in
-      let n = new.count in omega arith) in (op.0, new.each k op.0 r op.1 f)
+      who = who;
+      at = at;
+      todo = todo;
+      fit = λ now. let t : Terms = record { size = size; chain = chain; clock = now } in record {
+        requests = requests;
+        few = few;
+        place = place;
+        settled = settled;
+        chain = table;
+        most = most;
+        carried = omega arith;
+        call = subst (HasCall t ops w) (sym at) tt;
+        replies = new.count;
+        reads = λ k op r e f. new_fits size w.place k op r (new.each k op r e f);
+      };
+      keeps = record {
+        ends = λ k r f. (reply k r f).1.end;
+        sectors = λ k r f. (reply k r f).1.none;
+        count = sym carried;
+        carried = tt;
+        later = λ k lt. refl;
+      };
+    } where
+      reply : (k : ℕ) (r : Reply) → slice_get w.replies.items k ≡ Some r
+          → (op : Op) × IsNewReply size op r
+      reply k r f =
+          let op = there_is ops k (let q = slice_get_within w.replies.items k r f in
+          let n = new.count in omega arith) in (op.0, new.each k op.0 r op.1 f)
 
 pub worker_more : (size chain : ℕ) (actors : List (List Op)) (i actor : ℕ) (ops : List Op)
     (ws ws' : List Worker) (w : Worker) → actor ≡ i → slice_get actors i ≡ Some ops

@@ -2,16 +2,14 @@
 use Rattle.std.proofs.Common.{◌≡◌, ℕ, ◌||◌, [], refl, ap, ◌∙◌, subst}
 use Rattle.zr_base.specs.Plain.{is_beyond}
 use Rattle.plain_disk.specs.Ends.{is_single}
-use Rattle.call_history.specs.declared.part.Part.{Part}
 use Rattle.lock_row.specs.declared.names.LockNo.{LockNo}
 use Rattle.page_steps.specs.declared.call.PageCall.{PageCall}
 use Rattle.page_steps.specs.declared.stage.Head.{Head}
 use Rattle.page_steps.specs.declared.stage.Scratch.{Scratch}
 use Rattle.page_steps.specs.declared.stage.Stage.{Stage}
-use Rattle.page_steps.specs.declared.stage.PieceEnd.{PieceEnd}
 use Rattle.page_steps.specs.declared.stage.Progress.{Progress}
 use Rattle.page_steps.specs.declared.stage.Progress.TheVariants as progress
-use Rattle.page_steps.specs.Steps.{DiskHeld, Here, plan, start_plan}
+use Rattle.page_steps.specs.Steps.{DiskHeld, Here, plan}
 use Rattle.page_steps.specs.Nexts.{Next}
 use Rattle.page_steps.specs.Calls.{Frame, got_of}
 use Rattle.page_steps.specs.Calls.{here as page_here, next_event as page_event, IsWork as IsPageWork, IsFit as IsPageFit, IsGoing as IsPageGoing}
@@ -19,7 +17,6 @@ use Rattle.page_steps.specs.Turns.{Turned}
 use Rattle.page_steps.specs.Turns.{Allows as PageAllows, after as after_page, Advanced as PageAdvanced}
 use Rattle.post_steps.specs.declared.compact.CompactCall.{CompactCall}
 use Rattle.post_steps.specs.declared.compact.CompactStage.{CompactStage}
-use Rattle.post_steps.specs.declared.compact.CompactStage.TheVariants as stage
 use Rattle.post_steps.specs.Compact.{here as compact_here, next_event as compact_event, IsWork as IsCompactWork, IsGoing as IsCompactGoing}
 use Rattle.post_steps.specs.Turns.{Allows, after as after_compact, Advanced as CompactAdvanced}
 use Rattle.actor_steps.specs.declared.call.Call.{Call}
@@ -34,20 +31,14 @@ PagePlans = (c : Head) (r : Scratch) (s : Stage) (x : Frame) → IsPageFit c r s
     → IsPageWork c r x → plan x.terms (page_here x r s) ≡ page_event c s
 
 -- and so for a compaction
-compact_plan : (chain : ℕ) (s : CompactStage) (x : Frame) → IsCompactWork chain x
-    → IsCompactGoing s → plan x.terms (compact_here x s) ≡ compact_event s
-compact_plan chain stage.Start x w on =
-    λ i. start_plan (w.op i) (is_beyond x.terms.size x.part.op) x.part
-compact_plan chain (stage.Sweeping y) x w on = refl
-compact_plan chain (stage.Moving y q) x w on = refl
-compact_plan chain (stage.Shrunk y frames) x w on = refl
-compact_plan chain (stage.Shrinking y frames a) x w on = refl
-compact_plan chain stage.Over x w on = absurd on
+abbrev pub CompactPlans : Type 0
+CompactPlans = (chain : ℕ) (s : CompactStage) (x : Frame) → IsCompactGoing s → IsCompactWork chain x
+    → plan x.terms (compact_here x s) ≡ compact_event s
 
-pub plan_is : PagePlans → (c : Call) (r : Scratch) (x : Frame) → IsFit c r → IsGoing c
-    → Does c r x → plan x.terms (local c r x) ≡ next_event c
-plan_is plans (call.Page c) r x fit on does = plans c.head r c.stage x fit on does
-plan_is plans (call.Compact c) r x fit on does = compact_plan r.table c.stage x does on
+pub plan_is : PagePlans → CompactPlans → (c : Call) (r : Scratch) (x : Frame) → IsFit c r
+    → IsGoing c → Does c r x → plan x.terms (local c r x) ≡ next_event c
+plan_is pages compacts (call.Page c) r x fit on does = pages c.head r c.stage x fit on does
+plan_is pages compacts (call.Compact c) r x fit on does = compacts r.table c.stage x on does
 
 -- an operation is over in one piece exactly where its call counts it, or compacts
 pub alone_is : (c : Call) (r : Scratch) (x : Frame) → Does c r x

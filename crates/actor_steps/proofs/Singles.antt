@@ -12,7 +12,6 @@ use Rattle.lock_row.specs.declared.names.At.TheVariants as at
 use Rattle.lock_row.specs.declared.names.Compaction.{Compaction}
 use Rattle.lock_row.specs.declared.names.Plan.{Plan}
 use Rattle.lock_row.specs.declared.names.Plan.TheVariants.{Take}
-use Rattle.page_steps.specs.declared.stage.Work.{Work}
 use Rattle.page_steps.specs.declared.stage.Head.{Head}
 use Rattle.page_steps.specs.declared.stage.Scratch.{Scratch}
 use Rattle.page_steps.specs.declared.stage.Stage.{Stage}

@@ -24,7 +24,7 @@ use Rattle.actor_steps.specs.Places.{todo_at, part_at, behind}
 use Rattle.actor_steps.specs.Calls.{Does, local, IsGoing, next_event as call_event, IsFit as IsCallFit}
 use Rattle.actor_steps.specs.Workers.{at_by, held_by, owed_by, stage_of, here, next_event, with_call, frame, Keeps, IsBegun, IsFit, TakesAs, GivesAs, Allows, finished, turned, turn_of, Turned, Advanced}
 use Rattle.actor_steps.proofs.Places.{todo_next, no_todo}
-use Rattle.actor_steps.proofs.Calls.{PagePlans, plan_is}
+use Rattle.actor_steps.proofs.Calls.{PagePlans, CompactPlans, plan_is}
 
 -- the worker after a turn in which its call goes on
 abbrev pub gone_on : Worker → Scratch → Call → Worker
@@ -80,10 +80,11 @@ module _ (t : Terms) (ops : List Op) (v : Worker) (c : Call)
   module _ {X : Type 0} (can_take : X → LockNo → Next → Type 0)
       (takes : X → LockNo → Next → DiskHeld → X → Type 0)
       (can_give : X → LockNo → Next → DiskHeld → Type 0) (h : X)
-      (plans : PagePlans) (allows : Allows can_take takes can_give t ops w h) where
+      (pages : PagePlans) (compacts : CompactPlans)
+      (allows : Allows can_take takes can_give t ops w h) where
     next_is : (p : Plan) → call_event c ≡ p → next_event t ops w ≡ p
     next_is p e = sym (ap (plan t) (here_is v.scratch c []))
-        ∙ plan_is plans c v.scratch (x []) fit.call.fit fit.call.going (work []) ∙ e
+        ∙ plan_is pages compacts c v.scratch (x []) fit.call.fit fit.call.going (work []) ∙ e
 
     takes_as : (f : Next) → CallTakesAs (Does c v.scratch) (local c v.scratch) f → TakesAs t ops w f
     takes_as f says done u = subst (λ (l : Here). f l u ≡ took t l u) (here_is v.scratch c done)

@@ -14,7 +14,7 @@ use crate::work::bring;
 use call_history::histories_go_on;
 use lock_row::{Hand, LockNo};
 use page_steps::{DiskHeld, PageCall, PieceEnd, Progress, Scratch, calls_are_events};
-use post_steps::CompactCall;
+use post_steps::{CompactCall, compactions_are_events};
 use zr_base::{Op, Page, Tag};
 
 /// What a turn was.
@@ -127,6 +127,7 @@ impl Worker {
             (with_call self.old (Some call)) hand.old self.new hand.new result done }
     {
         calls_are_events();
+        compactions_are_events();
         histories_go_on();
         let mut going = call;
         match going.advance(hand, &mut self.scratch) {

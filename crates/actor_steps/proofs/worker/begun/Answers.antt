@@ -1,4 +1,4 @@
-use Rattle.std.proofs.Common.{◌≡◌, ℕ, true, false, Some, slice_get, IsTrue, sym, ap, ◌∙◌, refl, subst}
+use Rattle.std.proofs.Common.{◌≡◌, ℕ, false, Some, slice_get, IsTrue, sym, ap, ◌∙◌, refl, subst}
 use Rattle.zr_base.specs.declared.op.Op.{Op}
 use Rattle.zr_base.specs.Plain.{start_of, count_of, touches, is_compaction, IsRequest}
 use Rattle.zr_base.specs.Pieces.{IsPieceOf}

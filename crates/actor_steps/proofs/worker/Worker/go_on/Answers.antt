@@ -19,7 +19,8 @@ advance-requires-clause-allows g c =
     let op = there_is c.args.ops.now c.args.self.now.place.nr c.requires.more in
     call_allows (terms_of c.args.size c.args.now c.args.self.now) c.args.ops.now c.args.self.now
     c.args.call c.requires.fit op.0 op.1 g.H.Hand.can_take g.H.Hand.takes g.H.Hand.can_give
-    c.args.hand.now c.calls_are_events.ensures.plan c.requires.allows
+    c.args.hand.now c.calls_are_events.ensures.plan c.compactions_are_events.ensures.plan
+    c.requires.allows
 
 pub finish-requires : goal.finish-requires
 finish-requires g c =
