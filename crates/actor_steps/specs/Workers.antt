@@ -48,7 +48,7 @@ at_by None = at.Start
 at_by (Some (call.Page c)) = at_of c.stage
 at_by (Some (call.Compact c)) = compact_at c.stage
 
--- the locks that a call on a page holds
+-- the locks that are held with their values, for a piece of this page
 abbrev pub held_by : ℕ → Option Call → List (LockNo × DiskHeld)
 held_by page None = []
 held_by page (Some (call.Page c)) = held_of page c.stage
@@ -60,8 +60,8 @@ owed_by None = 0
 owed_by (Some (call.Page c)) = owed_of c.stage
 owed_by (Some (call.Compact c)) = compact_owed c.stage
 
--- the stage of a page's call; all else that a local has is a page's, and a piece without such a call
--- has no more of it than before its first event
+-- the stage of a page's call, by which the rest of the local goes: all that is a page's alone, of
+-- which there is none without such a call
 abbrev pub stage_of : Option Call → Stage
 stage_of None = stage.Start
 stage_of (Some (call.Page c)) = c.stage
