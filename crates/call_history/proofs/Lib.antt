@@ -3,6 +3,7 @@ pub mod Orders
 pub mod Ends
 pub mod Operations
 pub mod Actors
+pub mod Alone
 pub mod Sums
 pub mod Grown
 pub mod Phases

@@ -98,10 +98,10 @@ module _ (t : Ground) (b : Bounds) where
   -- ---- an operation that is over in one piece
 
   -- its piece is all of it
-  record IsWhole (op : Op) (x : PartEnd) : Type 0 where
-    end : OpEnd
-    is : x ≡ over.Whole end
-    may : MayBeSingle t op end
+  pub record IsWhole (op : Op) (x : PartEnd) : Type 0 where
+    pub end : OpEnd
+    pub is : x ≡ over.Whole end
+    pub may : MayBeSingle t op end
 
   whole_is : (p : Part) (x : PartEnd) → is_single t.size p.op ≡ true → By p x → IsWhole p.op x
   whole_is p over.Carried on so = absurd (clash (is_single t.size p.op) on so.0)
@@ -134,13 +134,13 @@ module _ (t : Ground) (b : Bounds) where
   single_shown start count _ got f may = absurd may
 
   -- the only piece of an operation
-  record Only (nr : ℕ) (op : Op) (front : List Done) : Type 0 where
-    d : Done
-    part : d.part ≡ piece_of nr op (first_page op)
-    whole : IsWhole op d.end
-    is : front ≡ d ∷ []
+  pub record Only (nr : ℕ) (op : Op) (front : List Done) : Type 0 where
+    pub d : Done
+    pub part : d.part ≡ piece_of nr op (first_page op)
+    pub whole : IsWhole op d.end
+    pub is : front ≡ d ∷ []
 
-  only_is : (nr : ℕ) (op : Op) (front : List Done) → is_single t.size op ≡ true
+  pub only_is : (nr : ℕ) (op : Op) (front : List Done) → is_single t.size op ≡ true
       → Mine By (piece_of nr op (first_page op) ∷ []) front → Only nr op front
   only_is nr op [] on m =
       absurd (let q : piece_of nr op (first_page op) ∷ [] ≡ [] = m in cc)
@@ -149,7 +149,7 @@ module _ (t : Ground) (b : Bounds) where
       let none = none_left By ds (mine_on By d [] ds false (ap is_carried w.is) m.2) in
       record { d = d; part = m.0; whole = w; is = ap (λ (xs : List Done). d ∷ xs) none }
 
-  only_end : (nr : ℕ) (op : Op) (front : List Done) (o : Only nr op front)
+  pub only_end : (nr : ℕ) (op : Op) (front : List Done) (o : Only nr op front)
       → end_by nr 0 front ≡ o.whole.end
   only_end nr op front o = ap (end_by nr 0) o.is
       ∙ end_here nr op (first_page op) 0 o.d [] o.part
@@ -168,7 +168,7 @@ module _ (t : Ground) (b : Bounds) where
             ∙ sym (single_stands op o.whole.end p o.whole.may));
       }
 
-  mine_single : (nr : ℕ) (op : Op) (front : List Done) → is_single t.size op ≡ true
+  pub mine_single : (nr : ℕ) (op : Op) (front : List Done) → is_single t.size op ≡ true
       → Mine By (parts t.size nr op) front → Mine By (piece_of nr op (first_page op) ∷ []) front
   mine_single nr op front on m =
       subst (λ (x : Bool). Mine By (cond x (piece_of nr op (first_page op) ∷ [])

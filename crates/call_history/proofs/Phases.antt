@@ -28,6 +28,8 @@ use Rattle.call_history.proofs.Ends.{every_done}
 use Rattle.call_history.proofs.Orders.{Rising, count_is, rises_is, before_is}
 use Rattle.call_history.proofs.Operations.{By, Reads, never_stands, pages_some}
 use Rattle.call_history.proofs.Actors.{stood, actor_noted, actor_ends, actor_reads, stood_rises, stood_once}
+use Rattle.plain_disk.specs.Compactions.{are_tight, AreIdle, moves_after, IsAlone}
+use Rattle.call_history.proofs.Alone.{tell}
 use Rattle.call_history.proofs.Sums.{IsSteady, failed_write-is, compacted-is, beyond-is, all_sum}
 
 -- ---- lists
@@ -340,6 +342,32 @@ module _ (form : List ℕ → Weight) (r : Rest) (actors : List (List Op)) (done
         });
       }
 
+      -- where there is one actor, its operations say what its pieces do
+      alone : (ops : List Op) (es : List OpEnd) → actors ≡ ops ∷ [] → ends_now ≡ es ∷ []
+          → IsAlone form r ops es m
+      alone ops es one ends = by_histories dones refl where
+        by_histories : (ds : List (List Done)) → dones ≡ ds → IsAlone form r ops es m
+        by_histories [] is = absurd (let n = agree.count in
+            let q : 0 ≡ 1 = sym (ap length is) ∙ n ∙ ap length one in omega arith)
+        by_histories (done ∷ d ∷ ds) is = absurd (let n = agree.count in
+            let q : suc (suc (length ds)) ≡ 1 = sym (ap length is) ∙ n ∙ ap length one in
+            omega arith)
+        by_histories (done ∷ []) is =
+            let over = told.alone done is in
+            let named : slice_get actors 0 ≡ Some ops = ap (λ xs. slice_get xs 0) one in
+            let there : slice_get dones 0 ≡ Some done = ap (λ xs. slice_get xs 0) is in
+            let tight = are_tight r.set.chain r.used in
+            let x = tell t (b 0) 0 ops done tight 0 (some 0 ops named)
+            (follows_by 0 ops done named there) in
+            let is_es : ends_from 0 ops done ≡ es =
+            (let q : ends_from 0 ops done ∷ [] ≡ es ∷ [] =
+            sym (λ i. ends_each (one i) (is i)) ∙ ends in cc) in record {
+              idle = subst (AreIdle tight ops) is_es (x.idle over.idle);
+              least = λ e. over.least (x.least e);
+              few = let le = x.few in let most = over.few in
+                  let same = ap (moves_after 0 ops) is_es in omega arith;
+            }
+
       pub is_phase : IsPhase form r actors
           (phase_lines ends_now (told_each actors dones) orders) m
       is_phase = record {
@@ -354,4 +382,5 @@ module _ (form : List ℕ → Weight) (r : Rest) (actors : List (List Op)) (done
             (all_told 0 actors dones (λ i ops done e e'. (both i ops done e e').0
             ∙ ap (λ (b : ℕ). due_from 0 ops (ends_from 0 ops done) (R b)) (sym (zero-add i))));
         leaves = leaves;
+        alone = alone;
       }

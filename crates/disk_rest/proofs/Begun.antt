@@ -13,7 +13,8 @@ use Rattle.joint_rule.specs.Begins.{Begin, IsSector}
 use Rattle.joint_rule.specs.Laws.{NewIsAtRest, NewCountsNothing}
 use Rattle.joint_rule.specs.Starts.{AtRest}
 use Rattle.joint_rule.specs.Starts.{IsNew as IsNewValue}
-use Rattle.joint_rule.specs.Ends.{begin_at, used_each, used_in, account_in, account_of, new_rest}
+use Rattle.joint_rule.specs.Ends.{begin_at, used_in, account_in, account_of, new_rest}
+use Rattle.joint_rule.specs.Weights.{used_each}
 use Rattle.disk_rest.specs.Rows.{Row, used_at, without_calls, without_orders}
 use Rattle.disk_rest.specs.Resting.{StandsFor}
 use Rattle.disk_rest.proofs.Places.{pool_at, account_there, value_is}

@@ -7,7 +7,7 @@ use Rattle.size_class.specs.Groups.{group_of}
 use Rattle.zspage.specs.Cells.{used_of}
 use Rattle.class_pool.specs.Zspages.{Cells}
 use Rattle.class_pool.specs.Pool.{PoolState, used_cells_in, used_cells, object_of, objects, is_in_group}
-use Rattle.joint_rule.specs.Ends.{used_each}
+use Rattle.joint_rule.specs.Weights.{used_each}
 
 -- the used cells of a zspage are as many as its count
 cells_length : (cells : Cells) → length (used_cells_in cells) ≡ used_of cells

@@ -6,6 +6,7 @@ pub mod Matches
 pub mod Left
 pub mod Reports
 pub mod Bare
+pub mod Tight
 pub mod Onward
 pub mod Begun
 pub mod Asked

@@ -12,13 +12,14 @@ use Rattle.slot_entry.specs.Entries.{EntryState}
 use Rattle.page_steps.specs.Steps.{DiskHeld}
 use Rattle.slot_entry.specs.Forms.{page_weight}
 use Rattle.joint_rule.specs.Begins.{Begin}
-use Rattle.joint_rule.specs.Joint.{AtHome}
+use Rattle.joint_rule.specs.Joint.{AtHome, Sound}
 use Rattle.joint_rule.specs.Laws.{RestGoesOn}
 use Rattle.joint_rule.specs.Starts.{AtRest, IsStart, Renewed, slots, accounts, stays}
 use Rattle.joint_rule.specs.Ends.{begin_at, value_at, used_in, account_in, account_of}
 use Rattle.disk_rest.specs.Rows.{Row, used_at, without_calls, without_orders, IsKept, KeepsValues}
 use Rattle.disk_rest.specs.Resting.{StandsFor, IsSetUp}
 use Rattle.disk_rest.proofs.Places.{value_is}
+use Rattle.disk_rest.proofs.Tight.{no_pool_loose}
 use Rattle.disk_rest.proofs.Matches.{matched, value_there, was_at, was_slot, emptied_long, emptied_at}
 use Rattle.disk_rest.proofs.Reports.{pool_tells, account_tells}
 
@@ -100,6 +101,15 @@ module _ (r : Rest) (n : ℕ) (actors : List (List Op)) where
 
 -- ---- the next phase
 
+-- values that are kept have the used cells that the rest has
+used_still : (r : Rest) (row ys : Row) → StandsFor r row → KeepsValues row ys → (k : ℕ) → k < 255
+    → used_at r.size ys k ≡ r.used k
+used_still r row ys st keeps k lt =
+    let q = pool_tells r row st k lt in
+    let u = keeps.each (r.size + k) (holds.Class q.pool) q.at in
+    ap used_in (value_is ys (r.size + k) u.0 u.1) ∙ ap (λ (v : DiskHeld). used_in (Some v)) u.2
+    ∙ q.used
+
 module _ (r : Rest) (actors : List (List Op)) (row : Row) (w : State DiskHeld)
     (next : RestGoesOn) (st : StandsFor r row) (up : IsSetUp r actors row w) where
   next_rest : AtRest (begin_at r actors) w.row
@@ -127,19 +137,17 @@ module _ (r : Rest) (actors : List (List Op)) (row : Row) (w : State DiskHeld)
     account = account_is;
     actors = up.starts;
     count = up.count;
+    tight = λ yes. no_pool_loose r w.row
+        (λ k v at q is. let s = (next_rest.home k v at).sound in
+        let f = subst (λ (x : DiskHeld). Sound (begin_at r actors) k x) is s in
+        (f.0, f.1.class, f.1.per))
+        (used_still r row w.row st up.row) yes;
   }
 
 -- ---- other orders
 
 module _ (r : Rest) (row ys : Row) (next : RestGoesOn) (st : StandsFor r row)
     (keeps : KeepsValues row ys) where
-  used_still : (k : ℕ) → k < 255 → used_at r.size ys k ≡ r.used k
-  used_still k lt =
-      let q = pool_tells r row st k lt in
-      let u = keeps.each (r.size + k) (holds.Class q.pool) q.at in
-      ap used_in (value_is ys (r.size + k) u.0 u.1) ∙ ap (λ (v : DiskHeld). used_in (Some v)) u.2
-      ∙ q.used
-
   account_still : account_of r.size ys ≡ stats page_weight r
   account_still =
       let u = keeps.each (r.size + 255) _ (account_tells r row st) in
@@ -156,7 +164,7 @@ module _ (r : Rest) (row ys : Row) (next : RestGoesOn) (st : StandsFor r row)
           emptied_at ys k u.0 u.1,
           renews r r.set.limit [] k v (without_calls u.0) (kept_still v u.0 u.2) (no_calls u.0) home,
         ));
-    used = used_still;
+    used = used_still r row ys st keeps;
     account = account_still;
   }
 

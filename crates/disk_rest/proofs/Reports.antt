@@ -15,7 +15,8 @@ use Rattle.page_steps.specs.Steps.{DiskHeld}
 use Rattle.slot_entry.specs.Forms.{page_weight}
 use Rattle.joint_rule.specs.Begins.{Begin, form_at, found_after}
 use Rattle.joint_rule.specs.Joint.{PoolFits}
-use Rattle.joint_rule.specs.Ends.{begin_at, value_at, used_each, used_in, account_in}
+use Rattle.joint_rule.specs.Ends.{begin_at, value_at, used_in, account_in}
+use Rattle.joint_rule.specs.Weights.{used_each}
 use Rattle.disk_rest.specs.Rows.{Row, used_at}
 use Rattle.disk_rest.specs.Resting.{StandsFor}
 use Rattle.disk_rest.specs.Printed.{state_in, row_report}

@@ -22,7 +22,8 @@ use Rattle.joint_rule.specs.Joint.{PoolFits}
 use Rattle.joint_rule.specs.Rule.{Rule}
 use Rattle.joint_rule.specs.Starts.{IsStart}
 use Rattle.joint_rule.specs.Starts.{IsNew as IsNewValue}
-use Rattle.joint_rule.specs.Ends.{begin_at, histories, rest_after, used_each, new_rest}
+use Rattle.joint_rule.specs.Ends.{begin_at, histories, rest_after, new_rest}
+use Rattle.joint_rule.specs.Weights.{used_each}
 use Rattle.disk_rest.specs.Rows.{Row, NoPieceLeft, AreOrders, KeepsValues}
 use Rattle.disk_rest.specs.Resting.{StandsFor, IsSetUp}
 use Rattle.disk_rest.specs.Printed.{row_report}

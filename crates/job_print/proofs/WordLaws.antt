@@ -16,7 +16,7 @@ use Rattle.job_text.specs.declared.fault.Cause.{Cause}
 use Rattle.job_text.specs.declared.fault.Cause.TheVariants as causes
 use Rattle.job_print.specs.Texts.{tag_word, end_words, cause_word}
 use Rattle.job_print.specs.Proper.{IsProperTag, IsProperEnd, AreLong, IsLetter, AreLetters}
-use Rattle.job_print.specs.Reading.{all_in, number_in, short_in, tag_at, tag_in, limit_end_in, memory_end_in, plain_end_in, end_in, is_letter, letters_in, cause_in}
+use Rattle.job_print.specs.Reading.{all_in, number_in, short_in, tag_at, tag_in, limit_end_in, memory_end_in, compacted_in, triple_end_in, plain_end_in, end_in, is_letter, letters_in, cause_in}
 use Rattle.job_print.proofs.Numbers.{number-decimal, number_some, short-decimal, short_some, decimal_digits}
 use Rattle.job_print.proofs.Marks.{is_word, position-marked, position_marks, digits_word, digits_lack}
 
@@ -129,7 +129,7 @@ tag_is_word tag is =
 -- ---- ends
 
 pub end-words : (end : OpEnd) → IsProperEnd end → end_in (end_words end) ≡ Some end
-unfolding end_in plain_end_in memory_end_in limit_end_in
+unfolding end_in plain_end_in memory_end_in triple_end_in limit_end_in
 end-words ends.Ok is = refl
 end-words ends.Range is = refl
 end-words (ends.AtLimit pages need limit done) is =
@@ -140,6 +140,11 @@ end-words (ends.AtLimit pages need limit done) is =
     ∙ ap (λ (o : Option ℕ). option_and_then (λ d. Some (ends.AtLimit pages need limit d)) o)
     (short-decimal done is.3)
 end-words (ends.NoMemory done) is = ap (option_map ends.NoMemory) (short-decimal done is)
+end-words (ends.Compacted moves frames) is =
+    ap (λ (o : Option ℕ). option_and_then (λ m. option_and_then
+    (λ f. Some (ends.Compacted m f)) (number_in (decimal frames))) o) (number-decimal moves is.0)
+    ∙ ap (λ (o : Option ℕ). option_and_then (λ f. Some (ends.Compacted moves f)) o)
+    (number-decimal frames is.1)
 
 abbrev pub IsEnd : OpEnd → List (List ℕ) → Type 0
 IsEnd end words = (end_words end ≡ words) × IsProperEnd end
@@ -176,6 +181,32 @@ memory_some word name done end e =
       p.1,
     )))
     (λ none. cc)
+
+compacted_some : (word moves frames : List ℕ) (end : OpEnd) → word ≡ codes "compacted"
+    → compacted_in moves frames ≡ Some end
+    → IsEnd end (word ∷ moves ∷ frames ∷ [])
+compacted_some word moves frames end is e =
+    option_and_then_some (λ m. option_and_then (λ f. Some (ends.Compacted m f)) (number_in frames))
+    (number_in moves) end e
+    (λ m one rest.
+    option_and_then_some (λ f. Some (ends.Compacted m f)) (number_in frames) end rest
+    (λ f two last.
+    let p = number_some moves m one in
+    let q = number_some frames f two in
+    let P : OpEnd → Type 0 = λ x. IsEnd x (word ∷ moves ∷ frames ∷ []) in
+    subst P (some_is (ends.Compacted m f) end last) (
+      ap (λ w. w ∷ decimal m ∷ decimal f ∷ []) (sym is)
+          ∙ ap (λ w. word ∷ w ∷ decimal f ∷ []) p.0 ∙ ap (λ w. word ∷ moves ∷ w ∷ []) q.0,
+      (p.1, q.1),
+    )))
+
+triple_some : (word second third : List ℕ) (end : OpEnd) → triple_end_in word second third ≡ Some end
+    → IsEnd end (word ∷ second ∷ third ∷ [])
+unfolding triple_end_in
+triple_some word second third end e =
+    chosen (bytes_eq word (codes "compacted")) _ _ end e
+    (λ is told. compacted_some word second third end (same_bytes word (codes "compacted") is) told)
+    (λ other. memory_some word second third end other)
 
 limit_some : (word pages need limit name done : List ℕ) (end : OpEnd)
     → limit_end_in word (pages ∷ need ∷ limit ∷ []) name done ≡ Some end
@@ -216,7 +247,7 @@ limit_some word pages need limit name done end e =
 pub end_some : (words : List (List ℕ)) (end : OpEnd) → end_in words ≡ Some end → IsEnd end words
 unfolding end_in
 end_some (word ∷ []) end e = plain_some word end e
-end_some (word ∷ name ∷ done ∷ []) end e = memory_some word name done end e
+end_some (word ∷ second ∷ third ∷ []) end e = triple_some word second third end e
 end_some (word ∷ pages ∷ need ∷ limit ∷ name ∷ done ∷ []) end e =
     limit_some word pages need limit name done end e
 end_some words end e = cc
@@ -231,6 +262,9 @@ end_is_words (ends.AtLimit pages need limit done) is =
     ∙ ap (λ b. b && (is_word (decimal done) && true)) (long_word limit is.2)
     ∙ ap (λ b. b && true) (short_word done is.3)
 end_is_words (ends.NoMemory done) is = ap (λ b. b && true) (short_word done is)
+end_is_words (ends.Compacted moves frames) is =
+    ap (λ b. b && (is_word (decimal frames) && true)) (long_word moves is.0)
+    ∙ ap (λ b. b && true) (long_word frames is.1)
 
 -- ---- letters and causes
 

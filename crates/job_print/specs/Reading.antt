@@ -145,10 +145,23 @@ memory_end_in word name done =
     if bytes_eq word (codes "nomem") && bytes_eq name (codes "done")
     then option_map ends.NoMemory (short_in done) else None
 
+-- the end of a compaction, by the words of its numbers
+abbrev pub compacted_in : List ℕ → List ℕ → Option OpEnd
+compacted_in moves frames = do
+  m ← number_in moves
+  f ← number_in frames
+  Some (ends.Compacted m f)
+
+-- the end of an operation that has three words
+unfoldable pub triple_end_in : List ℕ → List ℕ → List ℕ → Option OpEnd
+triple_end_in word second third =
+    if bytes_eq word (codes "compacted") then compacted_in second third
+    else memory_end_in word second third
+
 -- the end of an operation, by its words
 unfoldable pub end_in : List (List ℕ) → Option OpEnd
 end_in (word ∷ []) = plain_end_in word
-end_in (word ∷ name ∷ done ∷ []) = memory_end_in word name done
+end_in (word ∷ second ∷ third ∷ []) = triple_end_in word second third
 end_in (word ∷ pages ∷ need ∷ limit ∷ name ∷ done ∷ []) =
     limit_end_in word (pages ∷ need ∷ limit ∷ []) name done
 end_in words = None

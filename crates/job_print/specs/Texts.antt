@@ -46,6 +46,7 @@ end_words ends.Range = codes "range" ∷ []
 end_words (ends.AtLimit pages need limit done) =
     codes "limit" ∷ decimal pages ∷ decimal need ∷ decimal limit ∷ codes "done" ∷ decimal done ∷ []
 end_words (ends.NoMemory done) = codes "nomem" ∷ codes "done" ∷ decimal done ∷ []
+end_words (ends.Compacted moves frames) = codes "compacted" ∷ decimal moves ∷ decimal frames ∷ []
 
 -- the nine numbers of `mm_stat`, in zram's order
 abbrev pub memory_numbers : MmStat → List ℕ

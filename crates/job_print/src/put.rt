@@ -97,6 +97,10 @@ fn put_end(out: &mut Vec<u8>, end: OpEnd) -> Result<(), AllocError>
             put_word(out, b"done")?;
             put_next(out, u64::from(done))
         }
+        OpEnd::Compacted { moves, frames } => {
+            put_word(out, b"compacted")?;
+            put_numbers(out, &[moves, frames])
+        }
     }
 }
 

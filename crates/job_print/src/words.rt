@@ -1,10 +1,10 @@
 //! The words of a line, read back.
 
 ghost use Rattle.std.specs.Prelude.{◌≡◌, ◌+◌, ◌*◌, ◌++◌, [], ◌∷◌, ◌==◌, length, map, position, Some, None, OnOk, IfOk, if◌then◌else◌};
-ghost use Rattle.job_print.specs.Reading.{digit_in, byte_in, bytes_in, tag_in, all_in, limit_in, limit_end_in, memory_end_in, plain_end_in, end_in, letters_in, is_letter, cause_in};
+ghost use Rattle.job_print.specs.Reading.{digit_in, byte_in, bytes_in, tag_in, all_in, limit_in, limit_end_in, memory_end_in, compacted_in, triple_end_in, plain_end_in, end_in, letters_in, is_letter, cause_in};
 
 use crate::line::TagList;
-use crate::number::{numbers, short};
+use crate::number::{number, numbers, short};
 use job_text::Cause;
 use std::alloc::{AllocError, Global};
 use zr_base::{List, OpEnd, Tag};
@@ -122,6 +122,25 @@ fn memory_end(word: &[u8], name: &[u8], done: &[u8]) -> Option<OpEnd>
     }
 }
 
+fn compacted(moves: &[u8], frames: &[u8]) -> Option<OpEnd>
+    ensures { result ≡ compacted_in moves.now frames.now }
+{
+    let moves = number(moves)?;
+    let frames = number(frames)?;
+    Some(OpEnd::Compacted { moves, frames })
+}
+
+#[tactic(auto, unfolding(crate::specs::Reading::triple_end_in))]
+fn triple_end(word: &[u8], second: &[u8], third: &[u8]) -> Option<OpEnd>
+    ensures { result ≡ triple_end_in word.now second.now third.now }
+{
+    if word == b"compacted".as_slice() {
+        compacted(second, third)
+    } else {
+        memory_end(word, second, third)
+    }
+}
+
 #[tactic(auto, unfolding(crate::specs::Reading::plain_end_in))]
 fn plain_end(word: &[u8]) -> Option<OpEnd>
     ensures { result ≡ plain_end_in word.now }
@@ -142,7 +161,7 @@ pub(crate) fn end(words: &[&[u8]]) -> Option<OpEnd>
 {
     match words {
         [word] => plain_end(word),
-        [word, name, done] => memory_end(word, name, done),
+        [word, second, third] => triple_end(word, second, third),
         [word, pages, need, limit, name, done] => {
             limit_end(word, &[*pages, *need, *limit], name, done)
         }

@@ -15,7 +15,8 @@ use Rattle.slot_entry.specs.Entries.{EntryState, weight_of}
 use Rattle.page_steps.specs.Steps.{DiskHeld}
 use Rattle.joint_rule.specs.Begins.{Begin}
 use Rattle.joint_rule.specs.Joint.{PoolFits}
-use Rattle.joint_rule.specs.Ends.{value_at, used_each, used_in}
+use Rattle.joint_rule.specs.Ends.{value_at, used_in}
+use Rattle.joint_rule.specs.Weights.{used_each}
 use Rattle.disk_rest.specs.Rows.{used_at}
 use Rattle.disk_rest.specs.Printed.{state_in}
 use Rattle.disk_rest.specs.Laws.{CountsTell}

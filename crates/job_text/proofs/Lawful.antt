@@ -17,7 +17,7 @@ use Rattle.job_text.specs.declared.fault.Cause.TheVariants as causes
 use Rattle.job_text.specs.declared.fault.NotTaken.{NotTaken}
 use Rattle.job_text.specs.declared.line.Line.{Line}
 use Rattle.job_text.specs.Numbers.{digit_value, byte_at, is_number, size_pages, number_of, are_digits, bytes_by, turn_of}
-use Rattle.job_text.specs.Lines.{Form, blank_form, disk_form, limit_form, report_form, actor_form, fill_form, seq_form, hex_form, read_form, discard_form, schedule_form, run_form, alone, with_word, report_named, report_in, read_in, discard_in, fill_in, seq_in, hex_in, stuff_in, write_in, schedule_in, named_in, form_of, fill_sectors, is_malformed, meaning, are_bounds, may_give, has_bad_value, line_with, line_of}
+use Rattle.job_text.specs.Lines.{Form, blank_form, disk_form, limit_form, report_form, actor_form, fill_form, seq_form, hex_form, read_form, discard_form, compact_form, schedule_form, run_form, alone, with_word, report_named, report_in, read_in, discard_in, fill_in, seq_in, hex_in, stuff_in, write_in, schedule_in, named_in, form_of, fill_sectors, is_malformed, meaning, are_bounds, may_give, has_bad_value, line_with, line_of}
 use Rattle.job_text.specs.Jobs.{MayTurn}
 use Rattle.job_text.specs.Answers.{Answers, IsInRange}
 
@@ -38,6 +38,7 @@ HasWords (seq_form start count base step) = Unit {0}
 HasWords (hex_form start count digits) = Unit {0}
 HasWords (read_form start count) = Unit {0}
 HasWords (discard_form start count) = Unit {0}
+HasWords compact_form = Unit {0}
 HasWords (schedule_form turns) = 1 ≤ length turns
 HasWords run_form = Unit {0}
 
@@ -129,6 +130,7 @@ form-lawful (hex_form start count digits) has well good =
 form-lawful (read_form start count) has well good = bounds (number_of start) (number_of count) good
 form-lawful (discard_form start count) has well good =
     bounds (number_of start) (number_of count) good
+form-lawful compact_form has well good = tt
 form-lawful (schedule_form turns) has well good = (
   omega (arith, length-map turns turn_of),
   may_turn (map turn_of turns) (not-false (list_all may_give (map turn_of turns)) good),
@@ -211,9 +213,10 @@ form-words (name ∷ words) =
     (when (bytes_eq name (codes "write")) _ _ (write-words words)
     (when (bytes_eq name (codes "read")) _ _ (read-words words)
     (when (bytes_eq name (codes "discard")) _ _ (discard-words words)
+    (when (bytes_eq name (codes "compact")) _ _ (alone-words compact_form words tt)
     (when (bytes_eq name (codes "schedule")) _ _ (schedule-words words)
     (when (bytes_eq name (codes "run")) _ _ (alone-words run_form words tt)
-    (report-words (report_named name) words))))))))
+    (report-words (report_named name) words)))))))))
 
 line-lawful-by : (form : Form) → HasWords form → (m b : Bool) → is_malformed form ≡ m
     → has_bad_value (meaning form) ≡ b

@@ -4,7 +4,7 @@ use Rattle.std.specs.List.{slice_split, flat_map}
 use Rattle.zr_base.specs.Plain.{IsRequest}
 use Rattle.zr_base.specs.Pieces.{pages_of}
 use Rattle.zr_base.specs.declared.op.Op.{Op}
-use Rattle.zr_base.specs.declared.op.Op.TheVariants.{Write, Read, Discard}
+use Rattle.zr_base.specs.declared.op.Op.TheVariants.{Write, Read, Discard, Compact}
 use Rattle.zr_base.specs.declared.op.Turns.{Turns}
 use Rattle.zr_base.specs.declared.limits.TheConstants.{MOST_PAGES, MOST_ACTORS, MOST_OPERATIONS}
 use Rattle.job_text.specs.declared.limits.TheConstants.{MOST_BYTES, MOST_LIMIT_PAGES, MOST_PHASES, MOST_PIECES, MOST_SECTORS_READ, MOST_TURNS}
@@ -93,6 +93,7 @@ abbrev pub sectors_to_read : Op → ℕ
 sectors_to_read (Write start count stuff) = 0
 sectors_to_read (Read start count) = count
 sectors_to_read (Discard start count) = 0
+sectors_to_read Compact = 0
 
 -- the sum of the turns that a schedule gives
 abbrev pub turns_in : List Turns → ℕ

@@ -1,11 +1,11 @@
 -- What one line of a job says.
-use Rattle.std.specs.Prelude.{ℕ, ◌-◌, ◌*◌, ◌^◌, Bool, false, not, ◌&&◌, ◌||◌, ◌==◌, nat_lt, nat_le, List, [], ◌∷◌, length, filter, map, take, get_or, Option, Some, None, Result, Ok, Err, if◌then◌else◌, codes}
+use Rattle.std.specs.Prelude.{ℕ, ◌-◌, ◌*◌, ◌^◌, Bool, true, false, not, ◌&&◌, ◌||◌, ◌==◌, nat_lt, nat_le, List, [], ◌∷◌, length, filter, map, take, get_or, Option, Some, None, Result, Ok, Err, if◌then◌else◌, codes}
 use Rattle.std.specs.List.{slice_split, position_or_len, list_all, concat}
 use Rattle.std.specs.Str.{bytes_eq}
-use Rattle.zr_base.specs.declared.op.Op.TheVariants.{Write, Read, Discard}
+use Rattle.zr_base.specs.declared.op.Op.{Op}
+use Rattle.zr_base.specs.declared.op.Op.TheVariants.{Write, Read, Discard, Compact}
 use Rattle.zr_base.specs.declared.op.Stuff.TheVariants.{Fill, Seq, Hex}
 use Rattle.zr_base.specs.declared.op.Turns.{Turns}
-use Rattle.zr_base.specs.Plain.{start_of, count_of}
 use Rattle.zr_base.specs.declared.limits.TheConstants.{MOST_PAGES, MOST_SECTORS, MOST_ACTORS}
 use Rattle.job_text.specs.declared.limits.TheConstants.{MOST_LIMIT_PAGES, MOST_TURNS}
 use Rattle.job_text.specs.declared.job.Attr.{Attr}
@@ -53,6 +53,7 @@ pub data Form : Type 0 where
   hex_form : (start count : List ℕ) (digits : List (List ℕ)) → Form
   read_form : (start count : List ℕ) → Form
   discard_form : (start count : List ℕ) → Form
+  compact_form : Form
   schedule_form : (turns : List (List ℕ)) → Form
   run_form : Form
 
@@ -132,6 +133,7 @@ named_in name words =
     else if bytes_eq name (codes "write") then write_in words
     else if bytes_eq name (codes "read") then read_in words
     else if bytes_eq name (codes "discard") then discard_in words
+    else if bytes_eq name (codes "compact") then alone compact_form words
     else if bytes_eq name (codes "schedule") then schedule_in words
     else if bytes_eq name (codes "run") then alone run_form words
     else report_in (report_named name) words
@@ -164,6 +166,7 @@ is_malformed (hex_form start count digits) =
     && fill_sectors (length (concat digits)) (number_of count))
 is_malformed (read_form start count) = not (is_number start && is_number count)
 is_malformed (discard_form start count) = not (is_number start && is_number count)
+is_malformed compact_form = false
 is_malformed (schedule_form turns) = not (list_all is_turn turns)
 is_malformed run_form = false
 
@@ -182,6 +185,7 @@ meaning (hex_form start count digits) =
     Operation (Write (number_of start) (number_of count) (Hex (bytes_by (concat digits))))
 meaning (read_form start count) = Operation (Read (number_of start) (number_of count))
 meaning (discard_form start count) = Operation (Discard (number_of start) (number_of count))
+meaning compact_form = Operation Compact
 meaning (schedule_form turns) = Schedule (map turn_of turns)
 meaning run_form = Run
 
@@ -194,6 +198,13 @@ may_set (LimitPages pages) = nat_le pages MOST_LIMIT_PAGES
 -- a request's sectors begin below 2 ^ 32, and are 1 to the most that a request has
 abbrev pub are_bounds : ℕ → ℕ → Bool
 are_bounds start count = nat_lt start (2 ^ 32) && nat_le 1 count && nat_le count MOST_SECTORS
+
+-- an operation's sectors are those that a request may have; a compaction asks for none
+abbrev pub may_ask : Op → Bool
+may_ask (Write start count stuff) = are_bounds start count
+may_ask (Read start count) = are_bounds start count
+may_ask (Discard start count) = are_bounds start count
+may_ask Compact = true
 
 -- a turn of an actor that a phase may have, given once at least and no more often than a job's
 -- limit
@@ -208,7 +219,7 @@ has_bad_value Blank = false
 has_bad_value (Attribute attr) = not (may_set attr)
 has_bad_value (Tell report) = false
 has_bad_value Actor = false
-has_bad_value (Operation op) = not (are_bounds (start_of op) (count_of op))
+has_bad_value (Operation op) = not (may_ask op)
 has_bad_value (Schedule turns) = not (list_all may_give turns)
 has_bad_value Run = false
 

@@ -2,7 +2,7 @@
 
 ghost use Rattle.std.specs.Prelude.{◌≡◌, ℕ, List, map, IfOk, if◌then◌else◌};
 ghost use Rattle.job_text.specs.Lines.{without_return, before_comment, words_of, line_by, line_with, line_of, report_named, are_bounds, fill_sectors};
-ghost use Rattle.job_text.specs.Lines.{Form, disk_form, limit_form, report_form, actor_form, fill_form, seq_form, hex_form, read_form, discard_form, schedule_form, run_form};
+ghost use Rattle.job_text.specs.Lines.{Form, disk_form, limit_form, report_form, actor_form, fill_form, seq_form, hex_form, read_form, discard_form, compact_form, schedule_form, run_form};
 ghost use Rattle.job_text.specs.Lines.{alone, with_word, report_in, read_in, discard_in, fill_in, seq_in, hex_in, stuff_in, write_in, schedule_in, named_in};
 ghost use Rattle.job_text.specs.Answers.{Answers, IsInRange, hash_in};
 
@@ -210,6 +210,16 @@ fn run_line(words: &[&[u8]]) -> Result<Line, NotTaken>
     }
 }
 
+#[tactic(auto, unfolding(crate::specs::Lines::is_malformed, crate::specs::Lines::meaning))]
+fn compact_line(words: &[&[u8]]) -> Result<Line, NotTaken>
+    ensures { Answers (line_with (alone compact_form (map (λ word. word.now) words.now))) result }
+{
+    match words {
+        [] => Ok(Line::Operation(Op::Compact)),
+        _ => Err(NotTaken::Faulty(Cause::Word)),
+    }
+}
+
 fn disk_line(words: &[&[u8]]) -> Result<Line, NotTaken>
     ensures { Answers (line_with (with_word disk_form (map (λ word. word.now) words.now))) result }
 {
@@ -358,6 +368,8 @@ fn named_line(alloc: Global, name: &[u8], words: &[&[u8]]) -> Result<Line, NotTa
         read_line(words)
     } else if name == b"discard".as_slice() {
         discard_line(words)
+    } else if name == b"compact".as_slice() {
+        compact_line(words)
     } else if name == b"schedule".as_slice() {
         schedule_line(alloc, words)
     } else if name == b"run".as_slice() {

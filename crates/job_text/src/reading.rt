@@ -48,7 +48,7 @@ fn sectors_to_read(op: &Op) -> u32
 {
     match op {
         Op::Read { count, .. } => *count,
-        Op::Write { .. } | Op::Discard { .. } => 0,
+        Op::Write { .. } | Op::Discard { .. } | Op::Compact => 0,
     }
 }
 

@@ -37,7 +37,7 @@ fn tells_jobs(rt: HostRuntime) -> Result<(), Fail> {
 }
 
 // Texts with their first faulty line and its cause: by their words alone, then by their places.
-const FAULTY: [(&str, u32, Cause); 65] = [
+const FAULTY: [(&str, u32, Cause); 70] = [
     ("stop", 1, Cause::Word),
     ("RUN", 1, Cause::Word),
     ("run now", 1, Cause::Word),
@@ -52,6 +52,8 @@ const FAULTY: [(&str, u32, Cause); 65] = [
     ("disksize 4K\nactor\nclasses 71", 3, Cause::Word),
     ("write x 1 fil 0", 1, Cause::Word),
     ("write 0 1 hex", 1, Cause::Word),
+    ("compact 1", 1, Cause::Word),
+    ("disksize 4K\nactor\ncompact all", 3, Cause::Word),
     ("schedule", 1, Cause::Word),
     ("run\r\r\n", 1, Cause::Word),
     ("run\r#x", 1, Cause::Word),
@@ -89,6 +91,9 @@ const FAULTY: [(&str, u32, Cause); 65] = [
     ("disksize 4K\nactor\ndisksize 4K", 3, Cause::Order),
     ("disksize 4K\nactor\nschedule 0\nread 0 1", 4, Cause::Order),
     ("disksize 4K\nactor\nschedule 0\nactor", 4, Cause::Order),
+    ("compact", 1, Cause::Order),
+    ("disksize 4K\nactor\nrun\ncompact", 4, Cause::Order),
+    ("disksize 4K\nactor\nschedule 0\ncompact", 4, Cause::Order),
     ("disksize 4K\nactor\nread 0 1", 2, Cause::Order),
     ("disksize 4K\nactor\nactor\n\n", 2, Cause::Order),
     ("disksize 4K\nactor\nmem_limit 0", 3, Cause::Order),
@@ -160,6 +165,13 @@ fn tells_limits(rt: HostRuntime) -> Result<(), Fail> {
             "run\n",
             Some(4099),
         ),
+        (
+            "disksize 4K\nactor\n",
+            "compact\n",
+            1_000_001,
+            "run\n",
+            Some(1_000_003),
+        ),
         ("", COMMENT, 262_144, "", None),
         ("stop\n", COMMENT, 262_144, "", Some(0)),
     ];
@@ -190,6 +202,7 @@ fn op_shown(alloc: Global, op: &Op) -> Result<String, AllocError> {
         }
         Op::Read { start, count } => format!(in alloc; "read {start} {count}; "),
         Op::Discard { start, count } => format!(in alloc; "discard {start} {count}; "),
+        Op::Compact => format!(in alloc; "compact; "),
     }
 }
 
@@ -290,6 +303,10 @@ fn reads_values(rt: HostRuntime) -> Result<(), Fail> {
         (
             "disksize 4K\nactor\nactor\nschedule 0*2 1*16777213\nschedule 0 # last\nrun\nrun",
             "pages 1; actor; actor; 0*2; 1*16777213; 0*1; run; run; ",
+        ),
+        (
+            "disksize 4K\nactor\ncompact\nread 0 1\n\tcompact # again\nschedule 0*2\nrun",
+            "pages 1; actor; compact; read 0 1; compact; 0*2; run; ",
         ),
         (
             "mem_limit 0\nmem_limit 1\nmem_limit 4096\nmem_limit 4097\nmem_limit 1073741824k\n",

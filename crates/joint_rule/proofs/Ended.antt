@@ -19,7 +19,8 @@ use Rattle.joint_rule.proofs.Starts.{account_at, account_sum}
 use Rattle.joint_rule.proofs.Sums.{total_split}
 use Rattle.joint_rule.proofs.Takes.{IsEntry, IsPoolOf, class_kind, entry_kind}
 use Rattle.joint_rule.specs.Begins.{Begin, ever, form_at, found_after, ground_of, image}
-use Rattle.joint_rule.specs.Ends.{AllFinished, account_in, account_of, begin_at, histories, order_in, orders_of, rest_after, used_each, used_in, value_at}
+use Rattle.joint_rule.specs.Ends.{AllFinished, account_in, account_of, begin_at, histories, order_in, orders_of, rest_after, used_in, value_at}
+use Rattle.joint_rule.specs.Weights.{used_each}
 use Rattle.joint_rule.specs.Joint.{AtHome}
 use Rattle.joint_rule.specs.Rule.{OfOrder, Rule, ShowsOrder, done_by, dones, reach_at}
 use Rattle.joint_rule.specs.Stages.{IsForm}

@@ -218,6 +218,7 @@ module _ (g : Begin) (pages : ℕ) (cells : Row) (rests : RestsAs g pages cells)
     pub begins : IsStart new w
     begins = record {
       rest = begins_rest;
+      tight = λ yes. absurd (cc);
       orders = λ k e at. let o = up.orders k e at in (
         o.0,
         subst (λ (n : ℕ). owed n w.locals k ≤ e.room) (sym rests.size) o.1,

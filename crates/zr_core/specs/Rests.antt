@@ -1,5 +1,5 @@
 -- A disk between two phases: its row, and what a phase on it begins with.
-use Rattle.std.specs.Prelude.{◌≡◌, ◌⊎◌, ℕ, zero, suc, ◌+◌, ◌/◌, ◌<◌, ◌≤◌, nat_lt, true, List, [], ◌∷◌, ◌++◌, map, get_or, length, if◌then◌else◌, Option, Some, None, slice_get}
+use Rattle.std.specs.Prelude.{◌≡◌, ◌⊎◌, ℕ, zero, suc, ◌+◌, ◌/◌, ◌<◌, ◌≤◌, nat_lt, true, false, List, [], ◌∷◌, ◌++◌, map, get_or, length, if◌then◌else◌, Option, Some, None, slice_get}
 use Rattle.std.specs.List.{range_with_len}
 use Rattle.zr_base.specs.declared.op.Op.{Op}
 use Rattle.zr_base.specs.Plain.{zero_sector}
@@ -112,6 +112,7 @@ new_disk pages limit = record {
   chain = MOST_CHAIN;
   clock = 0;
   was = record no_counts { limit = limit };
+  tight = false;
 }
 
 -- the disk with another limit
@@ -123,6 +124,7 @@ with_limit g limit = record {
   chain = g.chain;
   clock = g.clock;
   was = record g.was { limit = limit };
+  tight = false;
 }
 
 -- a phase of these actors at this time
@@ -134,6 +136,7 @@ begun g actors now = record {
   chain = g.chain;
   clock = now;
   was = g.was;
+  tight = false;
 }
 
 -- when the page in a place of the row was touched last
@@ -158,4 +161,5 @@ left g row = record {
   chain = g.chain;
   clock = g.clock;
   was = account_of g.was.limit g.given.size row;
+  tight = false;
 }
