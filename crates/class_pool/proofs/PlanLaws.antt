@@ -83,7 +83,7 @@ own_ids zs = own_from 0 zs
 
 -- ---- cells at home
 
-one_small : (b : Bool) → cond b 1 0 ≤ 1
+pub one_small : (b : Bool) → cond b 1 0 ≤ 1
 one_small true = omega arith
 one_small false = omega arith
 

@@ -7,7 +7,7 @@ use Rattle.std.proofs.lemmas.Bool.Decides.{nat_tests}
 use Rattle.std.proofs.lemmas.List.{length-map}
 use Rattle.std.proofs.lemmas.List.Sums.{sum_by-cons, sum_by-set, get_or-le-sum_by, count_by-le-length}
 use Rattle.zspage.specs.Cells.{used_of, home_of, entry}
-use Rattle.zs_plan.specs.Plan.{IsDestination, IsPlan, HasNoPlan, GoesOn}
+use Rattle.zs_plan.specs.Plan.{IsDestination, IsPlan, HasNoPlan, GoesOn, HasPlanOrNone, PlansGoOn}
 use Rattle.class_pool.specs.Zspages.{Cells, AreWhole, used_in}
 use Rattle.class_pool.specs.Rows.{row_of, rows}
 use Rattle.class_pool.specs.Pool.{PoolState, object_of, objects, used_cells, IsPool}
@@ -16,7 +16,7 @@ use Rattle.class_pool.specs.Compaction.{home_in_partial, MayMove}
 use Rattle.class_pool.proofs.Ranks.{entry_within}
 use Rattle.class_pool.proofs.SumLaws.{in_zspage, sum_ones, sum_all, length_sum}
 use Rattle.class_pool.proofs.UseLaws.{entry-set_same, entry-set_other}
-use Rattle.class_pool.proofs.PlanLaws.{row_among, home_used}
+use Rattle.class_pool.proofs.PlanLaws.{row_among, home_used, own_ids}
 use Rattle.class_pool.proofs.PlannedLaws.{row_cells}
 use Rattle.class_pool.proofs.SettledLaws.{Around, around, taker, home_in, same_some, Planned, planned, one_destination, went}
 
@@ -180,6 +180,15 @@ plan_rest p from to plan =
       omega (arith, total_most p.per zs, length-map (used_cells zs) object_of),
     )
 
+-- there is a plan, or there is none
+pub some_rest : HasPlanOrNone → (p : PoolState) → IsPool p
+    → (n : ℕ) × MayMove p n × (n ≤ length (objects p))
+some_rest found p pool =
+    elim (found p.per (rows p.zspages) (own_ids p.zspages)) [
+      | inl none ↦ (0, no_plan_rest p pool none, omega arith)
+      | inr w ↦ plan_rest p w.0 w.1 w.2
+    ]
+
 -- what may move beside the destination that the plan has
 rest_is : (p : PoolState) (m : Move) (n : ℕ) → Planned p.per p.zspages m
     → entry p.zspages m.to ≡ Some m.target
@@ -258,6 +267,13 @@ fewer old new m frames n k moves plan goes before after =
                 omega (arith, was, now, part, a.gains_home, w.4, per, ap home_of one)
           ]
     ]
+
+pub fewer_by : PlansGoOn → (old new : PoolState) (m : Move) (frames n k : ℕ)
+    → IsPlan old.per (rows old.zspages) m.from m.to → Moves old new m frames
+    → MayMove old n → MayMove new k → k < n
+fewer_by goes old new m frames n k plan moves =
+    fewer old new m frames n k moves plan
+    (goes old.per (rows old.zspages) m.from m.to (own_ids old.zspages) plan)
 
 -- where nothing may move there is no plan
 pub rest_no_plan : (p new : PoolState) (m : Move) (frames : ℕ) → Moves p new m frames

@@ -6,3 +6,4 @@ pub mod Index
 pub mod Moves
 pub mod Compaction
 pub mod Laws
+pub mod Endings

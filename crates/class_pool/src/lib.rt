@@ -6,5 +6,5 @@ mod places;
 mod pool;
 mod zspages;
 
-pub use laws::objects_move;
+pub use laws::{compactions_end, objects_move};
 pub use pool::{ClassPool, Moved};

@@ -4,7 +4,7 @@ use Rattle.std.proofs.lemmas.List.Elements.{Contains-append_left, Contains-push,
 use Rattle.std.proofs.lemmas.List.{get_or_default, take_more}
 use Rattle.std.proofs.lemmas.Bool.{cases_order, cases_eq}
 use Rattle.zs_plan.specs.declared.Row.{Row}
-use Rattle.zs_plan.specs.Plan.{IsFuller, IsEmptier, IsFirst, IsBest, HasMovable, IsDestination, IsSource, IsPlan, HasNoPlan, IsMove}
+use Rattle.zs_plan.specs.Plan.{IsFuller, IsEmptier, IsPartial, IsFirst, IsBest, HasMovable, IsDestination, IsSource, IsPlan, HasNoPlan, IsMove}
 
 -- ---- one more row
 
@@ -128,10 +128,10 @@ no_plan per rows s d apart first destination same =
 
 -- the zspage that gained the object is full, or the fullest partial one
 pub goes_on : (per : ℕ) (rows after : List Row) (s d e : Row) → AllPairs (λ x y. x.id ≢ y.id) rows
-    → IsFirst IsEmptier (HasMovable per) rows s → IsDestination per rows d
+    → Contains rows s → IsPartial per s → IsDestination per rows d
     → s.id ≢ d.id → IsMove rows after s.id d.id → Contains after e → e.id ≡ d.id → (e.used ≡ per)
     ⊎ IsDestination per after e
-goes_on per rows after s d e apart source destination other move among is =
+goes_on per rows after s d e apart source partial_source destination other move among is =
     let was : (x : Row) × Contains rows x × (x.id ≡ d.id)
     × (e.used ≡ x.used + 1) = move.gained e among is in
     let one : was.0 ≡ d = same_row rows was.0 d apart was.1 destination.among was.2 in
@@ -156,10 +156,10 @@ goes_on per rows after s d e apart source destination other move among is =
                         let t_was : (x : Row) × Contains rows x × (x.id ≡ s.id)
                         × (t.used + 1 ≡ x.used) = move.lost t there same in
                         let t_one : t_was.0 ≡ s =
-                        same_row rows t_was.0 s apart t_was.1 source.among t_was.2 in
+                        same_row rows t_was.0 s apart t_was.1 source t_was.2 in
                         let t_less : t.used + 1 ≡ s.used = t_was.3 ∙ ap (λ r. r.used) t_one in
                         let below : IsFuller d s =
-                        destination.before s source.among source.fits.0 in
+                        destination.before s source partial_source in
                         inl (grind arith)
                     | inr away ↦
                         let t_was : (x : Row) × Contains rows x × (x.id ≡ t.id)

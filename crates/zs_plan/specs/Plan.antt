@@ -80,3 +80,17 @@ pub record AreBest (per : ℕ) (rows : List Row) (source destination : Option Ro
   pub own : HaveOwnIds rows
   pub emptiest : IsBest IsEmptier (HasMovable per) rows source
   pub fullest : IsBest IsFuller (IsPartial per) rows destination
+
+-- ---- what holds of every plan
+
+-- of zspages with ids of their own there is a plan, or there is none
+abbrev pub HasPlanOrNone : Type 0
+HasPlanOrNone =
+    (per : ℕ) (rows : List Row) → HaveOwnIds rows
+    → HasNoPlan per rows ⊎ ((from : ℕ) × (to : ℕ) × IsPlan per rows from to)
+
+-- after the move of any plan its destination is full, or it is the destination of the next move
+abbrev pub PlansGoOn : Type 0
+PlansGoOn =
+    (per : ℕ) (rows : List Row) (from to : ℕ) → HaveOwnIds rows → IsPlan per rows from to
+    → GoesOn per rows from to

@@ -3,9 +3,13 @@
 //! destination stays one until it is full.
 #![tactic(auto)]
 
+mod laws;
+
 ghost use Rattle.std.specs.Prelude.{ℕ, ◌≡◌, ◌≢◌, ◌++◌, ◌∷◌, [], ◌⊎◌, List, MatchOption, IfSome};
 ghost use Rattle.zs_plan.specs.Plan.{IsFuller, IsEmptier, IsPlan, HasNoPlan, GoesOn, IsPartial, HasMovable, IsBest, AreBest, HaveOwnIds};
 ghost use Rattle.zs_plan.specs.declared.Row.{Row};
+
+pub use laws::plans_go_on;
 
 /// What a plan reads of a zspage.
 #[derive(Clone, Copy, PartialEq, Eq, Debug)]

@@ -27,7 +27,7 @@ returns-clause-plan c per rows best =
 
 pub returns-clause-goes_on : goal.returns-clause-goes_on
 returns-clause-goes_on c per rows best after e move among is =
-    goes_on per rows after c.in_ok-from.from c.in_ok-to.to e best.own
-    (subst (λ o. IsBest IsEmptier (HasMovable per) rows o) c.in_ok-from.was best.emptiest)
+    let source = subst (λ o. IsBest IsEmptier (HasMovable per) rows o) c.in_ok-from.was best.emptiest in
+    goes_on per rows after c.in_ok-from.from c.in_ok-to.to e best.own source.among source.fits.0
     (subst (λ o. IsBest IsFuller (IsPartial per) rows o) c.in_ok-to.was best.fullest)
     c.if-from-to.false move among is
