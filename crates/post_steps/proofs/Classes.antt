@@ -1,7 +1,7 @@
 -- The classes of a compaction: the first one, and one after the other.
-use Rattle.std.proofs.Common.{◌≡◌, ◌⊎◌, ℕ, zero, suc, ◌+◌, ◌-◌, ◌*◌, ◌/◌, ◌<◌, ◌≤◌, Bool, true, false, eqb, ltb, refl, sym, ap, ◌∙◌, arith, inl, inr}
+use Rattle.std.proofs.Common.{◌≡◌, ◌⊎◌, ℕ, zero, suc, ◌+◌, ◌-◌, ◌*◌, ◌/◌, ◌<◌, ◌≤◌, false, eqb, ltb, refl, ap, ◌∙◌, arith, inl, inr}
 use Rattle.std.proofs.lemmas.Bool.{cases_Bool, and_parts, eqb-true}
-use Rattle.size_class.specs.Classes.{class_size, waste, chain_of, per_of, shares_next, stands_below, stands_of}
+use Rattle.size_class.specs.Classes.{waste, chain_of, per_of, shares_next, stands_below, stands_of}
 
 some_frame : (m k : ℕ) → 1 ≤ chain_of m k
 unfolding chain_of
