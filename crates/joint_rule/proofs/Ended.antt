@@ -8,7 +8,6 @@ use Rattle.call_history.specs.declared.part.Done.{Done}
 use Rattle.call_history.specs.declared.part.Part.{Part}
 use Rattle.class_pool.specs.Pool.{PoolState, used_cells, used_cells_in}
 use Rattle.class_pool.specs.Zspages.{Cells}
-use Rattle.joint_rule.proofs.Bounds.{one_of}
 use Rattle.joint_rule.proofs.Facts.{Known}
 use Rattle.joint_rule.proofs.Gets.{count_locals}
 use Rattle.joint_rule.proofs.Pages.{holds_after, kept_is}
@@ -18,6 +17,7 @@ use Rattle.joint_rule.proofs.Rests.{at_rest, left, over}
 use Rattle.joint_rule.proofs.Starts.{account_at, account_sum}
 use Rattle.joint_rule.proofs.Sums.{total_split}
 use Rattle.joint_rule.proofs.Takes.{IsEntry, IsPoolOf, class_kind, entry_kind}
+use Rattle.joint_rule.proofs.Zspages.{each_used, used_length, used_sum}
 use Rattle.joint_rule.specs.Begins.{Begin, ever, form_at, found_after, ground_of, image}
 use Rattle.joint_rule.specs.Ends.{AllFinished, account_in, account_of, begin_at, histories, order_in, orders_of, rest_after, used_in, value_at}
 use Rattle.joint_rule.specs.Weights.{used_each}
@@ -80,64 +80,6 @@ locals_same : (f h : Here → ℕ) (ls : List Here) → ((a : ℕ) (l : Here) �
 locals_same f h [] e = refl
 locals_same f h (l ∷ ls) e = let r = locals_same f h ls (λ a. e (suc a)) in let q = e 0 l refl in
     omega arith
-
--- ---- zspages
-
-each_used : (chain class : ℕ) (p : PoolState) → p.per ≡ per_of chain class
-    → (zs : List (Option Cells))
-    → ((k : ℕ) (cells : Cells) → entry zs k ≡ Some cells → 1 ≤ used_of cells)
-    → ((k : ℕ) (cells : Cells) → entry zs k ≡ Some cells → length cells ≡ p.per)
-    → AllByRecursion (λ n. (1 ≤ n) × (n ≤ per_of chain class)) (used_each zs)
-each_used chain class p per [] filled whole = tt
-each_used chain class p per (None ∷ zs) filled whole = each_used chain class p per zs
-    (λ k. filled (suc k)) (λ k. whole (suc k))
-each_used chain class p per (Some cells ∷ zs) filled whole = (
-  (
-    filled 0 cells refl,
-    (let l = count_by-le-length is_some cells in let w = whole 0 cells refl in
-        omega arith),
-  ),
-  each_used chain class p per zs (λ k. filled (suc k)) (λ k. whole (suc k)),
-)
-
-ones_are : (f : UsedCell → ℕ) → ((u : UsedCell) → f u ≡ 1) → (cells : Cells)
-    → sum_by f (used_cells_in cells) ≡ used_of cells
-ones_are f e [] = refl
-ones_are f e (None ∷ cells) = omega (
-  arith,
-  ones_are f e cells,
-  sum_by-cons {X = Option UsedCell} one_of None cells,
-)
-ones_are f e (Some u ∷ cells) =
-    omega (
-      arith,
-      ones_are f e cells,
-      sum_by-cons f u (used_cells_in cells),
-      e u,
-      sum_by-cons one_of (Some u) cells,
-    )
-
-used_sum : (f : UsedCell → ℕ) → ((u : UsedCell) → f u ≡ 1) → (zs : List (Option Cells))
-    → sum_by (λ n. n) (used_each zs) ≡ sum_by f (used_cells zs)
-used_sum f e [] = refl
-used_sum f e (None ∷ zs) = used_sum f e zs
-used_sum f e (Some cells ∷ zs) =
-    omega (
-      arith,
-      used_sum f e zs,
-      sum_by-append f (used_cells_in cells) (used_cells zs),
-      ones_are f e cells,
-      sum_by-cons (λ n. n) (used_of cells) (used_each zs),
-    )
-
-used_length : (zs : List (Option Cells)) → length (used_each zs) ≡ used_of zs
-used_length [] = refl
-used_length (None ∷ zs) = omega (
-  arith,
-  used_length zs,
-  sum_by-cons {X = Option Cells} one_of None zs,
-)
-used_length (Some cells ∷ zs) = omega (arith, used_length zs, sum_by-cons one_of (Some cells) zs)
 
 -- ---- kept forms
 

@@ -5,6 +5,7 @@ pub mod Pools
 pub mod Lookups
 pub mod Stages
 pub mod Takes
+pub mod Zspages
 pub mod Events
 pub mod Balances
 pub mod Gifts

@@ -130,9 +130,10 @@ module _ (g : Begin) (ok : Known g) (w : State DiskHeld) (j : Joint g w) (a : â„
       subst (KeepsLimits g c) (sym m_is) (limits_over g (reach_at g w) c up l p
       (Whole ends.Range) [] rest tt h)
   limits_of c up (event.pins p rest e o q q' u u' cell todo at held is sw named_u free taken is_cell
-      in_cell v_is m_is) h = subst (KeepsLimits g c) (sym m_is)
+      in_cell lk v_is m_is) h = subst (KeepsLimits g c) (sym m_is)
       (limits_same g (reach_at g w) c up l _ refl refl h)
-  limits_of c up (event.unpins p rest e o q q' u u' todo at held is sw named_u taken free v_is m_is)
+  limits_of c up (event.unpins p rest e o q q' u u' todo at held is sw named_u taken free lk v_is
+      m_is)
       h = subst (KeepsLimits g c) (sym m_is) (limits_same g (reach_at g w) c up l _ refl refl h)
   limits_of c up (event.charges p rest e x q q' cl hd need bytes huge todo at held is_form is_class
       within al v_is m_is) h = subst (KeepsLimits g c) (sym m_is)
@@ -164,11 +165,11 @@ module _ (g : Begin) (ok : Known g) (w : State DiskHeld) (j : Joint g w) (a : â„
   limits_of c up (event.fails p rest e x todo at held bad v_is m_is) h =
       subst (KeepsLimits g c) (sym m_is) (limits_over g (reach_at g w) c up l p x [] rest
       (fail_up g (reach_at g w) c up (Some x) (subst (FailKeeps g (reach_at g w)) bad h.now)) h)
-  limits_of c up (event.moves p rest x q q' u u' budget frames todo at held sh v_is m_is) h =
+  limits_of c up (event.moves p rest x q q' u u' budget frames todo at held sh some one v_is m_is) h =
       subst (KeepsLimits g c) (sym m_is) (limits_same g (reach_at g w) c up l _ refl refl h)
-  limits_of c up (event.sweeps p rest x q todo at held v_is m_is) h =
+  limits_of c up (event.sweeps p rest x q todo at held stuck other v_is m_is) h =
       subst (KeepsLimits g c) (sym m_is) (limits_same g (reach_at g w) c up l _ refl refl h)
-  limits_of c up (event.closes p rest x q todo at held v_is m_is) h =
+  limits_of c up (event.closes p rest x q todo at held stuck last v_is m_is) h =
       subst (KeepsLimits g c) (sym m_is) (limits_over g (reach_at g w) c up l p
       (Whole (ends.Compacted x.moves x.frames)) [] rest tt h)
   limits_of c up (event.shrinks p rest x y todo at held v_is m_is) h =
