@@ -391,14 +391,20 @@ module _ (r : Rest) (actors : List (List Op)) (ok : Known (begin_at r actors)) (
               (used_cells (pools j lt').0.zspages))
         ]
 
+  per_is : (k : ℕ) (lt : k < 255) → (pools k lt).0.per ≡ per_of r.set.chain k
+  per_is k lt = (pools k lt).2.sound.1.per ∙ ap (per_of r.set.chain) (class_of_pool k lt)
+
+  all_used : (k : ℕ) (lt : k < 255) → AllByRecursion (λ n. (1 ≤ n) × (n ≤ per_of r.set.chain k))
+      (m.used k)
+  all_used k lt =
+      let pool = (pools k lt).2.sound.1.pool in
+      subst (λ (x : ℕ × List ℕ). AllByRecursion (λ n. (1 ≤ n) × (n ≤ x.0)) x.1)
+      (λ i. (per_is k lt i, sym (used_is k lt) i))
+      (each_used (pools k lt).0.per (pools k lt).0.zspages pool.filled pool.whole)
+
   used_right : AreUsed r.set.chain (kept_pages page_weight m) m.used
-  used_right k lt =
-      let f = (pools k lt).2.sound.1 in record {
-        each = subst (λ (us : List ℕ). AllByRecursion (λ n. (1 ≤ n)
-            × (n ≤ per_of r.set.chain k)) us) (sym (used_is k lt))
-            (each_used r.set.chain k (pools k lt).0 (f.per
-            ∙ ap (per_of r.set.chain) (class_of_pool k lt))
-            (pools k lt).0.zspages f.pool.filled f.pool.whole);
+  used_right k lt = record {
+        each = all_used k lt;
         all = sym (lone_pool k lt) ∙ sym (rest.owners (of_kind g.chain k))
             ∙ slots_sum (λ p x order. claim_by (of_kind g.chain k) x (image g p order))
             (λ p. of_class r.set.chain k (kept_at page_weight m p))

@@ -8,7 +8,7 @@ use Rattle.joint_rule.proofs.Facts.{Known}
 use Rattle.joint_rule.proofs.Freed.{freed_start}
 use Rattle.joint_rule.proofs.Gifts.{start_locks, start_stage}
 use Rattle.joint_rule.proofs.Pages.{content_sector}
-use Rattle.joint_rule.proofs.Sums.{row_nothing}
+use Rattle.joint_rule.proofs.Sums.{row_none, row_nothing}
 use Rattle.joint_rule.proofs.Takes.{IsAccount, account_kind}
 use Rattle.joint_rule.specs.Begins.{Begin, ground_of, pieces_each, pieces_on}
 use Rattle.joint_rule.specs.Joint.{AtHome, IsActor, Joint, Sound}
@@ -52,13 +52,6 @@ place_least zero (x ∷ xs) v e = let q : x ≡ Some v = cc in
 place_least (suc k) (x ∷ xs) v e = let r = place_least k xs v e in omega arith
 
 -- a row in which one value weighs something
-pub row_none : (f : ℕ → DiskHeld → ℕ) (row : List (Option DiskHeld))
-    → ((i : ℕ) (u : DiskHeld) → slice_get row i ≡ Some (Some u) → f i u ≡ 0) → row_sum f row ≡ 0
-row_none f [] z = refl
-row_none f (None ∷ xs) z = let r = row_none (λ j. f (suc j)) xs (λ i. z (suc i)) in omega arith
-row_none f (Some x ∷ xs) z = let r = row_none (λ j. f (suc j)) xs (λ i. z (suc i)) in
-    let s = z 0 x refl in omega arith
-
 row_lone : (f : ℕ → DiskHeld → ℕ) (row : List (Option DiskHeld)) (k : ℕ) (v : DiskHeld)
     → slice_get row k ≡ Some (Some v)
     → ((i : ℕ) (u : DiskHeld) → slice_get row i ≡ Some (Some u) → i ≢ k → f i u ≡ 0)

@@ -5,7 +5,6 @@ use Rattle.class_pool.specs.Pool.{IsPlace, PoolState, used_cells, used_cells_in,
 use Rattle.class_pool.specs.Zspages.{Cells}
 use Rattle.joint_rule.specs.Weights.{loose_pools, used_each}
 use Rattle.plain_disk.specs.Compactions.{loose, with_free}
-use Rattle.size_class.specs.Classes.{per_of}
 use Rattle.std.proofs.lemmas.Bool.{cases_Bool, cases_lt, le-leb, leb-true, le-ltb, lt-ltb}
 use Rattle.std.proofs.lemmas.Grind.{div_ceil_times}
 use Rattle.std.proofs.lemmas.List.Sums.{count_by-le-length, sum_by-append, sum_by-cons}
@@ -21,21 +20,20 @@ use Rattle.zspage.specs.Cells.{UsedCell, entry, used_of}
 abbrev pub one_of : {A : Type 0} → Option A → ℕ
 one_of o = cond (is_some o) 1 0
 
-pub each_used : (chain class : ℕ) (p : PoolState) → p.per ≡ per_of chain class
-    → (zs : List (Option Cells))
+-- where each zspage has a used cell and so many cells
+pub each_used : (per : ℕ) (zs : List (Option Cells))
     → ((k : ℕ) (cells : Cells) → entry zs k ≡ Some cells → 1 ≤ used_of cells)
-    → ((k : ℕ) (cells : Cells) → entry zs k ≡ Some cells → length cells ≡ p.per)
-    → AllByRecursion (λ n. (1 ≤ n) × (n ≤ per_of chain class)) (used_each zs)
-each_used chain class p per [] filled whole = tt
-each_used chain class p per (None ∷ zs) filled whole = each_used chain class p per zs
-    (λ k. filled (suc k)) (λ k. whole (suc k))
-each_used chain class p per (Some cells ∷ zs) filled whole = (
+    → ((k : ℕ) (cells : Cells) → entry zs k ≡ Some cells → length cells ≡ per)
+    → AllByRecursion (λ n. (1 ≤ n) × (n ≤ per)) (used_each zs)
+each_used per [] filled whole = tt
+each_used per (None ∷ zs) filled whole = each_used per zs (λ k. filled (suc k)) (λ k. whole (suc k))
+each_used per (Some cells ∷ zs) filled whole = (
   (
     filled 0 cells refl,
     (let l = count_by-le-length is_some cells in let w = whole 0 cells refl in
         omega arith),
   ),
-  each_used chain class p per zs (λ k. filled (suc k)) (λ k. whole (suc k)),
+  each_used per zs (λ k. filled (suc k)) (λ k. whole (suc k)),
 )
 
 pub ones_are : (f : UsedCell → ℕ) → ((u : UsedCell) → f u ≡ 1) → (cells : Cells)
