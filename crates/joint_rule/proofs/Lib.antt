@@ -21,6 +21,7 @@ pub mod Counts
 pub mod Freed
 pub mod News
 pub mod Sweeps
+pub mod Alone
 pub mod Turns
 pub mod Starts
 pub mod Gets

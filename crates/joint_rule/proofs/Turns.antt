@@ -6,6 +6,7 @@ use Rattle.call_history.specs.declared.part.Part.{Part}
 use Rattle.call_history.specs.declared.part.PartEnd.{PartEnd}
 use Rattle.call_history.specs.declared.part.PartEnd.TheVariants.{AtLimit, Carried, NoMemory, Whole}
 use Rattle.class_pool.specs.Pool.{PoolState}
+use Rattle.joint_rule.proofs.Alone.{alone_give, alone_take}
 use Rattle.joint_rule.proofs.Balances.{none_fresh}
 use Rattle.joint_rule.proofs.Bounds.{below, most_give, most_take, risen, times_le}
 use Rattle.joint_rule.proofs.Counts.{refusals_give, refusals_take, refuses_of}
@@ -199,6 +200,7 @@ module _ (g : Begin) (ok : Known g) (w : State DiskHeld) (r : Rule g w) (a : ℕ
             (omega arith) l m refl refl (r.limits a l who)))
             (λ o. limits_up g (reach_at g w) _ (omega arith) y (r.limits b y o.1))
             (get_set w.locals a b m y l who e);
+        alone = alone_take g ok w r.joint a l who k v what there r.alone;
       }
 
   rule_give : (m : Here) → plan (terms g) l ≡ Give k → slice_get w.row (spot size k) ≡ Some None
@@ -221,6 +223,7 @@ module _ (g : Begin) (ok : Known g) (w : State DiskHeld) (r : Rule g w) (a : ℕ
             (r.limits a l who)))
             (λ o. limits_up g (reach_at g w) _ up y (r.limits b y o.1))
             (get_set w.locals a b m y l who e);
+        alone = alone_give g ok w r.joint a l who k v m what there ev r.alone;
       }
 
 module _ (g : Begin) (ok : Known g) where
