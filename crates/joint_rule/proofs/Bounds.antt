@@ -11,6 +11,7 @@ use Rattle.joint_rule.proofs.Lookups.{lone, mine_account, under_account}
 use Rattle.joint_rule.proofs.Pools.{chain_low}
 use Rattle.joint_rule.proofs.Sums.{gone, locals_add, total_mono, total_split, total_up, total_up_over}
 use Rattle.joint_rule.proofs.Takes.{home_lean}
+use Rattle.joint_rule.proofs.Zspages.{one_of, ones_are}
 use Rattle.joint_rule.specs.Begins.{Begin, terms}
 use Rattle.joint_rule.specs.Joint.{AtHome, Joint, Sound}
 use Rattle.joint_rule.specs.Rule.{Most, owed}
@@ -76,27 +77,6 @@ module _ (c : ℕ) (size : ℕ) where
 
 -- ---- chains and objects
 
--- 1 for what is there
-abbrev pub one_of : {A : Type 0} → Option A → ℕ
-one_of o = cond (is_some o) 1 0
-
-ones_in : (f : UsedCell → ℕ) → ((u : UsedCell) → f u ≡ 1) → (cells : Cells)
-    → used_of cells ≤ sum_by f (used_cells_in cells)
-ones_in f e [] = omega arith
-ones_in f e (None ∷ cells) = omega (
-  arith,
-  ones_in f e cells,
-  sum_by-cons {X = Option UsedCell} one_of None cells,
-)
-ones_in f e (Some u ∷ cells) =
-    omega (
-      arith,
-      ones_in f e cells,
-      sum_by-cons f u (used_cells_in cells),
-      e u,
-      sum_by-cons one_of (Some u) cells,
-    )
-
 few_zspages : (f : UsedCell → ℕ) → ((u : UsedCell) → f u ≡ 1) → (zs : List (Option Cells))
     → ((k : ℕ) (cells : Cells) → entry zs k ≡ Some cells → 1 ≤ used_of cells)
     → used_of zs ≤ sum_by f (used_cells zs)
@@ -112,7 +92,7 @@ few_zspages f e (Some cells ∷ zs) filled =
       arith,
       few_zspages f e zs (λ k. filled (suc k)),
       sum_by-append f (used_cells_in cells) (used_cells zs),
-      ones_in f e cells,
+      ones_are f e cells,
       filled 0 cells refl,
       sum_by-cons one_of (Some cells) zs,
     )

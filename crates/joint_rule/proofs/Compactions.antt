@@ -1,9 +1,10 @@
 -- What each giving of a compaction does.
-use Rattle.std.proofs.Common.{◌≡◌, ◌+◌, ◌-◌, ◌*◌, ◌≤◌, ◌<◌, ◌∷◌, ℕ, zero, suc, true, List, [], Some, slice_get, refl, ap, arith, inl, inr}
+use Rattle.std.proofs.Common.{◌≡◌, ◌+◌, ◌-◌, ◌*◌, ◌≤◌, ◌∷◌, ℕ, zero, suc, true, List, [], Some, slice_get, refl, ap, arith, inl}
 use Rattle.call_history.specs.declared.part.Part.{Part}
 use Rattle.call_history.specs.declared.part.PartEnd.TheVariants.{Whole}
 use Rattle.class_pool.specs.Pool.{PoolState}
 use Rattle.joint_rule.proofs.Balances.{none_fresh, shift_outs, shift_stored, shrunk, shrunk_count, shrunk_fixed}
+use Rattle.joint_rule.proofs.Classes.{stands_low}
 use Rattle.joint_rule.proofs.Facts.{Known}
 use Rattle.joint_rule.proofs.Gifts.{Gift, all, goes_on, is_over, none_pin, some_one, stage}
 use Rattle.joint_rule.proofs.Lookups.{can_repay, none_weight}
@@ -21,24 +22,13 @@ use Rattle.mem_account.specs.Counters.{Counters}
 use Rattle.page_steps.specs.Compactions.{moved_at, with_frames, with_move, with_next}
 use Rattle.page_steps.specs.Steps.{DiskHeld, Here, entry_in, on, piece_over, spot}
 use Rattle.plain_disk.specs.Ends.{MayBeSingle, is_single}
-use Rattle.size_class.specs.Classes.{shares_next, stands_below}
 use Rattle.slot_entry.specs.Entries.{EntryState}
-use Rattle.std.proofs.lemmas.Bool.{cases_Bool}
 use Rattle.zspage.specs.Cells.{UsedCell}
 use Rattle.zr_base.specs.Plain.{is_compaction}
 use Rattle.zr_base.specs.declared.op.Op.{Op}
 use Rattle.lock_row.specs.declared.names.LockNo.TheVariants as lock
 use Rattle.lock_row.specs.declared.names.Held.TheVariants as holds
 use Rattle.zr_base.specs.declared.op.OpEnd.TheVariants as ends
-
--- a class stands as one of the classes
-stands_low : (m d : ℕ) → stands_below m d < 255
-unfolding stands_below
-stands_low m zero = omega arith
-stands_low m (suc d) = elim (cases_Bool (shares_next m (253 - d))) [
-  | inl shares ↦ rw shares (stands_low m d)
-  | inr not ↦ rw not (omega arith)
-]
 
 compaction_single : (size : ℕ) (op : Op) → is_compaction op ≡ true → is_single size op ≡ true
 compaction_single size op e = rw e refl

@@ -205,9 +205,9 @@ module _ (g : Begin) (ok : Known g) (w : State DiskHeld) (j : Joint g w) (a : â„
 
   pub refuses_of : (q : Refusal) â†’ Event g l v m â†’ Refuses q v m
   refuses_of q (event.pins p rest e o x x' u u' cell todo at held is sw named_u free outside is_cell
-      in_cell v_is m_is) = same_refuses q _ _ v_is m_is
+      in_cell lk v_is m_is) = same_refuses q _ _ v_is m_is
       (stays_so q _ _ refl (let r = ap (held_sum (spot n) (refusal_counter q)) held in omega arith))
-  refuses_of q (event.unpins p rest e o x x' u u' todo at held is sw named_u outside free v_is
+  refuses_of q (event.unpins p rest e o x x' u u' todo at held is sw named_u outside free lk v_is
       m_is) = same_refuses q _ _ v_is m_is (stays_so q _ _ refl
       (let r = ap (held_sum (spot n) (refusal_counter q)) held in omega arith))
   refuses_of q (event.charges p rest e c x x' cl h need bytes huge todo at held is_form is_class
@@ -239,13 +239,13 @@ module _ (g : Begin) (ok : Known g) (w : State DiskHeld) (j : Joint g w) (a : â„
   refuses_of q (event.fails p rest e x todo at held bad v_is m_is) =
       same_refuses q _ _ v_is m_is (stays_so q _ _ (failed_over q p rest x todo bad)
       (let r = ap (held_sum (spot n) (refusal_counter q)) held in omega arith))
-  refuses_of q (event.moves p rest y x x' u u' budget frames todo at held sh v_is m_is) =
+  refuses_of q (event.moves p rest y x x' u u' budget frames todo at held sh some one v_is m_is) =
       same_refuses q _ _ v_is m_is (stays_so q _ _ refl
       (let r = ap (held_sum (spot n) (refusal_counter q)) held in omega arith))
-  refuses_of q (event.sweeps p rest y x todo at held v_is m_is) =
+  refuses_of q (event.sweeps p rest y x todo at held stuck other v_is m_is) =
       same_refuses q _ _ v_is m_is (stays_so q _ _ refl
       (let r = ap (held_sum (spot n) (refusal_counter q)) held in omega arith))
-  refuses_of q (event.closes p rest y x todo at held v_is m_is) =
+  refuses_of q (event.closes p rest y x todo at held stuck last v_is m_is) =
       let st = stage g ok w j a l who p rest todo _ (Moving y) held at in
       same_refuses q _ _ v_is m_is (stays_so q _ _
       (over_told q p (Whole (ends.Compacted y.moves y.frames)) [] rest

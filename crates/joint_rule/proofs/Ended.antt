@@ -1,5 +1,6 @@
 -- What a finished phase tells: its histories agree with its orders, and the account with the rest.
 use Rattle.std.proofs.Common.{◌≡◌, ◌+◌, ◌*◌, ◌-◌, ◌/◌, ◌≤◌, ◌<◌, ◌∷◌, ◌++◌, ◌∙◌, ℕ, zero, suc, Bool, true, false, cond, eqb, List, [], length, sum_by, Option, Some, None, slice_get, refl, sym, ap, subst, arith, inl, inr, zero-add}
+use Rattle.call_history.specs.Alone.{IsAloneOver}
 use Rattle.call_history.specs.Histories.{Agree, history}
 use Rattle.call_history.specs.Parts.{EndsSo, Follows, KeepsTo, done_sum, dones_sum, noted_on, ops_of, program, stands_so}
 use Rattle.call_history.specs.Shows.{IsTold}
@@ -8,16 +9,17 @@ use Rattle.call_history.specs.declared.part.Done.{Done}
 use Rattle.call_history.specs.declared.part.Part.{Part}
 use Rattle.class_pool.specs.Pool.{PoolState, used_cells, used_cells_in}
 use Rattle.class_pool.specs.Zspages.{Cells}
-use Rattle.joint_rule.proofs.Bounds.{one_of}
 use Rattle.joint_rule.proofs.Facts.{Known}
 use Rattle.joint_rule.proofs.Gets.{count_locals}
 use Rattle.joint_rule.proofs.Pages.{holds_after, kept_is}
-use Rattle.joint_rule.proofs.Pools.{sum_zero}
+use Rattle.joint_rule.proofs.Pools.{some_cell, sum_zero}
 use Rattle.joint_rule.proofs.Ranges.{range_by, range_lone, range_map, range_sum, row_part, weight_at}
 use Rattle.joint_rule.proofs.Rests.{at_rest, left, over}
 use Rattle.joint_rule.proofs.Starts.{account_at, account_sum}
-use Rattle.joint_rule.proofs.Sums.{total_split}
+use Rattle.joint_rule.proofs.Sums.{row_le, total_split}
 use Rattle.joint_rule.proofs.Takes.{IsEntry, IsPoolOf, class_kind, entry_kind}
+use Rattle.joint_rule.proofs.Zspages.{each_used, free_most, tight_least, used_length, used_sum}
+use Rattle.joint_rule.specs.Alone.{is_calm}
 use Rattle.joint_rule.specs.Begins.{Begin, ever, form_at, found_after, ground_of, image}
 use Rattle.joint_rule.specs.Ends.{AllFinished, account_in, account_of, begin_at, histories, order_in, orders_of, rest_after, used_in, value_at}
 use Rattle.joint_rule.specs.Weights.{used_each}
@@ -25,7 +27,7 @@ use Rattle.joint_rule.specs.Joint.{AtHome}
 use Rattle.joint_rule.specs.Rule.{OfOrder, Rule, ShowsOrder, done_by, dones, reach_at}
 use Rattle.joint_rule.specs.Stages.{IsForm}
 use Rattle.joint_rule.specs.Starts.{AtRest}
-use Rattle.joint_rule.specs.Weights.{Backs, Count, FailedReads, FailedWrites, Fixed, FreedPages, HugeWrites, Huges, Limit, News, OutOfRange, PackedBytes, Packs, Refusal, Sames, Weigh, cell_weight, claim_by, compactions, counter, ever_at, fixed, fixed_count, freed_at, freed_by, measure, mosts, news_count, news_counter, news_of, none, noted, on_account, on_entry, on_pool, one, order_news, pages, refusal_count, refusal_counter, refusal_of, refusals, refused_by, stored, told_ahead, told_at}
+use Rattle.joint_rule.specs.Weights.{Backs, Count, FailedReads, FailedWrites, Fixed, FreedPages, HugeWrites, Huges, Limit, News, OutOfRange, PackedBytes, Packs, Refusal, Sames, Weigh, cell_weight, claim_by, compactions, counter, each_one, ever_at, fixed, fixed_count, freed_at, freed_by, loose_pools, measure, mosts, news_count, news_counter, news_of, none, noted, on_account, on_entry, on_pool, one, order_news, pages, refusal_count, refusal_counter, refusal_of, refusals, refused_by, stored, told_ahead, told_at}
 use Rattle.lock_row.specs.Totals.{by_option, locals_sum, row_sum, total}
 use Rattle.lock_row.specs.declared.names.At.{At}
 use Rattle.lock_row.specs.declared.names.At.TheVariants.{Both, Freeing, Giving, Inside, Leaving, Made, Old, Owing, Pinned, Pinning, Ready, Refusing, Seen, Start, Unpinning, Wanting, Sweeping, Moving, Shrunk, Shrinking}
@@ -34,15 +36,16 @@ use Rattle.mem_account.specs.Counters.{Counters, at_most_end}
 use Rattle.mem_account.specs.declared.weight.Weight.{Weight}
 use Rattle.page_steps.specs.Steps.{DiskHeld, Here, spot}
 use Rattle.plain_disk.specs.Calls.{after_all, calls_sum, ever_pooled, kept_as}
+use Rattle.plain_disk.specs.Compactions.{IsLeast, pooled_pages, with_free}
 use Rattle.plain_disk.specs.Ends.{compacted}
-use Rattle.plain_disk.specs.Forms.{of_class}
+use Rattle.plain_disk.specs.Forms.{is_pooled, of_class}
 use Rattle.plain_disk.specs.Phases.{IsMost, begun, bounds, held_after, nth_order, phase_sum, reach}
 use Rattle.plain_disk.specs.Rests.{AreUsed, Rest, frames_of, kept_at, kept_pages, page_of}
 use Rattle.size_class.specs.Classes.{chain_of, per_of, stands_of}
 use Rattle.slot_entry.specs.Entries.{EntryState, weight_of}
 use Rattle.slot_entry.specs.Forms.{Blank, PageForm, Pooled, Word, class_for, form_weight, object_class, page_weight}
 use Rattle.slot_entry.specs.declared.kept.Kept.{Kept}
-use Rattle.std.proofs.lemmas.Bool.{and_from, cases_eq, cases_lt, eq-eqb, ne_eqb}
+use Rattle.std.proofs.lemmas.Bool.{and_from, cases_Bool, cases_eq, cases_lt, eq-eqb, ne_eqb}
 use Rattle.std.proofs.lemmas.List.{length-map}
 use Rattle.std.proofs.lemmas.List.FromFn.{get_or-map-range_with_len, length-map-range_with_len}
 use Rattle.std.proofs.lemmas.List.Sums.{count_by-le-length, sum_by-append, sum_by-cons}
@@ -75,69 +78,17 @@ dones_are : (f : Op → OpEnd → ℕ) (ls : List Here) → dones_sum f (histori
 dones_are f [] = refl
 dones_are f (l ∷ ls) = let r = dones_are f ls in omega arith
 
+lone_history : (ls : List Here) (done : List Done) → histories ls ≡ done ∷ []
+    → (l : Here) × (ls ≡ l ∷ []) × (l.done ≡ done)
+lone_history [] done e = absurd (cc)
+lone_history (l ∷ []) done e = (l, refl, (let q : l.done ≡ done = cc in q))
+lone_history (l ∷ l' ∷ ls) done e = absurd (cc)
+
 locals_same : (f h : Here → ℕ) (ls : List Here) → ((a : ℕ) (l : Here) → slice_get ls a ≡ Some l
     → f l ≡ h l) → locals_sum f ls ≡ locals_sum h ls
 locals_same f h [] e = refl
 locals_same f h (l ∷ ls) e = let r = locals_same f h ls (λ a. e (suc a)) in let q = e 0 l refl in
     omega arith
-
--- ---- zspages
-
-each_used : (chain class : ℕ) (p : PoolState) → p.per ≡ per_of chain class
-    → (zs : List (Option Cells))
-    → ((k : ℕ) (cells : Cells) → entry zs k ≡ Some cells → 1 ≤ used_of cells)
-    → ((k : ℕ) (cells : Cells) → entry zs k ≡ Some cells → length cells ≡ p.per)
-    → AllByRecursion (λ n. (1 ≤ n) × (n ≤ per_of chain class)) (used_each zs)
-each_used chain class p per [] filled whole = tt
-each_used chain class p per (None ∷ zs) filled whole = each_used chain class p per zs
-    (λ k. filled (suc k)) (λ k. whole (suc k))
-each_used chain class p per (Some cells ∷ zs) filled whole = (
-  (
-    filled 0 cells refl,
-    (let l = count_by-le-length is_some cells in let w = whole 0 cells refl in
-        omega arith),
-  ),
-  each_used chain class p per zs (λ k. filled (suc k)) (λ k. whole (suc k)),
-)
-
-ones_are : (f : UsedCell → ℕ) → ((u : UsedCell) → f u ≡ 1) → (cells : Cells)
-    → sum_by f (used_cells_in cells) ≡ used_of cells
-ones_are f e [] = refl
-ones_are f e (None ∷ cells) = omega (
-  arith,
-  ones_are f e cells,
-  sum_by-cons {X = Option UsedCell} one_of None cells,
-)
-ones_are f e (Some u ∷ cells) =
-    omega (
-      arith,
-      ones_are f e cells,
-      sum_by-cons f u (used_cells_in cells),
-      e u,
-      sum_by-cons one_of (Some u) cells,
-    )
-
-used_sum : (f : UsedCell → ℕ) → ((u : UsedCell) → f u ≡ 1) → (zs : List (Option Cells))
-    → sum_by (λ n. n) (used_each zs) ≡ sum_by f (used_cells zs)
-used_sum f e [] = refl
-used_sum f e (None ∷ zs) = used_sum f e zs
-used_sum f e (Some cells ∷ zs) =
-    omega (
-      arith,
-      used_sum f e zs,
-      sum_by-append f (used_cells_in cells) (used_cells zs),
-      ones_are f e cells,
-      sum_by-cons (λ n. n) (used_of cells) (used_each zs),
-    )
-
-used_length : (zs : List (Option Cells)) → length (used_each zs) ≡ used_of zs
-used_length [] = refl
-used_length (None ∷ zs) = omega (
-  arith,
-  used_length zs,
-  sum_by-cons {X = Option Cells} one_of None zs,
-)
-used_length (Some cells ∷ zs) = omega (arith, used_length zs, sum_by-cons one_of (Some cells) zs)
 
 -- ---- kept forms
 
@@ -178,6 +129,15 @@ module _ (chain : ℕ) where
   claim_class k (Pooled bytes huge) (kept.Same w) b i = absurd i
   claim_class k (Pooled bytes huge) (kept.Obj o) b i = ap
       (λ (c : ℕ). cond {A = ℕ} (eqb c k) 1 0) i.0 ∙ of_pooled k bytes huge
+
+-- 1 for a page in the pool
+abbrev pooled_one : Weight → ℕ
+pooled_one w = cond (is_pooled w) 1 0
+
+claim_one : (k : Kept) (b : List ℕ) → claim_by each_one k b ≡ pooled_one (weight_of k)
+claim_one kept.Empty b = refl
+claim_one (kept.Same w) b = refl
+claim_one (kept.Obj o) b = elim (cases_Bool o.huge) [ inl on ↦ rw on refl | inr off ↦ rw off refl ]
 
 bytes_same : (f h : ℕ → List ℕ) (a n : ℕ) → ((s : ℕ) → a ≤ s → s < a + n → f s ≡ h s)
     → flat_map f (range_with_len a n) ≡ flat_map h (range_with_len a n)
@@ -449,14 +409,20 @@ module _ (r : Rest) (actors : List (List Op)) (ok : Known (begin_at r actors)) (
               (used_cells (pools j lt').0.zspages))
         ]
 
+  per_is : (k : ℕ) (lt : k < 255) → (pools k lt).0.per ≡ per_of r.set.chain k
+  per_is k lt = (pools k lt).2.sound.1.per ∙ ap (per_of r.set.chain) (class_of_pool k lt)
+
+  all_used : (k : ℕ) (lt : k < 255) → AllByRecursion (λ n. (1 ≤ n) × (n ≤ per_of r.set.chain k))
+      (m.used k)
+  all_used k lt =
+      let pool = (pools k lt).2.sound.1.pool in
+      subst (λ (x : ℕ × List ℕ). AllByRecursion (λ n. (1 ≤ n) × (n ≤ x.0)) x.1)
+      (λ i. (per_is k lt i, sym (used_is k lt) i))
+      (each_used (pools k lt).0.per (pools k lt).0.zspages pool.filled pool.whole)
+
   used_right : AreUsed r.set.chain (kept_pages page_weight m) m.used
-  used_right k lt =
-      let f = (pools k lt).2.sound.1 in record {
-        each = subst (λ (us : List ℕ). AllByRecursion (λ n. (1 ≤ n)
-            × (n ≤ per_of r.set.chain k)) us) (sym (used_is k lt))
-            (each_used r.set.chain k (pools k lt).0 (f.per
-            ∙ ap (per_of r.set.chain) (class_of_pool k lt))
-            (pools k lt).0.zspages f.pool.filled f.pool.whole);
+  used_right k lt = record {
+        each = all_used k lt;
         all = sym (lone_pool k lt) ∙ sym (rest.owners (of_kind g.chain k))
             ∙ slots_sum (λ p x order. claim_by (of_kind g.chain k) x (image g p order))
             (λ p. of_class r.set.chain k (kept_at page_weight m p))
@@ -556,6 +522,55 @@ module _ (r : Rest) (actors : List (List Op)) (ok : Known (begin_at r actors)) (
   count_is : (q : Count) → counter q c ≡ sum_by (measure q) (kept_pages page_weight m)
   count_is q = sym (account_weighs (counter q)) ∙ rest.counts q ∙ kept_sum (measure q)
 
+  -- ---- compactions of a phase's only actor
+
+  pool_there : (k : ℕ) (lt : k < 255)
+      → slice_get row (size + k) ≡ Some (Some (holds.Class (pools k lt).0))
+  pool_there k lt =
+      let v = rest.whole (size + k) (let e = rest.size in omega arith) in
+      let q : v.0 ≡ holds.Class (pools k lt).0 = (let z : Some v.0
+      ≡ Some (holds.Class (pools k lt).0) = sym (get_or_from_slice_get row (size + k)
+      (Some v.0) None v.1) ∙ (pools k lt).1 in cc) in
+      v.1 ∙ ap (λ (x : DiskHeld). Some (Some x)) q
+
+  -- where no pool is loose, each class has few zspages
+  class_least : total (spot size) loose_pools none w ≡ 0 → (k : ℕ) → k < 255
+      → IsLeast (per_of r.set.chain k) (m.used k)
+  class_least none_loose k lt =
+      let p = (pools k lt).0 in
+      let z = left_over loose_pools none (λ a l e. refl) in
+      let le = row_le size loose_pools row (size + k) (Some (holds.Class p)) (pool_there k lt) in
+      let free : with_free (per_of r.set.chain k) (m.used k) ≤ 1 =
+      subst (λ (x : ℕ × List ℕ). with_free x.0 x.1 ≤ 1) (λ i. (per_is k lt i, sym (used_is k lt) i))
+      (free_most p.per (used_each p.zspages) (omega arith)) in
+      let some = some_cell g.chain p (pools k lt).2.sound.1 in let e = per_is k lt in
+      record {
+        free = free;
+        least = tight_least (per_of r.set.chain k) (m.used k) (all_used k lt) (omega arith) free;
+      }
+
+  -- there are as many objects as pages in the pool
+  objects_are : total (spot size) (stored each_one) none w ≡ pooled_pages page_weight m
+  objects_are = left_over (stored each_one) none (λ a l e. refl) ∙ sym (rest.owners each_one)
+      ∙ slots_sum (λ p k order. claim_by each_one k (image g p order))
+      (λ p. pooled_one (kept_at page_weight m p))
+      (λ p lt. claim_one (entries p lt).0.kept (image g p (entries p lt).0.order)
+      ∙ ap pooled_one (weight_is p lt))
+      ∙ sym (range_map pooled_one (kept_at page_weight m) 0 size)
+
+  alone_is : (done : List Done) → histories w.locals ≡ done ∷ []
+      → IsAloneOver page_weight r done m
+  alone_is done is =
+      let l = lone_history w.locals done is in
+      let who : slice_get w.locals 0 ≡ Some l.0 = ap (λ (ls : List Here). slice_get ls 0) l.1 in
+      let o = rule.alone l.0 l.1 in
+      let c = o.calm (ap (λ (ps : List Part). is_calm ps l.0.at) (over g w rule fin 0 l.0 who)) in
+      subst (λ (ds : List Done). IsAloneOver page_weight r ds m) l.2 (record {
+        idle = o.idle;
+        least = λ t. class_least (c.tight t);
+        few = let e = objects_are in let z = c.few in omega arith;
+      })
+
   pub tallies : Tallies page_weight r actors (histories w.locals) orders c m
   tallies = record {
     pages = record {
@@ -584,4 +599,5 @@ module _ (r : Rest) (actors : List (List Op)) (ok : Known (begin_at r actors)) (
     failed_writes = refusals_are FailedWrites;
     invalid_io = refusals_are OutOfRange;
     notify_free = news_are FreedPages;
+    alone = alone_is;
   }

@@ -1,22 +1,24 @@
 -- The givings of an actor, by what they do to sums over pools.
-use Rattle.std.proofs.Common.{◌≡◌, ◌∷◌, ◌∙◌, ◌==◌, ℕ, Bool, true, false, List, [], Option, Some, None, refl, ap, subst}
+use Rattle.std.proofs.Common.{◌≡◌, ◌∷◌, ◌∙◌, ◌==◌, ◌⊎◌, ℕ, suc, Bool, true, false, List, [], Option, Some, None, refl, ap, subst}
 use Rattle.call_history.specs.Shows.{got_from, tag_by}
 use Rattle.call_history.specs.declared.part.Part.{Part}
 use Rattle.call_history.specs.declared.part.PartEnd.{PartEnd}
 use Rattle.call_history.specs.declared.part.PartEnd.TheVariants.{AtLimit, Carried, NoMemory, Whole}
 use Rattle.class_pool.specs.Pool.{PoolState}
+use Rattle.class_pool.specs.Rows.{rows}
 use Rattle.joint_rule.proofs.Facts.{Known}
 use Rattle.joint_rule.proofs.Pools.{Allocates, GivesUp, Shifts, Swaps, adds_weigh, drops_weigh, lends_weigh, moves_weigh, returns_weigh, some_cell}
+use Rattle.joint_rule.proofs.Zspages.{used_with}
 use Rattle.joint_rule.specs.Begins.{Begin, terms}
 use Rattle.joint_rule.specs.Facts.{Facts}
 use Rattle.joint_rule.specs.Joint.{Sound}
-use Rattle.joint_rule.specs.Weights.{HeldAll}
+use Rattle.joint_rule.specs.Weights.{HeldAll, used_each}
 use Rattle.lock_row.specs.declared.names.At.{At}
 use Rattle.lock_row.specs.declared.names.At.TheVariants.{Both, Freeing, Giving, Leaving, Made, Owing, Pinning, Ready, Refusing, Unpinning, Sweeping, Moving, Shrinking}
 use Rattle.lock_row.specs.declared.names.Compaction.{Compaction}
 use Rattle.lock_row.specs.declared.names.Pin.{Pin}
 use Rattle.mem_account.specs.Counters.{Counters, IsPastLimit, IsWithinLimit, charged, counted}
-use Rattle.page_steps.specs.Compactions.{Compacts, compaction_at, moved_at, repaid, resting_by, with_frames, with_move, with_next}
+use Rattle.page_steps.specs.Compactions.{Compacts, MovesOne, budget_in, compaction_at, moved_at, repaid, resting_by, with_frames, with_move, with_next}
 use Rattle.page_steps.specs.Givings.{Notes, Works, kept_by, old_weight, settled}
 use Rattle.page_steps.specs.Nexts.{emptied, ending_by, failing_by, pin_at, pin_of, slot_by, tail_of}
 use Rattle.page_steps.specs.Pages.{next_form, page_in, page_in_cell}
@@ -25,6 +27,7 @@ use Rattle.page_steps.specs.Steps.{DiskHeld, Here, entry_in, on, piece_over, pin
 use Rattle.slot_entry.specs.Entries.{EntryState, weight_of}
 use Rattle.slot_entry.specs.Forms.{Pooled, form_weight, object_class}
 use Rattle.slot_entry.specs.declared.kept.Stored.{Stored}
+use Rattle.zs_plan.specs.Plan.{HasNoPlan}
 use Rattle.zspage.specs.Cells.{CellState, IsStored, UsedCell}
 use Rattle.lock_row.specs.declared.names.LockNo.TheVariants as lock
 use Rattle.lock_row.specs.declared.names.Held.TheVariants as holds
@@ -49,6 +52,10 @@ pub record FreesPinned (pin : Option Pin) (p q : PoolState) (handle frames : ℕ
   pub named : object.handle ≡ handle
   pub home : object.out ≡ false
 
+-- as many objects of the class have moved as may, or there is no plan
+abbrev pub IsStuck : Compaction → PoolState → Type 0
+IsStuck x q = (budget_in x q ≡ 0) ⊎ HasNoPlan q.per (rows q.zspages)
+
 -- The giving of the value v, after which the local is m.
 pub data Event (g : Begin) (l : Here) (v : DiskHeld) (m : Here) : Type 0 where
   refuses : (p : Part) (rest : List Part) (c : Counters) → l.todo ≡ p ∷ rest → l.at ≡ Refusing
@@ -60,7 +67,7 @@ pub data Event (g : Begin) (l : Here) (v : DiskHeld) (m : Here) : Type 0 where
       → l.held ≡ (lock.Class o.class, holds.Class q) ∷ (slot p.page, holds.Slot e) ∷ []
       → e.kept ≡ kept.Obj o → Swaps q q' u u' → u.handle ≡ o.handle.0 → u.out ≡ false
       → u'.out ≡ true → u.cell ≡ cell → IsStored o.handle.0 u.bytes cell
-      → v ≡ holds.Class q'
+      → used_each q'.zspages ≡ used_each q.zspages → v ≡ holds.Class q'
       → m ≡ on l (pinned_at p.op (next_form p (Some (page_in_cell o cell)) e.kept) e.kept)
       ((slot p.page, holds.Slot e) ∷ []) l.fresh (Some (pin_of o cell)) l.owed l.ahead l.behind
       (Some (page_in_cell o cell)) l.fail
@@ -69,7 +76,7 @@ pub data Event (g : Begin) (l : Here) (v : DiskHeld) (m : Here) : Type 0 where
       (u u' : UsedCell) → l.todo ≡ p ∷ rest → l.at ≡ Unpinning
       → l.held ≡ (lock.Class o.class, holds.Class q) ∷ (slot p.page, holds.Slot e) ∷ []
       → e.kept ≡ kept.Obj o → Swaps q q' u u' → u.handle ≡ o.handle.0 → u.out ≡ true
-      → u'.out ≡ false → v ≡ holds.Class q'
+      → u'.out ≡ false → used_each q'.zspages ≡ used_each q.zspages → v ≡ holds.Class q'
       → m ≡ on l Leaving ((slot p.page, holds.Slot e) ∷ []) l.fresh None l.owed l.ahead l.behind
       l.page l.fail
       → Event g l v m
@@ -144,19 +151,21 @@ pub data Event (g : Begin) (l : Here) (v : DiskHeld) (m : Here) : Type 0 where
   moves : (p : Part) (rest : List Part) (x : Compaction) (q q' : PoolState) (u u' : UsedCell)
       (budget frames : ℕ) → l.todo ≡ p ∷ rest → l.at ≡ Moving x
       → l.held ≡ (lock.Class x.class, holds.Class q) ∷ [] → Shifts q q' u u' frames
-      → v ≡ holds.Class q'
+      → budget_in x q ≡ suc budget → MovesOne q q' frames → v ≡ holds.Class q'
       → m ≡ on l (moved_at frames (with_move x budget)) [] l.fresh l.pin frames l.ahead l.behind
       l.page l.fail
       → Event g l v m
   -- it moves nothing, and goes on to the next class
   sweeps : (p : Part) (rest : List Part) (x : Compaction) (q : PoolState) → l.todo ≡ p ∷ rest
-      → l.at ≡ Moving x → l.held ≡ (lock.Class x.class, holds.Class q) ∷ [] → v ≡ holds.Class q
+      → l.at ≡ Moving x → l.held ≡ (lock.Class x.class, holds.Class q) ∷ [] → IsStuck x q
+      → (x.class == 254) ≡ false → v ≡ holds.Class q
       → m ≡ on l (Sweeping (with_next g.chain x)) [] l.fresh l.pin l.owed l.ahead l.behind l.page
       l.fail
       → Event g l v m
   -- or there is none
   closes : (p : Part) (rest : List Part) (x : Compaction) (q : PoolState) → l.todo ≡ p ∷ rest
-      → l.at ≡ Moving x → l.held ≡ (lock.Class x.class, holds.Class q) ∷ [] → v ≡ holds.Class q
+      → l.at ≡ Moving x → l.held ≡ (lock.Class x.class, holds.Class q) ∷ [] → IsStuck x q
+      → (x.class == 254) ≡ true → v ≡ holds.Class q
       → m ≡ piece_over l p (Whole (ends.Compacted x.moves x.frames)) [] rest → Event g l v m
   -- it gives frames back
   shrinks : (p : Part) (rest : List Part) (x : Compaction) (c : Counters) → l.todo ≡ p ∷ rest
@@ -192,22 +201,25 @@ module _ (g : Begin) (ok : Known g) (l : Here) (sound : HeldAll g.given.size (So
     (v : DiskHeld) (m : Here) where
   -- a class has nothing to move
   rest_of : (p : Part) (rest : List Part) (x : Compaction) (q : PoolState) → l.todo ≡ p ∷ rest
-      → l.at ≡ Moving x → l.held ≡ (lock.Class x.class, holds.Class q) ∷ [] → v ≡ holds.Class q
-      → (last : Bool) → m ≡ resting_by g.chain x last l v → Event g l v m
-  rest_of p rest x q todo at held v_is true m_is = closes p rest x q todo at held v_is
+      → l.at ≡ Moving x → l.held ≡ (lock.Class x.class, holds.Class q) ∷ [] → IsStuck x q
+      → v ≡ holds.Class q → (last : Bool) → (x.class == 254) ≡ last
+      → m ≡ resting_by g.chain x last l v → Event g l v m
+  rest_of p rest x q todo at held stuck v_is true last m_is =
+      closes p rest x q todo at held stuck last v_is
       (m_is ∙ ap (ending_by l (Whole (ends.Compacted x.moves x.frames)) (λ q. [])) todo)
-  rest_of p rest x q todo at held v_is false m_is = sweeps p rest x q todo at held v_is
+  rest_of p rest x q todo at held stuck v_is false other m_is =
+      sweeps p rest x q todo at held stuck other v_is
       (m_is ∙ (λ i. on l (Sweeping (with_next g.chain x)) (tail_of (held i)) l.fresh l.pin l.owed
       l.ahead l.behind l.page l.fail))
 
   compact_of : Compacts (terms g) l v m → Event g l v m
   compact_of (compact.moves p rest x q q' budget frames todo at held some d v_is m_is) =
       moves p rest x q q' d.move.object _ budget frames todo at held
-      (moves_weigh ok.facts q q' frames d) v_is
+      (moves_weigh ok.facts q q' frames d) some d v_is
       (m_is ∙ (λ i. on l (moved_at frames (with_move (compaction_at (at i)) budget))
       (tail_of (held i)) l.fresh l.pin frames l.ahead l.behind l.page l.fail))
   compact_of (compact.rests p rest x q todo at held nothing v_is m_is) =
-      rest_of p rest x q todo at held v_is (x.class == 254)
+      rest_of p rest x q todo at held nothing v_is (x.class == 254) refl
       (m_is ∙ ap (λ (s : At). resting_by g.chain (compaction_at s) ((compaction_at s).class == 254) l
       v) at)
   compact_of (compact.shrinks p rest x c todo at held v_is m_is) =
@@ -222,13 +234,17 @@ module _ (g : Begin) (ok : Known g) (l : Here) (sound : HeldAll g.given.size (So
       (m_is ∙ ap (ending_by l (Whole ends.Range) (λ q. [])) todo)
   event_of (work.pins p rest e o q q' cell todo at held is d v_is m_is) =
       pins p rest e o q q' d.object (record d.object { out = true }) cell todo at held is
-      (lends_weigh ok.facts q q' o.handle.0 cell d) d.place.handle_is d.home refl d.is d.stored v_is
+      (lends_weigh ok.facts q q' o.handle.0 cell d) d.place.handle_is d.home refl d.is d.stored
+      (used_with q q' o.handle.0 d.id d.ix d.cells d.object (record d.object { out = true }) d.place
+      d.after) v_is
       (m_is ∙ (λ i. on l (pin_at (todo i) (page_in_cell o cell) (entry_in (held i)).kept)
       (tail_of (held i)) l.fresh (Some (pin_of o cell)) l.owed l.ahead l.behind
       (Some (page_in_cell o cell)) l.fail))
   event_of (work.unpins p rest e o q q' todo at held is d v_is m_is) =
       unpins p rest e o q q' d.object (record d.object { out = false }) todo at held is
-      (returns_weigh ok.facts q q' o.handle.0 d) d.place.handle_is d.lent refl v_is
+      (returns_weigh ok.facts q q' o.handle.0 d) d.place.handle_is d.lent refl
+      (used_with q q' o.handle.0 d.id d.ix d.cells d.object (record d.object { out = false }) d.place
+      d.after) v_is
       (m_is ∙ (λ i. on l Leaving (tail_of (held i)) l.fresh None l.owed l.ahead l.behind l.page
       l.fail))
   event_of (work.charges p rest e c q q' cl h need bytes huge todo at held form class within a v_is

@@ -7,13 +7,14 @@ use Rattle.call_history.specs.declared.part.PartEnd.{PartEnd}
 use Rattle.class_pool.specs.Pool.{IsAtHome, IsLent, PoolState, objects, used_cells}
 use Rattle.joint_rule.proofs.Balances.{counted_count, same_repaid}
 use Rattle.joint_rule.proofs.Bounds.{bounded, scaled, times_both, times_le, total_scaled}
+use Rattle.joint_rule.proofs.Classes.{stands_high}
 use Rattle.joint_rule.proofs.Facts.{Known}
 use Rattle.joint_rule.proofs.Gets.{at_home, count_locals, few_objects, is_lower, low_at, some_use, total_low}
 use Rattle.joint_rule.proofs.Gifts.{all, is_named, next_small, old_is, stage}
 use Rattle.joint_rule.proofs.Keeps.{take_keeps}
 use Rattle.joint_rule.proofs.Lookups.{can_repay, has_counted, none_weight, object_is, pin_out}
 use Rattle.joint_rule.proofs.Pages.{content_page, ever_one, form_low, form_next, image_form, image_len}
-use Rattle.joint_rule.proofs.Pools.{bit, chain_low, same_pin_is}
+use Rattle.joint_rule.proofs.Pools.{bit, chain_low, ones, same_pin_is}
 use Rattle.joint_rule.proofs.Rests.{no_held}
 use Rattle.joint_rule.proofs.Stages.{OnDisk, old_low, on_disk, write_changes}
 use Rattle.joint_rule.proofs.Sums.{get_here, gone, locals_le, locals_mono, row_le, total_mono, total_split}
@@ -41,7 +42,7 @@ use Rattle.page_steps.specs.Givings.{old_weight}
 use Rattle.page_steps.specs.Pages.{new_class, next_form, page_in}
 use Rattle.page_steps.specs.Steps.{DiskHeld, Here, class_by, entry_in, lock_of, on, plan, plan_at, plan_by, slot, spot, start_plan, took}
 use Rattle.plain_disk.specs.Ends.{is_single}
-use Rattle.size_class.specs.Classes.{class_size, shares_next, stands_below}
+use Rattle.size_class.specs.Classes.{class_size}
 use Rattle.slot_entry.specs.Entries.{EntryState, weight_of}
 use Rattle.slot_entry.specs.Forms.{Blank, PageForm, Pooled, Word, class_for, class_in, form_of, form_weight, object_class}
 use Rattle.slot_entry.specs.declared.kept.Kept.{Kept}
@@ -103,20 +104,7 @@ count_le f (x ∷ xs) zero u d lt e = let s = sum_by-cons f x xs in let q : f x 
 count_le f (x ∷ xs) (suc i) u d lt e = let s = sum_by-cons f x xs in
     let r = count_le f xs i u d (omega arith) e in omega arith
 
-ones : (us : List UsedCell) (f : UsedCell → ℕ) → ((u : UsedCell) → f u ≡ 1)
-    → sum_by f us ≡ length us
-ones [] f e = refl
-ones (u ∷ us) f e = let s = sum_by-cons f u us in let r = ones us f e in let q = e u in omega arith
-
 -- ---- classes
-
-stands_high : (m d : ℕ) → d ≤ 254 → 254 ≤ stands_below m d + d
-unfolding stands_below
-stands_high m zero le = omega arith
-stands_high m (suc d) le = elim (cases_Bool (shares_next m (253 - d))) [
-  | inl on ↦ rw on (let r = stands_high m d (omega arith) in omega arith)
-  | inr off ↦ rw off (omega arith)
-]
 
 packed_fits : (chain len : ℕ) → len ≤ 3256 → len + 8 ≤ class_size (class_for chain len)
 unfolding class_for

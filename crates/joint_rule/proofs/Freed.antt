@@ -205,10 +205,10 @@ module _ (g : Begin) (ok : Known g) (w : State DiskHeld) (j : Joint g w) (a : �
 
   pub frees_of : Event g l v m → Frees v m
   frees_of (event.pins p rest e o x x' u u' cell todo at held is sw named_u free outside is_cell
-      in_cell v_is m_is) =
+      in_cell lk v_is m_is) =
       same_frees _ _ v_is m_is (stays_so Pinning _ at (freed_pinned p.op _ e.kept)
       (let r = ap (held_sum (spot n) compactions) held in omega arith))
-  frees_of (event.unpins p rest e o x x' u u' todo at held is sw named_u outside free v_is m_is) =
+  frees_of (event.unpins p rest e o x x' u u' todo at held is sw named_u outside free lk v_is m_is) =
       same_frees _ _ v_is m_is (stays_so Unpinning _ at refl
       (let r = ap (held_sum (spot n) compactions) held in omega arith))
   frees_of (event.charges p rest e c x x' cl h need bytes huge todo at held is_form is_class within al
@@ -249,13 +249,13 @@ module _ (g : Begin) (ok : Known g) (w : State DiskHeld) (j : Joint g w) (a : �
       same_frees _ _ v_is m_is (ends_so p rest x [] todo Leaving at refl
       (refusal_frees g p p.op x (subst (FailBy g p p.op) bad st.fails))
       (let r = ap (held_sum (spot n) compactions) held in omega arith))
-  frees_of (event.moves p rest x y y' u u' budget frames todo at held sh v_is m_is) =
+  frees_of (event.moves p rest x y y' u u' budget frames todo at held sh some one v_is m_is) =
       same_frees _ _ v_is m_is (stays_so (Moving x) _ at (freed_moved frames (with_move x budget))
       (let r = ap (held_sum (spot n) compactions) held in omega arith))
-  frees_of (event.sweeps p rest x y todo at held v_is m_is) =
+  frees_of (event.sweeps p rest x y todo at held stuck other v_is m_is) =
       same_frees _ _ v_is m_is (stays_so (Moving x) _ at refl
       (let r = ap (held_sum (spot n) compactions) held in omega arith))
-  frees_of (event.closes p rest x y todo at held v_is m_is) =
+  frees_of (event.closes p rest x y todo at held stuck last v_is m_is) =
       same_frees _ _ v_is m_is (still_so _ _
       (over_told p (Whole (ends.Compacted x.moves x.frames)) [] rest
       ∙ ap (λ (i : ℕ). done_sum compacted l.done + i) (sym (at_work p rest todo (Moving x) at)))

@@ -58,12 +58,12 @@ module _ (g : Begin) (ok : Known g) (w : State DiskHeld) (j : Joint g w) (a : â„
       at_lock _ lock.Account _ (given_lock lock.Account (event_is p rest _ Refusing todo held at))
       v_is m_is (give_refuses g ok w j a l who p rest todo c at held)
   gift (event.pins p rest e o q q' u u' cell todo at held is sw named_u free taken is_cell in_cell
-      v_is m_is) =
+      lk v_is m_is) =
       at_lock _ (lock.Class o.class) _ (old_lock e.kept o is
       (event_is p rest _ Pinning todo held at)) v_is m_is
       (give_pins g ok w j a l who p rest todo e o q held is q' u u' sw named_u cell at free
       taken is_cell in_cell)
-  gift (event.unpins p rest e o q q' u u' todo at held is sw named_u taken free v_is m_is) =
+  gift (event.unpins p rest e o q q' u u' todo at held is sw named_u taken free lk v_is m_is) =
       at_lock _ (lock.Class o.class) _ (old_lock e.kept o is
       (event_is p rest _ Unpinning todo held at)) v_is m_is
       (give_unpins g ok w j a l who p rest todo e o q held is q' u u' sw named_u at taken free)
@@ -105,15 +105,15 @@ module _ (g : Begin) (ok : Known g) (w : State DiskHeld) (j : Joint g w) (a : â„
   gift (event.fails p rest e x todo at held bad v_is m_is) =
       at_lock _ (slot p.page) _ (given_lock (slot p.page) (event_is p rest _ Leaving todo held at))
       v_is m_is (give_fails g ok w j a l who p rest todo e e held at x bad)
-  gift (event.moves p rest x q q' u u' budget frames todo at held sh v_is m_is) =
+  gift (event.moves p rest x q q' u u' budget frames todo at held sh some one v_is m_is) =
       at_lock _ (lock.Class x.class) _ (given_lock (lock.Class x.class)
       (event_is p rest _ (Moving x) todo held at)) v_is m_is
       (give_moves g ok w j a l who p rest todo x q at held q' u u' frames sh budget)
-  gift (event.sweeps p rest x q todo at held v_is m_is) =
+  gift (event.sweeps p rest x q todo at held stuck other v_is m_is) =
       at_lock _ (lock.Class x.class) _ (given_lock (lock.Class x.class)
       (event_is p rest _ (Moving x) todo held at)) v_is m_is
       (give_sweeps g ok w j a l who p rest todo x q at held)
-  gift (event.closes p rest x q todo at held v_is m_is) =
+  gift (event.closes p rest x q todo at held stuck last v_is m_is) =
       at_lock _ (lock.Class x.class) _ (given_lock (lock.Class x.class)
       (event_is p rest _ (Moving x) todo held at)) v_is m_is
       (give_closes g ok w j a l who p rest todo x q at held)

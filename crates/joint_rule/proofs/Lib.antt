@@ -5,6 +5,9 @@ pub mod Pools
 pub mod Lookups
 pub mod Stages
 pub mod Takes
+pub mod Zspages
+pub mod Classes
+pub mod Calm
 pub mod Events
 pub mod Balances
 pub mod Gifts
@@ -17,6 +20,8 @@ pub mod Tells
 pub mod Counts
 pub mod Freed
 pub mod News
+pub mod Sweeps
+pub mod Alone
 pub mod Turns
 pub mod Starts
 pub mod Gets

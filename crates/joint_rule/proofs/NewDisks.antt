@@ -3,7 +3,7 @@ use Rattle.std.proofs.Common.{◌≡◌, ◌+◌, ◌*◌, ◌<◌, ◌∙◌, �
 use Rattle.class_pool.specs.Pool.{IsPool, PoolState, used_cells}
 use Rattle.class_pool.specs.Zspages.{Cells, use_at}
 use Rattle.joint_rule.proofs.Lookups.{nothing_shown}
-use Rattle.joint_rule.proofs.Starts.{row_none}
+use Rattle.joint_rule.proofs.Sums.{row_none}
 use Rattle.joint_rule.specs.Begins.{AreCarried, Begin, content, form_at, form_by, found_after, image}
 use Rattle.joint_rule.specs.Joint.{AtHome}
 use Rattle.joint_rule.specs.Stages.{IsForm, IsSmall}

@@ -399,12 +399,12 @@ module _ (g : Begin) (ok : Known g) (w : State DiskHeld) (j : Joint g w) (a : â„
         (let x = ap (held_sum (spot n) (news_counter q)) held in let s = same_invalid q c in
         omega arith))
     news_gives q (event.pins p rest e o x x' u u' cell todo at held is sw named_u free outside
-        is_cell in_cell v_is m_is) = same_news q _ _ v_is m_is
+        is_cell in_cell lk v_is m_is) = same_news q _ _ v_is m_is
         (quietly q _ _ (let y = ap (held_sum (spot n) (noted g q)) held in
         let z = silent q Pinning at refl in let r = told_pinned q p.op
         (next_form p (Some (page_in_cell o cell)) e.kept) e.kept l.todo l.ahead in
         omega arith) (let y = ap (held_sum (spot n) (news_counter q)) held in omega arith))
-    news_gives q (event.unpins p rest e o x x' u u' todo at held is sw named_u outside free v_is
+    news_gives q (event.unpins p rest e o x x' u u' todo at held is sw named_u outside free lk v_is
         m_is) = same_news q _ _ v_is m_is (quietly q _ _
         (let y = ap (held_sum (spot n) (noted g q)) held in let z = silent q Unpinning at refl in
         omega arith) (let y = ap (held_sum (spot n) (news_counter q)) held in omega arith))
@@ -460,16 +460,16 @@ module _ (g : Begin) (ok : Known g) (w : State DiskHeld) (j : Joint g w) (a : â„
         same_news q _ _ v_is m_is (back_news p rest todo e e held at q x []
         (sym (given_lock g ok w j a l who k v m what (slot p.page)
         (event_is g ok w j a l who k v m what p rest _ Leaving todo held at))) refl)
-    news_gives q (event.moves p rest x y y' u u' budget frames todo at held sh v_is m_is) =
+    news_gives q (event.moves p rest x y y' u u' budget frames todo at held sh some one v_is m_is) =
         same_news q _ _ v_is m_is (quietly q _ _ (let z = ap (held_sum (spot n) (noted g q)) held in
         let s = silent q (Moving x) at refl in let r = told_moved q frames (with_move x budget)
         l.todo l.ahead in omega arith)
         (let z = ap (held_sum (spot n) (news_counter q)) held in omega arith))
-    news_gives q (event.sweeps p rest x y todo at held v_is m_is) =
+    news_gives q (event.sweeps p rest x y todo at held stuck other v_is m_is) =
         same_news q _ _ v_is m_is (quietly q _ _ (let z = ap (held_sum (spot n) (noted g q)) held in
         let s = silent q (Moving x) at refl in omega arith)
         (let z = ap (held_sum (spot n) (news_counter q)) held in omega arith))
-    news_gives q (event.closes p rest x y todo at held v_is m_is) =
+    news_gives q (event.closes p rest x y todo at held stuck last v_is m_is) =
         same_news q _ _ v_is m_is (quietly q _ _ (let z = ap (held_sum (spot n) (noted g q)) held in
         let s = silent q (Moving x) at refl in let r = told_quiet q Start
         (left_by (Whole (ends.Compacted x.moves x.frames)) p.nr rest) in omega arith)

@@ -1,5 +1,5 @@
 -- A pool's used cells by sums, and what each call of a pool does to them.
-use Rattle.std.proofs.Common.{◌≡◌, ◌≢◌, ◌+◌, ◌*◌, ◌≤◌, ◌<◌, ◌∷◌, ◌∙◌, ◌⊎◌, ◌&&◌, ℕ, zero, suc, Bool, true, false, cond, not, eqb, List, [], sum_by, Option, Some, slice_set, refl, sym, ap, arith, inl, inr, ⊎_elim}
+use Rattle.std.proofs.Common.{◌≡◌, ◌≢◌, ◌+◌, ◌*◌, ◌≤◌, ◌<◌, ◌∷◌, ◌∙◌, ◌⊎◌, ◌&&◌, ℕ, zero, suc, Bool, true, false, cond, not, eqb, List, [], length, sum_by, Option, Some, slice_set, refl, sym, ap, arith, inl, inr, ⊎_elim}
 use Rattle.class_pool.specs.Laws.{frames_of}
 use Rattle.class_pool.specs.Pool.{Frees, HasOneMore, IsFresh, IsPlace, IsPool, PoolState, new_use, used_cells, with_cells}
 use Rattle.class_pool.specs.Zspages.{Cells}
@@ -66,6 +66,11 @@ pub sum_zero : (f : UsedCell → ℕ) → ((u : UsedCell) → f u ≡ 0) → (us
 sum_zero f e [] = refl
 sum_zero f e (u ∷ us) = let a = sum_by-cons f u us in let c = e u in let d = sum_zero f e us in
     omega arith
+
+pub ones : (us : List UsedCell) (f : UsedCell → ℕ) → ((u : UsedCell) → f u ≡ 1)
+    → sum_by f us ≡ length us
+ones [] f e = refl
+ones (u ∷ us) f e = let s = sum_by-cons f u us in let r = ones us f e in let q = e u in omega arith
 
 pub same_lists : (xs ys : List ℕ) → same_list xs ys ≡ true → xs ≡ ys
 same_lists [] [] e = refl

@@ -1,21 +1,24 @@
 -- A prepared start has the rule.
 use Rattle.std.proofs.Common.{◌≡◌, ◌≢◌, ◌+◌, ◌≤◌, ◌<◌, ◌∷◌, ◌∙◌, ◌^◌, ℕ, zero, suc, List, [], map, length, Option, Some, None, slice_get, refl, sym, ap, subst, arith}
+use Rattle.call_history.specs.Alone.{AreIdleOver}
 use Rattle.call_history.specs.Parts.{EndsSo, Follows, done_sum, noted_on, ops_of, program}
 use Rattle.call_history.specs.declared.part.Done.{Done}
 use Rattle.call_history.specs.declared.part.Part.{Part}
 use Rattle.call_history.specs.declared.part.PartEnd.{PartEnd}
+use Rattle.joint_rule.proofs.Calm.{no_compaction}
 use Rattle.joint_rule.proofs.Facts.{Known}
 use Rattle.joint_rule.proofs.Freed.{freed_start}
 use Rattle.joint_rule.proofs.Gifts.{start_locks, start_stage}
 use Rattle.joint_rule.proofs.Pages.{content_sector}
-use Rattle.joint_rule.proofs.Sums.{row_nothing}
+use Rattle.joint_rule.proofs.Sums.{row_none, row_nothing}
 use Rattle.joint_rule.proofs.Takes.{IsAccount, account_kind}
+use Rattle.joint_rule.specs.Alone.{IsCalm, compacting}
 use Rattle.joint_rule.specs.Begins.{Begin, ground_of, pieces_each, pieces_on}
 use Rattle.joint_rule.specs.Joint.{AtHome, IsActor, Joint, Sound}
 use Rattle.joint_rule.specs.Rule.{FailKeeps, OfOrder, Rule, ShowsOrder, done_by, dones, owed, owed_by, reach_at}
 use Rattle.joint_rule.specs.Stages.{StageBy, locks_by}
 use Rattle.joint_rule.specs.Starts.{IsStart}
-use Rattle.joint_rule.specs.Weights.{HeldAll, News, Refusal, ahead, at_place, behind, chains, claims, compactions, counters, each_one, ever_at, fixed, fixed_count, freed_at, freed_by, fresh_claim, measure, mosts, news_count, news_counter, none, noted, nothing, object_weight, on_account, order_news, outs, owing, pages, pinned, refusal_count, refusal_counter, refusal_of, refusals, refused_by, same, shown, some_of, stored, told_ahead, told_at}
+use Rattle.joint_rule.specs.Weights.{HeldAll, News, Refusal, ahead, at_place, behind, chains, claims, compactions, counters, each_one, ever_at, fixed, fixed_count, freed_at, freed_by, fresh_claim, loose_pools, measure, mosts, news_count, news_counter, none, noted, nothing, object_weight, on_account, order_news, outs, owing, pages, pinned, refusal_count, refusal_counter, refusal_of, refusals, refused_by, same, shown, some_of, stored, told_ahead, told_at}
 use Rattle.lock_row.specs.Totals.{by_option, held_sum, locals_sum, mass, row_sum, total}
 use Rattle.lock_row.specs.declared.names.At.{At}
 use Rattle.lock_row.specs.declared.names.At.TheVariants.{Start}
@@ -52,13 +55,6 @@ place_least zero (x ∷ xs) v e = let q : x ≡ Some v = cc in
 place_least (suc k) (x ∷ xs) v e = let r = place_least k xs v e in omega arith
 
 -- a row in which one value weighs something
-pub row_none : (f : ℕ → DiskHeld → ℕ) (row : List (Option DiskHeld))
-    → ((i : ℕ) (u : DiskHeld) → slice_get row i ≡ Some (Some u) → f i u ≡ 0) → row_sum f row ≡ 0
-row_none f [] z = refl
-row_none f (None ∷ xs) z = let r = row_none (λ j. f (suc j)) xs (λ i. z (suc i)) in omega arith
-row_none f (Some x ∷ xs) z = let r = row_none (λ j. f (suc j)) xs (λ i. z (suc i)) in
-    let s = z 0 x refl in omega arith
-
 row_lone : (f : ℕ → DiskHeld → ℕ) (row : List (Option DiskHeld)) (k : ℕ) (v : DiskHeld)
     → slice_get row k ≡ Some (Some v)
     → ((i : ℕ) (u : DiskHeld) → slice_get row i ≡ Some (Some u) → i ≢ k → f i u ≡ 0)
@@ -308,4 +304,14 @@ module _ (g : Begin) (ok : Known g) (w : State DiskHeld) (s : IsStart g w) where
           subst (λ (ds : List Done). slice_get ds i ≡ Some d) h.done at in cc);
       now = subst (FailKeeps g (reach_at g w)) (sym h.fail) tt;
     };
+    alone = λ l e.
+        let h = s.actors 0 l (ap (λ (ls : List Here). slice_get ls 0) e) in record {
+          idle = subst (AreIdleOver g.tight) (sym h.done) tt;
+          calm = λ c. subst (IsCalm g w) (sym h.done) (record {
+            tight = λ t. only loose_pools none (λ a l e. refl) ∙ s.tight t;
+            few = omega arith;
+          });
+          sweeps = λ x at. absurd (let q : compacting l.todo l.at ≡ None =
+              ap (compacting l.todo) h.at ∙ no_compaction l.todo in cc);
+        };
   }

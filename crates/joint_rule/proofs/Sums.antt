@@ -247,3 +247,11 @@ module _ (size : ℕ) where
       ≡ locals_sum g ls + locals_sum h ls
   locals_add g h [] = refl
   locals_add g h (l ∷ ls) = let r = locals_add g h ls in omega arith
+
+-- a row of values that weigh nothing
+pub row_none : (f : ℕ → DiskHeld → ℕ) (row : List (Option DiskHeld))
+    → ((i : ℕ) (u : DiskHeld) → slice_get row i ≡ Some (Some u) → f i u ≡ 0) → row_sum f row ≡ 0
+row_none f [] z = refl
+row_none f (None ∷ xs) z = let r = row_none (λ j. f (suc j)) xs (λ i. z (suc i)) in omega arith
+row_none f (Some x ∷ xs) z = let r = row_none (λ j. f (suc j)) xs (λ i. z (suc i)) in
+    let s = z 0 x refl in omega arith

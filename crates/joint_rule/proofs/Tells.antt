@@ -175,9 +175,9 @@ module _ (g : Begin) (ok : Known g) (w : State DiskHeld) (j : Joint g w) (a : 鈩
   tells_of (event.refuses p rest c todo at held v_is m_is) =
       same_tells _ m v_is refl (refused p rest (Whole ends.Range) todo refl (位 h. tt) m_is)
   tells_of (event.pins p rest e o q q' u u' cell todo at held is sw named_u free outside is_cell
-      in_cell v_is m_is) = same_tells _ _ v_is m_is (quiet refl refl
+      in_cell lk v_is m_is) = same_tells _ _ v_is m_is (quiet refl refl
       (位 h. (tt, (subst (HeldAll g.given.size (OfOrder P)) held h).1)))
-  tells_of (event.unpins p rest e o q q' u u' todo at held is sw named_u outside free v_is m_is) =
+  tells_of (event.unpins p rest e o q q' u u' todo at held is sw named_u outside free lk v_is m_is) =
       same_tells _ _ v_is m_is (quiet refl refl (位 h. (
         tt,
         (subst (HeldAll g.given.size (OfOrder P)) held h).1,
@@ -235,11 +235,11 @@ module _ (g : Begin) (ok : Known g) (w : State DiskHeld) (j : Joint g w) (a : 鈩
       (subst (FailBy g p p.op) bad st.fails)) (位 h.
       subst (位 (c : LockNo). OfOrder P (spot g.given.size c) (holds.Slot e)) k_is
       (subst (HeldAll g.given.size (OfOrder P)) held h).0) m_is)
-  tells_of (event.moves p rest x q q' u u' budget frames todo at held sh v_is m_is) =
+  tells_of (event.moves p rest x q q' u u' budget frames todo at held sh some one v_is m_is) =
       same_tells _ _ v_is m_is (quiet refl refl (位 h. (tt, tt)))
-  tells_of (event.sweeps p rest x q todo at held v_is m_is) =
+  tells_of (event.sweeps p rest x q todo at held stuck other v_is m_is) =
       same_tells _ _ v_is m_is (quiet refl refl (位 h. (tt, tt)))
-  tells_of (event.closes p rest x q todo at held v_is m_is) =
+  tells_of (event.closes p rest x q todo at held stuck last v_is m_is) =
       same_tells _ m v_is refl (refused p rest (Whole (ends.Compacted x.moves x.frames)) todo refl
       (位 h. tt) m_is)
   tells_of (event.shrinks p rest x c todo at held v_is m_is) =

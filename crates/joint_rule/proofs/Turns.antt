@@ -6,6 +6,7 @@ use Rattle.call_history.specs.declared.part.Part.{Part}
 use Rattle.call_history.specs.declared.part.PartEnd.{PartEnd}
 use Rattle.call_history.specs.declared.part.PartEnd.TheVariants.{AtLimit, Carried, NoMemory, Whole}
 use Rattle.class_pool.specs.Pool.{PoolState}
+use Rattle.joint_rule.proofs.Alone.{alone_give, alone_take}
 use Rattle.joint_rule.proofs.Balances.{none_fresh}
 use Rattle.joint_rule.proofs.Bounds.{below, most_give, most_take, risen, times_le}
 use Rattle.joint_rule.proofs.Counts.{refusals_give, refusals_take, refuses_of}
@@ -130,9 +131,10 @@ module _ (g : Begin) (ok : Known g) (w : State DiskHeld) (j : Joint g w) (a : �
       subst (KeepsLimits g c) (sym m_is) (limits_over g (reach_at g w) c up l p
       (Whole ends.Range) [] rest tt h)
   limits_of c up (event.pins p rest e o q q' u u' cell todo at held is sw named_u free taken is_cell
-      in_cell v_is m_is) h = subst (KeepsLimits g c) (sym m_is)
+      in_cell lk v_is m_is) h = subst (KeepsLimits g c) (sym m_is)
       (limits_same g (reach_at g w) c up l _ refl refl h)
-  limits_of c up (event.unpins p rest e o q q' u u' todo at held is sw named_u taken free v_is m_is)
+  limits_of c up (event.unpins p rest e o q q' u u' todo at held is sw named_u taken free lk v_is
+      m_is)
       h = subst (KeepsLimits g c) (sym m_is) (limits_same g (reach_at g w) c up l _ refl refl h)
   limits_of c up (event.charges p rest e x q q' cl hd need bytes huge todo at held is_form is_class
       within al v_is m_is) h = subst (KeepsLimits g c) (sym m_is)
@@ -164,11 +166,11 @@ module _ (g : Begin) (ok : Known g) (w : State DiskHeld) (j : Joint g w) (a : �
   limits_of c up (event.fails p rest e x todo at held bad v_is m_is) h =
       subst (KeepsLimits g c) (sym m_is) (limits_over g (reach_at g w) c up l p x [] rest
       (fail_up g (reach_at g w) c up (Some x) (subst (FailKeeps g (reach_at g w)) bad h.now)) h)
-  limits_of c up (event.moves p rest x q q' u u' budget frames todo at held sh v_is m_is) h =
+  limits_of c up (event.moves p rest x q q' u u' budget frames todo at held sh some one v_is m_is) h =
       subst (KeepsLimits g c) (sym m_is) (limits_same g (reach_at g w) c up l _ refl refl h)
-  limits_of c up (event.sweeps p rest x q todo at held v_is m_is) h =
+  limits_of c up (event.sweeps p rest x q todo at held stuck other v_is m_is) h =
       subst (KeepsLimits g c) (sym m_is) (limits_same g (reach_at g w) c up l _ refl refl h)
-  limits_of c up (event.closes p rest x q todo at held v_is m_is) h =
+  limits_of c up (event.closes p rest x q todo at held stuck last v_is m_is) h =
       subst (KeepsLimits g c) (sym m_is) (limits_over g (reach_at g w) c up l p
       (Whole (ends.Compacted x.moves x.frames)) [] rest tt h)
   limits_of c up (event.shrinks p rest x y todo at held v_is m_is) h =
@@ -198,6 +200,7 @@ module _ (g : Begin) (ok : Known g) (w : State DiskHeld) (r : Rule g w) (a : ℕ
             (omega arith) l m refl refl (r.limits a l who)))
             (λ o. limits_up g (reach_at g w) _ (omega arith) y (r.limits b y o.1))
             (get_set w.locals a b m y l who e);
+        alone = alone_take g ok w r.joint a l who k v what there r.alone;
       }
 
   rule_give : (m : Here) → plan (terms g) l ≡ Give k → slice_get w.row (spot size k) ≡ Some None
@@ -220,6 +223,7 @@ module _ (g : Begin) (ok : Known g) (w : State DiskHeld) (r : Rule g w) (a : ℕ
             (r.limits a l who)))
             (λ o. limits_up g (reach_at g w) _ up y (r.limits b y o.1))
             (get_set w.locals a b m y l who e);
+        alone = alone_give g ok w r.joint a l who k v m what there ev r.alone;
       }
 
 module _ (g : Begin) (ok : Known g) where

@@ -1,6 +1,7 @@
 -- The laws of lower crates on which the joint rule rests.
 use Rattle.std.specs.Prelude.{◌≡◌, ◌≤◌, ℕ, List, length, Bool, true, false}
 use Rattle.class_pool.specs.Laws.{StoringAddsOne, MakingAddsOne, FreeingTakesOne, ChangingSwapsOne, UseIsPart, MovingKeepsAll}
+use Rattle.class_pool.specs.Endings.{SomeMayMove, FewerMayMove, NoneMayMove, RestIsLeast, TightHasNoPlan}
 use Rattle.lock_row.specs.Laws.{TakingKeepsTotal, GivingMovesTotal, SumMoves, IsPartOfSum}
 use Rattle.call_history.specs.Laws.{KeepsItsPage, KeepsOtherPages, GoesOn, NamesItsOp, CountsGrow}
 use Rattle.bdi_page.specs.Packing.{IsPage}
@@ -25,6 +26,11 @@ pub record Facts : Type 0 where
   pub changed : ChangingSwapsOne
   pub among : UseIsPart
   pub moved : MovingKeepsAll
+  pub some_may : SomeMayMove
+  pub fewer_may : FewerMayMove
+  pub none_may : NoneMayMove
+  pub rest_least : RestIsLeast
+  pub tight_rests : TightHasNoPlan
   -- the page that is kept as some bytes is the one
   pub kept_as : (page bytes : List ℕ) (huge : Bool) → IsPage page
       → form_of page ≡ Pooled bytes huge → page_kept_as bytes huge ≡ page

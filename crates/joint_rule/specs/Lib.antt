@@ -2,6 +2,7 @@ pub mod Begins
 pub mod Weights
 pub mod Stages
 pub mod Joint
+pub mod Alone
 pub mod Rule
 pub mod Starts
 pub mod Ends

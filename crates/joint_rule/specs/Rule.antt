@@ -14,6 +14,7 @@ use Rattle.page_steps.specs.Steps.{DiskHeld, Here, spot}
 use Rattle.joint_rule.specs.Begins.{Begin, ground_of, content, pieces_on, pieces_each}
 use Rattle.joint_rule.specs.Weights.{HeldAll, Each, none, one, pages, ever_at, mosts, Refusal, refusal_count, refusal_counter, refusals, compactions, freed_by, News, noted, told_ahead, news_count, news_counter}
 use Rattle.joint_rule.specs.Joint.{Joint}
+use Rattle.joint_rule.specs.Alone.{Alone}
 
 -- ---- orders
 
@@ -116,3 +117,4 @@ pub record Rule (g : Begin) (w : State DiskHeld) : Type 0 where
   pub freed : CountsFreed g w
   pub news : (q : News) → CountsNews g q w
   pub limits : Limits g w
+  pub alone : Alone g w

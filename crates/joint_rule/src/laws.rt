@@ -5,7 +5,7 @@ ghost use Rattle.joint_rule.specs.Facts.{Facts};
 ghost use Rattle.joint_rule.specs.Laws.{StartHasRule, TurnKeepsRule, ReachedHasRule, NobodyWaitsForever, TakesLock, GivesLock, TakenValueFits, ObjectsAreFew, CompactedIsFew, FinishedIsAtRest, FinishedAgrees, FinishedTallies, RestGoesOn, EntryGoesOn, NextIsProper, NewIsAtRest, RequestsAreProper, NewIsProper, NewCountsNothing, NewIsNew};
 
 use call_history::{histories_go_on, pieces_keep};
-use class_pool::{ClassPool, objects_move};
+use class_pool::{ClassPool, compactions_end, objects_move};
 use lock_row::{Held, sums_move, totals_move};
 use mem_account::Account;
 use slot_entry::{Entry, forms_tell_pages, kept_bytes_have_one_page};
@@ -22,6 +22,7 @@ fn lower_laws()
     pieces_keep();
     histories_go_on();
     objects_move();
+    compactions_end();
     kept_bytes_have_one_page();
     forms_tell_pages();
 }
