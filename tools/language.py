@@ -117,10 +117,11 @@ FORMS = [form.split() for form in (
     "write START COUNT hex DIGITS..",
     "read START COUNT",
     "discard START COUNT",
+    "compact",
     "schedule TURN..",
     "run",
 )]
-OPERATIONS = ("write", "read", "discard")
+OPERATIONS = ("write", "read", "discard", "compact")
 REPORTS = ("mm_stat", "io_stat", "states", "classes")
 
 
@@ -183,7 +184,8 @@ def seq_sector(base: int, step: int, index: int) -> bytes:
 
 @dataclass(frozen=True)
 class Op:
-    """An operation: its word, its request, the bytes that it puts into each sector of the request, and its line."""
+    """An operation: its word, its request, the bytes that it puts into each sector of the request, and its line. A
+    compaction is no request: it has no sectors."""
     word: str
     start: int
     count: int
@@ -193,6 +195,11 @@ class Op:
     def pages(self) -> range:
         """The pages on which the request has sectors."""
         return range(self.start // SECTORS, (self.start + self.count - 1) // SECTORS + 1)
+
+
+def request_of(values: dict[str, list[Any]]) -> tuple[int, int]:
+    """The first sector of a request and how many it has."""
+    return (values["START"][0], values["COUNT"][0]) if "START" in values else (0, 0)
 
 
 def stuff_of(values: dict[str, list[Any]]) -> Callable[[int], bytes]:
@@ -305,12 +312,12 @@ class Reader:
         self.phase.actors.append([])
 
     def says_operation(self, values: dict[str, list[Any]], words: list[str]) -> None:
-        """`write`, `read`, `discard`: of the last actor."""
+        """`write`, `read`, `discard`, `compact`: of the last actor."""
         self.want(self.phase is not None, "order", "an operation stands after an `actor`")
         assert self.phase is not None
         self.want(not self.phase.schedule, "order", AFTER_SCHEDULE)
         text = " ".join(words[:4] + [".."] if words[3:4] == ["hex"] else words)
-        op = Op(words[0], values["START"][0], values["COUNT"][0], stuff_of(values), text)
+        op = Op(words[0], *request_of(values), stuff_of(values), text)
         self.use("operations", 1)
         self.use("pieces", len(op.pages()))
         self.use("sectors to read", op.count if op.word == "read" else 0)

@@ -3,7 +3,7 @@
   1. packing: lines, pages, and back
   2. kept forms
   3. size classes
-  4. pools: zspages, objects
+  4. pools: zspages, objects, moves
   5. the account
 
 All values are plain data that no function changes: what an event puts in a value's place is a new value.
@@ -202,7 +202,7 @@ def class_for(length: int) -> int:
     return stands_as(next(number for number in range(LAST_CLASS) if length + HEADER <= size_of(number)))
 
 
-# ---- 4. pools: zspages, objects
+# ---- 4. pools: zspages, objects, moves
 
 class Object(NamedTuple):
     """An object in its cell: its handle, its bytes, and whether the cell is out, for who has it pinned."""
@@ -219,6 +219,10 @@ class Zspage(NamedTuple):
     def used(self) -> int:
         """How many of its cells have an object."""
         return sum(cell is not None for cell in self.cells)
+
+    def lowest_home(self) -> Optional[int]:
+        """The lowest place of an object whose cell isn't out; none where it has no such object."""
+        return next((place for place, cell in enumerate(self.cells) if cell is not None and not cell.is_out), None)
 
     def with_cell(self, place: int, cell: Optional[Object]) -> Zspage:
         """The zspage with another cell at a place."""
@@ -282,6 +286,33 @@ class Pool(NamedTuple):
         """The pool without an object, and the frames that are free by it: those of a zspage whose last one it was."""
         pool = self.with_object(handle, None)
         return pool, self.frames() - pool.frames()
+
+    def plan(self) -> Optional[tuple[Zspage, Zspage]]:
+        """Between which zspages a compaction moves an object: from the emptiest of those with a free cell and an object
+        at home, on a tie that of the greatest id, to the fullest with a free cell, on a tie that of the least id. None
+        where there aren't two such."""
+        partial = [zspage for zspage in self.zspages if zspage.used() < per(self.number)]
+        target = min(partial, key=lambda zspage: (-zspage.used(), zspage.id), default=None)
+        sources = [zspage for zspage in partial if zspage != target and zspage.lowest_home() is not None]
+        source = min(sources, key=lambda zspage: (zspage.used(), -zspage.id), default=None)
+        return (source, target) if source is not None and target is not None else None
+
+    def moved(self) -> Optional[tuple[Pool, int]]:
+        """The pool after a move by the plan, and the frames that are free by it; none where there is no plan. The
+        lowest object at home goes into the lowest free cell, with its handle."""
+        plan = self.plan()
+        if plan is None:
+            return None
+        source, target = plan
+        place = source.lowest_home()
+        assert place is not None
+        pool = self.put(target.with_cell(target.cells.index(None), source.cells[place]))
+        pool = pool.put(source.with_cell(place, None))
+        return pool, self.frames() - pool.frames()
+
+    def is_tight(self) -> bool:
+        """Whether at most one zspage has a free cell."""
+        return sum(zspage.used() < per(self.number) for zspage in self.zspages) <= 1
 
     def page(self, kept: Stored) -> Page:
         """The page that is kept as an object. Without locks the object may not be there."""

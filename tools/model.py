@@ -9,8 +9,9 @@ The text of a job stands in tools/language.py, how pages are kept in tools/memor
 
   1. pieces of requests
   2. the machine: locks, stages, turns, runs
-  3. the plain disk: what an output promises, judged without the machine
-  4. the output and the status
+  3. the output and the status
+
+What an output promises is judged without the machine in tools/judge.py.
 
 To grow it: a kind of lock is a value of the row; an event is a row of the table of stages.
 """
@@ -18,13 +19,12 @@ from __future__ import annotations
 
 import argparse
 import sys
-from collections import Counter
 from dataclasses import dataclass, field
-from itertools import groupby
 from typing import Callable, Dict, Iterable, Iterator, NamedTuple, Optional, Tuple, Type, Union
 
 from language import MOST_BYTES, SECTORS, WORDS, Fault, Item, Limit, Op, Phase, Report, Size, fill_sector, read_job
-from memory import ZERO_PAGE, Account, Form, Kept, Page, Pool, Pooled, Same, Stored, chain_of, form_of, per, size_of
+from memory import (LAST_CLASS, ZERO_PAGE, Account, Form, Kept, Page, Pool, Pooled, Same, Stored, chain_of, form_of, per,
+                    size_of, stands_as)
 
 REFUSED, NO_JOB = 1, 3  # statuses
 
@@ -40,15 +40,26 @@ class Tag(NamedTuple):
         return f"{self.actor}:{self.op}"
 
 
+NO_PAGE = -1
+
+
 class Piece(NamedTuple):
-    """What an operation has on one page: sectors `first` to `first + count - 1` of it. Of a request beyond the disk
-    there is one piece, of which no page is used."""
+    """What an operation has on one page: sectors `first` to `first + count - 1` of it. A request beyond the disk and a
+    compaction have one piece, on no page."""
     tag: Tag
     op: Op
     page: int
     first: int
     count: int
     is_beyond: bool = False
+
+    def has_page(self) -> bool:
+        """Whether it is on a page."""
+        return self.page != NO_PAGE
+
+    def is_compaction(self) -> bool:
+        """Whether it is a compaction's."""
+        return self.op.word == "compact"
 
     def is_whole(self) -> bool:
         """Whether it has all sectors of its page."""
@@ -71,8 +82,9 @@ class Piece(NamedTuple):
 
 def pieces_of(tag: Tag, op: Op, pages: int) -> Iterator[Piece]:
     """The pieces of an operation on a disk of so many pages. A discard has one on each page that it has whole."""
-    if op.start + op.count > pages * SECTORS:
-        yield Piece(tag, op, op.pages()[0], 0, 0, True)
+    is_beyond = op.start + op.count > pages * SECTORS
+    if is_beyond or op.word == "compact":
+        yield Piece(tag, op, NO_PAGE, 0, 0, is_beyond)
         return
     for page in op.pages():
         first = max(op.start - page * SECTORS, 0)
@@ -135,13 +147,23 @@ def plain_page(kept: Kept) -> Page:
     return (fill_sector(kept.word),) * SECTORS if isinstance(kept, Same) else ZERO_PAGE
 
 
+class Compaction(NamedTuple):
+    """Where a compaction stands: the class that it is at, how many objects it may still move there (none before it has
+    given the class for the first time), how many it has moved so far, and the frames that it has given back."""
+    number: int = 0
+    budget: Optional[int] = None
+    moves: int = 0
+    frames: int = 0
+
+
 class Carried(NamedTuple):
     """What an actor carries from stage to stage of a piece: the page that it has read from a cell, its new object, the
-    frames that it has freed and not yet given back, and the refusal that ends the piece."""
+    frames that it has freed and not yet given back, the refusal that ends the piece, where its compaction stands."""
     page: Optional[Page] = None
     made: Optional[Stored] = None
     owed: int = 0
     refusal: str = ""
+    compaction: Compaction = Compaction()
 
 
 @dataclass
@@ -237,8 +259,15 @@ def the_account(local: Local, piece: Piece) -> Lock:
     return ACCOUNT
 
 
+def swept_class(local: Local, piece: Piece) -> Lock:
+    """The class that a compaction is at."""
+    return Lock("class", local.carried.compaction.number)
+
+
 def first_lock(local: Local, piece: Piece) -> Lock:
-    """The slot, or the account for a request beyond the disk."""
+    """The slot, the account for a request beyond the disk, or the first class for a compaction."""
+    if piece.is_compaction():
+        return swept_class(local, piece)
     return ACCOUNT if piece.is_beyond else slot(local, piece)
 
 
@@ -271,6 +300,8 @@ def make(local: Local, piece: Piece) -> str:
 
 def after_start(local: Local, piece: Piece) -> str:
     """The piece has its first lock."""
+    if piece.is_compaction():
+        return "Moving"
     if piece.is_beyond:
         return "Refusing"
     kept = local.entry().kept
@@ -291,6 +322,13 @@ def after_made(local: Local, piece: Piece) -> str:
     if local.carried.refusal:
         return "Leaving" if local.carried.page is None else "Pinned"
     return settle(local, piece)
+
+
+def after_move(local: Local, piece: Piece) -> str:
+    """A compaction has moved an object or none; in the last class it may have ended."""
+    if local.ends[piece.tag.op] != "ok":
+        return OVER
+    return "Shrunk" if local.carried.owed else "Sweeping"
 
 
 # The work of givings.
@@ -357,6 +395,36 @@ def put(local: Local, piece: Piece, entry: Entry) -> Entry:
     return entry.noted(piece.tag, local.next_kept(piece))
 
 
+def move(local: Local, piece: Piece, pool: Pool) -> Pool:
+    """A compaction moves one object. In each class it may move as many as there were when it first came; where it may
+    move no more, or there is no plan, it goes on to the next class."""
+    at = local.carried.compaction
+    budget = len(pool.objects()) if at.budget is None else at.budget
+    moved = pool.moved() if budget > 0 else None
+    if moved is None:
+        rest(local, piece)
+        return pool
+    pool, frames = moved
+    local.carry(compaction=at._replace(budget=budget - 1, moves=at.moves + 1), owed=frames)
+    return pool
+
+
+def rest(local: Local, piece: Piece) -> None:
+    """A compaction has nothing more to move in a class: it goes on to the next one that stands as itself, or ends."""
+    at = local.carried.compaction
+    if at.number == LAST_CLASS:
+        local.ends[piece.tag.op] = f"compacted {at.moves} {at.frames}"
+    else:
+        local.carry(compaction=at._replace(number=stands_as(at.number + 1), budget=None))
+
+
+def shrink(local: Local, piece: Piece, account: Account) -> Account:
+    """The frames that a move freed are given back, and counted."""
+    at, frames = local.carried.compaction, local.carried.owed
+    local.carry(compaction=at._replace(frames=at.frames + frames), owed=0)
+    return account._replace(frames=account.frames - frames).counted("compacted", frames)
+
+
 # The table of the steps of a piece, in docs/MACHINE.md.
 STAGES = {
     "Start": Stage(TAKE, first_lock, after_start),
@@ -375,6 +443,10 @@ STAGES = {
     "Owing": Stage(TAKE, the_account, then("Giving")),
     "Giving": Stage(GIVE, the_account, then("Ready"), count),
     "Ready": Stage(GIVE, slot, then(OVER), put),
+    "Sweeping": Stage(TAKE, swept_class, then("Moving")),
+    "Moving": Stage(GIVE, swept_class, after_move, move),
+    "Shrunk": Stage(TAKE, the_account, then("Shrinking")),
+    "Shrinking": Stage(GIVE, the_account, then("Sweeping"), shrink),
 }
 
 EVENT, MISS, NOTHING = "event", "miss", "nothing"
@@ -401,7 +473,7 @@ class Machine:
         self.row, self.pages, self.phase = row, pages, phase
         self.locals = [new_local(actor, ops, pages) for actor, ops in enumerate(phase.actors)]
         self.holder: dict[Lock, int] = {}  # who has a lock that is out
-        self.called = sorted({piece.page for local in self.locals for piece in local.todo if not piece.is_beyond})
+        self.called = sorted({piece.page for local in self.locals for piece in local.todo if piece.has_page()})
         for page in self.called:
             row[Lock("slot", page)] = entry_at(row, page)._replace(order=())
         self.before: Row = dict(row)
@@ -478,144 +550,7 @@ class Machine:
             left = [actor for actor in left if self.locals[actor].piece() is not None]
 
 
-# ---- 3. the plain disk
-
-def page_in(row: Row, kept: Kept) -> Page:
-    """The page that is kept in a form."""
-    if not isinstance(kept, Stored):
-        return plain_page(kept)
-    pool = value_at(row, Lock("class", kept.number))
-    assert isinstance(pool, Pool)
-    return pool.page(kept)
-
-
-def replayed(order: Iterable[Tag], page: Page, pieces: dict[Tag, Piece]) -> tuple[Page, dict[Tag, list[bytes]]]:
-    """What the calls of an order leave on a page, and what each read among them has to print."""
-    prints = {}
-    for tag in order:
-        piece = pieces[tag]
-        if piece.op.word == "read":
-            prints[tag] = piece.copied_from(page)
-        else:
-            page = piece.put_on(page)
-    return page, prints
-
-
-def printed_by(machine: Machine) -> dict[tuple[int, Tag], list[bytes]]:
-    """The sectors that each read prints of each page."""
-    prints = {}
-    for local in machine.locals:
-        taken = [0] * len(local.ops)
-        for piece in local.todo:
-            if piece.op.word == "read":
-                begin = taken[piece.tag.op]
-                taken[piece.tag.op] += piece.count
-                prints[piece.page, piece.tag] = local.reads[piece.tag.op][begin:begin + piece.count]
-    return prints
-
-
-def carried_out(local: Local) -> Iterator[Piece]:
-    """The pieces of an actor that were carried out: all of an operation that ended `ok`, the first ones of a write
-    that ended at the limit, none of a request beyond the disk."""
-    for piece in local.todo:
-        end = local.ends[piece.tag.op].split()
-        if end[0] == "ok" or end[-2:-1] == ["done"] and piece.before() < int(end[-1]):
-            yield piece
-
-
-def breaches(machine: Machine) -> Iterator[str]:
-    """Where a phase that has been run breaks what an output promises: of its pages, and of its reports."""
-    yield from page_breaches(machine)
-    yield from report_breaches(machine)
-
-
-def page_breaches(machine: Machine) -> Iterator[str]:
-    """Where an order doesn't list its page's calls, each actor's in turn; a read doesn't print what the calls before it
-    left; a page doesn't hold what all of them leave, or isn't in its form."""
-    pieces: dict[int, dict[Tag, Piece]] = {page: {} for page in machine.called}
-    for local in machine.locals:
-        for piece in carried_out(local):
-            pieces[piece.page][piece.tag] = piece
-    prints = printed_by(machine)
-    for page in machine.called:
-        entry, before = machine.entry(page), entry_at(machine.before, page)
-        yield from order_breaches(page, entry.order, list(pieces[page]))
-        left, wanted = replayed(entry.order, page_in(machine.before, before.kept), pieces[page])
-        for tag, sectors in wanted.items():
-            what = f"the read {tag} of page {page}"
-            yield from differences(what, pieces[page][tag].first, prints[page, tag], sectors)
-        there = page_in(machine.row, entry.kept)
-        yield from differences(f"page {page} at the end", 0, list(there), list(left))
-        changes = [pieces[page][tag].op.word for tag in entry.order if pieces[page][tag].op.word != "read"]
-        is_blank = changes[-1] == "discard" if changes else before.kept is None
-        if not has_form(entry.kept, None if is_blank else form_of(there)):
-            yield f"page {page} at the end: it is kept in another form than its bytes ask for"
-
-
-def order_breaches(page: int, order: Tuple[Tag, ...], calls: list[Tag]) -> Iterator[str]:
-    """Where an order doesn't list the calls on its page, each once and each actor's in turn."""
-    if sorted(order) != sorted(calls):
-        yield f"page {page}: the order doesn't list its calls, each once"
-    if sorted(order, key=lambda tag: tag.actor) != sorted(order):
-        yield f"page {page}: the order doesn't list each actor's calls in turn"
-
-
-def differences(what: str, first: int, got: list[bytes], wanted: list[bytes]) -> Iterator[str]:
-    """The sectors of a page that aren't as an order wants them, those in a row that are equal as one."""
-    for (is_so, should), places in groupby(range(len(got)), lambda place: (got[place], wanted[place])):
-        if is_so != should:
-            those = [first + place for place in places]
-            yield f"{what}: {span(those)} {short(is_so)}, but the order says {short(should)}"
-
-
-def span(places: list[int]) -> str:
-    """Sectors in a row, in words."""
-    return f"sector {places[0]} is" if len(places) == 1 else f"sectors {places[0]} to {places[-1]} are"
-
-
-def short(sector: bytes) -> str:
-    """A sector in few letters: its text without the zeros in front of a word, or its first bytes."""
-    kind, text = sector_text(sector).split()
-    return f"{kind} {text.lstrip('0') or '0'}" if kind == "fill" else f"{kind} {text[:16]}.."
-
-
-def has_form(kept: Kept, form: Form) -> bool:
-    """Whether what is kept has a form."""
-    if isinstance(form, Pooled):
-        return isinstance(kept, Stored) and kept[0] == form.number and kept[2:] == (len(form.data), form.is_huge)
-    return kept == form
-
-
-def report_breaches(machine: Machine) -> Iterator[str]:
-    """Where the account and the pools aren't those of the pages, and of what the phase's calls and ends say."""
-    account, before = account_at(machine.row), account_at(machine.before)
-    kept = [value.kept for value in machine.row.values() if isinstance(value, Entry)]
-    pools = [value for value in machine.row.values() if isinstance(value, Pool)]
-    wanted = Account()
-    for each in kept:
-        wanted = wanted.with_page(each)
-    for name in ("pages", "bytes", "same", "huge"):
-        yield from unequal(f"the account's {name}", getattr(account, name), getattr(wanted, name))
-    yield from unequal("the account's frames", account.frames, sum(pool.frames() for pool in pools))
-    owned = Counter((each.number, each.handle) for each in kept if isinstance(each, Stored))
-    objects = Counter((pool.number, handle) for pool in pools for handle in pool.objects())
-    yield from unequal("the objects that no page has", len(objects - owned), 0)
-    yield from unequal("the pages whose object isn't their own", sum((owned - objects).values()), 0)
-    yield from unequal("the cells that are out", sum(one.is_out for pool in pools for one in pool.objects().values()), 0)
-    ends = [end.split()[0] for local in machine.locals for end in local.ends]
-    yield from unequal("the failed writes", account.failed_writes, before.failed_writes + ends.count("limit"))
-    yield from unequal("the requests beyond the disk", account.invalid_io, before.invalid_io + ends.count("range"))
-    if account.most < account.frames or 0 < account.limit < account.most != before.most:
-        yield f"the account's greatest number of frames is {account.most}, at {account.frames} frames and its limit"
-
-
-def unequal(what: str, got: int, wanted: int) -> Iterator[str]:
-    """A number that isn't as it should be."""
-    if got != wanted:
-        yield f"{what}: {got}, and not {wanted}"
-
-
-# ---- 4. the output and the status
+# ---- 3. the output and the status
 
 def sector_text(sector: bytes) -> str:
     """A sector as one word where all its words are equal, else as its bytes."""
@@ -663,6 +598,16 @@ def class_line(pool: Pool) -> str:
     return numbers(f"{cells} used {used} zspages {len(pool.zspages)} groups", pool.groups())
 
 
+def is_compacted(end: str) -> bool:
+    """Whether an end is a compaction's."""
+    return end.startswith("compacted ")
+
+
+def is_refusal(end: str) -> bool:
+    """Whether an end is a refusal."""
+    return end != "ok" and not is_compacted(end)
+
+
 def results_of(items: Iterable[Item], row: Row, pages: int = 0,
                kind: Type[Machine] = Machine) -> Iterator[Union[Machine, list[str]]]:
     """What the items of a job come to on a disk: for a phase its machine, at its start; for a report its lines. The
@@ -694,7 +639,7 @@ def outcome(text: bytes) -> tuple[int, str]:
     for result in results_of(items, {}):
         if isinstance(result, Machine):
             result.run()
-            if any(end != "ok" for local in result.locals for end in local.ends):
+            if any(is_refusal(end) for local in result.locals for end in local.ends):
                 status = REFUSED
             result = list(lines_of(result))
         lines += result

@@ -18,6 +18,9 @@ KEPT = (
     "seq 0 9e3779b97f4a7c15", "seq 0 9e3779b97f4a7c15", "seq f4240 1", "seq f4240 1000000", "seq f4240 100",
     "seq 0 15000000", "seq 000f4240000f4240 0000000100000001", "fill 0",
 )
+# What pages are written by that a compaction is to find, so that a zspage has three cells, or seven; with the turns by
+# which a compaction comes to their class.
+SCATTERED = {"seq f4240 1000000": 130, "seq f4240 1": 106}
 WORDS = ("0", "1", "ab", "FF", "1a2b3c4d", "ffffffffffffffff", "0000000000000001", "DeadBeef")
 STEPS = ("0", "1", "ff", "100000000", "ffffffffffffffff", "9e3779b97f4a7c15")
 
@@ -26,7 +29,7 @@ STRANGE = (
     "", "x", "-1", "+1", "1.5", "0x1", "0", "00", "007", "2048", "2049", "4294967295", "4294967296",
     "18446744073709551616", "123456789012345678901234567890", "1K", "1k", "K", "4M", "1G", "1T", "262145", "0*1", "1*0",
     "*", "0*", "*1", "0*1*1", "0*16777217", "0*16777216", "63", "64", "99999999999999999", "00000000000000001", "fill",
-    "seq", "hex", "mem_limit", "mm_stat", "classes", "1048576M", "1048577M", "FILL", "read", "write", "discard", "run", "RUN", "actor", "disksize", "schedule", "idle", "all",
+    "seq", "hex", "mem_limit", "mm_stat", "classes", "1048576M", "1048577M", "FILL", "read", "write", "discard", "compact", "run", "RUN", "actor", "disksize", "schedule", "idle", "all",
     "\x0b", "\x0c", "\xa0", "\r", "\0", "\xff", "#", "run#", "a" * 60,
 )
 # Whole lines that are wrong in most places.
@@ -34,7 +37,7 @@ STRANGE_LINES = (
     "run", "actor", "disksize 8K", "disksize 0", "disksize 1G1", "schedule 0", "schedule 3", "schedule", "read 0 1",
     "write 0 1 fill 1", "write 0 1 hex 00", "write 4294967296 1 hex 00", "write 0 2049 hex 00", "discard 0 8", "idle 5",
     "mem_limit 4K", "mem_limit", "mem_limit 1T", "mem_limit 1048577M", "mem_limit 18446744073709551616", "mm_stat",
-    "io_stat", "states", "classes", "mm_stat 1", "io_stat mm_stat", "classes all", "compact", "writeback idle", "read 4294967295 2048", "read 0 0", "write 0 1 seq 1", "write 0 1 fill 1 2", "run run",
+    "io_stat", "states", "classes", "mm_stat 1", "io_stat mm_stat", "classes all", "compact", "compact 0", "writeback idle", "read 4294967295 2048", "read 0 0", "write 0 1 seq 1", "write 0 1 fill 1 2", "run run",
 )
 
 
@@ -44,14 +47,18 @@ class Maker:
     def __init__(self, seed: str) -> None:
         self.chance = Random(seed)
         self.sectors = 8
+        self.alike, self.kept = "seq f4240 1", [0]  # how pages were last scattered, and which are left
 
     def one_in(self, times: int) -> bool:
         """True once in so many times."""
         return self.chance.randrange(times) == 0
 
-    def disk(self) -> str:
-        """A disk, mostly of one to three pages."""
-        pages = self.chance.randrange(1, 4) if not self.one_in(8) else self.chance.randrange(4, 40)
+    def pages(self) -> int:
+        """How many pages a disk has, mostly one to three."""
+        return self.chance.randrange(1, 4) if not self.one_in(8) else self.chance.randrange(4, 40)
+
+    def disk(self, pages: int) -> str:
+        """A disk of so many pages."""
         self.sectors = 8 * pages
         bytes_ = 4096 * pages
         less = bytes_ - self.chance.randrange(4096)
@@ -68,7 +75,9 @@ class Maker:
         return start, count
 
     def operation(self) -> str:
-        """A read, a write or a discard."""
+        """A read, a write, a discard or a compaction."""
+        if self.one_in(12):
+            return "compact"
         start, count = self.request()
         word = self.chance.choice(("write", "write", "write", "read", "read", "discard"))
         return f"{word} {start} {count}" + (f" {self.stuff(count)}" if word == "write" else "")
@@ -99,6 +108,8 @@ class Maker:
             for _ in range(self.chance.randrange(1, 9)):
                 times = self.chance.randrange(1, 5) if not self.one_in(3) else self.chance.randrange(5, 13)
                 turns.append(f"{self.chance.randrange(actors)}" + (f"*{times}" if times > 1 or self.one_in(9) else ""))
+            if self.one_in(10):
+                turns.insert(0, f"{self.chance.randrange(actors)}*{self.chance.randrange(20, 160)}")
             if self.one_in(20):
                 turns.append(f"{self.chance.randrange(actors)}*{10 ** self.chance.randrange(7)}")
             lines.append("schedule " + " ".join(turns))
@@ -116,6 +127,41 @@ class Maker:
         if not self.one_in(4):
             lines.extend(self.schedule(actors))
         return lines + ["run"]
+
+    def scattered(self) -> list[str]:
+        """A phase that writes pages which are packed alike, and discards some of them: zspages are left half empty."""
+        pages = range(self.sectors // 8)
+        self.alike = self.chance.choice(list(SCATTERED))
+        self.kept = sorted(self.chance.sample(pages, self.chance.randrange(1, len(pages))))
+        lines = ["actor"] + [f"write {8 * page} 8 {self.alike}" for page in pages]
+        lines += [f"discard {8 * page} 8" for page in pages if page not in self.kept]
+        return lines + ["compact"] * self.one_in(6) + ["run"]
+
+    def compacting(self) -> list[str]:
+        """A phase in which one actor compacts while others are at the pages, mostly those of one class."""
+        lines = ["actor", "compact"] + [self.operation() for _ in range(self.chance.randrange(3))]
+        actors = self.chance.choice((1, 2, 3, 3, 4))
+        for _ in range(1, actors):
+            lines += ["actor"] + [self.operation() if self.one_in(4) else self.page_call() for _ in range(3)]
+        if actors > 1 and not self.one_in(4):
+            lines += self.meeting(actors)
+        return lines + ["run"]
+
+    def page_call(self) -> str:
+        """A read, a write or a discard of a page, mostly of one that is left. A read and a write of a part pin it."""
+        page = self.chance.choice(self.kept) if not self.one_in(4) else self.chance.randrange(self.sectors // 8)
+        word = self.chance.choice(("read", "read", "read", "write", "discard"))
+        count = 8 if word == "discard" or self.one_in(3) else 1
+        return f"{word} {8 * page} {count}" + (f" {self.alike}" if word == "write" else "")
+
+    def meeting(self, actors: int) -> list[str]:
+        """Turns by which actor 0 comes to the class of these pages, while the others begin their calls."""
+        others = [f"{actor}*{self.chance.choice((2, 3, 3, 3, 3, 4, 6))}" for actor in range(1, actors)]
+        own = [f"0*{SCATTERED[self.alike] + self.chance.randrange(9)}"]
+        turns = others + own if not self.one_in(4) else own + others
+        for _ in range(self.chance.randrange(20)):
+            turns.append(f"{self.chance.randrange(actors)}*{self.chance.randrange(1, 4)}")
+        return ["schedule " + " ".join(turns)]
 
     def threshold(self) -> list[str]:
         """A phase that packs the first page in 3,256 bytes, or makes it huge by a byte more."""
@@ -135,11 +181,20 @@ class Maker:
 
     def valid(self) -> list[str]:
         """The lines of a job."""
-        lines = self.between() + [self.disk()]
+        if self.one_in(3):
+            return self.compacted()
+        lines = self.between() + [self.disk(self.pages())]
         for _ in range(self.chance.randrange(1, 4)):
             lines += self.between() + (self.threshold() if self.one_in(12) else self.phase())
         lines += self.read_back() if not self.one_in(3) else []
         return lines + (list(REPORTS) if not self.one_in(3) else [])
+
+    def compacted(self) -> list[str]:
+        """The lines of a job with compactions of pages that lie scattered, and with reports."""
+        lines = [self.disk(self.chance.randrange(6, 25))] + self.scattered() + self.between()
+        for _ in range(self.chance.randrange(2, 5)):
+            lines += (self.scattered() if self.one_in(2) else []) + self.compacting() + self.between()
+        return lines + self.read_back() + list(REPORTS)
 
     def dressed(self, line: str) -> str:
         """A line that says the same, with blanks, comments and the byte 0d."""

@@ -17,8 +17,9 @@ from dataclasses import dataclass, field, replace
 from itertools import groupby
 from typing import Hashable, Iterable, Iterator, Optional, Type, Union
 
+from judge import compaction_breaches, page_breaches, report_breaches
 from language import Item, Phase
-from model import EVENT, Machine, lines_of, page_breaches, report_breaches, results_of
+from model import EVENT, Machine, lines_of, results_of
 from trace import count, joined, schedule_text
 
 TURNS_LEFT = 10  # times as many states as --limit may be visited with the turns that are left in them
@@ -154,7 +155,7 @@ class Explorer:
     def note_end(self, state: int, machine: Machine) -> None:
         """Notes the output of a state in which all are finished."""
         wrong = list(page_breaches(machine))
-        if any(report_breaches(machine)):
+        if any(report_breaches(machine)) or any(compaction_breaches(machine)):
             wrong.append("the account and the pools aren't those of the pages")
         lines = dict(labelled(machine, ""))
         later = results_of(self.after, dict(machine.row), machine.pages, self.kind)

@@ -3,11 +3,12 @@ from __future__ import annotations
 
 import sys
 from itertools import groupby
-from typing import Iterable, Iterator, NoReturn, Sequence
+from typing import Iterable, Iterator, NamedTuple, NoReturn, Sequence
 
+from judge import short
 from language import Fault, Item, Phase, Turns, read_job
-from memory import Account, Kept, Page, Same
-from model import EVENT, MISS, Entry, Machine, Piece, Tag, Turn, short
+from memory import Account, Kept, Page, Pool, Same
+from model import EVENT, MISS, Entry, Machine, Piece, Tag, Turn
 
 
 def fail(tool: str, message: str) -> NoReturn:
@@ -91,7 +92,19 @@ def account_text(stage: str, taken: Account, given: Account) -> str:
         frames = given.frames - taken.frames
         return f"charges {count(frames, 'frame')}, stores the page" if frames else "stores the page"
     frames = taken.frames - given.frames
+    if stage == "Shrinking":
+        return f"gives {count(frames, 'frame')} back, counts them"
     return f"gives {count(frames, 'frame')} back, counts the page" if frames else "counts the page"
+
+
+def move_text(taken: Pool, given: Pool) -> str:
+    """What a compaction has made of a pool."""
+    before, after = ({zspage.id: zspage.used() for zspage in pool.zspages} for pool in (taken, given))
+    changed = [number for number in before if before[number] != after.get(number, 0)]
+    if not changed:
+        return "moves nothing"
+    source, target = sorted(changed, key=lambda number: after.get(number, 0) - before[number])
+    return f"moves {'an' if source in after else 'the last'} object of zspage {source} to zspage {target}"
 
 
 GIVINGS = {
@@ -106,6 +119,8 @@ def giving_text(turn: Turn) -> str:
     assert turn.piece is not None
     if isinstance(turn.taken, Account) and isinstance(turn.given, Account):
         return account_text(turn.stage, turn.taken, turn.given)
+    if turn.stage == "Moving" and isinstance(turn.taken, Pool) and isinstance(turn.given, Pool):
+        return move_text(turn.taken, turn.given)
     if isinstance(turn.taken, Entry) and isinstance(turn.given, Entry):
         return "leaves the page" if len(turn.given.order) == len(turn.taken.order) else work_text(turn.piece)
     return GIVINGS.get(turn.stage, "")
@@ -123,12 +138,59 @@ def event_text(machine: Machine, turn: Turn) -> str:
     return f"{done}, {machine.gives} {turn.lock}" if done else f"{machine.gives} {turn.lock}"
 
 
+class Row(NamedTuple):
+    """A row of a run that is shown: the number of its turn (the last one's, where it is of several), the turn, and what
+    happened."""
+    nr: int
+    turn: Turn
+    text: str
+
+
+def is_empty_class(machine: Machine, turn: Turn) -> bool:
+    """Whether a turn that was just made is a compaction's in a class without zspages."""
+    if turn.kind != EVENT or turn.piece is None or not turn.piece.is_compaction() or turn.lock.kind != "class":
+        return False
+    pool = machine.locals[turn.actor].held["class"] if turn.given is None else turn.taken
+    return isinstance(pool, Pool) and not pool.zspages
+
+
+def rows_of(machine: Machine, turns: Iterable[Turn]) -> Iterator[Row]:
+    """The turns of a run, as they are made. Those in which a compaction takes and gives classes without zspages, one
+    after the other, come as one row, before the turn after them."""
+    empty: list[Row] = []
+    for nr, turn in enumerate(turns, 1):
+        row = Row(nr, turn, event_text(machine, turn))
+        is_empty = is_empty_class(machine, turn)
+        if empty and not (is_empty and turn.actor == empty[0].turn.actor):
+            yield from swept(empty)
+            empty = []
+        if is_empty:
+            empty.append(row)
+        else:
+            yield row
+    yield from swept(empty)
+
+
+def swept(rows: list[Row]) -> Iterator[Row]:
+    """Turns of a compaction in classes without zspages: those of classes that are taken and given in them as one."""
+    begin = 1 if rows and rows[0].turn.given is not None else 0
+    end = len(rows) - (1 if len(rows) > begin and rows[-1].turn.given is None else 0)
+    if end - begin <= 2:
+        begin = end = len(rows)
+    yield from rows[:begin]
+    if begin < end:
+        first, last = rows[begin].turn.lock.number, rows[end - 1]
+        classes = f"{(end - begin) // 2} classes, {first} to {last.turn.lock.number}"
+        yield last._replace(text=f"finds no zspage in {classes}")
+    yield from rows[end:]
+
+
 def columns(machine: Machine) -> Iterator[str]:
     """A run drawn as time lines: a row for each turn, a column for each actor. The machine is run by it."""
     rows = [["turn"] + [f"actor {actor}" for actor in range(len(machine.locals))]]
-    for turn in machine.turns():
-        row = [str(len(rows))] + ["|"] * len(machine.locals)
-        row[turn.actor + 1] = event_text(machine, turn)
+    for nr, turn, text in rows_of(machine, machine.turns()):
+        row = [str(nr)] + ["|"] * len(machine.locals)
+        row[turn.actor + 1] = text
         rows.append(row)
     widths = [max(map(len, column)) for column in zip(*rows)]
     for row in rows:

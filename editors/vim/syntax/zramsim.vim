@@ -14,6 +14,7 @@ syntax match zramsimAttribute /^[ \t]*\zs\(disksize\|mem_limit\)\ze[ \t]/ nextgr
 syntax match zramsimReport /^[ \t]*\zs\(mm_stat\|io_stat\|states\|classes\)\ze[ \t\r]*\(#.*\)\?$/
 syntax match zramsimOperation /^[ \t]*\zswrite\ze[ \t]/ nextgroup=zramsimWriteStart skipwhite
 syntax match zramsimOperation /^[ \t]*\zs\(read\|discard\)\ze[ \t]/ nextgroup=zramsimStart skipwhite
+syntax match zramsimOperation /^[ \t]*\zscompact\ze[ \t\r]*\(#.*\)\?$/
 syntax match zramsimSchedule /^[ \t]*\zsschedule\ze[ \t]/ nextgroup=zramsimTurn skipwhite
 
 " values
