@@ -4,7 +4,7 @@ use Rattle.std.proofs.Math.Seq.{take-suc}
 use Rattle.std.proofs.lemmas.List.{length_push, length-take-le}
 use Rattle.std.proofs.lemmas.Option.{slice_get_within, get_or_from_slice_get}
 use Rattle.zr_base.specs.declared.op.Op.{Op}
-use Rattle.zr_base.specs.declared.op.Op.TheVariants.{Write, Read, Discard}
+use Rattle.zr_base.specs.declared.op.Op.TheVariants.{Write, Read, Discard, Compact}
 use Rattle.call_history.specs.Parts.{program}
 use Rattle.page_steps.specs.Steps.{Terms}
 use Rattle.actor_steps.specs.declared.place.Place.{Place}
@@ -68,6 +68,7 @@ new_fits : (size : ℕ) (pl : Place) (k : ℕ) (op : Op) (r : Reply) → IsNewRe
     → ReplyFits size pl k op r
 new_fits size pl k (Write start count stuff) r n = n.none
 new_fits size pl k (Discard start count) r n = n.none
+new_fits size pl k Compact r n = n.none
 new_fits size pl k (Read start count) r n = (
   record {
     later = λ lt inside. let q = n.room in let l = n.len in
@@ -82,37 +83,39 @@ new_fits size pl k (Read start count) r n = (
 
 pub is_new_worker : (size chain actor : ℕ) (ops : List Op) (w : Worker) → AreRequests ops
     → length ops < 2 ^ 32 → w.actor ≡ actor → w.call ≡ None → w.carried ≡ 0
-    → w.scratch.table ≡ chain → IsPlace ops w.place → IsSettled size ops w.place
+    → w.scratch.table ≡ chain → chain ≤ 16 → IsPlace ops w.place → IsSettled size ops w.place
     → todo_at size ops w.place ≡ program size 0 ops
     → AreNewReplies size ops w.replies.items → IsNewWorker size chain actor ops w
-is_new_worker size chain actor ops w requests few who at carried table place settled todo new = record {
-  who = who;
-  at = at;
-  todo = todo;
-  fit = λ now. let t : Terms = record { size = size; chain = chain; clock = now } in record {
-    requests = requests;
-    few = few;
-    place = place;
-    settled = settled;
-    chain = table;
-    carried = omega arith;
-    call = subst (HasCall t ops w) (sym at) tt;
-    replies = new.count;
-    reads = λ k op r e f. new_fits size w.place k op r (new.each k op r e f);
-  };
-  keeps = record {
-    ends = λ k r f. (reply k r f).1.end;
-    sectors = λ k r f. (reply k r f).1.none;
-    count = sym carried;
-    carried = tt;
-    later = λ k lt. refl;
-  };
-} where
-  reply : (k : ℕ) (r : Reply) → slice_get w.replies.items k ≡ Some r
-      → (op : Op) × IsNewReply size op r
-  reply k r f =
-      let op = there_is ops k (let q = slice_get_within w.replies.items k r f in
-      let n = new.count in omega arith) in (op.0, new.each k op.0 r op.1 f)
+is_new_worker size chain actor ops w requests few who at carried table most place settled todo new =
+    record {
+      who = who;
+      at = at;
+      todo = todo;
+      fit = λ now. let t : Terms = record { size = size; chain = chain; clock = now } in record {
+        requests = requests;
+        few = few;
+        place = place;
+        settled = settled;
+        chain = table;
+        most = most;
+        carried = omega arith;
+        call = subst (HasCall t ops w) (sym at) tt;
+        replies = new.count;
+        reads = λ k op r e f. new_fits size w.place k op r (new.each k op r e f);
+      };
+      keeps = record {
+        ends = λ k r f. (reply k r f).1.end;
+        sectors = λ k r f. (reply k r f).1.none;
+        count = sym carried;
+        carried = tt;
+        later = λ k lt. refl;
+      };
+    } where
+      reply : (k : ℕ) (r : Reply) → slice_get w.replies.items k ≡ Some r
+          → (op : Op) × IsNewReply size op r
+      reply k r f =
+          let op = there_is ops k (let q = slice_get_within w.replies.items k r f in
+          let n = new.count in omega arith) in (op.0, new.each k op.0 r op.1 f)
 
 pub worker_more : (size chain : ℕ) (actors : List (List Op)) (i actor : ℕ) (ops : List Op)
     (ws ws' : List Worker) (w : Worker) → actor ≡ i → slice_get actors i ≡ Some ops

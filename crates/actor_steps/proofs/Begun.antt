@@ -1,36 +1,44 @@
 -- The call of a piece before its first event.
-use Rattle.std.proofs.Common.{◌≡◌, ℕ, ◌+◌, ◌≤◌, true, false, List, Some, slice_get, refl, sym, ◌∙◌, subst}
+use Rattle.std.proofs.Common.{◌≡◌, ℕ, ◌+◌, ◌≤◌, true, false, List, Some, slice_get, refl, sym, ap, ◌∙◌, subst}
 use Rattle.zr_base.specs.declared.op.Op.{Op}
 use Rattle.zr_base.specs.declared.op.Tag.{Tag}
 use Rattle.zr_base.specs.declared.op.Piece.{Piece}
-use Rattle.zr_base.specs.Plain.{is_beyond}
-use Rattle.page_steps.specs.declared.call.PageCall.{PageCall}
+use Rattle.zr_base.specs.Plain.{is_beyond, is_compaction}
 use Rattle.page_steps.specs.declared.stage.Work.{Work}
 use Rattle.page_steps.specs.Calls.{is_count, Asks, started, counting}
+use Rattle.post_steps.specs.declared.compact.CompactCall.{CompactCall}
+use Rattle.post_steps.specs.declared.compact.CompactStage.{CompactStage}
+use Rattle.post_steps.specs.declared.compact.CompactStage.TheVariants as stage
+use Rattle.actor_steps.specs.declared.call.Call.{Call}
+use Rattle.actor_steps.specs.declared.call.Call.TheVariants as call
 use Rattle.actor_steps.specs.Workers.{IsBegun}
+use Rattle.actor_steps.proofs.Places.{request_beyond}
 
 module _ (size now : ℕ) (tag : Tag) (op : Op) (page : ℕ) (fresh : List ℕ) where
-  pub begun_count : is_beyond size op ≡ true → IsBegun size now tag op page fresh counting
+  pub begun_count : is_beyond size op ≡ true → IsBegun size now tag op page fresh (call.Page counting)
   begun_count on = record {
     going = tt;
-    fit = λ r. refl;
+    fit = λ r few. refl;
     start = λ x r. refl;
     work = λ x r s n c o p t f. record {
       chain = c;
+      request = ap is_compaction o ∙ request_beyond size op on;
       beyond = (λ i. is_beyond (s i) (o i)) ∙ on;
       call = λ (off : true ≡ false). absurd (cc);
     };
   }
 
-  pub begun_as : (w : Work) (p : Piece) → is_beyond size op ≡ false → is_count w ≡ false
+  pub begun_as : (w : Work) (p : Piece) → is_compaction op ≡ false → is_beyond size op ≡ false
+      → is_count w ≡ false
       → p.page.0 ≡ page → p.first + p.count ≤ 8 → Asks w p fresh op
-      → IsBegun size now tag op page fresh (started w p tag now)
-  begun_as w p off piece at within asks = record {
+      → IsBegun size now tag op page fresh (call.Page (started w p tag now))
+  begun_as w p request off piece at within asks = record {
     going = tt;
-    fit = λ r. (piece, within);
+    fit = λ r few. (piece, within);
     start = λ x r. refl;
     work = λ x r s n c o q t f. record {
       chain = c;
+      request = ap is_compaction o ∙ request;
       beyond = (λ i. is_beyond (s i) (o i)) ∙ off ∙ sym piece;
       call = λ e. record {
         tag = t;
@@ -41,11 +49,22 @@ module _ (size now : ℕ) (tag : Tag) (op : Op) (page : ℕ) (fresh : List ℕ) 
     };
   }
 
+  pub begun_compact : (c : CompactCall) → c.stage ≡ stage.Start → is_compaction op ≡ true
+      → IsBegun size now tag op page fresh (call.Compact c)
+  begun_compact c start on =
+      subst (λ (s : CompactStage). IsBegun size now tag op page fresh
+      (call.Compact (record { stage = s }))) (sym start) (record {
+        going = tt;
+        fit = λ r few. few;
+        start = λ x r. refl;
+        work = λ x r s n c o p t f. record { chain_is = c; op = ap is_compaction o ∙ on };
+      })
+
 -- for the operation that is the nr-th
 pub begun_for : (size now : ℕ) (tag : Tag) (page : ℕ) (fresh : List ℕ) (ops : List Op) (nr : ℕ)
-    (op : Op) → slice_get ops nr ≡ Some op → (c d : PageCall) → d ≡ c
+    (op : Op) → slice_get ops nr ≡ Some op → (c d : Call) → d ≡ c
     → IsBegun size now tag op page fresh d → (o : Op) → slice_get ops nr ≡ Some o
     → IsBegun size now tag o page fresh c
 begun_for size now tag page fresh ops nr op at c d is begins o named =
-    subst (λ (y : Op × PageCall). IsBegun size now tag y.0 page fresh y.1)
+    subst (λ (y : Op × Call). IsBegun size now tag y.0 page fresh y.1)
     (λ i. ((let q : op ≡ o = (let h : Some op ≡ Some o = sym at ∙ named in cc) in q) i, is i)) begins

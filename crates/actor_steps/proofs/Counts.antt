@@ -13,7 +13,7 @@ use Rattle.std.specs.List.{AllByRecursion}
 use Rattle.call_history.specs.Parts.{parts_from, parts, program}
 use Rattle.actor_steps.specs.Counts.{piece_on, pieces_on, pieces_each, count_at, HasOnlyCounts}
 use Rattle.actor_steps.specs.Places.{AreRequests, IsWork, operations}
-use Rattle.actor_steps.proofs.Places.{drop_cons, few_pages, pages_some, in_bounds}
+use Rattle.actor_steps.proofs.Places.{drop_cons, few_pages, pages_some, in_bounds, request_on}
 
 -- the piece of one page
 abbrev one : ℕ → Op → ℕ → ℕ → ℕ
@@ -112,9 +112,10 @@ module _ (size : ℕ) (op : Op) (inside : is_single size op ≡ false) where
       → AllByRecursion (λ (piece : Piece). piece.page.0 < size)
       (pieces_of (start_of op) (count_of op))
   pages_below r =
-      let end = ltb-false (8 * size) (start_of op + count_of op) inside in
-      let n = pages_some op r in
-      let some = (in_bounds op r).1 in
+      let on = request_on size op inside in
+      let end = ltb-false (8 * size) (start_of op + count_of op) on.1 in
+      let n = pages_some op on.0 r in
+      let some = (in_bounds op on.0 r).1 in
       below_from (first_page op) (pages_of op) (omega arith)
     where
       below_from : (page n : ℕ) → page + n ≤ size

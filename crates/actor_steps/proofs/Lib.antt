@@ -2,6 +2,7 @@ pub mod Places
 pub mod Counts
 pub mod Sectors
 pub mod Lists
+pub mod Calls
 pub mod Begun
 pub mod Histories
 pub mod Singles

@@ -5,39 +5,41 @@ use native.Mathlib.Decide.{ℕ_discrete}
 use Rattle.std.proofs.lemmas.Bool.{cases_Bool, eq-eqb, ne_eqb}
 use Rattle.std.proofs.lemmas.List.{append-nil}
 use Rattle.zr_base.specs.declared.op.Op.{Op}
-use Rattle.zr_base.specs.declared.op.Op.TheVariants.{Write, Read, Discard}
+use Rattle.zr_base.specs.declared.op.Op.TheVariants.{Write, Read, Discard, Compact}
 use Rattle.plain_disk.specs.Ends.{is_single}
 use Rattle.call_history.specs.declared.part.Part.{Part}
 use Rattle.call_history.specs.declared.part.Done.{Done}
 use Rattle.call_history.specs.Parts.{is_carried, got_by, got_of, op_end, end_of}
 use Rattle.call_history.specs.Laws.{GotGrows}
 use Rattle.lock_row.specs.declared.names.LockNo.{LockNo}
-use Rattle.page_steps.specs.declared.call.PageCall.{PageCall}
-use Rattle.page_steps.specs.declared.stage.Work.{Work}
 use Rattle.page_steps.specs.declared.stage.Scratch.{Scratch}
 use Rattle.page_steps.specs.declared.stage.PieceEnd.{PieceEnd}
 use Rattle.page_steps.specs.declared.stage.PieceEnd.TheVariants as piece
 use Rattle.page_steps.specs.declared.stage.Progress.TheVariants as progress
-use Rattle.page_steps.specs.Steps.{Terms, DiskHeld, Here}
+use Rattle.page_steps.specs.Steps.{Terms, DiskHeld, Here, piece_over}
 use Rattle.page_steps.specs.Nexts.{Next, ending_by}
-use Rattle.page_steps.specs.Calls.{Frame, at_of, held_of, fresh_of, cell_in, owed_of, ahead_of, behind_of, page_of, fail_of, is_count, IsWork}
-use Rattle.page_steps.specs.Calls.{here as call_here, end_of as ending, got_of as got_of_piece}
+use Rattle.page_steps.specs.Calls.{Frame, fresh_of, cell_in, ahead_of, behind_of, page_of, fail_of}
+use Rattle.page_steps.specs.Calls.{end_of as ending, got_of as got_of_piece}
 use Rattle.page_steps.specs.Turns.{Turned as CallTurned}
+use Rattle.actor_steps.specs.declared.call.Call.{Call}
+use Rattle.actor_steps.specs.declared.call.Call.TheVariants as call
 use Rattle.actor_steps.specs.declared.place.Place.{Place}
 use Rattle.actor_steps.specs.declared.reply.Reply.{Reply}
 use Rattle.actor_steps.specs.declared.worker.Worker.{Worker}
 use Rattle.actor_steps.specs.declared.worker.Turn.TheVariants as turn
-use Rattle.actor_steps.specs.Places.{part_at, behind, IsOnward}
+use Rattle.actor_steps.specs.Places.{todo_at, part_at, behind, IsOnward}
 use Rattle.actor_steps.specs.Work.{reads}
 use Rattle.actor_steps.specs.Replies.{HasRoomFor, HasMore}
-use Rattle.actor_steps.specs.Workers.{stage_of, here, with_call, over_of, AllCarried, Keeps, ReplyFits, HasCall, IsFit, CanFinish, Finishes, turned, Advanced}
+use Rattle.actor_steps.specs.Calls.{Does, local, is_alone, got_by as got_in}
+use Rattle.actor_steps.specs.Workers.{at_by, held_by, owed_by, stage_of, here, with_call, frame, over_of, AllCarried, Keeps, ReplyFits, HasCall, IsFit, CanFinish, Finishes, turned, Advanced}
 use Rattle.actor_steps.proofs.Histories.{over_here, over_else, carried_more, none_carried, end_here, end_else}
 use Rattle.actor_steps.proofs.Turns.{rest, x, here_is}
-use Rattle.actor_steps.proofs.Singles.{EndsAs, reads_nothing}
+use Rattle.actor_steps.proofs.Calls.{alone_is}
+use Rattle.actor_steps.proofs.Singles.{ReadsNothing, EndsAs, ends_alone}
 
 -- ---- what a piece reads
 
--- a piece of a write or a discard reads nothing
+-- only a piece of a read reads something
 got_plain : (end : PieceEnd) (page : List ℕ) (p : Part)
     → ((bytes : ℕ → List ℕ) → got_by p.op p.page bytes ≡ []) → got_of_piece end page p ≡ []
 got_plain (piece.Read at) page p none = none _
@@ -47,17 +49,25 @@ got_plain piece.Skipped page p none = refl
 got_plain piece.Range page p none = refl
 got_plain (piece.AtLimit pages need limit) page p none = refl
 got_plain piece.NoMemory page p none = refl
+got_plain (piece.Compacted moves frames) page p none = refl
 
--- nor does a request beyond the disk
-got_none : (k : Work) (end : PieceEnd) (page : List ℕ) (p : Part) → EndsAs k end
-    → is_count k ≡ true → got_of_piece end page p ≡ []
-got_none k (piece.Read at) page p e on = absurd (e on)
-got_none k (piece.Wrote at) page p e on = refl
-got_none k (piece.Discarded at) page p e on = refl
-got_none k piece.Skipped page p e on = refl
-got_none k piece.Range page p e on = refl
-got_none k (piece.AtLimit pages need limit) page p e on = refl
-got_none k piece.NoMemory page p e on = refl
+-- nor does one of an operation that is over in one piece
+got_none : (end : PieceEnd) (page : List ℕ) (p : Part) → ReadsNothing end
+    → got_of_piece end page p ≡ []
+got_none (piece.Read at) page p none = absurd none
+got_none (piece.Wrote at) page p none = refl
+got_none (piece.Discarded at) page p none = refl
+got_none piece.Skipped page p none = refl
+got_none piece.Range page p none = refl
+got_none (piece.AtLimit pages need limit) page p none = refl
+got_none piece.NoMemory page p none = refl
+got_none (piece.Compacted moves frames) page p none = refl
+
+-- what a call says of it
+got_is : (c : Call) (r : Scratch) (end : PieceEnd) (p : Part) → EndsAs (is_alone c) end
+    → got_in c r end p ≡ got_of_piece end r.page p
+got_is (call.Page c) r end p e = refl
+got_is (call.Compact c) r end p e = sym (got_none end r.page p (e refl))
 
 -- ---- room in replies
 
@@ -66,13 +76,14 @@ reads_fit : (size : ℕ) (pl : Place) (op : Op) (r : Reply) → is_single size o
     → vec_len r.sectors + reads op pl.page ≤ vec_capacity r.sectors
 reads_fit size pl (Write start count stuff) r inside f le = omega arith
 reads_fit size pl (Discard start count) r inside f le = omega arith
+reads_fit size pl Compact r inside f le = omega arith
 reads_fit size pl (Read start count) r inside f le = let q = f.0.here refl inside in omega arith
 
-has_room : (size : ℕ) (pl : Place) (op : Op) (r : Reply) (k : Work) (end : PieceEnd)
-    → is_single size op ≡ is_count k → EndsAs k end → ReplyFits size pl pl.nr op r
+has_room : (size : ℕ) (pl : Place) (op : Op) (r : Reply) (k : Bool) (end : PieceEnd)
+    → is_single size op ≡ k → EndsAs k end → ReplyFits size pl pl.nr op r
     → vec_len r.sectors ≤ vec_capacity r.sectors
     → HasRoomFor end (vec_len r.sectors + reads op pl.page) (vec_capacity r.sectors)
-has_room size pl op r k (piece.Read at) single e f le = elim (cases_Bool (is_count k)) [
+has_room size pl op r k (piece.Read at) single e f le = elim (cases_Bool k) [
   | inl on ↦ absurd (e on)
   | inr off ↦ reads_fit size pl op r (single ∙ off) f le
 ]
@@ -82,12 +93,14 @@ has_room size pl op r k piece.Skipped single e f le = tt
 has_room size pl op r k piece.Range single e f le = tt
 has_room size pl op r k (piece.AtLimit pages need limit) single e f le = tt
 has_room size pl op r k piece.NoMemory single e f le = tt
+has_room size pl op r k (piece.Compacted moves frames) single e f le = tt
 
 -- a later place asks for no more room
 fits_later : (size : ℕ) (pl pl' : Place) (k : ℕ) (op : Op) (r : Reply) → k ≢ pl.nr
     → IsOnward (behind pl) pl' → ReplyFits size pl k op r → ReplyFits size pl' k op r
 fits_later size pl pl' k (Write start count stuff) r ne on f = f
 fits_later size pl pl' k (Discard start count) r ne on f = f
+fits_later size pl pl' k Compact r ne on f = f
 fits_later size pl pl' k (Read start count) r ne on f = (
   record {
     later = λ lt inside. f.0.later
@@ -101,12 +114,12 @@ fits_later size pl pl' k (Read start count) r ne on f = (
 )
 
 -- the piece's own reply
-fits_here : (size : ℕ) (pl pl' : Place) (op : Op) (was is : Reply) (k : Work) (end : PieceEnd)
+fits_here : (size : ℕ) (pl pl' : Place) (op : Op) (was is : Reply) (k : Bool) (end : PieceEnd)
     (page : List ℕ) → IsOnward (behind pl) pl'
     → vec_len is.sectors ≤ vec_len was.sectors + reads op pl.page
     → vec_capacity is.sectors ≡ vec_capacity was.sectors
     → is.sectors.items ≡ was.sectors.items ++ got_of_piece end page (part_at pl op)
-    → is_single size op ≡ is_count k → EndsAs k end
+    → is_single size op ≡ k → EndsAs k end
     → ReplyFits size pl pl.nr op was → ReplyFits size pl' pl.nr op is
 fits_here size pl pl' (Write start count stuff) was is k end page on len room got single e f =
     got ∙ ap (λ (xs : List (List ℕ)). was.sectors.items ++ xs)
@@ -115,6 +128,10 @@ fits_here size pl pl' (Write start count stuff) was is k end page on len room go
 fits_here size pl pl' (Discard start count) was is k end page on len room got single e f =
     got ∙ ap (λ (xs : List (List ℕ)). was.sectors.items ++ xs)
     (got_plain end page (part_at pl (Discard start count)) (λ b. refl))
+    ∙ append-nil was.sectors.items ∙ f
+fits_here size pl pl' Compact was is k end page on len room got single e f =
+    got ∙ ap (λ (xs : List (List ℕ)). was.sectors.items ++ xs)
+    (got_plain end page (part_at pl Compact) (λ b. refl))
     ∙ append-nil was.sectors.items ∙ f
 fits_here size pl pl' (Read start count) was is k end page on len room got single e f = (
   record {
@@ -127,7 +144,7 @@ fits_here size pl pl' (Read start count) was is k end page on len room got singl
         on;
   },
   λ beyond. got ∙ ap (λ (xs : List (List ℕ)). was.sectors.items ++ xs)
-      (got_none k end page (part_at pl (Read start count)) e (sym single ∙ beyond))
+      (got_none end page (part_at pl (Read start count)) (e (sym single ∙ beyond)))
       ∙ append-nil was.sectors.items ∙ f.1 beyond,
 )
 
@@ -144,21 +161,20 @@ more_at {nr} {n} {end} {got} {old} {new} m k r e = dite (ℕ_discrete k nr)
 
 -- ---- the worker
 
--- the last turn of a call that counts a request reads nothing
-pub ends_as : (t : Terms) (ops : List Op) (v : Worker) (c : PageCall)
+-- the last turn of a call that does an operation in one piece reads nothing
+pub ends_as : (t : Terms) (ops : List Op) (v : Worker) (c : Call)
     (fit : IsFit t ops (with_call v (Some c))) (op : Op) (at : slice_get ops v.place.nr ≡ Some op)
     {X : Type 0} (takes : X → LockNo → Next → DiskHeld → X → Type 0)
     (misses : X → LockNo → X → Type 0) (gives : X → LockNo → Next → DiskHeld → X → Type 0)
     (h g : X) (r : Scratch) (end : PieceEnd)
-    → ((y : Frame) → IsWork c.head v.scratch y
-    → CallTurned takes misses gives y.terms (call_here y v.scratch c.stage) h
-    (ending_by (call_here y v.scratch c.stage) (ending end) (got_of_piece end r.page)
-    (call_here y v.scratch c.stage).todo) g (progress.Done end)) → EndsAs c.head.work end
-ends_as t ops v c fit op at takes misses gives h g r end turns on =
-    reads_nothing c.head v.scratch (x t ops v c fit op at []) refl end r.page on
-    (fit.call.work op (rest t ops v c fit op at) [] at) takes misses gives h g c.stage
-    fit.call.going fit.call.fit
-    (turns (x t ops v c fit op at []) (fit.call.work op (rest t ops v c fit op at) [] at))
+    → ((y : Frame) → Does c v.scratch y
+    → CallTurned takes misses gives y.terms (local c v.scratch y) h
+    (ending_by (local c v.scratch y) (ending end) (got_in c r end) (local c v.scratch y).todo) g
+    (progress.Done end)) → EndsAs (is_alone c) end
+ends_as t ops v c fit op at takes misses gives h g r end turns =
+    let does = fit.call.work op (rest t ops v c fit op at) [] at in
+    ends_alone takes misses gives h g (x t ops v c fit op at []) refl end c v.scratch r does
+    fit.call.fit fit.call.going (turns (x t ops v c fit op at []) does)
 
 -- the worker whose call is over, before its piece is finished
 abbrev pub ended : Worker → Scratch → Worker
@@ -171,12 +187,12 @@ ended v r = record {
   replies = v.replies;
 }
 
-module _ (t : Terms) (ops : List Op) (v : Worker) (c : PageCall)
+module _ (t : Terms) (ops : List Op) (v : Worker) (c : Call)
     (fit : IsFit t ops (with_call v (Some c))) (op : Op)
     (at : slice_get ops v.place.nr ≡ Some op) (more : v.place.nr < length ops) (r : Scratch)
-    (end : PieceEnd) (is_end : EndsAs c.head.work end) where
-  single : is_single t.size op ≡ is_count c.head.work
-  single = (fit.call.work op [] [] at).beyond
+    (end : PieceEnd) (is_end : EndsAs (is_alone c) end) where
+  single : is_single t.size op ≡ is_alone c
+  single = alone_is c v.scratch (frame t v op [] []) (fit.call.work op [] [] at)
 
   pub can_finish : CanFinish t.size ops end (ended v r)
   can_finish = record {
@@ -188,12 +204,12 @@ module _ (t : Terms) (ops : List Op) (v : Worker) (c : PageCall)
     replies = fit.replies;
     room = λ o y named there.
         let same : op ≡ o = (let q : Some op ≡ Some o = sym at ∙ named in cc) in
-        has_room t.size v.place o y c.head.work end (ap (is_single t.size) (sym same) ∙ single)
+        has_room t.size v.place o y (is_alone c) end (ap (is_single t.size) (sym same) ∙ single)
         is_end (fit.reads v.place.nr o y named there) y.sectors.ok.1;
   }
 
   module _ (empty : v.call ≡ None) (w' : Worker) (fin : Finishes t.size ops end (ended v r) w') where
-    no_call : (let o : Option PageCall = None in o) ≡ w'.call
+    no_call : (let o : Option Call = None in o) ≡ w'.call
     no_call = sym (fin.call ∙ empty)
 
     abbrev nr : ℕ
@@ -231,6 +247,7 @@ module _ (t : Terms) (ops : List Op) (v : Worker) (c : PageCall)
       place = fin.place;
       settled = fin.settled;
       chain = ap (λ (y : Scratch). y.table) fin.scratch ∙ table ∙ fit.chain;
+      most = fit.most;
       carried = ⊎_elim
           (λ h. let q = carried_none h in omega arith)
           (λ h. let q = carried_same (sym h.0) in let p = h.1 in let f = fit.carried in omega arith)
@@ -249,7 +266,7 @@ module _ (t : Terms) (ops : List Op) (v : Worker) (c : PageCall)
       mine k o y s u z =
           subst (λ (q : ℕ × Op × Reply). ReplyFits t.size w'.place q.0 q.1 q.2)
           (λ i. (sym s i, z i, u i))
-          (fits_here t.size v.place w'.place op m.was m.is c.head.work end r.page fin.onward m.len
+          (fits_here t.size v.place w'.place op m.was m.is (is_alone c) end r.page fin.onward m.len
           m.room m.sectors single is_end (fit.reads nr op m.was at m.before))
 
     -- the replies have what is over now
@@ -315,41 +332,51 @@ module _ (t : Terms) (ops : List Op) (v : Worker) (c : PageCall)
             (⊎_elim (λ e. omega arith) (λ h. omega arith) nr_now);
       }
 
-      abbrev l : Here
-      l = call_here (x t ops v c fit op at done) v.scratch c.stage
+      abbrev y : Frame
+      y = frame t v op (todo_at t.size ops (behind v.place)) done
 
-      -- the local once the piece is over is the worker's
-      over_is : ending_by l (ending end) (got_of_piece end r.page) l.todo
+      -- the local once the piece is over, which has read this
+      abbrev over : List (List ℕ) → Here
+      over got = piece_over (here t.size ops v done) (part_at v.place op) (ending end) got
+          (todo_at t.size ops (behind v.place))
+
+      ends_so : (b : Call)
+          → ending_by (local b v.scratch y) (ending end) (got_in b r end) (local b v.scratch y).todo
+          ≡ over (got_in b r end (part_at v.place op))
+      ends_so (call.Page b) = refl
+      ends_so (call.Compact b) = refl
+
+      -- is the worker's
+      over_is : ending_by (local c v.scratch y) (ending end) (got_in c r end) (local c v.scratch y).todo
           ≡ here t.size ops w' (done ++ d ∷ [])
-      over_is = λ i. record {
+      over_is = ends_so c ∙ ap over (got_is c r end (part_at v.place op) is_end) ∙ (λ i. record {
         actor = sym fin.actor i;
-        at = at_of (stage_of (no_call i));
+        at = at_by (no_call i);
         todo = sym fin.todo i;
-        held = held_of w'.place.page (stage_of (no_call i));
+        held = held_by w'.place.page (no_call i);
         done = done ++ d ∷ [];
         fresh = fresh_of w'.scratch (stage_of (no_call i));
         pin = cell_in (stage_of (no_call i));
-        owed = owed_of (stage_of (no_call i));
+        owed = owed_by (no_call i);
         ahead = ahead_of (stage_of (no_call i));
         behind = behind_of (stage_of (no_call i));
         page = page_of w'.scratch (stage_of (no_call i));
         fail = fail_of (stage_of (no_call i));
-      }
+      })
 
       pub ends_turn : {X : Type 0} (takes : X → LockNo → Next → DiskHeld → X → Type 0)
           (misses : X → LockNo → X → Type 0) (gives : X → LockNo → Next → DiskHeld → X → Type 0)
-          (h g : X) → ((y : Frame) → IsWork c.head v.scratch y
-          → CallTurned takes misses gives y.terms (call_here y v.scratch c.stage) h
-          (ending_by (call_here y v.scratch c.stage) (ending end) (got_of_piece end r.page)
-          (call_here y v.scratch c.stage).todo) g (progress.Done end))
+          (h g : X) → ((z : Frame) → Does c v.scratch z
+          → CallTurned takes misses gives z.terms (local c v.scratch z) h
+          (ending_by (local c v.scratch z) (ending end) (got_in c r end) (local c v.scratch z).todo) g
+          (progress.Done end))
           → Advanced takes misses gives t ops (with_call v (Some c)) h w' g turn.Went done
       ends_turn takes misses gives h g turns = (
         done ++ d ∷ [],
         keeps_now,
         turned (progress.Done end)
-            (subst (λ (y : Here × Here). CallTurned takes misses gives t y.0 h y.1 g
+            (subst (λ (k : Here × Here). CallTurned takes misses gives t k.0 h k.1 g
             (progress.Done end))
             (λ i. (here_is t ops v c fit op at v.scratch c done i, over_is i))
-            (turns (x t ops v c fit op at done) (fit.call.work op
-            (rest t ops v c fit op at) done at))) refl,
+            (turns y (fit.call.work op (todo_at t.size ops (behind v.place)) done at))) refl,
       )

@@ -1,10 +1,11 @@
 -- The places of an actor among its operations.
-use Rattle.std.proofs.Common.{◌≡◌, ℕ, zero, suc, ◌+◌, ◌-◌, ◌/◌, ◌^◌, ◌<◌, ◌≤◌, Bool, true, false, ◌||◌, cond, eqb, List, [], ◌∷◌, ◌++◌, length, drop, get_or, Some, slice_get, refl, sym, ap, ◌∙◌, subst, arith, inl, inr}
-use Rattle.std.proofs.lemmas.Bool.{cases_Bool, eq-eqb, ne_eqb}
+use Rattle.std.proofs.Common.{◌≡◌, ℕ, zero, suc, ◌+◌, ◌-◌, ◌*◌, ◌/◌, ◌^◌, ◌<◌, ◌≤◌, Bool, true, false, true≢false, ◌||◌, cond, eqb, List, [], ◌∷◌, ◌++◌, length, drop, get_or, max, Some, slice_get, IsTrue, refl, sym, ap, ◌∙◌, subst, arith, inl, inr}
+use Rattle.std.proofs.lemmas.Bool.{cases_Bool, eq-eqb, ne_eqb, ltb-true}
+use Rattle.std.proofs.lemmas.Bool.Decides.{nat_tests}
 use Rattle.std.proofs.lemmas.Option.{slice_get-get_or}
 use Rattle.zr_base.specs.declared.op.Op.{Op}
-use Rattle.zr_base.specs.declared.op.Op.TheVariants.{Write, Read, Discard}
-use Rattle.zr_base.specs.Plain.{start_of, count_of, has_event, IsRequest, InBounds}
+use Rattle.zr_base.specs.declared.op.Op.TheVariants.{Write, Read, Discard, Compact}
+use Rattle.zr_base.specs.Plain.{start_of, count_of, has_event, is_beyond, is_compaction, touches, IsRequest, InBounds}
 use Rattle.zr_base.specs.Pieces.{first_page, pages_of}
 use Rattle.plain_disk.specs.Ends.{is_single}
 use Rattle.call_history.specs.declared.part.Part.{Part}
@@ -36,24 +37,56 @@ module _ {A : Type 0} where
   drop_out (y ∷ ys) zero le = absurd (omega arith)
   drop_out (y ∷ ys) (suc i) le = drop_out ys i (omega arith)
 
-pub in_bounds : (op : Op) → IsRequest op → InBounds (start_of op) (count_of op)
-in_bounds (Write start count stuff) r = r.0
-in_bounds (Read start count) r = r
-in_bounds (Discard start count) r = r
+pub in_bounds : (op : Op) → is_compaction op ≡ false → IsRequest op
+    → InBounds (start_of op) (count_of op)
+in_bounds (Write start count stuff) request r = r.0
+in_bounds (Read start count) request r = r
+in_bounds (Discard start count) request r = r
+in_bounds Compact request r = absurd (true≢false request)
 
-pub pages_some : (op : Op) → IsRequest op
+pub pages_some : (op : Op) → is_compaction op ≡ false → IsRequest op
     → pages_of op ≡ (start_of op + count_of op - 1) / 8 + 1 - start_of op / 8
-pages_some op r =
+pages_some op request r =
     ap (λ (b : Bool). cond b 0 ((start_of op + count_of op - 1) / 8 + 1 - start_of op / 8))
-    (ne_eqb (count_of op) 0 (λ z. let b = (in_bounds op r).1 in omega arith))
+    (ne_eqb (count_of op) 0 (λ z. let b = (in_bounds op request r).1 in omega arith))
+
+few_of_request : (op : Op) → is_compaction op ≡ false → IsRequest op
+    → (first_page op < 2 ^ 29) × (pages_of op < 1000)
+few_of_request op request r =
+    let n = pages_some op request r in
+    let b = in_bounds op request r in
+    let b₀ = b.0 in
+    let b₁ = b.2 in
+    (omega arith, omega arith)
+
+-- no operation is on a high page, or on many
+few_of : (op : Op) → IsRequest op → (first_page op < 2 ^ 29) × (pages_of op < 1000)
+few_of (Write start count stuff) r = few_of_request (Write start count stuff) refl r
+few_of (Read start count) r = few_of_request (Read start count) refl r
+few_of (Discard start count) r = few_of_request (Discard start count) refl r
+few_of Compact r = (omega arith, omega arith)
 
 pub few_pages : (op : Op) → IsRequest op → pages_of op < 1000
-few_pages op r = let n = pages_some op r in let b = in_bounds op r in let b₀ = b.0 in
-    let b₁ = b.2 in
-    omega arith
+few_pages op r = (few_of op r).1
 
 pub low_page : (op : Op) → IsRequest op → first_page op < 2 ^ 29
-low_page op r = let b = (in_bounds op r).0 in omega arith
+low_page op r = (few_of op r).0
+
+-- one that isn't over in one piece is a request, on the disk
+pub request_on : (size : ℕ) (op : Op) → is_single size op ≡ false
+    → (is_compaction op ≡ false) × (is_beyond size op ≡ false)
+request_on size (Write start count stuff) off = (refl, off)
+request_on size (Read start count) off = (refl, off)
+request_on size (Discard start count) off = (refl, off)
+request_on size Compact off = absurd (true≢false off)
+
+-- only a request is beyond the disk
+pub request_beyond : (size : ℕ) (op : Op) → is_beyond size op ≡ true → is_compaction op ≡ false
+request_beyond size (Write start count stuff) on = refl
+request_beyond size (Read start count) on = refl
+request_beyond size (Discard start count) on = refl
+request_beyond size Compact on =
+    let lt = ltb-true (8 * size) 0 on in absurd (let none : ⊥ = omega arith in none)
 
 -- ---- the pieces of an operation
 
@@ -155,18 +188,18 @@ module _ (size : ℕ) (ops : List Op) (nr : ℕ) (op : Op) (at : slice_get ops n
         ∙ ap (λ (ps : List Part). ps ++ program size (nr + 1) later) (left_all size nr op)
         ∙ sym (ap (program size nr) (drop_cons ops nr op at))
 
-    few_to_do : IsRequest op → pages_to_do size op ≤ pages_of op
-    few_to_do r = elim (cases_Bool (is_single size op)) [
-      | inl on ↦ (let s = pages_some op r in let b = (in_bounds op r).1 in rw on (omega arith))
+    few_to_do : pages_to_do size op ≤ max 1 (pages_of op)
+    few_to_do = elim (cases_Bool (is_single size op)) [
+      | inl on ↦ rw on (omega arith)
       | inr off ↦ rw off (omega arith)
     ]
 
-    pub place_first : IsRequest op → IsPlaceBy page n (drop nr ops)
-    place_first r = let f = few_to_do r in
+    pub place_first : IsPlaceBy page n (drop nr ops)
+    place_first = let f = few_to_do in
         place_here page n (record { first = omega arith; last = omega arith })
 
     pub few_first : IsRequest op → n < 1000
-    few_first r = let f = few_to_do r in let g = few_pages op r in omega arith
+    few_first r = let f = few_to_do in let g = few_pages op r in omega arith
 
   -- a page without a piece is passed
   module _ (page n : ℕ) (some : 1 ≤ n) where
@@ -229,13 +262,28 @@ todo_next size ops pl op at s =
     let h = has_settled size ops pl.nr op at pl.page pl.left s in
     next_todo size ops pl.nr op at pl.page pl.left h.0 h.1
 
--- the operation at a place touches its page
+-- the request at a place touches its page
 pub touches_here : (size : ℕ) (ops : List Op) (pl : Place) (op : Op) → slice_get ops pl.nr ≡ Some op
-    → AreRequests ops → IsPlace ops pl → IsSettled size ops pl → Touches op pl.page
-touches_here size ops pl op at requests place settled =
+    → AreRequests ops → IsPlace ops pl → IsSettled size ops pl → is_compaction op ≡ false
+    → Touches op pl.page
+touches_here size ops pl op at requests place settled request =
     let on = on_here size ops pl.nr op at pl.page pl.left place in
-    let some = (has_settled size ops pl.nr op at pl.page pl.left settled).0 in record {
+    let some = (has_settled size ops pl.nr op at pl.page pl.left settled).0 in
+    let n = pages_some op request (requests pl.nr op at) in
+    let b = (in_bounds op request (requests pl.nr op at)).1 in record {
       request = requests pl.nr op at;
       first = on.first;
       last = (let l = on.last in omega arith);
     }
+
+-- and so do its sectors
+pub is_touched : (op : Op) (page : ℕ) → is_compaction op ≡ false → Touches op page
+    → IsTrue (touches (start_of op) (count_of op) page)
+is_touched op page request t =
+    let n = pages_some op request t.request in
+    let b = (in_bounds op request t.request).1 in
+    let first = t.first in
+    let last = t.last in
+    let low : start_of op < 8 * page + 8 = omega arith in
+    let high : 8 * page < start_of op + count_of op = omega arith in
+    grind (arith, nat_tests)

@@ -1,15 +1,17 @@
--- The count of a request beyond the disk reads nothing.
-use Rattle.std.proofs.Common.{◌≡◌, ℕ, Bool, true, false, List, [], ◌∷◌, ◌++◌, Option, Some, None, refl, sym, ap, ◌∙◌, subst}
+-- The piece of an operation that is over in one piece reads nothing.
+use Rattle.std.proofs.Common.{◌≡◌, ℕ, ◌==◌, Bool, true, false, List, [], ◌∷◌, ◌++◌, Option, Some, None, refl, sym, ap, ◌∙◌, subst}
+use Rattle.call_history.specs.declared.part.Part.{Part}
 use Rattle.call_history.specs.declared.part.PartEnd.{PartEnd}
 use Rattle.call_history.specs.declared.part.PartEnd.TheVariants as over
 use Rattle.call_history.specs.declared.part.Done.{Done}
+use Rattle.zr_base.specs.declared.op.OpEnd.{OpEnd}
 use Rattle.zr_base.specs.declared.op.OpEnd.TheVariants as ends
 use Rattle.lock_row.specs.declared.names.LockNo.{LockNo}
 use Rattle.lock_row.specs.declared.names.At.{At}
 use Rattle.lock_row.specs.declared.names.At.TheVariants as at
+use Rattle.lock_row.specs.declared.names.Compaction.{Compaction}
 use Rattle.lock_row.specs.declared.names.Plan.{Plan}
 use Rattle.lock_row.specs.declared.names.Plan.TheVariants.{Take}
-use Rattle.page_steps.specs.declared.stage.Work.{Work}
 use Rattle.page_steps.specs.declared.stage.Head.{Head}
 use Rattle.page_steps.specs.declared.stage.Scratch.{Scratch}
 use Rattle.page_steps.specs.declared.stage.Stage.{Stage}
@@ -18,20 +20,27 @@ use Rattle.page_steps.specs.declared.stage.PieceEnd.{PieceEnd}
 use Rattle.page_steps.specs.declared.stage.PieceEnd.TheVariants as piece
 use Rattle.page_steps.specs.declared.stage.Progress.{Progress}
 use Rattle.page_steps.specs.declared.stage.Progress.TheVariants as progress
-use Rattle.page_steps.specs.Steps.{DiskHeld, Here, start_plan}
+use Rattle.page_steps.specs.Steps.{Terms, DiskHeld, Here, start_plan}
 use Rattle.page_steps.specs.Nexts.{Next, ending_by}
-use Rattle.page_steps.specs.Givings.{Works, refuses, pins, unpins, charges, limits, starves, stows, quits, frees, repays, puts, reads, fails}
+use Rattle.page_steps.specs.Givings.{Works, refuses, pins, unpins, charges, limits, starves, stows, quits, frees, repays, puts, reads, fails, compacts}
+use Rattle.page_steps.specs.Compactions.{moves, rests, shrinks, resting_by, compaction_at}
 use Rattle.page_steps.specs.Calls.{Frame, here, is_count, IsWork, IsFit, IsGoing, end_of, got_of}
 use Rattle.page_steps.specs.Turns.{Turned, waited, took_it, gave_it}
+use Rattle.post_steps.specs.declared.compact.CompactStage.{CompactStage}
+use Rattle.post_steps.specs.declared.compact.CompactStage.TheVariants as compact
+use Rattle.post_steps.specs.Compact.{here as compact_here, at_of}
+use Rattle.actor_steps.specs.declared.call.Call.{Call}
+use Rattle.actor_steps.specs.declared.call.Call.TheVariants as call
+use Rattle.actor_steps.specs.Calls.{Does, local, got_by, is_alone, IsFit as IsCallFit, IsGoing as IsCallGoing}
 
 -- the piece has read no page
 abbrev pub ReadsNothing : PieceEnd → Type 0
 ReadsNothing (piece.Read at) = ⊥
 ReadsNothing end = Unit {0}
 
--- a request beyond the disk has read no page
-abbrev pub EndsAs : Work → PieceEnd → Type 0
-EndsAs k end = is_count k ≡ true → ReadsNothing end
+-- an operation that is over in one piece has read no page
+abbrev pub EndsAs : Bool → PieceEnd → Type 0
+EndsAs alone end = alone ≡ true → ReadsNothing end
 
 abbrev IsRefusing : At → Type 0
 IsRefusing at.Refusing = Unit {0}
@@ -54,14 +63,16 @@ abbrev first_end : List Done → Option PartEnd
 first_end [] = None
 first_end (d ∷ ds) = Some d.end
 
-whole_end : (end : PieceEnd) → Some (end_of end) ≡ Some (over.Whole ends.Range) → ReadsNothing end
-whole_end (piece.Read at) e = absurd (subst IsWhole (sym e) tt)
-whole_end (piece.Wrote at) e = tt
-whole_end (piece.Discarded at) e = tt
-whole_end piece.Skipped e = tt
-whole_end piece.Range e = tt
-whole_end (piece.AtLimit pages need limit) e = tt
-whole_end piece.NoMemory e = tt
+whole_end : (end : PieceEnd) (whole : OpEnd) → Some (end_of end) ≡ Some (over.Whole whole)
+    → ReadsNothing end
+whole_end (piece.Read at) whole e = absurd (subst IsWhole (sym e) tt)
+whole_end (piece.Wrote at) whole e = tt
+whole_end (piece.Discarded at) whole e = tt
+whole_end piece.Skipped whole e = tt
+whole_end piece.Range whole e = tt
+whole_end (piece.AtLimit pages need limit) whole e = tt
+whole_end piece.NoMemory whole e = tt
+whole_end (piece.Compacted n frames) whole e = tt
 
 no : {A : Type 0} (b : Bool) → b ≡ true → b ≡ false → A
 no b on off = absurd (let q : true ≡ false = sym on ∙ off in cc)
@@ -72,7 +83,7 @@ module _ (c : Head) (r : Scratch) (x : Frame) (first : x.done ≡ []) (end : Pie
       → m ≡ ending_by (here x r (stage.Refusing a)) (end_of end) (got_of end page)
       (here x r (stage.Refusing a)).todo → ReadsNothing end
   refused a v m (refuses p rest k e₁ e₂ e₃ e₄ is) same =
-      whole_end end (ap (λ (ds : List Done). first_end (ds ++ record {
+      whole_end end ends.Range (ap (λ (ds : List Done). first_end (ds ++ record {
         part = x.part;
         end = end_of end;
         got = got_of end page x.part;
@@ -95,6 +106,9 @@ module _ (c : Head) (r : Scratch) (x : Frame) (first : x.done ≡ []) (end : Pie
   refused a v m (puts p rest e f e₁ e₂ e₃ e₄ e₅ is) same = absurd (subst IsRefusing e₂ tt)
   refused a v m (reads p rest e f e₁ e₂ e₃ e₄ e₅ e₆ is) same = absurd (subst IsRefusing e₂ tt)
   refused a v m (fails p rest e last e₁ e₂ e₃ e₄ e₅ is) same = absurd (subst IsRefusing e₂ tt)
+  refused a v m (compacts (moves p rest y q q' budget frames e₁ e₂ e₃ e₄ e₅ e₆ is)) same = absurd (subst IsRefusing e₂ tt)
+  refused a v m (compacts (rests p rest y q e₁ e₂ e₃ e₄ e₅ is)) same = absurd (subst IsRefusing e₂ tt)
+  refused a v m (compacts (shrinks p rest y k e₁ e₂ e₃ e₄ is)) same = absurd (subst IsRefusing e₂ tt)
 
   module _ (on : is_count c.work ≡ true) (w : IsWork c r x) {X : Type 0}
       (takes : X → LockNo → Next → DiskHeld → X → Type 0) (misses : X → LockNo → X → Type 0)
@@ -109,7 +123,7 @@ module _ (c : Head) (r : Scratch) (x : Frame) (first : x.done ≡ []) (end : Pie
     reads_nothing stage.Beyond going fit (waited k e miss same none) = absurd none
     reads_nothing stage.Beyond going fit (took_it k f v e take is same none) = absurd (subst IsDone none tt)
     reads_nothing stage.Beyond going fit (gave_it k f v e give is works moved) =
-        absurd (subst IsTake (sym (λ i. start_plan ((w.beyond ∙ on) i) x.part) ∙ e) tt)
+        absurd (subst IsTake (sym (λ i. start_plan (w.request i) ((w.beyond ∙ on) i) x.part) ∙ e) tt)
     reads_nothing (stage.Refusing a) going fit (waited k e miss same none) = absurd none
     reads_nothing (stage.Refusing a) going fit (took_it k f v e take is same none) = absurd (subst IsDone none tt)
     reads_nothing (stage.Refusing a) going fit (gave_it k f v e give is works moved) =
@@ -132,3 +146,94 @@ module _ (c : Head) (r : Scratch) (x : Frame) (first : x.done ≡ []) (end : Pie
     reads_nothing (stage.Giving due frames ahead a) going fit last = no (is_count c.work) on fit.0.piece
     reads_nothing (stage.Ready due ahead behind) going fit last = no (is_count c.work) on fit.piece
     reads_nothing stage.Over going fit last = absurd going
+
+-- ---- a compaction
+
+abbrev IsCompacting : At → Type 0
+IsCompacting at.Start = Unit {0}
+IsCompacting (at.Sweeping y) = Unit {0}
+IsCompacting (at.Moving y) = Unit {0}
+IsCompacting (at.Shrunk y) = Unit {0}
+IsCompacting (at.Shrinking y) = Unit {0}
+IsCompacting a = ⊥
+
+compacting : (s : CompactStage) → IsCompacting (at_of s)
+compacting compact.Start = tt
+compacting (compact.Sweeping y) = tt
+compacting (compact.Moving y q) = tt
+compacting (compact.Shrunk y frames) = tt
+compacting (compact.Shrinking y frames a) = tt
+compacting compact.Over = tt
+
+abbrev IsOver : Option PartEnd → Type 0
+IsOver None = ⊥
+IsOver (Some end) = Unit {0}
+
+-- where a piece ends that is the first to be over
+first_is : (l : Here) (end : PartEnd) (got : Part → List (List ℕ)) (p : Part) (rest : List Part)
+    → l.todo ≡ p ∷ rest → l.done ≡ [] → first_end (ending_by l end got l.todo).done ≡ Some end
+first_is l end got p rest todo none =
+    ap (λ (ts : List Part). first_end (ending_by l end got ts).done) todo
+    ∙ ap (λ (ds : List Done). first_end (ds ++ record { part = p; end = end; got = got p } ∷ [])) none
+
+module _ (l : Here) (none : l.done ≡ []) (end : PieceEnd) where
+  -- nothing is over yet
+  not_yet : (m : Here) → m.done ≡ l.done → first_end m.done ≡ Some (end_of end) → ReadsNothing end
+  not_yet m same is = absurd (subst IsOver (sym is ∙ ap first_end (same ∙ none)) tt)
+
+  rested : (chain : ℕ) (y : Compaction) (last : Bool) (v : DiskHeld) (p : Part) (rest : List Part)
+      → l.todo ≡ p ∷ rest → first_end (resting_by chain y last l v).done ≡ Some (end_of end)
+      → ReadsNothing end
+  rested chain y true v p rest todo is =
+      let whole = ends.Compacted y.moves y.frames in
+      whole_end end whole (sym is ∙ first_is l (over.Whole whole) (λ q. []) p rest todo none)
+  rested chain y false v p rest todo is =
+      not_yet (resting_by chain y false l v) refl is
+
+  -- the last giving of a compaction
+  compacted : (t : Terms) (v : DiskHeld) (m : Here) → IsCompacting l.at → Works t l v m
+      → first_end m.done ≡ Some (end_of end) → ReadsNothing end
+  compacted t v m on (compacts (moves p rest y q q' budget frames e₁ e₂ e₃ e₄ e₅ e₆ is)) so =
+      not_yet m (ap (λ (k : Here). k.done) is) so
+  compacted t v m on (compacts (rests p rest y q e₁ e₂ e₃ e₄ e₅ is)) so =
+      rested t.chain (compaction_at l.at) ((compaction_at l.at).class == 254) v p rest e₁
+      (sym (ap (λ (k : Here). first_end k.done) is) ∙ so)
+  compacted t v m on (compacts (shrinks p rest y k e₁ e₂ e₃ e₄ is)) so =
+      not_yet m (ap (λ (k : Here). k.done) is) so
+  compacted t v m on (refuses p rest k e₁ e₂ e₃ e₄ is) so = absurd (subst IsCompacting e₂ on)
+  compacted t v m on (pins p rest e o q q' cell e₁ e₂ e₃ e₄ e₅ e₆ is) so = absurd (subst IsCompacting e₂ on)
+  compacted t v m on (unpins p rest e o q q' e₁ e₂ e₃ e₄ e₅ e₆ is) so = absurd (subst IsCompacting e₂ on)
+  compacted t v m on (charges p rest e k q q' class handle need bytes huge e₁ e₂ e₃ e₄ e₅ e₆ e₇ e₈ is) so =
+      absurd (subst IsCompacting e₂ on)
+  compacted t v m on (limits p rest e k q class need e₁ e₂ e₃ e₄ e₅ e₆ is) so = absurd (subst IsCompacting e₂ on)
+  compacted t v m on (starves p rest e k q class e₁ e₂ e₃ e₄ e₅ e₆ is) so = absurd (subst IsCompacting e₂ on)
+  compacted t v m on (stows p rest e q class e₁ e₂ e₃ e₄ e₅ is) so = absurd (subst IsCompacting e₂ on)
+  compacted t v m on (quits p rest e q class last e₁ e₂ e₃ e₄ e₅ is) so = absurd (subst IsCompacting e₂ on)
+  compacted t v m on (frees p rest e o q q' frames e₁ e₂ e₃ e₄ e₅ e₆ is) so = absurd (subst IsCompacting e₂ on)
+  compacted t v m on (repays p rest e k e₁ e₂ e₃ e₄ is) so = absurd (subst IsCompacting e₂ on)
+  compacted t v m on (puts p rest e f e₁ e₂ e₃ e₄ e₅ is) so = absurd (subst IsCompacting e₂ on)
+  compacted t v m on (reads p rest e f e₁ e₂ e₃ e₄ e₅ e₆ is) so = absurd (subst IsCompacting e₂ on)
+  compacted t v m on (fails p rest e last e₁ e₂ e₃ e₄ e₅ is) so = absurd (subst IsCompacting e₂ on)
+
+module _ {X : Type 0} (takes : X → LockNo → Next → DiskHeld → X → Type 0)
+    (misses : X → LockNo → X → Type 0) (gives : X → LockNo → Next → DiskHeld → X → Type 0) (h g : X)
+    (x : Frame) (first : x.done ≡ []) (end : PieceEnd) where
+  compact_reads_nothing : (s : CompactStage) (got : Part → List (List ℕ))
+      → Turned takes misses gives x.terms (compact_here x s) h
+      (ending_by (compact_here x s) (end_of end) got (compact_here x s).todo) g (progress.Done end)
+      → ReadsNothing end
+  compact_reads_nothing s got (waited k e miss same none) = absurd none
+  compact_reads_nothing s got (took_it k f v e take is same none) = absurd (subst IsDone none tt)
+  compact_reads_nothing s got (gave_it k f v e give is works moved) =
+      compacted (compact_here x s) first end x.terms v _ (compacting s) works
+      (first_is (compact_here x s) (end_of end) got x.part x.rest refl first)
+
+  -- the last turn of a call that does an operation in one piece
+  pub ends_alone : (c : Call) (r s : Scratch) → Does c r x → IsCallFit c r → IsCallGoing c
+      → Turned takes misses gives x.terms (local c r x) h
+      (ending_by (local c r x) (end_of end) (got_by c s end) (local c r x).todo) g (progress.Done end)
+      → EndsAs (is_alone c) end
+  ends_alone (call.Page c) r s does fit going last on =
+      reads_nothing c.head r x first end s.page on does takes misses gives h g c.stage going fit last
+  ends_alone (call.Compact c) r s does fit going last on =
+      compact_reads_nothing c.stage (λ p. []) last

@@ -6,27 +6,28 @@ use Rattle.call_history.specs.declared.part.Done.{Done}
 use Rattle.lock_row.specs.declared.names.LockNo.{LockNo}
 use Rattle.lock_row.specs.declared.names.Plan.{Plan}
 use Rattle.lock_row.specs.declared.names.Plan.TheVariants.{Take, Give}
-use Rattle.page_steps.specs.declared.call.PageCall.{PageCall}
-use Rattle.page_steps.specs.declared.stage.Head.{Head}
 use Rattle.page_steps.specs.declared.stage.Scratch.{Scratch}
-use Rattle.page_steps.specs.declared.stage.Stage.{Stage}
 use Rattle.page_steps.specs.declared.stage.Progress.{Progress}
 use Rattle.page_steps.specs.Steps.{Terms, DiskHeld, Here, plan, took}
 use Rattle.page_steps.specs.Nexts.{Next}
 use Rattle.page_steps.specs.Givings.{Works}
 use Rattle.page_steps.specs.Fits.{StageFits}
-use Rattle.page_steps.specs.Calls.{Frame, at_of, held_of, fresh_of, cell_in, owed_of, ahead_of, behind_of, page_of, fail_of, IsGoing, IsWork}
-use Rattle.page_steps.specs.Calls.{here as call_here, next_event as call_event, IsFit as IsCallFit}
-use Rattle.page_steps.specs.Turns.{Allows as CallAllows, Turned as CallTurned, TakesAs as CallTakesAs, GivesAs as CallGivesAs}
+use Rattle.page_steps.specs.Calls.{Frame, fresh_of, cell_in, ahead_of, behind_of, page_of, fail_of}
+use Rattle.page_steps.specs.Turns.{Turned as CallTurned}
+use Rattle.post_steps.specs.Turns.{Allows as CallAllows, TakesAs as CallTakesAs, GivesAs as CallGivesAs}
+use Rattle.actor_steps.specs.declared.call.Call.{Call}
+use Rattle.actor_steps.specs.declared.call.Call.TheVariants as call
 use Rattle.actor_steps.specs.declared.worker.Worker.{Worker}
 use Rattle.actor_steps.specs.declared.worker.Turn.{Turn}
 use Rattle.actor_steps.specs.declared.worker.Turn.TheVariants as turn
 use Rattle.actor_steps.specs.Places.{todo_at, part_at, behind}
-use Rattle.actor_steps.specs.Workers.{stage_of, here, next_event, with_call, frame, Keeps, IsBegun, IsFit, TakesAs, GivesAs, Allows, finished, turned, turn_of, Turned, Advanced}
+use Rattle.actor_steps.specs.Calls.{Does, local, IsGoing, next_event as call_event, IsFit as IsCallFit}
+use Rattle.actor_steps.specs.Workers.{at_by, held_by, owed_by, stage_of, here, next_event, with_call, frame, Keeps, IsBegun, IsFit, TakesAs, GivesAs, Allows, finished, turned, turn_of, Turned, Advanced}
 use Rattle.actor_steps.proofs.Places.{todo_next, no_todo}
+use Rattle.actor_steps.proofs.Calls.{PagePlans, CompactPlans, plan_is}
 
 -- the worker after a turn in which its call goes on
-abbrev pub gone_on : Worker → Scratch → PageCall → Worker
+abbrev pub gone_on : Worker → Scratch → Call → Worker
 gone_on v r c = record {
   actor = v.actor;
   place = v.place;
@@ -50,7 +51,7 @@ module _ {X : Type 0} (takes : X → LockNo → Next → DiskHeld → X → Type
         (no_todo t.size w.place.nr ops w.place.page w.place.left le)) refl refl refl,
   )
 
-module _ (t : Terms) (ops : List Op) (v : Worker) (c : PageCall)
+module _ (t : Terms) (ops : List Op) (v : Worker) (c : Call)
     (fit : IsFit t ops (with_call v (Some c))) (op : Op)
     (at : slice_get ops v.place.nr ≡ Some op) where
   abbrev pub rest : List Part
@@ -63,24 +64,13 @@ module _ (t : Terms) (ops : List Op) (v : Worker) (c : PageCall)
   todo_is = todo_next t.size ops v.place op at fit.settled
 
   -- the call's local is the worker's
-  pub here_is : (r : Scratch) (d : PageCall) (done : List Done)
-      → call_here (x done) r d.stage ≡ here t.size ops (gone_on v r d) done
-  here_is r d done = λ i. record {
-    actor = v.actor;
-    at = at_of d.stage;
-    todo = sym todo_is i;
-    held = held_of v.place.page d.stage;
-    done = done;
-    fresh = fresh_of r d.stage;
-    pin = cell_in d.stage;
-    owed = owed_of d.stage;
-    ahead = ahead_of d.stage;
-    behind = behind_of d.stage;
-    page = page_of r d.stage;
-    fail = fail_of d.stage;
-  }
+  pub here_is : (r : Scratch) (d : Call) (done : List Done)
+      → local d r (x done) ≡ here t.size ops (gone_on v r d) done
+  here_is r (call.Page d) done = λ i. record (local (call.Page d) r (x done)) { todo = sym todo_is i }
+  here_is r (call.Compact d) done =
+      λ i. record (local (call.Compact d) r (x done)) { todo = sym todo_is i }
 
-  work : (done : List Done) → IsWork c.head v.scratch (x done)
+  work : (done : List Done) → Does c v.scratch (x done)
   work done = fit.call.work op rest done at
 
   abbrev w : Worker
@@ -90,23 +80,23 @@ module _ (t : Terms) (ops : List Op) (v : Worker) (c : PageCall)
   module _ {X : Type 0} (can_take : X → LockNo → Next → Type 0)
       (takes : X → LockNo → Next → DiskHeld → X → Type 0)
       (can_give : X → LockNo → Next → DiskHeld → Type 0) (h : X)
-      (plans : (c : Head) (r : Scratch) (s : Stage) (y : Frame) → IsCallFit c r s → IsGoing s
-      → IsWork c r y → plan y.terms (call_here y r s) ≡ call_event c s)
+      (pages : PagePlans) (compacts : CompactPlans)
       (allows : Allows can_take takes can_give t ops w h) where
-    next_is : (p : Plan) → call_event c.head c.stage ≡ p → next_event t ops w ≡ p
+    next_is : (p : Plan) → call_event c ≡ p → next_event t ops w ≡ p
     next_is p e = sym (ap (plan t) (here_is v.scratch c []))
-        ∙ plans c.head v.scratch c.stage (x []) fit.call.fit fit.call.going (work []) ∙ e
+        ∙ plan_is pages compacts c v.scratch (x []) fit.call.fit fit.call.going (work []) ∙ e
 
-    takes_as : (f : Next) → CallTakesAs c.head v.scratch c.stage f → TakesAs t ops w f
+    takes_as : (f : Next) → CallTakesAs (Does c v.scratch) (local c v.scratch) f → TakesAs t ops w f
     takes_as f says done u = subst (λ (l : Here). f l u ≡ took t l u) (here_is v.scratch c done)
         (says (x done) u (work done))
 
-    gives_as : (f : Next) (u : DiskHeld) → CallGivesAs c.head v.scratch c.stage f u
+    gives_as : (f : Next) (u : DiskHeld) → CallGivesAs (Does c v.scratch) (local c v.scratch) f u
         → GivesAs t ops w f u
     gives_as f u says done = subst (λ (l : Here). Works t l u (f l u)) (here_is v.scratch c done)
         (says (x done) (work done))
 
-    pub call_allows : CallAllows can_take takes can_give c.head v.scratch c.stage h
+    pub call_allows : CallAllows can_take takes can_give (Does c v.scratch) (local c v.scratch)
+        (call_event c) h
     call_allows = record {
       take = λ k f what says. allows.take k f (next_is (Take k) what) (takes_as f says);
       fits = λ k f u g what says take. (
@@ -121,10 +111,9 @@ module _ (t : Terms) (ops : List Op) (v : Worker) (c : PageCall)
   -- a turn after which the call goes on
   module _ {X : Type 0} (takes : X → LockNo → Next → DiskHeld → X → Type 0)
       (misses : X → LockNo → X → Type 0) (gives : X → LockNo → Next → DiskHeld → X → Type 0)
-      (h g : X) (r : Scratch) (d : PageCall) (p : Progress)
-      (turns : (y : Frame) → IsWork c.head v.scratch y
-      → CallTurned takes misses gives y.terms (call_here y v.scratch c.stage) h
-      (call_here y r d.stage) g p) where
+      (h g : X) (r : Scratch) (d : Call) (p : Progress)
+      (turns : (y : Frame) → Does c v.scratch y
+      → CallTurned takes misses gives y.terms (local c v.scratch y) h (local d r y) g p) where
     pub goes_on : (done : List Done) → Keeps v done
         → Advanced takes misses gives t ops w h (gone_on v r d) g (turn_of p) done
     goes_on done keeps = (
@@ -142,22 +131,21 @@ module _ (t : Terms) (ops : List Op) (v : Worker) (c : PageCall)
           refl,
     )
 
-  pub still_fit : (r : Scratch) (d : PageCall) → d.head ≡ c.head → IsGoing d.stage
-      → IsCallFit c.head r d.stage
-      → ((y : Frame) → IsWork c.head v.scratch y → IsWork c.head r y)
-      → r.table ≡ v.scratch.table → IsFit t ops (gone_on v r d)
-  still_fit r d same going fits works table = record {
+  pub still_fit : (r : Scratch) (d : Call) → IsGoing d → IsCallFit d r
+      → ((y : Frame) → Does c v.scratch y → Does d r y) → r.table ≡ v.scratch.table
+      → IsFit t ops (gone_on v r d)
+  still_fit r d going fits works table = record {
     requests = fit.requests;
     few = fit.few;
     place = fit.place;
     settled = fit.settled;
     chain = table ∙ fit.chain;
+    most = fit.most;
     carried = fit.carried;
     call = record {
       going = going;
-      fit = subst (λ (k : Head). IsCallFit k r d.stage) (sym same) fits;
-      work = λ o ps done named. subst (λ (k : Head). IsWork k r (frame t v o ps done)) (sym same)
-          (works (frame t v o ps done) (fit.call.work o ps done named));
+      fit = fits;
+      work = λ o ps done named. works (frame t v o ps done) (fit.call.work o ps done named);
     };
     replies = fit.replies;
     reads = fit.reads;
@@ -166,7 +154,7 @@ module _ (t : Terms) (ops : List Op) (v : Worker) (c : PageCall)
 -- ---- workers with one local
 
 -- the worker with the call that was in work
-pub same_worker : (w : Worker) (c : PageCall) → Some c ≡ w.call → with_call w (Some c) ≡ w
+pub same_worker : (w : Worker) (c : Call) → Some c ≡ w.call → with_call w (Some c) ≡ w
 same_worker w c is = ap (with_call w) is
 
 module _ (t : Terms) (ops : List Op) (w w' : Worker)
@@ -219,7 +207,7 @@ with_fresh v fresh = record {
 }
 
 module _ (t : Terms) (ops : List Op) (v : Worker) (empty : None ≡ v.call) (fit : IsFit t ops v)
-    (op : Op) (at : slice_get ops v.place.nr ≡ Some op) (fresh : List ℕ) (c : PageCall)
+    (op : Op) (at : slice_get ops v.place.nr ≡ Some op) (fresh : List ℕ) (c : Call)
     (begins : IsBegun t.size t.clock (record { actor = v.actor; op = v.place.nr }) op v.place.page
     fresh c) where
   abbrev now : Worker
@@ -232,10 +220,11 @@ module _ (t : Terms) (ops : List Op) (v : Worker) (empty : None ≡ v.call) (fit
     place = fit.place;
     settled = fit.settled;
     chain = fit.chain;
+    most = fit.most;
     carried = fit.carried;
     call = record {
       going = begins.going;
-      fit = begins.fit now.scratch;
+      fit = begins.fit now.scratch (subst (λ (n : ℕ). n ≤ 16) (sym fit.chain) fit.most);
       work = λ o ps done named. begins.work (frame t now o ps done) now.scratch refl refl fit.chain
           (let q : Some o ≡ Some op = sym named ∙ at in cc) refl refl refl;
     };
@@ -246,13 +235,13 @@ module _ (t : Terms) (ops : List Op) (v : Worker) (empty : None ≡ v.call) (fit
   pub begun_here : (done : List Done) → here t.size ops v done ≡ here t.size ops now done
   begun_here done = (λ i. record {
     actor = v.actor;
-    at = at_of (stage_of (sym empty i));
+    at = at_by (sym empty i);
     todo = todo_is t ops now c begun_fit op at i;
-    held = held_of v.place.page (stage_of (sym empty i));
+    held = held_by v.place.page (sym empty i);
     done = done;
     fresh = fresh_of v.scratch (stage_of (sym empty i));
     pin = cell_in (stage_of (sym empty i));
-    owed = owed_of (stage_of (sym empty i));
+    owed = owed_by (sym empty i);
     ahead = ahead_of (stage_of (sym empty i));
     behind = behind_of (stage_of (sym empty i));
     page = page_of v.scratch (stage_of (sym empty i));

@@ -7,7 +7,7 @@ use Rattle.plain_disk.specs.Ends.{is_single}
 use Rattle.call_history.specs.declared.part.Part.{Part}
 use Rattle.call_history.specs.Parts.{program}
 
--- 1 for a piece on a page; one beyond the disk is on none
+-- 1 for a piece on a page; an operation that is over in one piece is on none
 abbrev pub piece_on : ℕ → ℕ → Part → ℕ
 piece_on size page p = if is_single size p.op then 0 else if p.page == page then 1 else 0
 

@@ -1,5 +1,5 @@
 -- Where an actor is among the pieces of its operations.
-use Rattle.std.specs.Prelude.{◌≡◌, ◌⊎◌, ℕ, zero, suc, ◌+◌, ◌-◌, ◌*◌, ◌<◌, ◌≤◌, Bool, true, ◌||◌, List, [], ◌∷◌, ◌++◌, length, drop, Some, slice_get, if◌then◌else◌, ⊤}
+use Rattle.std.specs.Prelude.{◌≡◌, ◌⊎◌, ℕ, zero, suc, ◌+◌, ◌-◌, ◌*◌, ◌<◌, ◌≤◌, max, Bool, true, ◌||◌, List, [], ◌∷◌, ◌++◌, length, drop, Some, slice_get, if◌then◌else◌, ⊤}
 use Rattle.zr_base.specs.declared.limits.TheConstants.{MOST_ACTORS, MOST_OPERATIONS}
 use Rattle.zr_base.specs.declared.op.Op.{Op}
 use Rattle.zr_base.specs.Plain.{has_event, IsRequest}
@@ -24,7 +24,8 @@ pub record IsWork (actors : List (List Op)) : Type 0 where
   pub most : operations actors ≤ MOST_OPERATIONS
   pub requests : (a : ℕ) (ops : List Op) → slice_get actors a ≡ Some ops → AreRequests ops
 
--- whether an operation has a piece with events on a page; one beyond the disk is such a piece
+-- whether an operation has a piece with events on a page; one that is over in one piece is such a
+-- piece
 abbrev pub is_part : ℕ → Op → ℕ → Bool
 is_part size op page = is_single size op || has_event op page
 
@@ -35,7 +36,8 @@ left_from size nr op page (suc n) =
     (if is_part size op page then record { nr = nr; op = op; page = page } ∷ [] else [])
     ++ left_from size nr op (page + 1) n
 
--- how many pages an operation has pieces on; one beyond the disk has one, whose page says nothing
+-- how many pages an operation has pieces on; one that is over in one piece has one, whose page says
+-- nothing
 abbrev pub pages_to_do : ℕ → Op → ℕ
 pages_to_do size op = if is_single size op then 1 else pages_of op
 
@@ -56,10 +58,10 @@ part_at pl op = record { nr = pl.nr; op = op; page = pl.page }
 abbrev pub behind : Place → Place
 behind pl = record { nr = pl.nr; page = pl.page + 1; left = pl.left - 1 }
 
--- The pages that are left are some of the operation's last ones.
+-- The pages that are left are some of the operation's last ones; one that has none is one piece.
 pub record IsOn (op : Op) (page n : ℕ) : Type 0 where
   pub first : first_page op ≤ page
-  pub last : page + n ≤ first_page op + pages_of op
+  pub last : page + n ≤ first_page op + max 1 (pages_of op)
 
 -- so many pages of the first operation are left, from a page on, where there is one
 abbrev pub IsPlaceBy : ℕ → ℕ → List Op → Type 0

@@ -2,7 +2,7 @@
 -- stands for.
 use Rattle.std.specs.Prelude.{◌≡◌, ℕ, ◌+◌, ◌-◌, ◌*◌, ◌<◌, ◌≤◌, ◌^◌, ◌==◌, max, true, false, List, [], ◌∷◌, length, Option, Some, None, slice_get, vec_len, vec_capacity, if◌then◌else◌, ⊤}
 use Rattle.zr_base.specs.declared.op.Op.{Op}
-use Rattle.zr_base.specs.declared.op.Op.TheVariants.{Write, Read, Discard}
+use Rattle.zr_base.specs.declared.op.Op.TheVariants.{Write, Read, Discard, Compact}
 use Rattle.plain_disk.specs.Ends.{is_single}
 use Rattle.call_history.specs.declared.part.Part.{Part}
 use Rattle.call_history.specs.declared.part.Done.{Done}
@@ -10,22 +10,26 @@ use Rattle.call_history.specs.Parts.{is_carried, left_by, got_of, op_end, end_of
 use Rattle.lock_row.specs.declared.names.LockNo.{LockNo}
 use Rattle.lock_row.specs.declared.names.Plan.{Plan}
 use Rattle.lock_row.specs.declared.names.Plan.TheVariants.{Finished, Take, Give}
-use Rattle.page_steps.specs.declared.call.PageCall.{PageCall}
+use Rattle.lock_row.specs.declared.names.At.{At}
+use Rattle.lock_row.specs.declared.names.At.TheVariants as at
 use Rattle.page_steps.specs.declared.stage.Stage.{Stage}
 use Rattle.page_steps.specs.declared.stage.Stage.TheVariants as stage
 use Rattle.page_steps.specs.Steps.{Terms, DiskHeld, Here, plan, took}
 use Rattle.page_steps.specs.Nexts.{Next}
 use Rattle.page_steps.specs.Givings.{Works}
 use Rattle.page_steps.specs.Fits.{StageFits}
-use Rattle.page_steps.specs.Calls.{Frame, at_of, held_of, fresh_of, cell_in, owed_of, ahead_of, behind_of, page_of, fail_of, IsWork, IsGoing}
+use Rattle.page_steps.specs.Calls.{Frame, at_of, held_of, fresh_of, cell_in, owed_of, ahead_of, behind_of, page_of, fail_of}
 use Rattle.page_steps.specs.declared.stage.Scratch.{Scratch}
 use Rattle.zr_base.specs.declared.op.Tag.{Tag}
 use Rattle.call_history.specs.Shows.{tag_by}
-use Rattle.page_steps.specs.Calls.{here as call_here, IsFit as IsCallFit, end_of as ending, got_of as got_of_piece}
+use Rattle.page_steps.specs.Calls.{here as page_here, end_of as ending, got_of as got_of_piece}
+use Rattle.post_steps.specs.Compact.{at_of as compact_at, held_of as compact_held, owed_of as compact_owed}
 use Rattle.page_steps.specs.declared.stage.PieceEnd.{PieceEnd}
 use Rattle.page_steps.specs.declared.stage.Progress.{Progress}
 use Rattle.page_steps.specs.declared.stage.Progress.TheVariants as progress
 use Rattle.page_steps.specs.Turns.{Turned as CallTurned}
+use Rattle.actor_steps.specs.declared.call.Call.{Call}
+use Rattle.actor_steps.specs.declared.call.Call.TheVariants as call
 use Rattle.actor_steps.specs.declared.place.Place.{Place}
 use Rattle.actor_steps.specs.declared.reply.Reply.{Reply}
 use Rattle.actor_steps.specs.declared.worker.Worker.{Worker}
@@ -33,26 +37,47 @@ use Rattle.actor_steps.specs.declared.worker.Turn.{Turn}
 use Rattle.actor_steps.specs.declared.worker.Turn.TheVariants as turn
 use Rattle.actor_steps.specs.Places.{AreRequests, todo_at, part_at, behind, IsPlace, IsSettled, IsOnward}
 use Rattle.actor_steps.specs.Work.{reads}
+use Rattle.actor_steps.specs.Calls.{Does, local, IsGoing, IsFit as IsCallFit}
 use Rattle.actor_steps.specs.Replies.{HasRoomFor, HasMore}
 
 -- ---- the local
 
--- the stage of the call in work; a piece without one is before its first event
-abbrev pub stage_of : Option PageCall → Stage
+-- the stage of the machine, by the call in work; a piece without one is before its first event
+abbrev pub at_by : Option Call → At
+at_by None = at.Start
+at_by (Some (call.Page c)) = at_of c.stage
+at_by (Some (call.Compact c)) = compact_at c.stage
+
+-- the locks that are held with their values, for a piece of this page
+abbrev pub held_by : ℕ → Option Call → List (LockNo × DiskHeld)
+held_by page None = []
+held_by page (Some (call.Page c)) = held_of page c.stage
+held_by page (Some (call.Compact c)) = compact_held c.stage
+
+-- the frames that are owed
+abbrev pub owed_by : Option Call → ℕ
+owed_by None = 0
+owed_by (Some (call.Page c)) = owed_of c.stage
+owed_by (Some (call.Compact c)) = compact_owed c.stage
+
+-- the stage of a page's call, by which the rest of the local goes: all that is a page's alone, of
+-- which there is none without such a call
+abbrev pub stage_of : Option Call → Stage
 stage_of None = stage.Start
-stage_of (Some c) = c.stage
+stage_of (Some (call.Page c)) = c.stage
+stage_of (Some (call.Compact c)) = stage.Start
 
 -- the local, where these pieces are over
 abbrev pub here : ℕ → List Op → Worker → List Done → Here
 here size ops w done = record {
   actor = w.actor;
-  at = at_of (stage_of w.call);
+  at = at_by w.call;
   todo = todo_at size ops w.place;
-  held = held_of w.place.page (stage_of w.call);
+  held = held_by w.place.page w.call;
   done = done;
   fresh = fresh_of w.scratch (stage_of w.call);
   pin = cell_in (stage_of w.call);
-  owed = owed_of (stage_of w.call);
+  owed = owed_by w.call;
   ahead = ahead_of (stage_of w.call);
   behind = behind_of (stage_of w.call);
   page = page_of w.scratch (stage_of w.call);
@@ -68,7 +93,7 @@ abbrev pub terms_of : ℕ → ℕ → Worker → Terms
 terms_of size now w = record { size = size; chain = w.scratch.table; clock = now }
 
 -- the worker with this call in work
-abbrev pub with_call : Worker → Option PageCall → Worker
+abbrev pub with_call : Worker → Option Call → Worker
 with_call w o = record {
   actor = w.actor;
   place = w.place;
@@ -116,6 +141,7 @@ ReplyFits size pl k (Read start count) r =
     ReadFits size pl k start count (vec_len r.sectors) (vec_capacity r.sectors)
     × (is_single size (Read start count) ≡ true → r.sectors.items ≡ [])
 ReplyFits size pl k (Discard start count) r = r.sectors.items ≡ []
+ReplyFits size pl k Compact r = r.sectors.items ≡ []
 
 -- what the call in work doesn't know of its actor, where these pieces follow and these are over
 abbrev pub frame : Terms → Worker → Op → List Part → List Done → Frame
@@ -128,14 +154,14 @@ frame t w op rest done = record {
 }
 
 -- The call does the worker's piece, and goes on.
-pub record IsCallOf (t : Terms) (ops : List Op) (w : Worker) (c : PageCall) : Type 0 where
-  pub going : IsGoing c.stage
-  pub fit : IsCallFit c.head w.scratch c.stage
+pub record IsCallOf (t : Terms) (ops : List Op) (w : Worker) (c : Call) : Type 0 where
+  pub going : IsGoing c
+  pub fit : IsCallFit c w.scratch
   pub work : (op : Op) (rest : List Part) (done : List Done) → slice_get ops w.place.nr ≡ Some op
-      → IsWork c.head w.scratch (frame t w op rest done)
+      → Does c w.scratch (frame t w op rest done)
 
 -- the call in work does the worker's piece, if there is one
-abbrev pub HasCall : Terms → List Op → Worker → Option PageCall → Type 0
+abbrev pub HasCall : Terms → List Op → Worker → Option Call → Type 0
 HasCall t ops w None = ⊤
 HasCall t ops w (Some c) = IsCallOf t ops w c
 
@@ -146,6 +172,7 @@ pub record IsFit (t : Terms) (ops : List Op) (w : Worker) : Type 0 where
   pub place : IsPlace ops w.place
   pub settled : IsSettled t.size ops w.place
   pub chain : w.scratch.table ≡ t.chain
+  pub most : t.chain ≤ 16
   pub carried : w.carried ≤ w.place.page
   pub call : HasCall t ops w w.call
   pub replies : length w.replies.items ≡ length ops
@@ -156,14 +183,14 @@ pub record IsFit (t : Terms) (ops : List Op) (w : Worker) : Type 0 where
 
 -- The call of an operation's piece on a page before its first event. With the page that stands in
 -- the scratch it does the work of each actor at this piece.
-pub record IsBegun (size now : ℕ) (tag : Tag) (op : Op) (page : ℕ) (fresh : List ℕ) (c : PageCall)
+pub record IsBegun (size now : ℕ) (tag : Tag) (op : Op) (page : ℕ) (fresh : List ℕ) (c : Call)
     : Type 0 where
-  pub going : IsGoing c.stage
-  pub fit : (r : Scratch) → IsCallFit c.head r c.stage
-  pub start : (x : Frame) (r : Scratch) → call_here x r c.stage ≡ call_here x r stage.Start
+  pub going : IsGoing c
+  pub fit : (r : Scratch) → r.table ≤ 16 → IsCallFit c r
+  pub start : (x : Frame) (r : Scratch) → local c r x ≡ page_here x r stage.Start
   pub work : (x : Frame) (r : Scratch) → x.terms.size ≡ size → x.terms.clock ≡ now
       → r.table ≡ x.terms.chain → x.part.op ≡ op → x.part.page ≡ page → tag ≡ tag_by x.actor x.part
-      → r.fresh ≡ fresh → IsWork c.head r x
+      → r.fresh ≡ fresh → Does c r x
 
 -- ---- ends of pieces
 

@@ -8,6 +8,7 @@ ghost use Rattle.call_history.specs.Parts.{parts, program};
 ghost use Rattle.actor_steps.specs.Places.{AreRequests, IsWork};
 ghost use Rattle.actor_steps.specs.Counts.{pieces_on, pieces_each, count_at, HasOnlyCounts};
 
+use crate::place::is_single;
 use std::alloc::{AllocError, Global};
 use std::collections::BTreeMap;
 use zr_base::{ActorOps, Op, pieces};
@@ -21,7 +22,7 @@ fn count_piece(page: u32, counts: &mut BTreeMap<u32, u32>) -> Result<(), AllocEr
     Ok(())
 }
 
-// Counts the pieces with events of an operation; one beyond the disk is on no page.
+// Counts the pieces with events of an operation; one that is over in one piece is on no page.
 fn count_op(size: u32, op: &Op, counts: &mut BTreeMap<u32, u32>) -> Result<(), AllocError>
     requires request { IsRequest op.now }
     requires only { HasOnlyCounts size counts.old }
@@ -31,7 +32,7 @@ fn count_op(size: u32, op: &Op, counts: &mut BTreeMap<u32, u32>) -> Result<(), A
     ensures counted { OnOk result ((p : ℕ) → p < size
         → count_at counts.new p ≡ count_at counts.old p + pieces_on size p (parts size 0 op.now)) }
 {
-    if op.is_beyond(size) {
+    if is_single(size, op) {
         return Ok(());
     }
     for piece in pieces(op.start(), op.count()) {

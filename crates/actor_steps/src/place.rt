@@ -3,6 +3,7 @@
 ghost use Rattle.std.specs.Prelude.{◌≡◌, ◌<◌, ◌≤◌, false, Some, length, drop, slice_get, if◌then◌else◌};
 ghost use Rattle.std.specs.Bool.{OnTrue, OnFalse};
 ghost use Rattle.zr_base.specs.Plain.{IsRequest};
+ghost use Rattle.plain_disk.specs.Ends.{is_single};
 ghost use Rattle.call_history.specs.Parts.{program, without};
 ghost use Rattle.actor_steps.specs.Places.{AreRequests, is_part, pages_to_do, todo_at, behind, IsPlace, IsSettled, IsOnward, steps_left};
 
@@ -17,12 +18,20 @@ pub struct Place {
     pub left: u32,
 }
 
-// How many pages an operation has pieces on: where it lies beyond the disk it is one piece.
+/// Whether an operation is over in one piece: a compaction, or a request beyond the disk.
+pub(crate) fn is_single(size: u32, op: &Op) -> bool
+    requires { IsRequest op.now }
+    ensures { result ≡ is_single size op.now }
+{
+    matches!(op, Op::Compact) || op.is_beyond(size)
+}
+
+// How many pages an operation has pieces on: one that is over in one piece has one.
 fn pages_to_do(size: u32, op: &Op) -> u32
     requires { IsRequest op.now }
     ensures { result ≡ pages_to_do size op.now }
 {
-    if op.is_beyond(size) { 1 } else { op.pages() }
+    if is_single(size, op) { 1 } else { op.pages() }
 }
 
 // Whether an operation has a piece with events on a page.
@@ -30,7 +39,7 @@ fn is_part(size: u32, op: &Op, page: u32) -> bool
     requires { IsRequest op.now }
     ensures { result ≡ is_part size op.now page }
 {
-    op.is_beyond(size) || op.has_event(page)
+    is_single(size, op) || op.has_event(page)
 }
 
 /// The first page of an operation, whether or not it has a piece with events.

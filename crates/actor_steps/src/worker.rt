@@ -7,12 +7,14 @@ ghost use Rattle.call_history.specs.declared.part.Done.{Done};
 ghost use Rattle.actor_steps.specs.Places.{AreRequests, IsPlace, IsSettled};
 ghost use Rattle.actor_steps.specs.Workers.{IsFit, terms_of, with_call, IsBegun, CanFinish, Finishes, Keeps, Allows, Advanced};
 
+use crate::call::Call;
 use crate::place::{Place, next_place};
 use crate::reply::{Reply, goes_on, keep};
 use crate::work::bring;
 use call_history::histories_go_on;
 use lock_row::{Hand, LockNo};
 use page_steps::{DiskHeld, PageCall, PieceEnd, Progress, Scratch, calls_are_events};
+use post_steps::{CompactCall, compactions_are_events};
 use zr_base::{Op, Page, Tag};
 
 /// What a turn was.
@@ -34,13 +36,13 @@ pub struct Worker {
     /// how many pieces of the operation in work were carried out
     pub carried: u32,
     /// the call of the piece in work, from the turn of its first event on
-    pub call: Option<PageCall>,
+    pub call: Option<Call>,
     pub scratch: Scratch,
     pub replies: Vec<Reply>,
 }
 
 // The call of the next piece before its first event. The sectors of a write are put into `fresh`.
-fn begun(size: u32, now: u64, actor: u32, place: Place, ops: &[Op], fresh: &mut Page) -> PageCall
+fn begun(size: u32, now: u64, actor: u32, place: Place, ops: &[Op], fresh: &mut Page) -> Call
     requires requests { AreRequests ops.now }
     requires few { length ops.now < 2 ^ 32 }
     requires more { place.nr < length ops.now }
@@ -56,20 +58,21 @@ fn begun(size: u32, now: u64, actor: u32, place: Place, ops: &[Op], fresh: &mut 
     };
     let op = &ops[nr];
     if op.is_beyond(size) {
-        return PageCall::out_of_range();
+        return Call::Page(PageCall::out_of_range());
     }
-    let piece = op.piece_on(page);
     match op {
         Op::Write {
             start,
             count,
             stuff,
         } => {
+            let piece = op.piece_on(page);
             bring(*start, *count, stuff, piece, fresh);
-            PageCall::write(piece, tag, now)
+            Call::Page(PageCall::write(piece, tag, now))
         }
-        Op::Read { .. } => PageCall::read(piece, tag, now),
-        Op::Discard { .. } => PageCall::discard(piece, tag, now),
+        Op::Read { .. } => Call::Page(PageCall::read(op.piece_on(page), tag, now)),
+        Op::Discard { .. } => Call::Page(PageCall::discard(op.piece_on(page), tag, now)),
+        Op::Compact => Call::Compact(CompactCall::new()),
     }
 }
 
@@ -110,7 +113,7 @@ impl Worker {
         size: u32,
         now: u64,
         ops: &[Op],
-        call: PageCall,
+        call: Call,
         hand: &mut H,
     ) -> Turn
         requires more { self.old.place.nr < length ops.now }
@@ -124,6 +127,7 @@ impl Worker {
             (with_call self.old (Some call)) hand.old self.new hand.new result done }
     {
         calls_are_events();
+        compactions_are_events();
         histories_go_on();
         let mut going = call;
         match going.advance(hand, &mut self.scratch) {

@@ -2,6 +2,7 @@
 use Rattle.std.proofs.Common.{◌≡◌, ℕ, zero, suc, ◌+◌, ◌<◌, true, List, [], ◌∷◌, sum_by, Option, Some, None, slice_get, refl, sym, ap, ◌∙◌, subst, arith}
 use Rattle.std.specs.List.{range_with_len}
 use Rattle.std.proofs.lemmas.Bool.{eqb-true}
+use Rattle.std.proofs.lemmas.List.Sums.{sum_by-cons}
 use Rattle.zr_base.specs.declared.op.Op.{Op}
 use Rattle.size_class.specs.Classes.{per_of}
 use Rattle.class_pool.specs.Pool.{PoolState}
@@ -21,7 +22,8 @@ row_none : (f : ℕ → DiskHeld → ℕ) (row : Row)
     → ((k : ℕ) (v : DiskHeld) → slice_get row k ≡ Some (Some v) → f k v ≡ 0)
     → row_sum f row ≡ 0
 row_none f [] none = refl
-row_none f (None ∷ xs) none = row_none (λ j. f (suc j)) xs (λ k v e. none (suc k) v e)
+row_none f (None ∷ xs) none =
+    let p = row_none (λ j. f (suc j)) xs (λ k v e. none (suc k) v e) in omega arith
 row_none f (Some x ∷ xs) none =
     let q = none 0 x refl in
     let p = row_none (λ j. f (suc j)) xs (λ k v e. none (suc k) v e) in omega arith
@@ -30,8 +32,10 @@ row_none f (Some x ∷ xs) none =
 part_none : (f : ℕ → ℕ) (a n k : ℕ) → k < n → sum_by f (range_with_len a n) ≡ 0 → f (a + k) ≡ 0
 part_none f a zero k lt e = absurd (omega arith)
 part_none f a (suc n) zero lt e =
+    let parts = sum_by-cons f a (range_with_len (a + 1) n) in
     ap f (let q : a + 0 ≡ a = omega arith in q) ∙ (let q : f a ≡ 0 = omega arith in q)
 part_none f a (suc n) (suc k) lt e =
+    let parts = sum_by-cons f a (range_with_len (a + 1) n) in
     ap f (let q : a + suc k ≡ a + 1 + k = omega arith in q)
     ∙ part_none f (a + 1) n k (omega arith) (omega arith)
 
@@ -53,6 +57,7 @@ module _ (r : Rest) (ys : Row)
       let is : used_each q.zspages ≡ r.used q.class =
       sym (ap used_in (value_is ys (r.size + q.class) (holds.Class q) there)) ∙ used q.class h.1 in
       (λ i. loose (h.2 i) (is i))
+      ∙ ap loose_of (let same : q.class ≡ 0 + q.class = omega arith in same)
       ∙ part_none loose_of 0 255 q.class h.1
       (eqb-true (sum_by loose_of (range_with_len 0 255)) 0 tight)
   none_loose k (holds.Account c) at = refl

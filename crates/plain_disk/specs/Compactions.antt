@@ -1,4 +1,4 @@
--- What a phase of one actor says of its compactions: behind the last of them, where no write and no
+-- What a phase of one actor says of its compactions: after the last of them, where no write and no
 -- discard follows, each class has as few zspages as its objects need; it has moved no more objects than
 -- there are; and one that finds the classes so does nothing.
 use Rattle.std.specs.Prelude.{◌≡◌, ℕ, ◌<◌, ◌≤◌, ◌==◌, nat_lt, nat_le, max, Bool, true, false, List, [], ◌∷◌, length, sum_by, if◌then◌else◌, ⊤}

@@ -1,3 +1,4 @@
 pub mod Moves
 pub mod Events
 pub mod Numbers
+pub mod Classes

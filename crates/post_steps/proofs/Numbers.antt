@@ -1,7 +1,6 @@
 -- A compaction's numbers have room.
 use Rattle.std.proofs.Common.{◌≡◌, ℕ, zero, suc, ◌+◌, ◌*◌, ◌^◌, ◌<◌, ◌≤◌, Option, None, Some, length, arith}
 use Rattle.std.specs.Prelude.{unwrap_or}
-use Rattle.std.proofs.lemmas.Nat.{mul-le}
 use Rattle.size_class.specs.Classes.{stands_of}
 use Rattle.class_pool.specs.Pool.{PoolState, objects}
 use Rattle.lock_row.specs.declared.names.Compaction.{Compaction}
@@ -26,15 +25,6 @@ fit_below (Some b) moves class fit = omega arith
 pub moves_few : (chain owed : ℕ) (x : Compaction) → HasRoom chain owed x → x.moves ≤ 2 ^ 40
 moves_few chain owed x room =
     omega (arith, fit_below x.budget x.moves x.class room.moves, room.class)
-
-pub frames_few : (chain owed : ℕ) (x : Compaction) → HasRoom chain owed x
-    → x.frames + owed ≤ 2 ^ 44
-frames_few chain owed x room =
-    omega (
-      arith,
-      room.frames,
-      mul-le chain x.moves 16 (2 ^ 40) room.most (moves_few chain owed x room),
-    )
 
 -- ---- stages
 

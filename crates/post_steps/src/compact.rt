@@ -1,12 +1,13 @@
 //! Compaction: for each class that stands for itself, in rising order, objects move out of the
 //! zspages that have few, one at a time. A zspage that has none left is given up, and its frames are
-//! given back to the account before the next object moves.
+//! given back to the account before the next object moves. The functions of the stages stand in
+//! `sweep.rt`.
 //!
 //! | Stage | Holds | Next event | Function | The event's work |
 //! |---|---|---|---|---|
 //! | `Start` | | takes class 0 | `begin` | none |
 //! | `Sweeping` | | takes the class | `sweep` | none |
-//! | `Moving` | class | gives the class | `move_one` | moves an object, or goes on to the next class |
+//! | `Moving` | class | gives the class | `move_one` | moves an object; or goes on to the next class, or is over |
 //! | `Shrunk` | | takes the account | `owe` | none |
 //! | `Shrinking` | account | gives the account | `shrink` | gives the frames back and counts them |
 //! | `Over` | | none | | |

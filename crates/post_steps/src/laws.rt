@@ -1,6 +1,7 @@
 //! What follows of the definitions alone, for those who run these calls.
 
-ghost use Rattle.std.specs.Prelude.{◌≡◌, ℕ};
+ghost use Rattle.std.specs.Prelude.{◌≡◌, ◌+◌, ◌<◌, ℕ};
+ghost use Rattle.size_class.specs.Classes.{stands_of};
 ghost use Rattle.page_steps.specs.Steps.{plan};
 ghost use Rattle.page_steps.specs.Calls.{Frame};
 ghost use Rattle.post_steps.specs.declared.compact.CompactStage.{CompactStage};
@@ -12,4 +13,13 @@ ghost use Rattle.post_steps.specs.Compact.{IsGoing, IsWork, here, next_event};
 pub fn compactions_are_events()
     ensures plan { (chain : ℕ) (s : CompactStage) (x : Frame)
         → IsGoing s → IsWork chain x → plan x.terms (here x s) ≡ next_event s }
+{}
+
+/// The classes of a compaction, one after the other: class 0 stands for itself, and each other class
+/// that does comes next after one that does.
+#[inline]
+pub fn classes_come_in_turn()
+    ensures first { (chain : ℕ) → stands_of chain 0 ≡ 0 }
+    ensures each { (chain k : ℕ) → 0 < k → k < 255 → stands_of chain k ≡ k
+        → (j : ℕ) × (j < k) × (stands_of chain j ≡ j) × (stands_of chain (j + 1) ≡ k) }
 {}

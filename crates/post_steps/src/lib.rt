@@ -8,4 +8,4 @@ mod nexts;
 mod sweep;
 
 pub use compact::{CompactCall, CompactStage};
-pub use laws::compactions_are_events;
+pub use laws::{classes_come_in_turn, compactions_are_events};

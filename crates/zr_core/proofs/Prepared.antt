@@ -18,8 +18,8 @@ use Rattle.actor_steps.specs.declared.worker.Worker.{Worker}
 use Rattle.actor_steps.specs.Counts.{count_at, pieces_each as counted_each}
 use Rattle.actor_steps.specs.Preparing.{AreNewWorkers}
 use Rattle.actor_steps.specs.Places.{IsWork, todo_at}
-use Rattle.actor_steps.specs.Workers.{here, stage_of, Keeps}
-use Rattle.page_steps.specs.Calls.{at_of, held_of, fresh_of, cell_in, owed_of, ahead_of, behind_of, page_of, fail_of}
+use Rattle.actor_steps.specs.Workers.{here, stage_of, at_by, held_by, owed_by, Keeps}
+use Rattle.page_steps.specs.Calls.{fresh_of, cell_in, ahead_of, behind_of, page_of, fail_of}
 use Rattle.joint_rule.specs.Begins.{Begin, pieces_on, pieces_each}
 use Rattle.joint_rule.specs.Laws.{StartHasRule, RestGoesOn, RequestsAreProper}
 use Rattle.joint_rule.specs.Rule.{owed}
@@ -363,13 +363,13 @@ module _ (t : Terms) (actors : List (List Op)) (cells cells' : Row) (ws : List W
         who = w.who;
         ops = h.ops;
         named = h.named;
-        at = ap (λ c. at_of (stage_of c)) w.at;
+        at = ap at_by w.at;
         todo = w.todo;
-        held = ap (λ c. held_of h.worker.place.page (stage_of c)) w.at;
+        held = ap (held_by h.worker.place.page) w.at;
         done = refl;
         fresh = ap (λ c. fresh_of h.worker.scratch (stage_of c)) w.at;
         pin = ap (λ c. cell_in (stage_of c)) w.at;
-        owed = ap (λ c. owed_of (stage_of c)) w.at;
+        owed = ap owed_by w.at;
         ahead = ap (λ c. ahead_of (stage_of c)) w.at;
         behind = ap (λ c. behind_of (stage_of c)) w.at;
         page = ap (λ c. page_of h.worker.scratch (stage_of c)) w.at;

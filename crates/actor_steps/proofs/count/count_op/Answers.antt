@@ -14,7 +14,7 @@ pub loop-piece-init : goal.loop-piece-init
 loop-piece-init c =
     let size = c.args.size in
     let op = c.args.op.now in
-    let inside = sym c.is_beyond.ensures ∙ c.if-is_beyond.false in
+    let inside = sym c.is_single.ensures ∙ c.if-is_single.false in
     let walk : c.into_iter-piece-iterator.result ≡ pieces_of (start_of op) (count_of op) =
     c.into_iter-piece-iterator.ensures.into_iter_gives ∙ c.pieces-piece-items.ensures.pieces
     ∙ (λ i. pieces_of (c.start.ensures i) (c.count.ensures i)) in
@@ -29,7 +29,7 @@ loop-piece-init c =
 pub count_piece-requires : goal.count_piece-requires
 count_piece-requires c =
     let i = c.loop-piece.invariant in
-    let inside = sym c.is_beyond.ensures ∙ c.if-is_beyond.false in
+    let inside = sym c.is_single.ensures ∙ c.if-is_single.false in
     let page : ℕ = c.in-Some.piece.page.0 in
     let steps = c.in-Some.ensures.steps in
     let below = subst (Below c.args.size) steps i.below in
@@ -43,7 +43,7 @@ count_piece-requires c =
 pub loop-piece-preserved : goal.loop-piece-preserved
 loop-piece-preserved c =
     let i = c.loop-piece.invariant in
-    let inside = sym c.is_beyond.ensures ∙ c.if-is_beyond.false in
+    let inside = sym c.is_single.ensures ∙ c.if-is_single.false in
     let steps = c.in-Some.ensures.steps in
     let below = subst (Below c.args.size) steps i.below in record {
       only = i.only;
@@ -58,7 +58,7 @@ loop-piece-preserved c =
 pub loop-piece-preserved-in-Continue-1 : goal.loop-piece-preserved-in-Continue-1
 loop-piece-preserved-in-Continue-1 c =
     let i = c.loop-piece.invariant in
-    let inside = sym c.is_beyond.ensures ∙ c.if-is_beyond.false in
+    let inside = sym c.is_single.ensures ∙ c.if-is_single.false in
     let counts = c.loop-piece.counts in
     let new = c.count_piece.new.counts in
     let page : ℕ = c.in-Some.piece.page.0 in

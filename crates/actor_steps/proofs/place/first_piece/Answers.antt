@@ -27,7 +27,6 @@ returns-clause-place c =
     let at = at_nr (goal.at.returns-clause-place c).After-index-ops-nr in
     place_first c.args.size c.args.ops.now c.args.nr c.index-ops-nr.result at
     c.first_page.result c.pages_to_do.result c.first_page.ensures c.pages_to_do.ensures
-    (c.requires.requests c.args.nr c.index-ops-nr.result at)
 
 pub returns-clause-few : goal.returns-clause-few
 returns-clause-few c =

@@ -1,12 +1,12 @@
-use Rattle.std.proofs.Common.{◌≡◌, ℕ, Some, slice_get, sym, ◌∙◌, refl, subst}
+use Rattle.std.proofs.Common.{◌≡◌, ℕ, false, Some, slice_get, IsTrue, sym, ap, ◌∙◌, refl, subst}
 use Rattle.zr_base.specs.declared.op.Op.{Op}
-use Rattle.zr_base.specs.Plain.{start_of, count_of, IsRequest}
+use Rattle.zr_base.specs.Plain.{start_of, count_of, touches, is_compaction, IsRequest}
 use Rattle.zr_base.specs.Pieces.{IsPieceOf}
 use Rattle.page_steps.specs.declared.stage.Work.TheVariants as work
 use Rattle.page_steps.specs.Calls.{Asks}
-use Rattle.actor_steps.specs.Work.{Touches}
-use Rattle.actor_steps.proofs.Places.{at_index, touches_here}
-use Rattle.actor_steps.proofs.Begun.{begun_count, begun_as, begun_for}
+use Rattle.actor_steps.specs.declared.call.Call.TheVariants as call
+use Rattle.actor_steps.proofs.Places.{at_index, touches_here, is_touched}
+use Rattle.actor_steps.proofs.Begun.{begun_count, begun_as, begun_compact, begun_for}
 use Rattle.actor_steps.proofs.worker.begun.Goals as goal
 use Rattle.actor_steps.proofs.worker.begun.Goals.{After-index-ops-nr}
 
@@ -14,39 +14,46 @@ op_at : (c : After-index-ops-nr) → slice_get c.args.ops.now c.args.place.nr �
 op_at c = at_index c.args.ops.now c.args.place.nr c.index-ops-nr.result c.requires.more
     c.index-ops-nr.is
 
-touched : (c : After-index-ops-nr) → Touches c.index-ops-nr.result c.args.place.page
-touched c = touches_here c.args.size c.args.ops.now c.args.place c.index-ops-nr.result (op_at c)
-    c.requires.requests c.requires.place c.requires.settled
+asked : (c : After-index-ops-nr) → IsRequest c.index-ops-nr.result
+asked c = c.requires.requests c.args.place.nr c.index-ops-nr.result (op_at c)
+
+touched : (c : After-index-ops-nr) → is_compaction c.index-ops-nr.result ≡ false
+    → IsTrue (touches (start_of c.index-ops-nr.result) (count_of c.index-ops-nr.result)
+    c.args.place.page)
+touched c request =
+    is_touched c.index-ops-nr.result c.args.place.page request
+    (touches_here c.args.size c.args.ops.now c.args.place c.index-ops-nr.result (op_at c)
+    c.requires.requests c.requires.place c.requires.settled request)
 
 pub is_beyond-requires : goal.is_beyond-requires
-is_beyond-requires c = (touched (goal.at.is_beyond-requires c).After-index-ops-nr).request
+is_beyond-requires c = asked (goal.at.is_beyond-requires c).After-index-ops-nr
 
 pub returns-then-is_beyond : goal.returns-then-is_beyond
 returns-then-is_beyond c =
     begun_for c.args.size c.args.now (record { actor = c.args.actor; op = c.args.place.nr })
     c.args.place.page c.args.fresh.now c.args.ops.now c.args.place.nr c.index-ops-nr.result
-    (op_at (goal.at.returns-then-is_beyond c).After-index-ops-nr) c.out_of_range.result _
-    (sym c.out_of_range.ensures)
+    (op_at (goal.at.returns-then-is_beyond c).After-index-ops-nr) (call.Page c.out_of_range.result) _
+    (ap call.Page (sym c.out_of_range.ensures))
     (begun_count c.args.size c.args.now _ c.index-ops-nr.result c.args.place.page c.args.fresh.now
     (sym c.is_beyond.ensures ∙ c.if-is_beyond.true))
 
 pub bring-requires-clause-bounds : goal.bring-requires-clause-bounds
 bring-requires-clause-bounds c =
-    (subst IsRequest c.in-Write.is
-    (touched (goal.at.bring-requires-clause-bounds c).After-index-ops-nr).request).0
+    (subst IsRequest c.in-Write.is (asked (goal.at.bring-requires-clause-bounds c).After-index-ops-nr)).0
 
 pub bring-requires-clause-there : goal.bring-requires-clause-there
 bring-requires-clause-there c =
-    (subst IsRequest c.in-Write.is
-    (touched (goal.at.bring-requires-clause-there c).After-index-ops-nr).request).1
+    (subst IsRequest c.in-Write.is (asked (goal.at.bring-requires-clause-there c).After-index-ops-nr)).1
 
 pub returns-in-Write : goal.returns-in-Write
 returns-in-Write c =
     begun_for c.args.size c.args.now (record { actor = c.args.actor; op = c.args.place.nr })
     c.args.place.page c.bring.new.fresh c.args.ops.now c.args.place.nr c.index-ops-nr.result
-    (op_at (goal.at.returns-in-Write c).After-index-ops-nr) c.write.result _ (sym c.write.ensures)
+    (op_at (goal.at.returns-in-Write c).After-index-ops-nr) (call.Page c.write.result) _
+    (ap call.Page (sym c.write.ensures))
     (begun_as c.args.size c.args.now _ c.index-ops-nr.result c.args.place.page c.bring.new.fresh
-    work.Writes c.piece_on-piece.result (sym c.is_beyond.ensures ∙ c.if-is_beyond.false) refl
+    work.Writes c.piece_on-piece.result (ap is_compaction c.in-Write.is)
+    (sym c.is_beyond.ensures ∙ c.if-is_beyond.false) refl
     c.piece_on-piece.ensures.sectors.page_is c.piece_on-piece.ensures.sectors.within
     (subst (Asks work.Writes c.piece_on-piece.result c.bring.new.fresh) (sym c.in-Write.is)
     (record {
@@ -57,23 +64,57 @@ returns-in-Write c =
       sectors = c.bring.ensures;
     })))
 
+pub piece_on-piece-requires-clause-touched : goal.piece_on-piece-requires-clause-touched
+piece_on-piece-requires-clause-touched c =
+    touched (goal.at.piece_on-piece-requires-clause-touched c).After-index-ops-nr
+    (ap is_compaction c.in-Write.is)
+
+pub piece_on-requires-clause-request : goal.piece_on-requires-clause-request
+piece_on-requires-clause-request c =
+    asked (goal.at.piece_on-requires-clause-request c).After-index-ops-nr
+
+pub piece_on-requires-clause-touched : goal.piece_on-requires-clause-touched
+piece_on-requires-clause-touched c =
+    touched (goal.at.piece_on-requires-clause-touched c).After-index-ops-nr
+    (ap is_compaction c.in-Read.is)
+
+pub piece_on-requires-in-Discard-clause-request : goal.piece_on-requires-in-Discard-clause-request
+piece_on-requires-in-Discard-clause-request c =
+    asked (goal.at.piece_on-requires-in-Discard-clause-request c).After-index-ops-nr
+
+pub piece_on-requires-in-Discard-clause-touched : goal.piece_on-requires-in-Discard-clause-touched
+piece_on-requires-in-Discard-clause-touched c =
+    touched (goal.at.piece_on-requires-in-Discard-clause-touched c).After-index-ops-nr
+    (ap is_compaction c.in-Discard.is)
+
 pub returns-in-Read : goal.returns-in-Read
 returns-in-Read c =
     begun_for c.args.size c.args.now (record { actor = c.args.actor; op = c.args.place.nr })
     c.args.place.page c.args.fresh.now c.args.ops.now c.args.place.nr c.index-ops-nr.result
-    (op_at (goal.at.returns-in-Read c).After-index-ops-nr) c.read.result _ (sym c.read.ensures)
+    (op_at (goal.at.returns-in-Read c).After-index-ops-nr) (call.Page c.read.result) _
+    (ap call.Page (sym c.read.ensures))
     (begun_as c.args.size c.args.now _ c.index-ops-nr.result c.args.place.page c.args.fresh.now
-    work.Reads c.piece_on-piece.result (sym c.is_beyond.ensures ∙ c.if-is_beyond.false) refl
-    c.piece_on-piece.ensures.sectors.page_is c.piece_on-piece.ensures.sectors.within
-    (subst (Asks work.Reads c.piece_on-piece.result c.args.fresh.now) (sym c.in-Read.is) tt))
+    work.Reads c.piece_on.result (ap is_compaction c.in-Read.is)
+    (sym c.is_beyond.ensures ∙ c.if-is_beyond.false) refl
+    c.piece_on.ensures.sectors.page_is c.piece_on.ensures.sectors.within
+    (subst (Asks work.Reads c.piece_on.result c.args.fresh.now) (sym c.in-Read.is) tt))
 
 pub returns-in-Discard : goal.returns-in-Discard
 returns-in-Discard c =
     begun_for c.args.size c.args.now (record { actor = c.args.actor; op = c.args.place.nr })
     c.args.place.page c.args.fresh.now c.args.ops.now c.args.place.nr c.index-ops-nr.result
-    (op_at (goal.at.returns-in-Discard c).After-index-ops-nr) c.discard.result _
-    (sym c.discard.ensures)
+    (op_at (goal.at.returns-in-Discard c).After-index-ops-nr) (call.Page c.discard.result) _
+    (ap call.Page (sym c.discard.ensures))
     (begun_as c.args.size c.args.now _ c.index-ops-nr.result c.args.place.page c.args.fresh.now
-    work.Discards c.piece_on-piece.result (sym c.is_beyond.ensures ∙ c.if-is_beyond.false) refl
-    c.piece_on-piece.ensures.sectors.page_is c.piece_on-piece.ensures.sectors.within
-    (subst (Asks work.Discards c.piece_on-piece.result c.args.fresh.now) (sym c.in-Discard.is) tt))
+    work.Discards c.piece_on-in-Discard.result (ap is_compaction c.in-Discard.is)
+    (sym c.is_beyond.ensures ∙ c.if-is_beyond.false) refl
+    c.piece_on-in-Discard.ensures.sectors.page_is c.piece_on-in-Discard.ensures.sectors.within
+    (subst (Asks work.Discards c.piece_on-in-Discard.result c.args.fresh.now) (sym c.in-Discard.is) tt))
+
+pub returns-in-Compact : goal.returns-in-Compact
+returns-in-Compact c =
+    begun_for c.args.size c.args.now (record { actor = c.args.actor; op = c.args.place.nr })
+    c.args.place.page c.args.fresh.now c.args.ops.now c.args.place.nr c.index-ops-nr.result
+    (op_at (goal.at.returns-in-Compact c).After-index-ops-nr) (call.Compact c.new.result) _ refl
+    (begun_compact c.args.size c.args.now _ c.index-ops-nr.result c.args.place.page c.args.fresh.now
+    c.new.result c.new.ensures (ap is_compaction c.in-Compact.is))

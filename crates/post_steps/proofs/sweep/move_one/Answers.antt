@@ -57,10 +57,12 @@ returns-in-Done g c =
       | inl last ↦
           let is = c.rested.ensures.over last in
           told_so is.0 is.1 (gives_it (resting chain) c.requires tt refl rests c.give_by-in-Done.ensures
-          tt refl (λ x. tt) (λ x w. ended_here chain x c.args.x c.args.pool (holds.Class c.move_one.new.self) last))
+          tt refl (λ x. tt)
+          (λ x w. ended_here chain x c.args.x c.args.pool (holds.Class c.move_one.new.self) last))
       | inr other ↦
           let is = c.rested.ensures.next other in
           told_so is.0 is.1 (gives_it (resting chain) c.requires tt refl rests c.give_by-in-Done.ensures
           (rested_room chain c.args.x c.requires.fit.0 is.2 is.3) tt (λ x. tt)
-          (λ x w. rested_here chain x c.args.x c.args.pool (holds.Class c.move_one.new.self) other))
+          (λ x w.
+          rested_here chain x c.args.x c.args.pool (holds.Class c.move_one.new.self) other))
     ]

@@ -11,12 +11,14 @@ pub give-requires : goal.give-requires
 give-requires g c =
     c.requires.allows.give _ _ _ refl
     (can_shrink c.args.table.now c.args.x c.args.frames c.args.account c.count.new.self
-    (c.count.ensures.counted ∙ ap (λ a. counted a (delta.Compacted c.args.frames)) c.give_back.ensures.pages))
+    (c.count.ensures.counted
+    ∙ ap (λ a. counted a (delta.Compacted c.args.frames)) c.give_back.ensures.pages))
 
 pub returns : goal.returns
 returns g c =
     gives_it shrinking c.requires tt refl
     (can_shrink c.args.table.now c.args.x c.args.frames c.args.account c.count.new.self
-    (c.count.ensures.counted ∙ ap (λ a. counted a (delta.Compacted c.args.frames)) c.give_back.ensures.pages))
+    (c.count.ensures.counted
+    ∙ ap (λ a. counted a (delta.Compacted c.args.frames)) c.give_back.ensures.pages))
     c.give.ensures (shrunk_room c.args.table.now c.args.frames c.args.x c.requires.fit.0) tt
     (λ x. tt) (λ x w. refl)

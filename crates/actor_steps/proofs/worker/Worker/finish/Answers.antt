@@ -16,10 +16,10 @@ op_at c = at_index c.args.ops.now c.args.self.now.place.nr c.index-ops-nr.result
     c.index-ops-nr.is
 
 pub keep-requires-clause-touched : goal.keep-requires-clause-touched
-keep-requires-clause-touched c =
+keep-requires-clause-touched c request =
     touches_here c.args.size c.args.ops.now c.args.self.now.place c.index-ops-nr.result
     (op_at (goal.at.keep-requires-clause-touched c).After-index-ops-nr)
-    c.requires.requests c.requires.place c.requires.settled
+    c.requires.requests c.requires.place c.requires.settled request
 
 pub keep-requires-clause-room : goal.keep-requires-clause-room
 keep-requires-clause-room c r there =

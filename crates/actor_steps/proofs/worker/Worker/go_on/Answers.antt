@@ -1,6 +1,6 @@
 use Rattle.std.proofs.Common.{Some, subst, sym}
 use Rattle.page_steps.specs.declared.stage.Progress.TheVariants as progress
-use Rattle.page_steps.specs.declared.call.PageCall.{PageCall}
+use Rattle.actor_steps.specs.declared.call.Call.{Call}
 use Rattle.actor_steps.specs.Workers.{terms_of, with_call, IsFit, Advanced}
 use Rattle.actor_steps.specs.declared.worker.Turn.TheVariants as turn
 use Rattle.actor_steps.proofs.Places.{there_is}
@@ -19,7 +19,8 @@ advance-requires-clause-allows g c =
     let op = there_is c.args.ops.now c.args.self.now.place.nr c.requires.more in
     call_allows (terms_of c.args.size c.args.now c.args.self.now) c.args.ops.now c.args.self.now
     c.args.call c.requires.fit op.0 op.1 g.H.Hand.can_take g.H.Hand.takes g.H.Hand.can_give
-    c.args.hand.now c.calls_are_events.ensures.plan c.requires.allows
+    c.args.hand.now c.calls_are_events.ensures.plan c.compactions_are_events.ensures.plan
+    c.requires.allows
 
 pub finish-requires : goal.finish-requires
 finish-requires g c =
@@ -36,17 +37,17 @@ returns-in-Moved-clause-fit g c =
     let v = c.args.self.now in
     let t = terms_of c.args.size c.args.now v in
     let e = c.in-Moved.ensures in
-    subst (λ (d : PageCall). IsFit t c.args.ops.now (gone_on v c.advance.new.scratch d))
+    subst (λ (d : Call). IsFit t c.args.ops.now (gone_on v c.advance.new.scratch d))
     (sym c.insert.ensures.value)
     (still_fit t c.args.ops.now v c.args.call c.requires.fit op.0 op.1 c.advance.new.scratch
-    c.advance.new.self e.head e.over e.fit e.work e.table)
+    c.advance.new.self e.over e.fit e.work e.table)
 
 pub returns-in-Moved-clause-turn : goal.returns-in-Moved-clause-turn
 returns-in-Moved-clause-turn g c done keeps =
     let op = there_is c.args.ops.now c.args.self.now.place.nr c.requires.more in
     let v = c.args.self.now in
     let t = terms_of c.args.size c.args.now v in
-    subst (λ (d : PageCall). Advanced g.H.Hand.takes g.H.Hand.misses g.H.Hand.gives t c.args.ops.now
+    subst (λ (d : Call). Advanced g.H.Hand.takes g.H.Hand.misses g.H.Hand.gives t c.args.ops.now
     (with_call v (Some c.args.call)) c.args.hand.now (gone_on v c.advance.new.scratch d) c.advance.new.hand turn.Went done)
     (sym c.insert.ensures.value)
     (goes_on t c.args.ops.now v c.args.call c.requires.fit op.0 op.1 g.H.Hand.takes
@@ -59,17 +60,17 @@ returns-in-Waits-clause-fit g c =
     let v = c.args.self.now in
     let t = terms_of c.args.size c.args.now v in
     let e = c.in-Waits.ensures in
-    subst (λ (d : PageCall). IsFit t c.args.ops.now (gone_on v c.advance.new.scratch d))
+    subst (λ (d : Call). IsFit t c.args.ops.now (gone_on v c.advance.new.scratch d))
     (sym c.insert-in-Waits.ensures.value)
     (still_fit t c.args.ops.now v c.args.call c.requires.fit op.0 op.1 c.advance.new.scratch
-    c.advance.new.self e.head e.over e.fit e.work e.table)
+    c.advance.new.self e.over e.fit e.work e.table)
 
 pub returns-in-Waits-clause-turn : goal.returns-in-Waits-clause-turn
 returns-in-Waits-clause-turn g c done keeps =
     let op = there_is c.args.ops.now c.args.self.now.place.nr c.requires.more in
     let v = c.args.self.now in
     let t = terms_of c.args.size c.args.now v in
-    subst (λ (d : PageCall). Advanced g.H.Hand.takes g.H.Hand.misses g.H.Hand.gives t c.args.ops.now
+    subst (λ (d : Call). Advanced g.H.Hand.takes g.H.Hand.misses g.H.Hand.gives t c.args.ops.now
     (with_call v (Some c.args.call)) c.args.hand.now (gone_on v c.advance.new.scratch d) c.advance.new.hand
     (turn.Waited c.in-Waits.lock) done)
     (sym c.insert-in-Waits.ensures.value)

@@ -1,0 +1,88 @@
+-- The turns of a call are those of its kind.
+use Rattle.std.proofs.Common.{◌≡◌, ℕ, ◌||◌, [], refl, ap, ◌∙◌, subst}
+use Rattle.zr_base.specs.Plain.{is_beyond}
+use Rattle.plain_disk.specs.Ends.{is_single}
+use Rattle.lock_row.specs.declared.names.LockNo.{LockNo}
+use Rattle.page_steps.specs.declared.call.PageCall.{PageCall}
+use Rattle.page_steps.specs.declared.stage.Head.{Head}
+use Rattle.page_steps.specs.declared.stage.Scratch.{Scratch}
+use Rattle.page_steps.specs.declared.stage.Stage.{Stage}
+use Rattle.page_steps.specs.declared.stage.Progress.{Progress}
+use Rattle.page_steps.specs.declared.stage.Progress.TheVariants as progress
+use Rattle.page_steps.specs.Steps.{DiskHeld, Here, plan}
+use Rattle.page_steps.specs.Nexts.{Next}
+use Rattle.page_steps.specs.Calls.{Frame, got_of}
+use Rattle.page_steps.specs.Calls.{here as page_here, next_event as page_event, IsWork as IsPageWork, IsFit as IsPageFit, IsGoing as IsPageGoing}
+use Rattle.page_steps.specs.Turns.{Turned}
+use Rattle.page_steps.specs.Turns.{Allows as PageAllows, after as after_page, Advanced as PageAdvanced}
+use Rattle.post_steps.specs.declared.compact.CompactCall.{CompactCall}
+use Rattle.post_steps.specs.declared.compact.CompactStage.{CompactStage}
+use Rattle.post_steps.specs.Compact.{here as compact_here, next_event as compact_event, IsWork as IsCompactWork, IsGoing as IsCompactGoing}
+use Rattle.post_steps.specs.Turns.{Allows, after as after_compact, Advanced as CompactAdvanced}
+use Rattle.actor_steps.specs.declared.call.Call.{Call}
+use Rattle.actor_steps.specs.declared.call.Call.TheVariants as call
+use Rattle.actor_steps.specs.Calls.{Does, local, next_event, IsFit, IsGoing, is_alone, after, Advanced}
+
+-- ---- plans
+
+-- what a page's call does next is what its actor's plan says
+abbrev pub PagePlans : Type 0
+PagePlans = (c : Head) (r : Scratch) (s : Stage) (x : Frame) → IsPageFit c r s → IsPageGoing s
+    → IsPageWork c r x → plan x.terms (page_here x r s) ≡ page_event c s
+
+-- and so for a compaction
+abbrev pub CompactPlans : Type 0
+CompactPlans = (chain : ℕ) (s : CompactStage) (x : Frame) → IsCompactGoing s → IsCompactWork chain x
+    → plan x.terms (compact_here x s) ≡ compact_event s
+
+pub plan_is : PagePlans → CompactPlans → (c : Call) (r : Scratch) (x : Frame) → IsFit c r
+    → IsGoing c → Does c r x → plan x.terms (local c r x) ≡ next_event c
+plan_is pages compacts (call.Page c) r x fit on does = pages c.head r c.stage x fit on does
+plan_is pages compacts (call.Compact c) r x fit on does = compacts r.table c.stage x on does
+
+-- an operation is over in one piece exactly where its call counts it, or compacts
+pub alone_is : (c : Call) (r : Scratch) (x : Frame) → Does c r x
+    → is_single x.terms.size x.part.op ≡ is_alone c
+alone_is (call.Page c) r x does =
+    ap (λ b. b || is_beyond x.terms.size x.part.op) does.request ∙ does.beyond
+alone_is (call.Compact c) r x does = ap (λ b. b || is_beyond x.terms.size x.part.op) does.op
+
+-- ---- turns
+
+after_page_is : (x : Frame) (l : Here) (r : Scratch) (s : Stage) (p : Progress)
+    → after_page x l r s p ≡ after l (page_here x r s) (λ end. got_of end r.page) p
+after_page_is x l r s progress.Moved = refl
+after_page_is x l r s (progress.Waits k) = refl
+after_page_is x l r s (progress.Done end) = refl
+
+after_compact_is : (l m : Here) (p : Progress)
+    → after_compact l m p ≡ after l m (λ end q. []) p
+after_compact_is l m progress.Moved = refl
+after_compact_is l m (progress.Waits k) = refl
+after_compact_is l m (progress.Done end) = refl
+
+-- what the hand allows a page's call, as the page's crate says it
+pub page_allows : {X : Type 0} {can_take : X → LockNo → Next → Type 0}
+    {takes : X → LockNo → Next → DiskHeld → X → Type 0}
+    {can_give : X → LockNo → Next → DiskHeld → Type 0} {h : X} (c : PageCall) (r : Scratch)
+    → Allows can_take takes can_give (Does (call.Page c) r) (local (call.Page c) r)
+    (next_event (call.Page c)) h
+    → PageAllows can_take takes can_give c.head r c.stage h
+page_allows c r a = record { take = a.take; fits = a.fits; give = a.give }
+
+module _ {X : Type 0} {takes : X → LockNo → Next → DiskHeld → X → Type 0}
+    {misses : X → LockNo → X → Type 0} {gives : X → LockNo → Next → DiskHeld → X → Type 0} {h g : X}
+    (r s : Scratch) (p : Progress) where
+  pub page_turn : (c d : PageCall) → PageAdvanced takes misses gives c.head r c.stage h s d.stage g p
+      → Advanced takes misses gives (call.Page c) r h (call.Page d) s g p
+  page_turn c d turns x does =
+      subst (λ (m : Here). Turned takes misses gives x.terms (page_here x r c.stage) h m g p)
+      (after_page_is x (page_here x r c.stage) s d.stage p) (turns x does)
+
+  pub compact_turn : (c d : CompactCall)
+      → CompactAdvanced takes misses gives (IsCompactWork r.table) (λ x. compact_here x c.stage) h
+      (λ x. compact_here x d.stage) g p
+      → Advanced takes misses gives (call.Compact c) r h (call.Compact d) s g p
+  compact_turn c d turns x does =
+      subst (λ (m : Here). Turned takes misses gives x.terms (compact_here x c.stage) h m g p)
+      (after_compact_is (compact_here x c.stage) (compact_here x d.stage) p) (turns x does)
