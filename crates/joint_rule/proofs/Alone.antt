@@ -1,11 +1,11 @@
 -- Each turn keeps what the rule says of a phase's only actor.
-use Rattle.std.proofs.Common.{◌≡◌, ◌+◌, ◌*◌, ◌≤◌, ◌<◌, ◌∷◌, ◌∙◌, ◌==◌, ◌||◌, ℕ, Bool, true, false, List, [], sum_by, Option, Some, None, slice_get, slice_set, refl, sym, ap, subst, arith}
+use Rattle.std.proofs.Common.{◌≡◌, ◌+◌, ◌*◌, ◌∷◌, ◌∙◌, ℕ, true, false, List, [], sum_by, Some, None, slice_get, slice_set, refl, sym, ap, subst, arith}
 use Rattle.call_history.specs.Parts.{op_end}
 use Rattle.call_history.specs.declared.part.Part.{Part}
 use Rattle.call_history.specs.declared.part.PartEnd.{PartEnd}
 use Rattle.call_history.specs.declared.part.PartEnd.TheVariants.{AtLimit, Carried, NoMemory, Whole}
 use Rattle.class_pool.specs.Pool.{PoolState, used_cells}
-use Rattle.joint_rule.proofs.Calm.{AreSame, IsPlain, Same, goes_on, is_over, one_left, only_take, plain_pinned, plain_quit, plain_settle}
+use Rattle.joint_rule.proofs.Calm.{AreSame, IsPlain, goes_on, is_over, one_left, only_take, plain_pinned, plain_quit, plain_settle}
 use Rattle.joint_rule.proofs.Events.{Event}
 use Rattle.joint_rule.proofs.Facts.{Known}
 use Rattle.joint_rule.proofs.Gifts.{stage}

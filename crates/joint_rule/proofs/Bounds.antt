@@ -1,5 +1,5 @@
 -- The account is within what pages and actors can have made, and so is its maximum.
-use Rattle.std.proofs.Common.{◌≡◌, ◌+◌, ◌*◌, ◌≤◌, ◌∷◌, ℕ, zero, suc, cond, max, List, [], sum_by, Option, Some, None, slice_get, refl, ap, arith, ⊎_elim}
+use Rattle.std.proofs.Common.{◌≡◌, ◌+◌, ◌*◌, ◌≤◌, ◌∷◌, ℕ, zero, suc, max, List, [], sum_by, Option, Some, None, slice_get, refl, ap, arith, ⊎_elim}
 use Rattle.call_history.specs.declared.part.Part.{Part}
 use Rattle.call_history.specs.declared.part.PartEnd.{PartEnd}
 use Rattle.class_pool.specs.Pool.{used_cells, used_cells_in}
@@ -30,7 +30,6 @@ use Rattle.page_steps.specs.Steps.{DiskHeld, Here, entry_in, lock_of, plan, spot
 use Rattle.slot_entry.specs.Entries.{EntryState}
 use Rattle.std.proofs.lemmas.Bool.{cases_lt}
 use Rattle.std.proofs.lemmas.List.Sums.{sum_by-append, sum_by-cons}
-use Rattle.std.specs.Prelude.{is_some}
 use Rattle.zspage.specs.Cells.{UsedCell, entry, used_of}
 use Rattle.lock_row.specs.declared.names.LockNo.TheVariants as lock
 use Rattle.lock_row.specs.declared.names.Held.TheVariants as holds

@@ -1,5 +1,5 @@
 -- What is known of a phase's only actor while it is at no compaction.
-use Rattle.std.proofs.Common.{◌≡◌, ◌+◌, ◌≤◌, ◌<◌, ◌∷◌, ◌++◌, ◌∙◌, ◌⊎◌, ℕ, zero, suc, Bool, true, false, max, List, [], Option, Some, None, slice_get, slice_set, refl, sym, ap, subst, arith, inl, inr, ⊎_elim}
+use Rattle.std.proofs.Common.{◌≡◌, ◌+◌, ◌≤◌, ◌∷◌, ◌++◌, ◌∙◌, ◌⊎◌, ℕ, zero, suc, Bool, true, false, List, [], Option, Some, None, slice_get, slice_set, refl, sym, ap, subst, arith, inl, inr, ⊎_elim}
 use Rattle.call_history.specs.Alone.{AreIdleOver, moves_over, tight_over}
 use Rattle.call_history.specs.Parts.{left_by, op_end}
 use Rattle.call_history.specs.declared.part.Done.{Done}
@@ -67,7 +67,7 @@ plain_discard kept.Empty = (refl, λ op. refl)
 plain_discard (kept.Same w) = (refl, λ op. refl)
 plain_discard (kept.Obj o) = (refl, λ op. refl)
 
-plain_entered : (op : Op) (page : ℕ) (f : PageForm) (k : Kept) → IsPlain (entered_at op page f k)
+pub plain_entered : (op : Op) (page : ℕ) (f : PageForm) (k : Kept) → IsPlain (entered_at op page f k)
 plain_entered (Write start count stuff) page f k = plain_write (has_whole start count page) f k
 plain_entered (Read start count) page f k = plain_seen k
 plain_entered (Discard start count) page f k = plain_discard k
@@ -300,7 +300,7 @@ module _ (g : Begin) (ok : Known g) (w : State DiskHeld) (a : ℕ) (l : Here)
         idle = subst (AreIdleOver g.tight) (sym done) o.idle;
         calm = λ c.
             let read : is_read p.op ≡ true = sym (py.1 p.op)
-                ∙ sym (λ i. is_calm ((same ∙ todo) i) (at' i)) ∙ c in
+            ∙ sym (λ i. is_calm ((same ∙ todo) i) (at' i)) ∙ c in
             subst (IsCalm g given) (sym done) (calm_same (h read) (was_calm read));
         sweeps = λ z e. absurd (let q : compacting m.todo m.at ≡ None =
             (λ i. compacting ((same ∙ todo) i) (at' i)) ∙ py.0 in cc);

@@ -7,8 +7,7 @@ use Rattle.call_history.specs.Shows.{IsTold}
 use Rattle.call_history.specs.Tallies.{Tallies}
 use Rattle.call_history.specs.declared.part.Done.{Done}
 use Rattle.call_history.specs.declared.part.Part.{Part}
-use Rattle.class_pool.specs.Pool.{PoolState, used_cells, used_cells_in}
-use Rattle.class_pool.specs.Zspages.{Cells}
+use Rattle.class_pool.specs.Pool.{PoolState, used_cells}
 use Rattle.joint_rule.proofs.Facts.{Known}
 use Rattle.joint_rule.proofs.Gets.{count_locals}
 use Rattle.joint_rule.proofs.Pages.{holds_after, kept_is}
@@ -48,14 +47,12 @@ use Rattle.slot_entry.specs.declared.kept.Kept.{Kept}
 use Rattle.std.proofs.lemmas.Bool.{and_from, cases_Bool, cases_eq, cases_lt, eq-eqb, ne_eqb}
 use Rattle.std.proofs.lemmas.List.{length-map}
 use Rattle.std.proofs.lemmas.List.FromFn.{get_or-map-range_with_len, length-map-range_with_len}
-use Rattle.std.proofs.lemmas.List.Sums.{count_by-le-length, sum_by-append, sum_by-cons}
 use Rattle.std.proofs.lemmas.Option.{get_or_from_slice_get}
 use Rattle.std.specs.List.{AllByRecursion, flat_map, range_with_len}
-use Rattle.std.specs.Prelude.{is_some}
 use Rattle.zr_base.specs.declared.op.Op.{Op}
 use Rattle.zr_base.specs.declared.op.OpEnd.{OpEnd}
 use Rattle.zr_base.specs.declared.op.Tag.{Tag}
-use Rattle.zspage.specs.Cells.{UsedCell, entry, used_of}
+use Rattle.zspage.specs.Cells.{UsedCell, used_of}
 use Rattle.lock_row.specs.declared.names.Held.TheVariants as holds
 use Rattle.slot_entry.specs.declared.kept.Kept.TheVariants as kept
 use Rattle.mem_account.specs.declared.weight.Weight.TheVariants as weight
@@ -422,15 +419,15 @@ module _ (r : Rest) (actors : List (List Op)) (ok : Known (begin_at r actors)) (
 
   used_right : AreUsed r.set.chain (kept_pages page_weight m) m.used
   used_right k lt = record {
-        each = all_used k lt;
-        all = sym (lone_pool k lt) ∙ sym (rest.owners (of_kind g.chain k))
-            ∙ slots_sum (λ p x order. claim_by (of_kind g.chain k) x (image g p order))
-            (λ p. of_class r.set.chain k (kept_at page_weight m p))
-            (λ p lt'. claim_class g.chain k (form_at g p (entries p lt').0.order)
-            (entries p lt').0.kept (image g p (entries p lt').0.order) (entries p lt').2.stands
-            ∙ ap (of_class r.set.chain k) (form_weighs p lt'))
-            ∙ sym (range_map (of_class r.set.chain k) (kept_at page_weight m) 0 size);
-      }
+    each = all_used k lt;
+    all = sym (lone_pool k lt) ∙ sym (rest.owners (of_kind g.chain k))
+        ∙ slots_sum (λ p x order. claim_by (of_kind g.chain k) x (image g p order))
+        (λ p. of_class r.set.chain k (kept_at page_weight m p))
+        (λ p lt'. claim_class g.chain k (form_at g p (entries p lt').0.order)
+        (entries p lt').0.kept (image g p (entries p lt').0.order) (entries p lt').2.stands
+        ∙ ap (of_class r.set.chain k) (form_weighs p lt'))
+        ∙ sym (range_map (of_class r.set.chain k) (kept_at page_weight m) 0 size);
+  }
 
   frames_right : c.pages ≡ frames_of r.set.chain m.used
   frames_right = sym (account_weighs (λ x. x.pages)) ∙ rest.frames

@@ -6,11 +6,13 @@ use Rattle.call_history.specs.declared.part.Part.{Part}
 use Rattle.call_history.specs.declared.part.PartEnd.{PartEnd}
 use Rattle.call_history.specs.declared.part.PartEnd.TheVariants.{AtLimit, Carried, NoMemory, Whole}
 use Rattle.joint_rule.proofs.Balances.{settled_compacted}
+use Rattle.joint_rule.proofs.Calm.{plain_entered, plain_pinned, plain_quit, plain_settle}
 use Rattle.joint_rule.proofs.Counts.{Raises, by, rises_total, still}
 use Rattle.joint_rule.proofs.Events.{Event}
 use Rattle.joint_rule.proofs.Facts.{Known}
 use Rattle.joint_rule.proofs.Gifts.{stage}
 use Rattle.joint_rule.proofs.Sums.{gone}
+use Rattle.joint_rule.specs.Alone.{compacting_at}
 use Rattle.joint_rule.specs.Begins.{Begin, terms}
 use Rattle.joint_rule.specs.Joint.{Joint}
 use Rattle.joint_rule.specs.Rule.{CountsFreed}
@@ -47,50 +49,28 @@ use Rattle.zr_base.specs.declared.op.OpEnd.TheVariants as ends
 abbrev freed : At → ℕ
 freed at = (compaction_at at).frames
 
-freed_settle : (k : Kept) → freed (settle_at k) ≡ 0
-freed_settle kept.Empty = refl
-freed_settle (kept.Same w) = refl
-freed_settle (kept.Obj o) = refl
-
-freed_made : (f : PageForm) (k : Kept) → freed (made_at f k) ≡ 0
-freed_made Blank k = freed_settle k
-freed_made (Word w) k = freed_settle k
-freed_made (Pooled b h) k = refl
-
-freed_seen : (k : Kept) → freed (seen_at k) ≡ 0
-freed_seen kept.Empty = refl
-freed_seen (kept.Same w) = refl
-freed_seen (kept.Obj o) = refl
-
-freed_part : (f : PageForm) (k : Kept) → freed (part_at f k) ≡ 0
-freed_part f kept.Empty = freed_made f kept.Empty
-freed_part f (kept.Same w) = freed_made f (kept.Same w)
-freed_part f (kept.Obj o) = refl
-
-freed_write : (b : Bool) (f : PageForm) (k : Kept) → freed (write_at b f k) ≡ 0
-freed_write true f k = freed_made f k
-freed_write false f k = freed_part f k
-
-freed_discard : (k : Kept) → freed (discard_at k) ≡ 0
-freed_discard kept.Empty = refl
-freed_discard (kept.Same w) = refl
-freed_discard (kept.Obj o) = refl
-
-freed_entered : (op : Op) (page : ℕ) (f : PageForm) (k : Kept) → freed (entered_at op page f k) ≡ 0
-freed_entered (Write start count stuff) page f k = freed_write (has_whole start count page) f k
-freed_entered (Read start count) page f k = freed_seen k
-freed_entered (Discard start count) page f k = freed_discard k
-freed_entered Compact page f k = refl
-
-freed_pinned : (op : Op) (f : PageForm) (k : Kept) → freed (pinned_at op f k) ≡ 0
-freed_pinned (Write start count stuff) f k = freed_made f k
-freed_pinned (Read start count) f k = refl
-freed_pinned (Discard start count) f k = refl
-freed_pinned Compact f k = refl
-
-freed_quit : (x : Option Pin) → freed (quit_at x) ≡ 0
-freed_quit None = refl
-freed_quit (Some x) = refl
+-- a stage of no compaction has freed nothing
+freed_none : (at : At) → compacting_at at ≡ None → freed at ≡ 0
+freed_none Start e = refl
+freed_none Refusing e = refl
+freed_none Seen e = refl
+freed_none Pinning e = refl
+freed_none Pinned e = refl
+freed_none Unpinning e = refl
+freed_none Leaving e = refl
+freed_none Wanting e = refl
+freed_none Inside e = refl
+freed_none Both e = refl
+freed_none Made e = refl
+freed_none Old e = refl
+freed_none Freeing e = refl
+freed_none Owing e = refl
+freed_none Giving e = refl
+freed_none Ready e = refl
+freed_none (Sweeping x) e = absurd (cc)
+freed_none (Moving x) e = absurd (cc)
+freed_none (Shrunk x) e = absurd (cc)
+freed_none (Shrinking x) e = absurd (cc)
 
 freed_moved : (m : ℕ) (x : Compaction) → freed (moved_at m x) ≡ x.frames
 freed_moved zero x = refl
@@ -99,7 +79,7 @@ freed_moved (suc m) x = refl
 freed_begun : (a b : Bool) (p : Part) (f : PageForm) (k : Kept) → freed (begun_at a b p f k) ≡ 0
 freed_begun true b p f k = refl
 freed_begun false true p f k = refl
-freed_begun false false p f k = freed_entered p.op p.page f k
+freed_begun false false p f k = freed_none _ (plain_entered p.op p.page f k).0
 
 -- a taking frees nothing
 freed_after : (size : ℕ) (at : At) (p : Part) (f : PageForm) (k : Kept)
@@ -206,7 +186,7 @@ module _ (g : Begin) (ok : Known g) (w : State DiskHeld) (j : Joint g w) (a : �
   pub frees_of : Event g l v m → Frees v m
   frees_of (event.pins p rest e o x x' u u' cell todo at held is sw named_u free outside is_cell
       in_cell lk v_is m_is) =
-      same_frees _ _ v_is m_is (stays_so Pinning _ at (freed_pinned p.op _ e.kept)
+      same_frees _ _ v_is m_is (stays_so Pinning _ at (freed_none _ (plain_pinned p.op _ e.kept).0)
       (let r = ap (held_sum (spot n) compactions) held in omega arith))
   frees_of (event.unpins p rest e o x x' u u' todo at held is sw named_u outside free lk v_is m_is) =
       same_frees _ _ v_is m_is (stays_so Unpinning _ at refl
@@ -222,10 +202,10 @@ module _ (g : Begin) (ok : Known g) (w : State DiskHeld) (j : Joint g w) (a : �
       same_frees _ _ v_is m_is (stays_so Both _ at refl
       (let r = ap (held_sum (spot n) compactions) held in omega arith))
   frees_of (event.stows p rest e x cl todo at held well v_is m_is) =
-      same_frees _ _ v_is m_is (stays_so Made _ at (freed_settle e.kept)
+      same_frees _ _ v_is m_is (stays_so Made _ at (freed_none _ (plain_settle e.kept).0)
       (let r = ap (held_sum (spot n) compactions) held in omega arith))
   frees_of (event.quits p rest e x cl y todo at held bad v_is m_is) =
-      same_frees _ _ v_is m_is (stays_so Made _ at (freed_quit l.pin)
+      same_frees _ _ v_is m_is (stays_so Made _ at (freed_none _ (plain_quit l.pin).0)
       (let r = ap (held_sum (spot n) compactions) held in omega arith))
   frees_of (event.frees p rest e o x x' frames todo at held is fp v_is m_is) =
       same_frees _ _ v_is m_is (stays_so Freeing _ at refl

@@ -1,5 +1,5 @@
 -- What the events of a compaction do where its actor is the only one.
-use Rattle.std.proofs.Common.{◌≡◌, ◌+◌, ◌-◌, ◌*◌, ◌≤◌, ◌<◌, ◌∷◌, ◌++◌, ◌∙◌, ◌==◌, ◌⊎◌, ℕ, zero, suc, Bool, true, false, cond, eqb, max, nat_lt, unwrap_or, List, [], length, sum_by, Option, Some, None, slice_get, slice_set, refl, sym, ap, subst, arith, inl, inr, ⊎_elim, Contains}
+use Rattle.std.proofs.Common.{◌≡◌, ◌+◌, ◌-◌, ◌*◌, ◌≤◌, ◌<◌, ◌∷◌, ◌++◌, ◌∙◌, ◌==◌, ◌⊎◌, ℕ, zero, suc, Bool, true, false, cond, eqb, unwrap_or, List, [], length, sum_by, Option, Some, None, slice_get, slice_set, refl, sym, ap, subst, arith, inl, inr, ⊎_elim, Contains}
 use Rattle.call_history.specs.Alone.{AreIdleOver, moves_over, tight_over}
 use Rattle.call_history.specs.Parts.{left_by}
 use Rattle.call_history.specs.declared.part.Done.{Done}
@@ -7,7 +7,7 @@ use Rattle.call_history.specs.declared.part.Part.{Part}
 use Rattle.call_history.specs.declared.part.PartEnd.TheVariants.{Whole}
 use Rattle.class_pool.specs.Compaction.{IsNothingOut, MayMove}
 use Rattle.class_pool.specs.Pool.{PoolState, objects, used_cells}
-use Rattle.joint_rule.proofs.Calm.{Same, calm_same, calm_start, given, idle_push, moves_push, no_compaction, same_total, tight_push}
+use Rattle.joint_rule.proofs.Calm.{idle_push, moves_push, no_compaction, same_total}
 use Rattle.joint_rule.proofs.Classes.{stands_between, stands_high, strange, strange_none}
 use Rattle.joint_rule.proofs.Events.{IsStuck}
 use Rattle.joint_rule.proofs.Facts.{Known}
@@ -21,18 +21,17 @@ use Rattle.joint_rule.specs.Begins.{Begin, form_at, image}
 use Rattle.joint_rule.specs.Joint.{AtHome, Joint, Sound}
 use Rattle.joint_rule.specs.Stages.{Stage}
 use Rattle.joint_rule.specs.Weights.{HeldAll, Weigh, cell_weight, claims, each_one, fresh_claim, loose_pools, none, nothing, out_weight, outs, pinned, stored, used_each}
-use Rattle.lock_row.specs.Totals.{by_option, held_sum, locals_sum, mass, row_sum, total}
-use Rattle.lock_row.specs.declared.names.At.{At}
-use Rattle.lock_row.specs.declared.names.At.TheVariants.{Moving, Shrinking, Shrunk, Sweeping}
+use Rattle.lock_row.specs.Totals.{held_sum, locals_sum, mass, total}
+use Rattle.lock_row.specs.declared.names.At.TheVariants.{Moving, Shrinking, Sweeping}
 use Rattle.lock_row.specs.declared.names.Compaction.{Compaction}
 use Rattle.lock_row.specs.declared.names.LockNo.{LockNo}
 use Rattle.lock_row.specs.declared.names.State.{State}
 use Rattle.mem_account.specs.Counters.{Counters}
 use Rattle.page_steps.specs.Compactions.{MovesOne, budget_in, moved_at, with_frames, with_move, with_next}
 use Rattle.page_steps.specs.Steps.{DiskHeld, Here, entry_in, on, piece_over, spot}
-use Rattle.plain_disk.specs.Compactions.{IsIdle, loose, moves_by, tight_by}
+use Rattle.plain_disk.specs.Compactions.{IsIdle, loose, moves_by}
 use Rattle.size_class.specs.Classes.{stands_below, stands_of}
-use Rattle.std.proofs.lemmas.Bool.{cases_Bool, cases_eq, cases_lt, eqb-false, eqb-true, le-ltb, lt-ltb, ltb-true, ne_eqb}
+use Rattle.std.proofs.lemmas.Bool.{cases_eq, cases_lt, eqb-false, eqb-true, le-ltb, lt-ltb, ne_eqb}
 use Rattle.std.proofs.lemmas.List.{length-map}
 use Rattle.std.proofs.lemmas.List.Sums.{sum_by-cons}
 use Rattle.zspage.specs.Cells.{UsedCell}
@@ -251,24 +250,24 @@ module _ (g : Begin) (ok : Known g) (w : State DiskHeld) (j : Joint g w) (a : �
           (λ u. below_none x.class q.class (omega arith) u.handle u.bytes) (used_cells q.zspages) in
           let len = count_is h (λ i b. below_one (x.class + 1) q.class (omega arith) i b) in
           omega arith
-          where
-            by_held : (xs : List (LockNo × DiskHeld)) → HeldAll n (Sound g) xs
-                → held_sum (spot n) (stored (below x.class)) xs + 0
-                ≤ held_sum (spot n) (stored (below (x.class + 1))) xs + 0
-            by_held [] t = omega arith
-            by_held (y ∷ ys) t =
-                let r = by_held ys t.1 in
-                let z = stored_up (below x.class) (below (x.class + 1))
-                (λ c. below_up x.class (x.class + 1) c (omega arith)) (spot n y.0) y.1 in
-                omega arith
+        where
+          by_held : (xs : List (LockNo × DiskHeld)) → HeldAll n (Sound g) xs
+              → held_sum (spot n) (stored (below x.class)) xs + 0
+              ≤ held_sum (spot n) (stored (below (x.class + 1))) xs + 0
+          by_held [] t = omega arith
+          by_held (y ∷ ys) t =
+              let r = by_held ys t.1 in
+              let z = stored_up (below x.class) (below (x.class + 1))
+              (λ c. below_up x.class (x.class + 1) c (omega arith)) (spot n y.0) y.1 in
+              omega arith
 
       moves_on : (y : Compaction) → y ≡ with_move x budget → Sweeps g next after y
       moves_on y is = subst (Sweeps g next after) (sym is) (record {
         tight = λ k r at lt. ⊎_elim
             (λ t. absurd (
-                let c = class_is in let c' = sh.alike.class in
-                let c'' = ap (λ (i : PoolState). i.class) (same_pool q' r t.1) in
-                let no : ⊥ = omega arith in no))
+            let c = class_is in let c' = sh.alike.class in
+            let c'' = ap (λ (i : PoolState). i.class) (same_pool q' r t.1) in
+            let no : ⊥ = omega arith in no))
             (λ t. s.tight k r t.1 lt)
             (get_set w.row (n + x.class) k (Some (holds.Class q')) (Some (holds.Class r)) None there
             at);
@@ -306,53 +305,56 @@ module _ (g : Begin) (ok : Known g) (w : State DiskHeld) (j : Joint g w) (a : �
     -- ---- nothing moves
 
     module _ (stuck : IsStuck x q) (there : slice_get w.row (n + x.class) ≡ Some None) (m : Here)
-        where
-      abbrev left : State DiskHeld
-      left = gone n w a l who (lock.Class x.class) (Some (holds.Class q)) m
+      where
+        abbrev left : State DiskHeld
+        left = gone n w a l who (lock.Class x.class) (Some (holds.Class q)) m
 
-      same_left : m.held ≡ [] → (f : ℕ → DiskHeld → ℕ)
-          → total (spot n) f none left ≡ total (spot n) f none w
-      same_left e f = same_total g ok w a l who o (lock.Class x.class) (holds.Class q) m there f
-          (let r = in_hand f in let t = ap (held_sum (spot n) f) e in omega arith)
+        same_left : m.held ≡ [] → (f : ℕ → DiskHeld → ℕ)
+            → total (spot n) f none left ≡ total (spot n) f none w
+        same_left e f = same_total g ok w a l who o (lock.Class x.class) (holds.Class q) m there f
+            (let r = in_hand f in let t = ap (held_sum (spot n) f) e in omega arith)
 
-      -- the classes up to this one are tight
-      up_to : (k : ℕ) (r : PoolState) → slice_get left.row k ≡ Some (Some (holds.Class r))
-          → (loose r.per (used_each r.zspages) ≡ 0)
-          ⊎ ((x.class < r.class) × (slice_get w.row k ≡ Some (Some (holds.Class r))))
-      up_to k r at = ⊎_elim
-          (λ t. inl (subst (λ (b : PoolState). loose b.per (used_each b.zspages) ≡ 0)
-          (same_pool q r t.1) (stuck_tight stuck)))
-          (λ t. elim (cases_lt r.class x.class) [
-            | inl low ↦ inl (s.tight k r t.1 low)
-            | inr high ↦ inr (elim (cases_eq r.class x.class) [
-              | inl same ↦ absurd (no_second k r there t.1 same)
-              | inr other ↦ (let lt : x.class < r.class = omega arith in lt)
-            ], t.1)
-          ])
-          (get_set w.row (n + x.class) k (Some (holds.Class q)) (Some (holds.Class r)) None there at)
+        -- the classes up to this one are tight
+        up_to : (k : ℕ) (r : PoolState) → slice_get left.row k ≡ Some (Some (holds.Class r))
+            → (loose r.per (used_each r.zspages) ≡ 0)
+            ⊎ ((x.class < r.class) × (slice_get w.row k ≡ Some (Some (holds.Class r))))
+        up_to k r at = ⊎_elim
+            (λ t. inl (subst (λ (b : PoolState). loose b.per (used_each b.zspages) ≡ 0)
+            (same_pool q r t.1) (stuck_tight stuck)))
+            (λ t. elim (cases_lt r.class x.class) [
+              | inl low ↦ inl (s.tight k r t.1 low)
+              | inr high ↦ inr (
+                elim (cases_eq r.class x.class) [
+                  | inl same ↦ absurd (no_second k r there t.1 same)
+                  | inr other ↦ (let lt : x.class < r.class = omega arith in lt)
+                ],
+                t.1,
+              )
+            ])
+            (get_set w.row (n + x.class) k (Some (holds.Class q)) (Some (holds.Class r)) None there at)
 
-      -- ---- another class is left
+        -- ---- another class is left
 
-      module _ (other : (x.class == 254) ≡ false) where
-        abbrev d : ℕ
-        d = 254 - (x.class + 1)
+        module _ (other : (x.class == 254) ≡ false) where
+          abbrev d : ℕ
+          d = 254 - (x.class + 1)
 
-        few : x.class + 1 ≤ 254
-        few = let c = st.compacts.class in let z = eqb-false x.class 254 other in
-            elim (cases_eq x.class 254) [ inl e ↦ absurd (z e) | inr e ↦ omega arith ]
+          few : x.class + 1 ≤ 254
+          few = let c = st.compacts.class in let z = eqb-false x.class 254 other in
+              elim (cases_eq x.class 254) [ inl e ↦ absurd (z e) | inr e ↦ omega arith ]
 
-        up : x.class + 1 ≤ stands_below g.chain d
-        up = let r = stands_high g.chain d (omega arith) in let z = few in omega arith
+          up : x.class + 1 ≤ stands_below g.chain d
+          up = let r = stands_high g.chain d (omega arith) in let z = few in omega arith
 
-        -- no object is of a class that doesn't stand for itself
-        none_strange : total (spot n) (stored (strange g.chain)) none w ≡ 0
-        none_strange =
-            let f : Weigh = strange g.chain in
-            let z = row_none (claims g f) w.row (λ k v e. by_value k v (j.each.in_row k v e)) in
-            let r = ap (held_sum (spot n) (claims g f)) held in
-            let y = none_fresh f l.fresh st.made in
-            let t = ap (locals_sum (mass (spot n) (claims g f) (fresh_claim f))) only in
-            let eq = j.owners f in omega arith
+          -- no object is of a class that doesn't stand for itself
+          none_strange : total (spot n) (stored (strange g.chain)) none w ≡ 0
+          none_strange =
+              let f : Weigh = strange g.chain in
+              let z = row_none (claims g f) w.row (λ k v e. by_value k v (j.each.in_row k v e)) in
+              let r = ap (held_sum (spot n) (claims g f)) held in
+              let y = none_fresh f l.fresh st.made in
+              let t = ap (locals_sum (mass (spot n) (claims g f) (fresh_claim f))) only in
+              let eq = j.owners f in omega arith
             where
               by_value : (k : ℕ) (v : DiskHeld) → AtHome g k v → claims g (strange g.chain) k v ≡ 0
               by_value k (holds.Slot e) h = strange_none g.chain (form_at g k e.order) e.kept
@@ -362,128 +364,128 @@ module _ (g : Begin) (ok : Known g) (w : State DiskHeld) (j : Joint g w) (a : �
               by_value k (holds.Blocks i) h = refl
               by_value k (holds.Device i) h = refl
 
-        -- so a class between two that do is empty, and tight
-        between : (k : ℕ) (r : PoolState) → slice_get w.row k ≡ Some (Some (holds.Class r))
-            → x.class < r.class → r.class < stands_below g.chain d
-            → loose r.per (used_each r.zspages) ≡ 0
-        between k r at high low =
-            let z = few in
-            let is = stands_between g.chain d r.class (omega arith) (omega arith) low in
-            let ne : eqb (stands_of g.chain r.class) r.class ≡ false =
-            ne_eqb (stands_of g.chain r.class) r.class (λ e. let no : ⊥ = omega arith in no) in
-            let f : Weigh = strange g.chain in
-            let one : (u : UsedCell) → cell_weight (f r.class) u ≡ 1 =
-            λ u. ap (λ (t : Bool). cond {A = ℕ} t 0 1) ne in
-            let le = row_le n (stored f) w.row k (Some (holds.Class r)) at in
-            let none_here = none_strange in
-            let sum = used_sum (cell_weight (f r.class)) one r.zspages in
-            let pool = (any_home k (holds.Class r) at).1.pool in
-            empty_none r.per (used_each r.zspages)
-            (each_used r.per r.zspages pool.filled pool.whole) (omega arith)
+          -- so a class between two that do is empty, and tight
+          between : (k : ℕ) (r : PoolState) → slice_get w.row k ≡ Some (Some (holds.Class r))
+              → x.class < r.class → r.class < stands_below g.chain d
+              → loose r.per (used_each r.zspages) ≡ 0
+          between k r at high low =
+              let z = few in
+              let is = stands_between g.chain d r.class (omega arith) (omega arith) low in
+              let ne : eqb (stands_of g.chain r.class) r.class ≡ false =
+              ne_eqb (stands_of g.chain r.class) r.class (λ e. let no : ⊥ = omega arith in no) in
+              let f : Weigh = strange g.chain in
+              let one : (u : UsedCell) → cell_weight (f r.class) u ≡ 1 =
+              λ u. ap (λ (t : Bool). cond {A = ℕ} t 0 1) ne in
+              let le = row_le n (stored f) w.row k (Some (holds.Class r)) at in
+              let none_here = none_strange in
+              let sum = used_sum (cell_weight (f r.class)) one r.zspages in
+              let pool = (any_home k (holds.Class r) at).1.pool in
+              empty_none r.per (used_each r.zspages)
+              (each_used r.per r.zspages pool.filled pool.whole) (omega arith)
 
-        abbrev onward : Compaction
-        onward = with_next g.chain x
+          abbrev onward : Compaction
+          onward = with_next g.chain x
 
-        room_up : (b : Option ℕ) → x.moves + spare b
-            ≤ total (spot n) (stored (below (reached b x.class))) none w
-            → x.moves ≤ total (spot n) (stored (below (stands_below g.chain d))) none w
-        room_up None le =
-            let r = objects_up (below x.class) (below (stands_below g.chain d))
-            (λ c. below_up x.class (stands_below g.chain d) c
-            (let z = up in omega arith)) in omega arith
-        room_up (Some b) le =
-            let r = objects_up (below (x.class + 1)) (below (stands_below g.chain d))
-            (λ c. below_up (x.class + 1) (stands_below g.chain d) c up) in omega arith
+          room_up : (b : Option ℕ) → x.moves + spare b
+              ≤ total (spot n) (stored (below (reached b x.class))) none w
+              → x.moves ≤ total (spot n) (stored (below (stands_below g.chain d))) none w
+          room_up None le =
+              let r = objects_up (below x.class) (below (stands_below g.chain d))
+              (λ c. below_up x.class (stands_below g.chain d) c
+              (let z = up in omega arith)) in omega arith
+          room_up (Some b) le =
+              let r = objects_up (below (x.class + 1)) (below (stands_below g.chain d))
+              (λ c. below_up (x.class + 1) (stands_below g.chain d) c up) in omega arith
 
-        goes_up : m ≡ on l (Sweeping onward) [] l.fresh l.pin l.owed l.ahead l.behind l.page l.fail
-            → Sweeps g left m onward
-        goes_up m_is = record {
-          tight = λ k r at lt. ⊎_elim (λ t. t) (λ t. between k r t.1 t.0 lt) (up_to k r at);
-          idle = λ t. s.idle (sym (ap (λ (y : Here). tight_over g.tight y.done) m_is) ∙ t);
-          moves = let r = same_left (ap (λ (y : Here). y.held) m_is)
-              (stored (below (stands_below g.chain d))) in
-              let z = room_up x.budget s.moves in omega arith;
-          home = λ r e. tt;
-          hand = λ r e. tt;
-        }
+          goes_up : m ≡ on l (Sweeping onward) [] l.fresh l.pin l.owed l.ahead l.behind l.page l.fail
+              → Sweeps g left m onward
+          goes_up m_is = record {
+            tight = λ k r at lt. ⊎_elim (λ t. t) (λ t. between k r t.1 t.0 lt) (up_to k r at);
+            idle = λ t. s.idle (sym (ap (λ (y : Here). tight_over g.tight y.done) m_is) ∙ t);
+            moves = let r = same_left (ap (λ (y : Here). y.held) m_is)
+                (stored (below (stands_below g.chain d))) in
+                let z = room_up x.budget s.moves in omega arith;
+            home = λ r e. tt;
+            hand = λ r e. tt;
+          }
 
-        pub only_sweeps : m ≡ on l (Sweeping onward) [] l.fresh l.pin l.owed l.ahead l.behind
-            l.page l.fail → IsOnly g left m
-        only_sweeps m_is = record {
-          idle = subst (λ (y : Here). AreIdleOver g.tight y.done) (sym m_is) o.idle;
-          calm = λ c. subst (λ (y : Here). IsCalm g left y.done) (sym m_is) (record {
-            tight = λ t. same_left (ap (λ (y : Here). y.held) m_is) loose_pools
-                ∙ was_calm.tight t;
-            few = let r = same_left (ap (λ (y : Here). y.held) m_is) (stored each_one) in
-                let z = was_calm.few in omega arith;
-          });
-          sweeps = λ y e.
-              let r : compacting m.todo m.at ≡ Some onward =
-              ap (λ (i : Here). compacting i.todo i.at) m_is
-              ∙ ap (λ (ps : List Part). compacting ps (Sweeping onward)) todo in
-              let z : Some onward ≡ Some y = sym r ∙ e in
-              let is : onward ≡ y = cc in subst (Sweeps g left m) is (goes_up m_is);
-        }
+          pub only_sweeps : m ≡ on l (Sweeping onward) [] l.fresh l.pin l.owed l.ahead l.behind
+              l.page l.fail → IsOnly g left m
+          only_sweeps m_is = record {
+            idle = subst (λ (y : Here). AreIdleOver g.tight y.done) (sym m_is) o.idle;
+            calm = λ c. subst (λ (y : Here). IsCalm g left y.done) (sym m_is) (record {
+              tight = λ t. same_left (ap (λ (y : Here). y.held) m_is) loose_pools
+                  ∙ was_calm.tight t;
+              few = let r = same_left (ap (λ (y : Here). y.held) m_is) (stored each_one) in
+                  let z = was_calm.few in omega arith;
+            });
+            sweeps = λ y e.
+                let r : compacting m.todo m.at ≡ Some onward =
+                ap (λ (i : Here). compacting i.todo i.at) m_is
+                ∙ ap (λ (ps : List Part). compacting ps (Sweeping onward)) todo in
+                let z : Some onward ≡ Some y = sym r ∙ e in
+                let is : onward ≡ y = cc in subst (Sweeps g left m) is (goes_up m_is);
+          }
 
-      -- ---- it was the last
+        -- ---- it was the last
 
-      module _ (last : (x.class == 254) ≡ true) (alone : slice_set w.locals a m ≡ m ∷ [])
-          (m_is : m ≡ piece_over l p (Whole (ends.Compacted x.moves x.frames)) [] rest) where
-        abbrev done : Done
-        done = record { part = p; end = Whole (ends.Compacted x.moves x.frames); got = [] }
+        module _ (last : (x.class == 254) ≡ true) (alone : slice_set w.locals a m ≡ m ∷ [])
+            (m_is : m ≡ piece_over l p (Whole (ends.Compacted x.moves x.frames)) [] rest) where
+          abbrev done : Done
+          done = record { part = p; end = Whole (ends.Compacted x.moves x.frames); got = [] }
 
-        held_none : m.held ≡ []
-        held_none = ap (λ (y : Here). y.held) m_is
+          held_none : m.held ≡ []
+          held_none = ap (λ (y : Here). y.held) m_is
 
-        place_tight : (k : ℕ) (v : DiskHeld) → slice_get left.row k ≡ Some (Some v)
-            → loose_pools k v ≡ 0
-        place_tight k (holds.Slot e) at = refl
-        place_tight k (holds.Class r) at = ⊎_elim (λ t. t)
-            (λ t. absurd (let c = (any_home k (holds.Class r) t.1).1.class in
-            let e = eqb-true x.class 254 last in let lt = t.0 in let no : ⊥ = omega arith in no))
-            (up_to k r at)
-        place_tight k (holds.Account c) at = refl
-        place_tight k (holds.Blocks c) at = refl
-        place_tight k (holds.Device c) at = refl
+          place_tight : (k : ℕ) (v : DiskHeld) → slice_get left.row k ≡ Some (Some v)
+              → loose_pools k v ≡ 0
+          place_tight k (holds.Slot e) at = refl
+          place_tight k (holds.Class r) at = ⊎_elim (λ t. t)
+              (λ t. absurd (let c = (any_home k (holds.Class r) t.1).1.class in
+              let e = eqb-true x.class 254 last in let lt = t.0 in let no : ⊥ = omega arith in no))
+              (up_to k r at)
+          place_tight k (holds.Account c) at = refl
+          place_tight k (holds.Blocks c) at = refl
+          place_tight k (holds.Device c) at = refl
 
-        all_tight : total (spot n) loose_pools none left ≡ 0
-        all_tight =
-            let r = row_none loose_pools left.row place_tight in
-            let t = ap (locals_sum (mass (spot n) loose_pools none)) alone in
-            let z = ap (held_sum (spot n) loose_pools) held_none in omega arith
+          all_tight : total (spot n) loose_pools none left ≡ 0
+          all_tight =
+              let r = row_none loose_pools left.row place_tight in
+              let t = ap (locals_sum (mass (spot n) loose_pools none)) alone in
+              let z = ap (held_sum (spot n) loose_pools) held_none in omega arith
 
-        room_all : (b : Option ℕ) → x.moves + spare b
-            ≤ total (spot n) (stored (below (reached b x.class))) none w
-            → x.moves ≤ total (spot n) (stored each_one) none w
-        room_all b le = let r = objects_up (below (reached b x.class)) each_one
-            (λ c. below_most (reached b x.class) c) in omega arith
+          room_all : (b : Option ℕ) → x.moves + spare b
+              ≤ total (spot n) (stored (below (reached b x.class))) none w
+              → x.moves ≤ total (spot n) (stored each_one) none w
+          room_all b le = let r = objects_up (below (reached b x.class)) each_one
+              (λ c. below_most (reached b x.class) c) in omega arith
 
-        few_moves : moves_over 0 (l.done ++ done ∷ [])
-            ≤ total (spot n) (stored each_one) none left
-        few_moves =
-            let e = moves_push 0 l.done done in
-            let r = same_left held_none (stored each_one) in
-            let z = compact_push p.op x.moves x.frames (moves_over 0 l.done)
-            (total (spot n) (stored each_one) none w) st.begun was_calm.few
-            (room_all x.budget s.moves) in omega arith
+          few_moves : moves_over 0 (l.done ++ done ∷ [])
+              ≤ total (spot n) (stored each_one) none left
+          few_moves =
+              let e = moves_push 0 l.done done in
+              let r = same_left held_none (stored each_one) in
+              let z = compact_push p.op x.moves x.frames (moves_over 0 l.done)
+              (total (spot n) (stored each_one) none w) st.begun was_calm.few
+              (room_all x.budget s.moves) in omega arith
 
-        idle_end : tight_over g.tight l.done ≡ true → IsIdle (ends.Compacted x.moves x.frames)
-        idle_end t =
-            let none_moved = s.idle t in
-            let f = st.compacts.frames in
-            let z : g.chain * x.moves ≡ 0 = ap (λ (i : ℕ). g.chain * i) none_moved ∙ omega arith in
-            (none_moved, (let e : x.frames ≡ 0 = omega arith in e))
+          idle_end : tight_over g.tight l.done ≡ true → IsIdle (ends.Compacted x.moves x.frames)
+          idle_end t =
+              let none_moved = s.idle t in
+              let f = st.compacts.frames in
+              let z : g.chain * x.moves ≡ 0 = ap (λ (i : ℕ). g.chain * i) none_moved ∙ omega arith in
+              (none_moved, (let e : x.frames ≡ 0 = omega arith in e))
 
-        pub only_closes : IsOnly g left m
-        only_closes = record {
-          idle = subst (λ (y : Here). AreIdleOver g.tight y.done) (sym m_is)
-              (idle_push g.tight l.done done o.idle idle_end);
-          calm = λ c. subst (λ (y : Here). IsCalm g left y.done) (sym m_is)
-              (record { tight = λ t. all_tight; few = few_moves });
-          sweeps = λ y e. absurd (
-              let q : compacting m.todo m.at ≡ None = ap (λ (i : Here). compacting i.todo i.at) m_is
-              ∙ no_compaction (left_by (Whole (ends.Compacted x.moves x.frames)) p.nr rest) in cc);
-        }
+          pub only_closes : IsOnly g left m
+          only_closes = record {
+            idle = subst (λ (y : Here). AreIdleOver g.tight y.done) (sym m_is)
+                (idle_push g.tight l.done done o.idle idle_end);
+            calm = λ c. subst (λ (y : Here). IsCalm g left y.done) (sym m_is)
+                (record { tight = λ t. all_tight; few = few_moves });
+            sweeps = λ y e. absurd (
+                let q : compacting m.todo m.at ≡ None = ap (λ (i : Here). compacting i.todo i.at) m_is
+                ∙ no_compaction (left_by (Whole (ends.Compacted x.moves x.frames)) p.nr rest) in cc);
+          }
 
   -- ---- frames are given back
 

@@ -1,11 +1,11 @@
 -- How many cells of each zspage of a pool are used: sums over them, and what is tight.
-use Rattle.std.proofs.Common.{◌≡◌, ◌+◌, ◌-◌, ◌*◌, ◌≤◌, ◌<◌, ◌∷◌, ◌∙◌, ℕ, zero, suc, Bool, true, false, List, [], length, sum_by, Option, Some, None, cond, nat_lt, slice_set, refl, sym, ap, subst, arith, inl, inr}
+use Rattle.std.proofs.Common.{◌≡◌, ◌+◌, ◌-◌, ◌*◌, ◌≤◌, ◌<◌, ◌∷◌, ◌∙◌, ℕ, zero, suc, Bool, List, [], length, sum_by, Option, Some, None, cond, nat_lt, slice_set, refl, sym, ap, arith, inl, inr}
 use Rattle.class_pool.specs.Endings.{IsTight, has_free}
 use Rattle.class_pool.specs.Pool.{IsPlace, PoolState, used_cells, used_cells_in, with_cells}
 use Rattle.class_pool.specs.Zspages.{Cells}
-use Rattle.joint_rule.specs.Weights.{loose_pools, used_each}
+use Rattle.joint_rule.specs.Weights.{used_each}
 use Rattle.plain_disk.specs.Compactions.{loose, with_free}
-use Rattle.std.proofs.lemmas.Bool.{cases_Bool, cases_lt, le-leb, leb-true, le-ltb, lt-ltb}
+use Rattle.std.proofs.lemmas.Bool.{cases_Bool, cases_lt, le-leb, leb-true, lt-ltb}
 use Rattle.std.proofs.lemmas.Grind.{div_ceil_times}
 use Rattle.std.proofs.lemmas.List.Sums.{count_by-le-length, sum_by-append, sum_by-cons}
 use Rattle.std.proofs.lemmas.Nat.{mul-le}

@@ -1,6 +1,6 @@
 -- What a finished phase leaves: the orders of its pages, the histories of its actors, and the rest
 -- of the plain disk.
-use Rattle.std.specs.Prelude.{◌≡◌, ℕ, ◌+◌, ◌/◌, true, List, [], ◌∷◌, map, get_or, Option, Some, None, slice_get}
+use Rattle.std.specs.Prelude.{◌≡◌, ℕ, ◌+◌, ◌/◌, true, List, [], map, get_or, Option, Some, None, slice_get}
 use Rattle.std.specs.List.{range_with_len}
 use Rattle.zr_base.specs.declared.op.Tag.{Tag}
 use Rattle.zr_base.specs.declared.op.Op.{Op}
