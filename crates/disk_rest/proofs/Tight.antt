@@ -1,9 +1,8 @@
 -- Where a rest's classes are tight, no pool of the row is loose.
-use Rattle.std.proofs.Common.{◌≡◌, ℕ, zero, suc, ◌+◌, ◌<◌, true, List, [], ◌∷◌, sum_by, Option, Some, None, slice_get, refl, sym, ap, ◌∙◌, subst, arith}
+use Rattle.std.proofs.Common.{◌≡◌, ℕ, zero, suc, ◌+◌, ◌<◌, true, [], ◌∷◌, sum_by, Some, None, slice_get, refl, sym, ap, ◌∙◌, subst, arith}
 use Rattle.std.specs.List.{range_with_len}
 use Rattle.std.proofs.lemmas.Bool.{eqb-true}
 use Rattle.std.proofs.lemmas.List.Sums.{sum_by-cons}
-use Rattle.zr_base.specs.declared.op.Op.{Op}
 use Rattle.size_class.specs.Classes.{per_of}
 use Rattle.class_pool.specs.Pool.{PoolState}
 use Rattle.plain_disk.specs.Compactions.{loose, are_tight}
@@ -12,7 +11,6 @@ use Rattle.lock_row.specs.declared.names.Held.TheVariants as holds
 use Rattle.lock_row.specs.Totals.{row_sum}
 use Rattle.page_steps.specs.Steps.{DiskHeld}
 use Rattle.joint_rule.specs.Ends.{used_in}
-use Rattle.joint_rule.specs.Joint.{AtHome}
 use Rattle.joint_rule.specs.Weights.{used_each, loose_pools}
 use Rattle.disk_rest.specs.Rows.{Row, used_at}
 use Rattle.disk_rest.proofs.Places.{value_is}

@@ -32,15 +32,14 @@ use Rattle.mem_account.specs.declared.weight.Weight.{Weight}
 use Rattle.page_steps.specs.Compactions.{compaction_at, moved_at, with_frames, with_move}
 use Rattle.page_steps.specs.Givings.{old_weight}
 use Rattle.page_steps.specs.Pages.{next_form}
-use Rattle.page_steps.specs.Steps.{DiskHeld, Here, after_take, begun_at, discard_at, entered_at, entry_in, entry_or, lock_of, made_at, on, part_at, piece_over, pinned_at, plan, quit_at, seen_at, settle_at, spot, taken_at, took, write_at}
+use Rattle.page_steps.specs.Steps.{DiskHeld, Here, after_take, begun_at, entry_in, entry_or, lock_of, on, piece_over, plan, spot, taken_at, took}
 use Rattle.plain_disk.specs.Ends.{compacted}
-use Rattle.slot_entry.specs.Forms.{Blank, PageForm, Pooled, Word, form_weight}
+use Rattle.slot_entry.specs.Forms.{PageForm, form_weight}
 use Rattle.slot_entry.specs.declared.kept.Kept.{Kept}
-use Rattle.zr_base.specs.Plain.{has_whole, is_beyond, is_compaction}
+use Rattle.zr_base.specs.Plain.{is_beyond, is_compaction}
 use Rattle.zr_base.specs.declared.op.Op.{Op}
 use Rattle.zr_base.specs.declared.op.Op.TheVariants.{Compact, Discard, Read, Write}
 use Rattle.joint_rule.proofs.Events as event
-use Rattle.slot_entry.specs.declared.kept.Kept.TheVariants as kept
 use Rattle.zr_base.specs.declared.op.OpEnd.TheVariants as ends
 
 -- ---- stages

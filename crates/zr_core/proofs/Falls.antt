@@ -306,7 +306,6 @@ module _ (n : ℕ) where
       (subst (λ (y : Compaction). stage_left n p (at.Sweeping (with_frames y l.owed))
       < stage_left n p (at.Shrinking x)) (sym (ap compaction_at stage)) (omega arith)))
 
-
 -- ---- turns
 
 module _ (sums : SumMoves DiskHeld) (t : Terms) where
