@@ -1,12 +1,12 @@
 -- Each event leaves fewer events to an actor.
-use Rattle.std.proofs.Common.{◌≡◌, ◌≢◌, ◌⊎◌, ℕ, zero, suc, ◌+◌, ◌-◌, ◌*◌, ◌<◌, ◌≤◌, Bool, true, false, eqb, List, [], ◌∷◌, length, Option, Some, None, slice_get, slice_set, sym, refl, ap, ◌∙◌, subst, arith, inl, inr, ⊎_elim, length-set}
+use Rattle.std.proofs.Common.{◌≡◌, ◌≢◌, ◌⊎◌, ℕ, zero, suc, ◌+◌, ◌-◌, ◌*◌, ◌<◌, ◌≤◌, Bool, true, false, eqb, List, [], ◌∷◌, length, Option, Some, None, slice_get, slice_set, sym, refl, ap, ◌∙◌, subst, arith, inl, inr, length-set}
 use Rattle.std.proofs.lemmas.Bool.{cases_Bool, eq-eqb}
 use Rattle.std.specs.Prelude.{unwrap_or}
 use Rattle.zr_base.specs.declared.op.Op.{Op}
 use Rattle.zr_base.specs.declared.op.Op.TheVariants.{Write, Read, Discard, Compact}
 use Rattle.zr_base.specs.Plain.{is_beyond, is_compaction, has_whole}
 use Rattle.size_class.specs.Classes.{stands_below, stands_of, shares_next}
-use Rattle.class_pool.specs.Pool.{PoolState, objects}
+use Rattle.class_pool.specs.Pool.{objects}
 use Rattle.call_history.specs.declared.part.Part.{Part}
 use Rattle.call_history.specs.declared.part.PartEnd.{PartEnd}
 use Rattle.call_history.specs.declared.part.PartEnd.TheVariants as over
@@ -17,8 +17,6 @@ use Rattle.lock_row.specs.declared.names.LockNo.{LockNo}
 use Rattle.lock_row.specs.declared.names.At.{At}
 use Rattle.lock_row.specs.declared.names.At.TheVariants as at
 use Rattle.lock_row.specs.declared.names.Compaction.{Compaction}
-use Rattle.lock_row.specs.declared.names.LockNo.TheVariants as lock
-use Rattle.lock_row.specs.declared.names.Held.TheVariants as holds
 use Rattle.lock_row.specs.declared.names.Pin.{Pin}
 use Rattle.lock_row.specs.declared.names.Plan.TheVariants.{Take}
 use Rattle.lock_row.specs.declared.names.State.{State}
@@ -29,12 +27,12 @@ use Rattle.slot_entry.specs.declared.kept.Kept.{Kept}
 use Rattle.slot_entry.specs.declared.kept.Kept.TheVariants as kept
 use Rattle.slot_entry.specs.Forms.{PageForm, Blank, Word, Pooled}
 use Rattle.page_steps.specs.Givings.{Works, refuses, pins, unpins, charges, limits, starves, stows, quits, frees, repays, puts, reads, fails, compacts}
-use Rattle.page_steps.specs.Compactions.{moves, rests, shrinks, compaction_at, budget_in, with_move, with_next, with_frames, moved_at, resting_by}
+use Rattle.page_steps.specs.Compactions.{moves, rests, shrinks, compaction_at, with_move, with_next, with_frames, moved_at, resting_by}
 use Rattle.page_steps.specs.Nexts.{ending_by, failing_by, pin_at, own_entry}
 use Rattle.page_steps.specs.Pages.{page_in, page_in_cell, next_form}
 use Rattle.page_steps.specs.Steps.{Terms, DiskHeld, Here, plan, plan_by, plan_at, took, taken_at, after_take, begun_at, entered_at, write_at, made_at, seen_at, discard_at, settle_at, pinned_at, quit_at}
 use Rattle.zr_core.specs.Machines.{OneTurn}
-use Rattle.zr_core.specs.Runs.{class_left, compaction_left, piece_left, pieces_left, stage_left, left_at, left_by, all_left, Few, AreFew, IsFree}
+use Rattle.zr_core.specs.Runs.{class_left, piece_left, pieces_left, stage_left, left_at, left_by, all_left, Few, AreFew, IsFree}
 
 -- ---- stages
 

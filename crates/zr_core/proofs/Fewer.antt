@@ -1,10 +1,9 @@
 -- Whatever is over, no class has more objects than there are pages and actors in a phase that can go on.
-use Rattle.std.proofs.Common.{◌≡◌, ℕ, zero, suc, ◌+◌, ◌<◌, ◌≤◌, List, [], ◌∷◌, length, Some, slice_get, refl, sym, ap, ◌∙◌, subst, arith}
+use Rattle.std.proofs.Common.{◌≡◌, ℕ, zero, suc, ◌+◌, List, [], ◌∷◌, length, Some, slice_get, refl, ap, subst, arith}
 use Rattle.std.proofs.lemmas.Option.{slice_get_within}
 use Rattle.zr_base.specs.declared.op.Op.{Op}
-use Rattle.call_history.specs.declared.part.Part.{Part}
 use Rattle.call_history.specs.declared.part.Done.{Done}
-use Rattle.page_steps.specs.Steps.{Terms, DiskHeld, Here}
+use Rattle.page_steps.specs.Steps.{Terms, Here}
 use Rattle.actor_steps.specs.declared.worker.Worker.{Worker}
 use Rattle.actor_steps.specs.Workers.{here}
 use Rattle.joint_rule.specs.Laws.{CompactedIsFew}

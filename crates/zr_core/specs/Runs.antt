@@ -19,7 +19,7 @@ use Rattle.lock_row.specs.Totals.{locals_sum}
 use Rattle.page_steps.specs.Steps.{Terms, DiskHeld, Here, spot, plan}
 use Rattle.actor_steps.specs.declared.worker.Worker.{Worker}
 use Rattle.zr_core.specs.Machines.{Turns as Makes, rounds_of, AllFinished}
-use Rattle.zr_core.specs.States.{heres, AreKept, Playing, state_of, CanGoOn}
+use Rattle.zr_core.specs.States.{AreKept, Playing, state_of, CanGoOn}
 
 -- the turns of a schedule, one after the other
 abbrev pub turns_of : List Turns → List ℕ
