@@ -153,10 +153,6 @@ pub no_compaction : (ps : List Part) → compacting ps Start ≡ None
 no_compaction [] = refl
 no_compaction (p ∷ ps) = refl
 
-pub calm_start : (ps : List Part) → is_calm ps Start ≡ true
-calm_start [] = refl
-calm_start (p ∷ ps) = refl
-
 -- ---- pieces that are over
 
 pub tight_push : (t : Bool) (ds : List Done) (d : Done)
