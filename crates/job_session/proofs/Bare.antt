@@ -101,6 +101,7 @@ module _ (r : Rest) (none : r.size ≡ 0) (unused : IsUnused r)
       };
       so_far = refl;
     };
+    alone = λ ops es one ends. absurd (cc);
   }
 
   pub phase_without : (lines : List OutLine) → lines ≡ [] → IsPhase page_weight r [] lines r

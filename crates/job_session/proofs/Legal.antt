@@ -4,7 +4,7 @@ use Rattle.std.proofs.lemmas.Option.{get_or_from_slice_get}
 use Rattle.zr_base.specs.declared.limits.TheConstants.{MOST_PAGES, MOST_ACTORS}
 use Rattle.zr_base.specs.declared.op.Op.{Op}
 use Rattle.zr_base.specs.declared.op.Op.TheVariants.{Write, Read, Discard, Compact}
-use Rattle.zr_base.specs.Plain.{IsRequest, count_of}
+use Rattle.zr_base.specs.Plain.{IsRequest}
 use Rattle.mem_account.specs.Counters.{Counters, no_counts}
 use Rattle.mem_account.specs.Stat.{mm_stat_of, io_stat_of}
 use Rattle.plain_disk.specs.Output.{OutLine, memory, calls}
