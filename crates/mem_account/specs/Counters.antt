@@ -7,7 +7,8 @@ use Rattle.mem_account.specs.declared.weight.Weight.TheVariants.{Empty, Same, Pa
 use Rattle.mem_account.specs.declared.weight.Delta.{Delta}
 use Rattle.mem_account.specs.declared.weight.Delta.TheVariants.{Kept, FailedRead, FailedWrite, InvalidIo, NotifyFree, Compacted}
 
--- frames of 4096 bytes that are charged, their limit (0 is none) and their greatest number so far;
+-- frames of 4096 bytes that are charged, their limit (0 is none) and their greatest number since it
+-- was last lowered, or from the start;
 -- the disk's pages by the form that they are kept in; and what happened so far
 pub record Counters : Type 0 where
   pub pages : ℕ

@@ -3,6 +3,7 @@
 //! | Call | Frames charged | Pages by form | What happened |
 //! |---|---|---|---|
 //! | `charge`, `give_back` | up, or refused at the limit; down | | |
+//! | `lower_max` | | | the maximum is what is charged now |
 //! | `count` of `Kept` | | one page goes over | `huge_since`, where it is huge |
 //! | `count` of other news | | | its own count |
 
@@ -31,7 +32,7 @@ pub struct MmStat {
     pub used: u64,
     /// Bytes that may be charged; 0 is no limit.
     pub limit: u64,
-    /// The greatest `used` so far.
+    /// The greatest `used` since the maximum was last lowered, or from the start.
     pub max: u64,
     /// Pages kept as one repeated word.
     pub same: u64,
@@ -150,6 +151,13 @@ impl Account {
         ensures limit { self.new ≡ record self.old { limit = pages } }
     {
         self.limit = pages;
+    }
+
+    /// Makes the maximum what is charged now.
+    pub fn lower_max(&mut self)
+        ensures most { self.new ≡ record self.old { most = self.old.pages } }
+    {
+        self.most = self.pages;
     }
 
     /// Moves the statistics by a piece of news.

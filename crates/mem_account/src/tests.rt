@@ -107,3 +107,21 @@ fn limit_has_its_edge_where_it_is_reached(rt: HostRuntime) {
         );
     }
 }
+
+#[test]
+fn maximum_falls_to_what_is_charged(rt: HostRuntime) {
+    for (charged, given_back, most) in [(0, 0, 0), (3, 0, 12288), (3, 1, 8192), (3, 3, 0)] {
+        let mut account = Account::new();
+        account.charge(charged);
+        account.give_back(given_back);
+        assert_eq!(rt; account.mm_stat().max, 4096 * charged);
+        account.lower_max();
+        assert_eq!(rt;
+            account.mm_stat().max,
+            most,
+            "{given_back} of {charged} frames given back"
+        );
+        account.charge(1);
+        assert_eq!(rt; account.mm_stat().max, most + 4096);
+    }
+}
