@@ -4,7 +4,7 @@ use Rattle.zr_base.specs.declared.op.Op.{Op}
 use Rattle.zr_base.specs.Plain.{zero_sector}
 use Rattle.mem_account.specs.declared.weight.Weight.{Weight}
 use Rattle.plain_disk.specs.Output.{OutLine}
-use Rattle.plain_disk.specs.Rests.{nothing_yet, Settings, Rest, Report, report}
+use Rattle.plain_disk.specs.Rests.{nothing_yet, Settings, Rest, frames_of, Report, report}
 use Rattle.plain_disk.specs.Phases.{IsPhase}
 
 -- An item of a job, as the plain disk knows it.
@@ -13,6 +13,8 @@ pub data Item : Type 0 where
   disk : ℕ → Item
   -- at most so many frames from now on, or any number where it is 0
   limit_to : ℕ → Item
+  -- the greatest number of frames so far is from now on what the disk takes now
+  lower_most : Item
   -- the lines of a report
   asks : Report → Item
   -- the operations of the actors of a phase
@@ -47,12 +49,17 @@ pub record IsNew (r : Rest) (n : ℕ) (m : Rest) : Type 0 where
 abbrev pub sets : Rest → Settings → Rest
 sets r set = record r { set = set }
 
+-- the rest where the greatest number of frames so far is what its zspages take
+abbrev pub lowered : Rest → Rest
+lowered r = record r { most = frames_of r.set.chain r.used }
+
 -- The lines that an item may print between two rests. An attribute prints nothing, and a report
 -- prints its lines of the rest, and changes nothing.
 abbrev pub ItemIsLegal : (List ℕ → Weight) → Rest → Item → List OutLine → Rest → Type 0
 ItemIsLegal form r (disk n) lines m = (lines ≡ []) × IsNew r n m
 ItemIsLegal form r (limit_to n) lines m =
     (lines ≡ []) × (m ≡ sets r (record r.set { limit = n }))
+ItemIsLegal form r lower_most lines m = (lines ≡ []) × (m ≡ lowered r)
 ItemIsLegal form r (asks q) lines m = (lines ≡ report form r q) × (m ≡ r)
 ItemIsLegal form r (phase actors) lines m = IsPhase form r actors lines m
 

@@ -49,8 +49,8 @@ pub record Settings : Type 0 where
 
 -- A disk between two items of a job: its pages, none before its size is given; what each sector
 -- holds; which pages are blank; when each was touched; for each class, how many cells of each of
--- its zspages are used; the greatest number of frames so far; what is set; and what has happened so
--- far.
+-- its zspages are used; the greatest number of frames so far, since it was last lowered; what is set;
+-- and what has happened so far.
 pub record Rest : Type 0 where
   pub size : ℕ
   pub holds : ℕ → List ℕ
