@@ -1,6 +1,7 @@
 -- The rest that a phase leaves is the one with which the next begins.
-use Rattle.std.proofs.Common.{◌≡◌, ◌+◌, ◌*◌, ◌<◌, ◌∷◌, ◌∙◌, ℕ, zero, suc, List, [], length, Option, Some, None, slice_get, refl, sym, ap, subst, arith}
+use Rattle.std.proofs.Common.{◌≡◌, ◌+◌, ◌*◌, ◌<◌, ◌≤◌, ◌∷◌, ◌∙◌, ℕ, zero, suc, List, [], length, Option, Some, None, slice_get, refl, sym, ap, subst, arith}
 use Rattle.joint_rule.proofs.Pages.{content_join, join_same}
+use Rattle.joint_rule.proofs.Starts.{account_at, account_sum}
 use Rattle.joint_rule.specs.Begins.{AreCarried, Begin, content, form_at, form_by, found_after}
 use Rattle.joint_rule.specs.Joint.{AtHome, PoolFits}
 use Rattle.joint_rule.specs.Stages.{IsForm, IsSmall}
@@ -97,20 +98,32 @@ module _ (g h : Begin) where
   claims_same w j v u (renewed.slots e f is_v is_u r) = ap (claims g w j) is_v
       ∙ (λ i. claim_by w (sym r.kept i) (bytes_in (sym (same_form j e f r) i)))
       ∙ ap (claims h w j) (sym is_u)
-  claims_same w j v u (renewed.accounts c d is_v is_u e) = ap (claims g w j) is_v
+  claims_same w j v u (renewed.accounts c d is_v is_u e keeps) = ap (claims g w j) is_v
       ∙ ap (claims h w j) (sym is_u)
   claims_same w j v u (renewed.stays free e) = no_claims w j v free ∙ ap (claims h w j) (sym e)
 
   plain_same : (f : ℕ → DiskHeld → ℕ) → ((j : ℕ) (e d : EntryState) → d.kept ≡ e.kept
       → f j (holds.Slot e) ≡ f j (holds.Slot d))
-      → ((j : ℕ) (c : Counters) (limit : ℕ) → f j (holds.Account c)
-      ≡ f j (holds.Account (record c { limit = limit }))) → (j : ℕ) (v u : DiskHeld)
+      → ((j : ℕ) (c : Counters) (limit most : ℕ) → f j (holds.Account c)
+      ≡ f j (holds.Account (record c { limit = limit; most = most }))) → (j : ℕ) (v u : DiskHeld)
       → Renewed g h j v u → f j v ≡ f j u
   plain_same f each acc j v u (renewed.slots e d is_v is_u r) = ap (f j) is_v ∙ each j e d r.kept
       ∙ ap (f j) (sym is_u)
-  plain_same f each acc j v u (renewed.accounts c d is_v is_u e) = ap (f j) is_v ∙ acc j c d.limit
+  plain_same f each acc j v u (renewed.accounts c d is_v is_u e keeps) = ap (f j) is_v
+      ∙ acc j c d.limit d.most
       ∙ ap (λ (x : Counters). f j (holds.Account x)) (sym e) ∙ ap (f j) (sym is_u)
   plain_same f each acc j v u (renewed.stays free e) = ap (f j) (sym e)
+
+  -- an account whose maximum isn't below its frames stays one
+  most_keeps : (j : ℕ) (v : DiskHeld) (c d : Counters) → Renewed g h j v (holds.Account d)
+      → v ≡ holds.Account c → c.pages ≤ c.most → d.pages ≤ d.most
+  most_keeps j v c d (renewed.slots a b is_v is_u r) is le = absurd (cc)
+  most_keeps j v c d (renewed.accounts a b is_v is_u e keeps) is le =
+      let was : c ≡ a = cc in let now : d ≡ b = cc in
+      let least = keeps (subst (λ (x : Counters). x.pages ≤ x.most) was le) in
+      let same = ap (λ (x : Counters). x.pages) e in
+      subst (λ (x : Counters). x.pages ≤ x.most) (sym now) (omega arith)
+  most_keeps j v c d (renewed.stays free e) is le = absurd (subst IsOther is free)
 
   module _ (on_it : IsNextDisk g h) where
     other_home : (j : ℕ) (v : DiskHeld) → IsOther v → AtHome g j v → AtHome h j v
@@ -151,7 +164,7 @@ module _ (g h : Begin) where
     home_same : (j : ℕ) (v u : DiskHeld) → Renewed g h j v u → AtHome g j v → AtHome h j u
     home_same j v u (renewed.slots e d is_v is_u r) x =
         subst (AtHome h j) (sym is_u) (slot_home j e d r (subst (AtHome g j) is_v x))
-    home_same j v u (renewed.accounts c d is_v is_u e) x =
+    home_same j v u (renewed.accounts c d is_v is_u e keeps) x =
         subst (AtHome h j) (sym is_u) (record {
           sound =
               (let q = (subst (AtHome g j) is_v x).sound in let s = on_it.size in omega arith);
@@ -159,54 +172,80 @@ module _ (g h : Begin) where
         })
     home_same j v u (renewed.stays free e) x = subst (AtHome h j) (sym e) (other_home j v free x)
 
+    module _ (xs ys : List (Option DiskHeld)) (m : Matched (Renewed g h) xs ys) (a : AtRest g xs)
+      where
+        size_after : length ys ≡ h.given.size + 258
+        size_after = let x = match_length (Renewed g h) xs ys m in let y = a.size in
+            let s = on_it.size in omega arith
+
+        home_after : (k : ℕ) (u : DiskHeld) → slice_get ys k ≡ Some (Some u) → AtHome h k u
+        home_after k u e = let r = match_at (Renewed g h) xs ys m k u e in
+            home_same k r.0 u r.2 (a.home k r.0 r.1)
+
+        -- the account before, and the one after
+        most_after : row_sum pages ys ≤ row_sum mosts ys
+        most_after =
+            let whole = match_size (Renewed g h) xs ys m in
+            let c = account_at g xs a.size a.whole a.home in
+            let d = account_at h ys size_after whole home_after in
+            let r = match_at (Renewed g h) xs ys m (h.given.size + 255) (holds.Account d.0) d.1 in
+            let there : slice_get xs (g.given.size + 255) ≡ Some (Some r.0) =
+            ap (λ (n : ℕ). slice_get xs (n + 255)) (sym on_it.size) ∙ r.1 in
+            let was = c.1 in
+            let is : r.0 ≡ holds.Account c.0 = cc in
+            let p = account_sum g xs a.size a.whole a.home (λ x. x.pages) in
+            let q = account_sum g xs a.size a.whole a.home (λ x. x.most) in
+            let s = account_sum h ys size_after whole home_after (λ x. x.pages) in
+            let t = account_sum h ys size_after whole home_after (λ x. x.most) in
+            let before = a.most in
+            let le = most_keeps (h.given.size + 255) r.0 c.0 d.0 r.2 is (omega arith) in
+            omega arith
+
     pub rest_goes_on : (xs ys : List (Option DiskHeld)) → Matched (Renewed g h) xs ys → AtRest g xs
         → AtRest h ys
     rest_goes_on xs ys m a =
         let same : (f : ℕ → DiskHeld → ℕ) → ((j : ℕ) (e d : EntryState) → d.kept ≡ e.kept
-        → f j (holds.Slot e) ≡ f j (holds.Slot d)) → ((j : ℕ) (c : Counters) (limit : ℕ)
-        → f j (holds.Account c) ≡ f j (holds.Account (record c { limit = limit })))
+        → f j (holds.Slot e) ≡ f j (holds.Slot d)) → ((j : ℕ) (c : Counters) (limit most : ℕ)
+        → f j (holds.Account c) ≡ f j (holds.Account (record c { limit = limit; most = most })))
         → row_sum f xs ≡ row_sum f ys = λ f e c. row_match (Renewed g h) f f
         (plain_same f e c) xs ys m in
         record {
-          size = (let x = match_length (Renewed g h) xs ys m in let y = a.size in
-              let s = on_it.size in omega arith);
+          size = size_after xs ys m a;
           whole = match_size (Renewed g h) xs ys m;
-          home = λ k u e. let r = match_at (Renewed g h) xs ys m k u e in
-              home_same k r.0 u r.2 (a.home k r.0 r.1);
+          home = home_after xs ys m a;
           owners = λ f. let x = row_match (Renewed g h) (claims g f) (claims h f)
               (claims_same f) xs ys m in let y = same (stored f) (λ j e d r. refl)
-              (λ j c n. refl) in let z = a.owners f in omega arith;
-          pins = λ f. let x = same (outs f) (λ j e d r. refl) (λ j c n. refl) in let z = a.pins f in
+              (λ j c n t. refl) in let z = a.owners f in omega arith;
+          pins = λ f. let x = same (outs f) (λ j e d r. refl) (λ j c n t. refl) in let z = a.pins f in
               omega arith;
-          frames = let x = same pages (λ j e d r. refl) (λ j c n. refl) in
-              let y = same chains (λ j e d r. refl) (λ j c n. refl) in let z = a.frames in
+          frames = let x = same pages (λ j e d r. refl) (λ j c n t. refl) in
+              let y = same chains (λ j e d r. refl) (λ j c n t. refl) in let z = a.frames in
               omega arith;
-          counts = λ q. let x = same (counters q) (λ j e d r. refl) (λ j c n. any_limit q c n) in
+          counts = λ q. let x = same (counters q) (λ j e d r. refl) (λ j c n t. any_limit q c n t) in
               let y = same (shown q) (λ j e d r. ap (λ (k : Kept). measure q (weight_of k)) (sym r))
-              (λ j c n. refl) in let z = a.counts q in omega arith;
-          most = let x = same pages (λ j e d r. refl) (λ j c n. refl) in
-              let y = same mosts (λ j e d r. refl) (λ j c n. refl) in let z = a.most in omega arith;
+              (λ j c n t. refl) in let z = a.counts q in omega arith;
+          most = most_after xs ys m a;
           refusals = λ q. let x = same (refusal_counter q) (λ j e d r. refl)
-              (λ j c n. any_refusals q c n) in let z = a.refusals q in omega arith;
-          compacted = let x = same compactions (λ j e d r. refl) (λ j c n. refl) in
+              (λ j c n t. any_refusals q c n t) in let z = a.refusals q in omega arith;
+          compacted = let x = same compactions (λ j e d r. refl) (λ j c n t. refl) in
               let z = a.compacted in omega arith;
-          news = λ q. let x = same (news_counter q) (λ j e d r. refl) (λ j c n. any_news q c n) in
+          news = λ q. let x = same (news_counter q) (λ j e d r. refl) (λ j c n t. any_news q c n t) in
               let z = a.news q in omega arith;
         } where
-          any_limit : (q : Count) (c : Counters) (n : ℕ)
-              → counter q c ≡ counter q (record c { limit = n })
-          any_limit Sames c n = refl
-          any_limit Packs c n = refl
-          any_limit PackedBytes c n = refl
-          any_limit Huges c n = refl
-          any_limit Backs c n = refl
+          any_limit : (q : Count) (c : Counters) (n t : ℕ)
+              → counter q c ≡ counter q (record c { limit = n; most = t })
+          any_limit Sames c n t = refl
+          any_limit Packs c n t = refl
+          any_limit PackedBytes c n t = refl
+          any_limit Huges c n t = refl
+          any_limit Backs c n t = refl
 
-          any_refusals : (q : Refusal) (c : Counters) (n : ℕ)
-              → refusal_count q c ≡ refusal_count q (record c { limit = n })
-          any_refusals FailedWrites c n = refl
-          any_refusals OutOfRange c n = refl
+          any_refusals : (q : Refusal) (c : Counters) (n t : ℕ)
+              → refusal_count q c ≡ refusal_count q (record c { limit = n; most = t })
+          any_refusals FailedWrites c n t = refl
+          any_refusals OutOfRange c n t = refl
 
-          any_news : (q : News) (c : Counters) (n : ℕ) → news_count q c
-              ≡ news_count q (record c { limit = n })
-          any_news HugeWrites c n = refl
-          any_news FreedPages c n = refl
+          any_news : (q : News) (c : Counters) (n t : ℕ) → news_count q c
+              ≡ news_count q (record c { limit = n; most = t })
+          any_news HugeWrites c n t = refl
+          any_news FreedPages c n t = refl

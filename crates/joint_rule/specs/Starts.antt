@@ -84,12 +84,14 @@ IsOther (holds.Account c) = ⊥
 IsOther (holds.Blocks x) = Unit {0}
 IsOther (holds.Device x) = Unit {0}
 
--- What lies between two phases does this to a value: orders are emptied, and the limit may change.
+-- What lies between two phases does this to a value: orders are emptied, and the account's limit and
+-- its maximum may change, where this stays at its frames or above.
 pub data Renewed (g h : Begin) (j : ℕ) (v u : DiskHeld) : Type 0 where
   slots : (e f : EntryState) → v ≡ holds.Slot e → u ≡ holds.Slot f → IsRenewed g h j e f
       → Renewed g h j v u
   accounts : (c d : Counters) → v ≡ holds.Account c → u ≡ holds.Account d
-      → d ≡ record c { limit = d.limit } → Renewed g h j v u
+      → d ≡ record c { limit = d.limit; most = d.most } → (c.pages ≤ c.most → c.pages ≤ d.most)
+      → Renewed g h j v u
   stays : IsOther v → u ≡ v → Renewed g h j v u
 
 -- the values of two rows, place by place
