@@ -114,7 +114,7 @@ module _ (laws : Ending) (r : Rest) (actors : List (List Op)) (w : State DiskHel
       (record { kept = e.kept; order = []; room = 0; touched = e.touched }) proper rule finished at
       refl refl refl)
   renewed k (holds.Class x) at = stays tt refl
-  renewed k (holds.Account x) at = accounts x x refl refl refl
+  renewed k (holds.Account x) at = accounts x x refl refl refl (λ le. le)
   renewed k (holds.Blocks x) at = stays tt refl
   renewed k (holds.Device x) at = stays tt refl
 

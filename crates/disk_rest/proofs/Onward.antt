@@ -1,11 +1,11 @@
--- A row that stands for a rest, and what may follow: a phase, or another limit.
-use Rattle.std.proofs.Common.{◌≡◌, ◌≢◌, ℕ, ◌+◌, ◌<◌, List, [], length, Some, None, slice_get, slice_set, get_or-set_same, get_or-set_other, length-set, refl, sym, ap, ◌∙◌, subst, arith, inl, inr}
+-- A row that stands for a rest, and what may follow: a phase, another limit, or a lower maximum.
+use Rattle.std.proofs.Common.{◌≡◌, ◌≢◌, ℕ, ◌+◌, ◌<◌, ◌≤◌, List, [], length, Some, None, slice_get, slice_set, get_or-set_same, get_or-set_other, length-set, refl, sym, ap, ◌∙◌, subst, arith, inl, inr}
 use Rattle.std.proofs.lemmas.Bool.{cases_eq}
 use Rattle.std.proofs.lemmas.Option.{slice_get_within}
 use Rattle.zr_base.specs.declared.op.Op.{Op}
 use Rattle.mem_account.specs.Counters.{Counters}
-use Rattle.plain_disk.specs.Rests.{Rest, stats}
-use Rattle.plain_disk.specs.Legal.{sets}
+use Rattle.plain_disk.specs.Rests.{Rest, frames_of, stats}
+use Rattle.plain_disk.specs.Legal.{sets, lowered}
 use Rattle.lock_row.specs.declared.names.Held.TheVariants as holds
 use Rattle.lock_row.specs.declared.names.State.{State}
 use Rattle.slot_entry.specs.Entries.{EntryState}
@@ -23,9 +23,9 @@ use Rattle.disk_rest.proofs.Tight.{no_pool_loose}
 use Rattle.disk_rest.proofs.Matches.{matched, value_there, was_at, was_slot, emptied_long, emptied_at}
 use Rattle.disk_rest.proofs.Reports.{pool_tells, account_tells}
 
--- the rest at another limit
-abbrev at_limit : Rest → ℕ → Rest
-at_limit r n = sets r (record r.set { limit = n })
+-- the rest at another limit and another greatest number of frames
+abbrev changed : Rest → ℕ → ℕ → Rest
+changed r n most = record r { most = most; set = record r.set { limit = n } }
 
 -- ---- values that are kept
 
@@ -58,12 +58,12 @@ no_calls u f e = (was_slot u f (sym e)).order
 
 -- ---- rows that go on from one that stands for a rest
 
-module _ (r : Rest) (n : ℕ) (actors : List (List Op)) where
+module _ (r : Rest) (n most : ℕ) (actors : List (List Op)) where
   abbrev g : Begin
   g = begin_at r []
 
   abbrev h : Begin
-  h = begin_at (at_limit r n) actors
+  h = begin_at (changed r n most) actors
 
   -- a value that is kept, with an empty order, is one with which the next phase begins
   renews : (k : ℕ) (v u : DiskHeld) → IsKept v u → NoCalls u → AtHome g k (without_calls v)
@@ -79,7 +79,7 @@ module _ (r : Rest) (n : ℕ) (actors : List (List Op)) where
         before = λ j lt. refl;
       })
   renews k (holds.Class x) u is none home = stays tt is
-  renews k (holds.Account x) u is none home = accounts x x refl is refl
+  renews k (holds.Account x) u is none home = accounts x x refl is refl (λ le. le)
   renews k (holds.Blocks x) u is none home = stays tt is
   renews k (holds.Device x) u is none home = stays tt is
 
@@ -113,11 +113,11 @@ used_still r row ys st keeps k lt =
 module _ (r : Rest) (actors : List (List Op)) (row : Row) (w : State DiskHeld)
     (next : RestGoesOn) (st : StandsFor r row) (up : IsSetUp r actors row w) where
   next_rest : AtRest (begin_at r actors) w.row
-  next_rest = goes_on r r.set.limit actors row w.row next st.rest up.row.size
+  next_rest = goes_on r r.set.limit r.most actors row w.row next st.rest up.row.size
       (λ k v at home. let u = up.row.each k v at in (
         u.0,
         u.1,
-        renews r r.set.limit actors k v u.0 u.2
+        renews r r.set.limit r.most actors k v u.0 u.2
             (λ f e. (up.orders k f (u.1 ∙ ap (λ (x : DiskHeld). Some (Some x)) e)).0) home,
       ))
 
@@ -157,54 +157,64 @@ module _ (r : Rest) (row ys : Row) (next : RestGoesOn) (st : StandsFor r row)
   pub stands_still : StandsFor r ys
   stands_still = record {
     plain = st.plain;
-    rest = goes_on r r.set.limit [] row (without_orders ys) next st.rest
+    rest = goes_on r r.set.limit r.most [] row (without_orders ys) next st.rest
         (emptied_long ys ∙ keeps.size)
         (λ k v at home. let u = keeps.each k v at in (
           without_calls u.0,
           emptied_at ys k u.0 u.1,
-          renews r r.set.limit [] k v (without_calls u.0) (kept_still v u.0 u.2) (no_calls u.0) home,
+          renews r r.set.limit r.most [] k v (without_calls u.0) (kept_still v u.0 u.2)
+              (no_calls u.0) home,
         ));
     used = used_still r row ys st keeps;
     account = account_still;
   }
 
--- ---- another limit
+-- ---- another limit, or a lower maximum
 
-module _ (r : Rest) (row : Row) (n : ℕ) (c : Counters) (next : RestGoesOn) (st : StandsFor r row)
-    (at : slice_get row (r.size + 255) ≡ Some (Some (holds.Account c))) where
-  -- the account with the limit
-  abbrev limited : Counters
-  limited = record c { limit = n }
+no_less : (n : ℕ) → n ≤ n
+no_less n = omega arith
+
+module _ (r : Rest) (row : Row) (n most : ℕ) (next : RestGoesOn) (st : StandsFor r row)
+    (keeps : frames_of r.set.chain r.used ≤ r.most → frames_of r.set.chain r.used ≤ most) where
+  abbrev was : Counters
+  was = stats page_weight r
+
+  -- the account that is changed
+  abbrev now : Counters
+  now = record was { limit = n; most = most }
 
   abbrev ys : Row
-  ys = slice_set row (r.size + 255) (Some (holds.Account limited))
+  ys = slice_set row (r.size + 255) (Some (holds.Account now))
 
-  at_account : slice_get ys (r.size + 255) ≡ Some (Some (holds.Account limited))
-  at_account = value_there ys (r.size + 255) (holds.Account limited)
-      (get_or-set_same row (r.size + 255) (Some (holds.Account limited)) None
-      (slice_get_within row (r.size + 255) (Some (holds.Account c)) at))
+  at : slice_get row (r.size + 255) ≡ Some (Some (holds.Account was))
+  at = account_tells r row st
+
+  at_account : slice_get ys (r.size + 255) ≡ Some (Some (holds.Account now))
+  at_account = value_there ys (r.size + 255) (holds.Account now)
+      (get_or-set_same row (r.size + 255) (Some (holds.Account now)) None
+      (slice_get_within row (r.size + 255) (Some (holds.Account was)) at))
 
   value_else : (k : ℕ) → k ≢ r.size + 255 → value_at ys k ≡ value_at row k
-  value_else k ne = get_or-set_other row (r.size + 255) k (Some (holds.Account limited)) None ne
+  value_else k ne = get_or-set_other row (r.size + 255) k (Some (holds.Account now)) None ne
 
-  limit_each : (k : ℕ) (v : DiskHeld) → slice_get row k ≡ Some (Some v)
+  change_each : (k : ℕ) (v : DiskHeld) → slice_get row k ≡ Some (Some v)
       → AtHome (begin_at r []) k (without_calls v)
       → (u : DiskHeld) × (slice_get (without_orders ys) k ≡ Some (Some u))
-      × Renewed (begin_at r []) (begin_at (at_limit r n) []) k (without_calls v) u
-  limit_each k v e home = elim (cases_eq k (r.size + 255)) [
+      × Renewed (begin_at r []) (begin_at (changed r n most) []) k (without_calls v) u
+  change_each k v e home = elim (cases_eq k (r.size + 255)) [
     | inl here ↦
-        let there : slice_get row k ≡ Some (Some (holds.Account c)) =
+        let there : slice_get row k ≡ Some (Some (holds.Account was)) =
         ap (slice_get row) here ∙ at in
-        let is : v ≡ holds.Account c = cc in (
-          holds.Account limited,
-          emptied_at ys k (holds.Account limited) (ap (slice_get ys) here ∙ at_account),
-          accounts c limited (ap without_calls is) refl refl,
+        let is : v ≡ holds.Account was = cc in (
+          holds.Account now,
+          emptied_at ys k (holds.Account now) (ap (slice_get ys) here ∙ at_account),
+          accounts was now (ap without_calls is) refl refl keeps,
         )
     | inr else ↦ (
       without_calls v,
       emptied_at ys k v
           (value_there ys k v (value_else k else ∙ value_is row k v e)),
-      renews r n [] k v (without_calls v)
+      renews r n most [] k v (without_calls v)
           (kept_still v v (self_kept v)) (no_calls v) home,
     )
   ]
@@ -214,22 +224,38 @@ module _ (r : Rest) (row : Row) (n : ℕ) (c : Counters) (next : RestGoesOn) (st
       ap used_in (value_else (r.size + k) (λ e. let none : ⊥ = omega arith in none))
       ∙ st.used k lt
 
-  account_same : account_of r.size ys ≡ stats page_weight (at_limit r n)
-  account_same = ap account_in (value_is ys (r.size + 255) (holds.Account limited) at_account)
-      ∙ ap (λ (k : Counters). record k { limit = n })
-      (sym (ap account_in (value_is row (r.size + 255) (holds.Account c) at)) ∙ st.account)
-
-  pub limit_stands : StandsFor (at_limit r n) ys
-  limit_stands = record {
+  change_stands : StandsFor (changed r n most) ys
+  change_stands = record {
     plain = record {
       sectors = st.plain.sectors;
       blanks = st.plain.blanks;
       least = st.plain.least;
       most = st.plain.most;
     };
-    rest = goes_on r n [] row (without_orders ys) next st.rest
-        (emptied_long ys ∙ length-set row (r.size + 255) (Some (holds.Account limited)))
-        limit_each;
+    rest = goes_on r n most [] row (without_orders ys) next st.rest
+        (emptied_long ys ∙ length-set row (r.size + 255) (Some (holds.Account now)))
+        change_each;
     used = used_same;
-    account = account_same;
+    account = ap account_in (value_is ys (r.size + 255) (holds.Account now) at_account);
   }
+
+module _ (r : Rest) (row : Row) (c : Counters) (next : RestGoesOn) (st : StandsFor r row)
+    (at : slice_get row (r.size + 255) ≡ Some (Some (holds.Account c))) where
+  -- the row with what is made of its account
+  abbrev with_account : (Counters → Counters) → Counters → Row
+  with_account f x = slice_set row (r.size + 255) (Some (holds.Account (f x)))
+
+  account_known : stats page_weight r ≡ c
+  account_known = let there = account_tells r row st in cc
+
+  pub limit_stands : (n : ℕ) → StandsFor (sets r (record r.set { limit = n }))
+      (with_account (λ x. record x { limit = n }) c)
+  limit_stands n = subst (λ (x : Counters). StandsFor (sets r (record r.set { limit = n }))
+      (with_account (λ y. record y { limit = n }) x)) account_known
+      (change_stands r row n r.most next st (λ le. le))
+
+  pub max_stands : StandsFor (lowered r) (with_account (λ x. record x { most = x.pages }) c)
+  max_stands = subst (λ (x : Counters). StandsFor (lowered r)
+      (with_account (λ y. record y { most = y.pages }) x)) account_known
+      (change_stands r row r.set.limit (frames_of r.set.chain r.used) next st
+      (λ le. no_less (frames_of r.set.chain r.used)))

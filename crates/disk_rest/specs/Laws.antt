@@ -10,7 +10,7 @@ use Rattle.class_pool.specs.Pool.{PoolState, objects, is_in_group}
 use Rattle.plain_disk.specs.Output.{phase_lines}
 use Rattle.plain_disk.specs.Rests.{Rest, kept_at, stats, Report, states, classes, report}
 use Rattle.plain_disk.specs.Phases.{IsPhase}
-use Rattle.plain_disk.specs.Legal.{IsNew, IsUnused, sets}
+use Rattle.plain_disk.specs.Legal.{IsNew, IsUnused, sets, lowered}
 use Rattle.call_history.specs.Histories.{HasSomeEach, ends_each, told_each}
 use Rattle.lock_row.specs.declared.names.Held.TheVariants as holds
 use Rattle.lock_row.specs.declared.names.State.{State}
@@ -113,3 +113,11 @@ SetsLimit = (r : Rest) (row : Row) (n : ℕ) (c : Counters) → StandsFor r row
     → slice_get row (r.size + 255) ≡ Some (Some (holds.Account c))
     → StandsFor (sets r (record r.set { limit = n }))
     (slice_set row (r.size + 255) (Some (holds.Account (record c { limit = n }))))
+
+-- where the account's maximum is lowered to its frames, the row stands for the rest whose greatest
+-- number of frames is lowered
+abbrev pub LowersMax : Type 0
+LowersMax = (r : Rest) (row : Row) (c : Counters) → StandsFor r row
+    → slice_get row (r.size + 255) ≡ Some (Some (holds.Account c))
+    → StandsFor (lowered r)
+    (slice_set row (r.size + 255) (Some (holds.Account (record c { most = c.pages }))))
