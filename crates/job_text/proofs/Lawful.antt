@@ -17,7 +17,7 @@ use Rattle.job_text.specs.declared.fault.Cause.TheVariants as causes
 use Rattle.job_text.specs.declared.fault.NotTaken.{NotTaken}
 use Rattle.job_text.specs.declared.line.Line.{Line}
 use Rattle.job_text.specs.Numbers.{digit_value, byte_at, is_number, size_pages, number_of, are_digits, bytes_by, turn_of}
-use Rattle.job_text.specs.Lines.{Form, blank_form, disk_form, limit_form, report_form, actor_form, fill_form, seq_form, hex_form, read_form, discard_form, compact_form, schedule_form, run_form, alone, with_word, report_named, report_in, read_in, discard_in, fill_in, seq_in, hex_in, stuff_in, write_in, schedule_in, named_in, form_of, fill_sectors, is_malformed, meaning, are_bounds, may_give, has_bad_value, line_with, line_of}
+use Rattle.job_text.specs.Lines.{Form, blank_form, disk_form, limit_form, max_form, report_form, actor_form, fill_form, seq_form, hex_form, read_form, discard_form, compact_form, schedule_form, run_form, alone, with_word, report_named, report_in, read_in, discard_in, fill_in, seq_in, hex_in, stuff_in, write_in, schedule_in, named_in, form_of, fill_sectors, is_malformed, meaning, are_bounds, may_give, is_out_of_range, line_with, line_of}
 use Rattle.job_text.specs.Jobs.{MayTurn}
 use Rattle.job_text.specs.Answers.{Answers, IsInRange}
 
@@ -31,6 +31,7 @@ abbrev HasWords : Form → Type 0
 HasWords blank_form = Unit {0}
 HasWords (disk_form size) = Unit {0}
 HasWords (limit_form size) = Unit {0}
+HasWords (max_form number) = Unit {0}
 HasWords (report_form report) = Unit {0}
 HasWords actor_form = Unit {0}
 HasWords (fill_form start count word) = Unit {0}
@@ -96,8 +97,7 @@ bytes_by-small digits are k = elim (cases_lt k (length digits / 2)) [
 ]
 
 form-lawful : (form : Form) → HasWords form → is_malformed form ≡ false
-    → has_bad_value (meaning form) ≡ false
-    → IsInRange (meaning form)
+    → is_out_of_range form ≡ false → IsInRange (meaning form)
 unfolding is_malformed meaning
 form-lawful blank_form has well good = tt
 form-lawful (disk_form size) has well good = sized (size_pages size) good
@@ -111,6 +111,7 @@ form-lawful (disk_form size) has well good = sized (size_pages size) good
     )
 form-lawful (limit_form size) has well good =
     leb-true (size_pages size) MOST_LIMIT_PAGES (not-false _ good)
+form-lawful (max_form number) has well good = tt
 form-lawful (report_form report) has well good = tt
 form-lawful actor_form has well good = tt
 form-lawful (fill_form start count word) has well good =
@@ -209,6 +210,7 @@ form-words [] = tt
 form-words (name ∷ words) =
     when (bytes_eq name (codes "disksize")) _ _ (one-word disk_form words (λ size. tt))
     (when (bytes_eq name (codes "mem_limit")) _ _ (one-word limit_form words (λ size. tt))
+    (when (bytes_eq name (codes "mem_used_max")) _ _ (one-word max_form words (λ number. tt))
     (when (bytes_eq name (codes "actor")) _ _ (alone-words actor_form words tt)
     (when (bytes_eq name (codes "write")) _ _ (write-words words)
     (when (bytes_eq name (codes "read")) _ _ (read-words words)
@@ -216,10 +218,10 @@ form-words (name ∷ words) =
     (when (bytes_eq name (codes "compact")) _ _ (alone-words compact_form words tt)
     (when (bytes_eq name (codes "schedule")) _ _ (schedule-words words)
     (when (bytes_eq name (codes "run")) _ _ (alone-words run_form words tt)
-    (report-words (report_named name) words)))))))))
+    (report-words (report_named name) words))))))))))
 
 line-lawful-by : (form : Form) → HasWords form → (m b : Bool) → is_malformed form ≡ m
-    → has_bad_value (meaning form) ≡ b
+    → is_out_of_range form ≡ b
     → IfRead IsInRange (cond m (Err causes.Number) (cond b (Err causes.Range) (Ok (meaning form))))
 line-lawful-by form has true b well good = tt
 line-lawful-by form has false true well good = tt
@@ -231,7 +233,7 @@ line-lawful words = by (form_of words) (form-words words)
     by : (form : Option Form) → IfForm form → IfRead IsInRange (line_with form)
     by None has = tt
     by (Some form) has = line-lawful-by form has (is_malformed form)
-        (has_bad_value (meaning form)) refl refl
+        (is_out_of_range form) refl refl
 
 -- what a call that answers for words gives
 pub answered-lawful : (words : List (List ℕ)) (result : Result Line NotTaken)

@@ -1,5 +1,5 @@
 -- What a line does to the items that are read, by its cause.
-use Rattle.std.proofs.Common.{◌≡◌, ℕ, ◌+◌, ◌<◌, ◌≤◌, Bool, true, false, not, ◌&&◌, nat_lt, nat_le, cond, List, [], ◌∷◌, ◌++◌, length, map, Option, Some, None, option_map, option_and_then, Result, Ok, Err, refl, sym, ap, ◌∙◌, append_assoc, arith}
+use Rattle.std.proofs.Common.{◌≡◌, ℕ, ◌+◌, ◌<◌, ◌≤◌, Bool, true, false, not, ◌&&◌, nat_lt, nat_le, cond, List, [], ◌∷◌, ◌++◌, length, map, Option, Some, None, option_map, option_and_then, Result, Ok, Err, refl, sym, ap, ◌∙◌, subst, append_assoc, arith}
 use Rattle.std.specs.List.{list_all}
 use Rattle.std.proofs.lemmas.List.{append-nil, length_push, length-append}
 use Rattle.std.proofs.lemmas.Bool.{leb-true, leb-false, lt-leb, le-leb, ne_eqb}
@@ -15,11 +15,11 @@ use Rattle.job_text.specs.declared.line.Line.{Line}
 use Rattle.job_text.specs.declared.line.Line.TheVariants.{Blank, Attribute, Tell, Actor, Operation, Schedule, Run}
 use Rattle.job_text.specs.declared.begun.Begun.{Begun}
 use Rattle.job_text.specs.declared.reading.Reading.{Reading}
-use Rattle.job_text.specs.Lines.{Form, words_of, form_of, is_malformed, meaning, has_bad_value, line_with, line_of}
+use Rattle.job_text.specs.Lines.{Form, words_of, form_of, is_malformed, meaning, is_out_of_range, line_with, line_of}
 use Rattle.job_text.specs.Jobs.{Saying, says_turns, said_by, said_before, sayings, Used, is_second_size, with_attr, with_phase, turns_in, with_turns, has_phase_left, has_left_for, has_turns_left}
 use Rattle.job_text.specs.Faults.{Phase, said_in, cause_in, cause_of, used_with, phase_with, fault_at, first_fault_from}
 use Rattle.job_text.specs.Answers.{IsInRange}
-use Rattle.job_text.specs.Reading.{used_by, is_scheduled, phase_at, phase_of, all_actors, text_of, with_schedule, place_cause, begun_with, items_by, IsNext, items_from, items_with, items_after}
+use Rattle.job_text.specs.Reading.{used_by, is_scheduled, phase_at, phase_of, all_actors, text_of, with_schedule, place_cause, begun_with, items_by, IsNext, items_from, items_with, items_after, fault_after}
 use Rattle.job_text.proofs.Lawful.{IfRead, line-lawful}
 
 -- what stands after a line that has no cause
@@ -238,7 +238,7 @@ causes_agree : (u : Used) (phase : Option Phase) (words : List (List ℕ))
 causes_agree u phase words = by (form_of words) refl
   where
     tests : (form : Form) → form_of words ≡ Some form → (m b : Bool) → is_malformed form ≡ m
-        → has_bad_value (meaning form) ≡ b
+        → is_out_of_range form ≡ b
         → HasCause u phase words
         (cond m (Err causes.Number) (cond b (Err causes.Range) (Ok (meaning form))))
     tests form is true b well good = ap (cause_in u phase) is ∙ rw well refl
@@ -248,7 +248,7 @@ causes_agree u phase words = by (form_of words) refl
 
     by : (form : Option Form) → form_of words ≡ form → HasCause u phase words (line_with form)
     by None is = ap (cause_in u phase) is
-    by (Some form) is = tests form is (is_malformed form) (has_bad_value (meaning form)) refl refl
+    by (Some form) is = tests form is (is_malformed form) (is_out_of_range form) refl refl
 
 -- ---- a text with a fault gives no items
 
@@ -341,3 +341,18 @@ module _ (r next : Reading) (number : ℕ) (text : List ℕ) (line : Line) where
           (items_from (used_with (used_by r) phase line) b more)) (sym taken.3)
           ∙ ap (λ u. option_map (λ later. next.items ++ later) (items_from u next.begun more))
           (sym taken.1)
+
+  pub faultless : line_of (words_of text) ≡ Ok line → IsNext r number line next
+      → (rest : List (List ℕ))
+      → fault_after r number (text ∷ rest) ≡ fault_after next (number + 1) rest
+  faultless said taken rest =
+      let u = used_by r in
+      let phase = phase_of r in
+      let has = subst (HasCause u phase (words_of text)) said
+      (causes_agree u phase (words_of text)) in
+      let after : Line → Option JobFault =
+      λ l. first_fault_from (used_with u phase l) (phase_with number phase l) (number + 1) rest in
+      fault_step u phase number text rest
+      ∙ ap (λ c. fault_at number c (after (said_in (form_of (words_of text))))) (has.0 ∙ taken.0)
+      ∙ ap after has.1
+      ∙ (λ i. first_fault_from (sym taken.1 i) (sym taken.2 i) (number + 1) rest)

@@ -8,7 +8,7 @@ use Rattle.job_text.specs.declared.fault.Cause.TheVariants as causes
 use Rattle.job_text.specs.declared.fault.JobFault.{JobFault}
 use Rattle.job_text.specs.declared.line.Line.{Line}
 use Rattle.job_text.specs.declared.line.Line.TheVariants.{Blank, Attribute, Tell, Actor, Operation, Schedule, Run}
-use Rattle.job_text.specs.Lines.{Form, words_of, form_of, is_malformed, meaning, has_bad_value}
+use Rattle.job_text.specs.Lines.{Form, words_of, form_of, is_malformed, meaning, is_out_of_range}
 use Rattle.job_text.specs.Jobs.{Used, nothing_used, is_second_size, with_attr, with_phase, with_op, with_turns, has_phase_left, has_left_for, has_turns_left, text_lines}
 
 -- A phase that has begun: the line of its first `actor`, its actors so far, and whether it has a
@@ -83,7 +83,7 @@ abbrev pub cause_in : Used → Option Phase → Option Form → Option Cause
 cause_in u phase None = Some causes.Word
 cause_in u phase (Some form) =
     if is_malformed form then Some causes.Number
-    else if has_bad_value (meaning form) || names_no_actor phase (meaning form)
+    else if is_out_of_range form || names_no_actor phase (meaning form)
     then Some causes.Range
     else if is_misplaced u phase (meaning form) then Some causes.Order
     else if lacks_disk u (meaning form) then Some causes.NoDisk

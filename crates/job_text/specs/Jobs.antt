@@ -10,7 +10,7 @@ use Rattle.zr_base.specs.declared.limits.TheConstants.{MOST_PAGES, MOST_ACTORS, 
 use Rattle.job_text.specs.declared.limits.TheConstants.{MOST_BYTES, MOST_LIMIT_PAGES, MOST_PHASES, MOST_PIECES, MOST_SECTORS_READ, MOST_TURNS}
 use Rattle.job_text.specs.declared.fault.Cause.{Cause}
 use Rattle.job_text.specs.declared.job.Attr.{Attr}
-use Rattle.job_text.specs.declared.job.Attr.TheVariants.{DiskPages, LimitPages}
+use Rattle.job_text.specs.declared.job.Attr.TheVariants.{DiskPages, LimitPages, LowerMax}
 use Rattle.job_text.specs.declared.job.Report.{Report}
 use Rattle.job_text.specs.declared.job.Item.{Item}
 use Rattle.job_text.specs.declared.job.Item.TheVariants as items
@@ -104,6 +104,7 @@ turns_in (turns ∷ more) = turns.times + turns_in more
 abbrev pub is_disk_size : Attr → Bool
 is_disk_size (DiskPages pages) = true
 is_disk_size (LimitPages pages) = false
+is_disk_size LowerMax = false
 
 -- after an attribute
 abbrev pub with_attr : Used → Attr → Used
@@ -160,6 +161,7 @@ is_second_size u attr = is_disk_size attr && u.disk
 abbrev pub MaySet : Attr → Type 0
 MaySet (DiskPages pages) = (1 ≤ pages) × (pages ≤ MOST_PAGES)
 MaySet (LimitPages pages) = pages ≤ MOST_LIMIT_PAGES
+MaySet LowerMax = ⊤
 
 -- operations after those that were counted
 abbrev pub MayOperate : Used → List Op → Type 0

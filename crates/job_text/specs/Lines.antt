@@ -9,7 +9,7 @@ use Rattle.zr_base.specs.declared.op.Turns.{Turns}
 use Rattle.zr_base.specs.declared.limits.TheConstants.{MOST_PAGES, MOST_SECTORS, MOST_ACTORS}
 use Rattle.job_text.specs.declared.limits.TheConstants.{MOST_LIMIT_PAGES, MOST_TURNS}
 use Rattle.job_text.specs.declared.job.Attr.{Attr}
-use Rattle.job_text.specs.declared.job.Attr.TheVariants.{DiskPages, LimitPages}
+use Rattle.job_text.specs.declared.job.Attr.TheVariants.{DiskPages, LimitPages, LowerMax}
 use Rattle.job_text.specs.declared.job.Report.{Report}
 use Rattle.job_text.specs.declared.job.Report.TheVariants.{MmStat, IoStat, States, Classes}
 use Rattle.job_text.specs.declared.line.Line.{Line}
@@ -46,6 +46,7 @@ pub data Form : Type 0 where
   blank_form : Form
   disk_form : (size : List ℕ) → Form
   limit_form : (size : List ℕ) → Form
+  max_form : (number : List ℕ) → Form
   report_form : Report → Form
   actor_form : Form
   fill_form : (start count word : List ℕ) → Form
@@ -129,6 +130,7 @@ unfoldable pub named_in : List ℕ → List (List ℕ) → Option Form
 named_in name words =
     if bytes_eq name (codes "disksize") then with_word disk_form words
     else if bytes_eq name (codes "mem_limit") then with_word limit_form words
+    else if bytes_eq name (codes "mem_used_max") then with_word max_form words
     else if bytes_eq name (codes "actor") then alone actor_form words
     else if bytes_eq name (codes "write") then write_in words
     else if bytes_eq name (codes "read") then read_in words
@@ -156,6 +158,7 @@ unfoldable pub is_malformed : Form → Bool
 is_malformed blank_form = false
 is_malformed (disk_form size) = not (is_size size)
 is_malformed (limit_form size) = not (is_size size)
+is_malformed (max_form number) = not (is_number number)
 is_malformed (report_form report) = false
 is_malformed actor_form = false
 is_malformed (fill_form start count word) = not (is_number start && is_number count && is_word word)
@@ -175,6 +178,7 @@ unfoldable pub meaning : Form → Line
 meaning blank_form = Blank
 meaning (disk_form size) = Attribute (DiskPages (size_pages size))
 meaning (limit_form size) = Attribute (LimitPages (size_pages size))
+meaning (max_form number) = Attribute LowerMax
 meaning (report_form report) = Tell report
 meaning actor_form = Actor
 meaning (fill_form start count word) =
@@ -189,11 +193,12 @@ meaning compact_form = Operation Compact
 meaning (schedule_form turns) = Schedule (map turn_of turns)
 meaning run_form = Run
 
--- a disk's size of one page at least and of no more than the most, or a limit on memory up to the
--- greatest
+-- a disk's size of one page at least and of no more than the most, a limit on memory up to the
+-- greatest, or a maximum that is lowered
 abbrev pub may_set : Attr → Bool
 may_set (DiskPages pages) = nat_le 1 pages && nat_le pages MOST_PAGES
 may_set (LimitPages pages) = nat_le pages MOST_LIMIT_PAGES
+may_set LowerMax = true
 
 -- a request's sectors begin below 2 ^ 32, and are 1 to the most that a request has
 abbrev pub are_bounds : ℕ → ℕ → Bool
@@ -223,13 +228,22 @@ has_bad_value (Operation op) = not (may_ask op)
 has_bad_value (Schedule turns) = not (list_all may_give turns)
 has_bad_value Run = false
 
+-- the number of a form that takes 0 alone is another
+abbrev pub has_other_number : Form → Bool
+has_other_number (max_form number) = not (number_of number == 0)
+has_other_number form = false
+
+-- a value out of its range, by the word that stands for it or by what the line says
+abbrev pub is_out_of_range : Form → Bool
+is_out_of_range form = has_other_number form || has_bad_value (meaning form)
+
 -- ---- the line
 
 -- a malformed word is told before a value that is never allowed
 abbrev pub line_by : Form → Result Line Cause
 line_by form =
     if is_malformed form then Err causes.Number
-    else if has_bad_value (meaning form) then Err causes.Range
+    else if is_out_of_range form then Err causes.Range
     else Ok (meaning form)
 
 -- a line without a form has the cause Word

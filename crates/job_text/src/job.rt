@@ -12,6 +12,8 @@ pub enum Attr {
     DiskPages(u32),
     /// How many pages of 4096 bytes of memory the disk may take, up to 2^28; 0 for no limit.
     LimitPages(u64),
+    /// The greatest memory that the disk took so far is from now on what it takes now.
+    LowerMax,
 }
 
 /// A report: statistics that are printed.

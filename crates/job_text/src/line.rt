@@ -2,7 +2,7 @@
 
 ghost use Rattle.std.specs.Prelude.{◌≡◌, ℕ, List, map, IfOk, if◌then◌else◌};
 ghost use Rattle.job_text.specs.Lines.{without_return, before_comment, words_of, line_by, line_with, line_of, report_named, are_bounds, fill_sectors};
-ghost use Rattle.job_text.specs.Lines.{Form, disk_form, limit_form, report_form, actor_form, fill_form, seq_form, hex_form, read_form, discard_form, compact_form, schedule_form, run_form};
+ghost use Rattle.job_text.specs.Lines.{Form, disk_form, limit_form, max_form, report_form, actor_form, fill_form, seq_form, hex_form, read_form, discard_form, compact_form, schedule_form, run_form};
 ghost use Rattle.job_text.specs.Lines.{alone, with_word, report_in, read_in, discard_in, fill_in, seq_in, hex_in, stuff_in, write_in, schedule_in, named_in};
 ghost use Rattle.job_text.specs.Answers.{Answers, IsInRange, hash_in};
 
@@ -103,6 +103,17 @@ fn memory_limit(size: &[u8]) -> Result<Line, Cause>
     let pages = pages(size)?;
     if pages <= MOST_LIMIT_PAGES {
         Ok(Line::Attribute(Attr::LimitPages(pages)))
+    } else {
+        Err(Cause::Range)
+    }
+}
+
+#[tactic(auto, unfolding(crate::specs::Lines::is_malformed, crate::specs::Lines::meaning))]
+fn lowered_max(word: &[u8]) -> Result<Line, Cause>
+    ensures { result ≡ line_by (max_form word.now) }
+{
+    if number(word)? == 0 {
+        Ok(Line::Attribute(Attr::LowerMax))
     } else {
         Err(Cause::Range)
     }
@@ -238,6 +249,15 @@ fn limit_line(words: &[&[u8]]) -> Result<Line, NotTaken>
     }
 }
 
+fn max_line(words: &[&[u8]]) -> Result<Line, NotTaken>
+    ensures { Answers (line_with (with_word max_form (map (λ word. word.now) words.now))) result }
+{
+    match words {
+        [word] => Ok(lowered_max(word)?),
+        _ => Err(NotTaken::Faulty(Cause::Word)),
+    }
+}
+
 fn report(name: &[u8]) -> Option<Report>
     ensures { result ≡ report_named name.now }
 {
@@ -360,6 +380,8 @@ fn named_line(alloc: Global, name: &[u8], words: &[&[u8]]) -> Result<Line, NotTa
         disk_line(words)
     } else if name == b"mem_limit".as_slice() {
         limit_line(words)
+    } else if name == b"mem_used_max".as_slice() {
+        max_line(words)
     } else if name == b"actor".as_slice() {
         actor_line(words)
     } else if name == b"write".as_slice() {

@@ -38,7 +38,7 @@ fn is_disk_size(attr: Attr) -> bool
 {
     match attr {
         Attr::DiskPages(_) => true,
-        Attr::LimitPages(_) => false,
+        Attr::LimitPages(_) | Attr::LowerMax => false,
     }
 }
 

@@ -28,6 +28,7 @@ fn tells_jobs(rt: HostRuntime) -> Result<(), Fail> {
         "disksize 1\nactor\nschedule\t0\nrun",
         "mem_limit 0\nmm_stat\nstates # of no pages",
         "mem_limit 1073741824K\ndisksize 4K\nmem_limit 1048576m\nactor\nrun\nmem_limit 1024G",
+        "mem_used_max 0\nmem_used_max 00\ndisksize 4K\nactor\nrun\nmem_used_max 0 # now",
         "mem_limit 1099511627776\nmem_limit 00\nio_stat\nio_stat\nclasses\nrun\nclasses",
     ];
     for text in table {
@@ -37,7 +38,7 @@ fn tells_jobs(rt: HostRuntime) -> Result<(), Fail> {
 }
 
 // Texts with their first faulty line and its cause: by their words alone, then by their places.
-const FAULTY: [(&str, u32, Cause); 70] = [
+const FAULTY: [(&str, u32, Cause); 79] = [
     ("stop", 1, Cause::Word),
     ("RUN", 1, Cause::Word),
     ("run now", 1, Cause::Word),
@@ -46,6 +47,8 @@ const FAULTY: [(&str, u32, Cause); 70] = [
     ("mem_limit", 1, Cause::Word),
     ("mem_limit 4 K", 1, Cause::Word),
     ("mem_limit x 1", 1, Cause::Word),
+    ("mem_used_max", 1, Cause::Word),
+    ("mem_used_max 0 0", 1, Cause::Word),
     ("mm_stat 0", 1, Cause::Word),
     ("io_stat io_stat", 1, Cause::Word),
     ("states all", 1, Cause::Word),
@@ -63,6 +66,8 @@ const FAULTY: [(&str, u32, Cause); 70] = [
     ("mem_limit 1KK", 1, Cause::Number),
     ("mem_limit none", 1, Cause::Number),
     ("disksize 4K\nactor\nmem_limit G", 3, Cause::Number),
+    ("mem_used_max 0K", 1, Cause::Number),
+    ("mem_used_max -0", 1, Cause::Number),
     ("write 99999999999999999999 1 fill g", 1, Cause::Number),
     ("write 0 0 fill 00000000000000001", 1, Cause::Number),
     ("write 0 1 hex 0g", 1, Cause::Number),
@@ -79,6 +84,9 @@ const FAULTY: [(&str, u32, Cause); 70] = [
     ("mem_limit 18446744073709551616", 1, Cause::Range),
     ("mem_limit 18014398509481984K", 1, Cause::Range),
     ("disksize 4K\nactor\nmem_limit 1025G", 3, Cause::Range),
+    ("mem_used_max 1", 1, Cause::Range),
+    ("mem_used_max 18446744073709551616", 1, Cause::Range),
+    ("disksize 4K\nactor\nmem_used_max 1", 3, Cause::Range),
     ("read 4294967296 1", 1, Cause::Range),
     ("discard 0 0", 1, Cause::Range),
     ("write 0 2049 hex 00", 1, Cause::Range),
@@ -102,6 +110,7 @@ const FAULTY: [(&str, u32, Cause); 70] = [
         4,
         Cause::Order,
     ),
+    ("disksize 4K\nactor\nmem_used_max 0", 3, Cause::Order),
     ("disksize 4K\nactor\nmm_stat", 3, Cause::Order),
     ("disksize 4K\nactor\nread 0 1\nio_stat", 4, Cause::Order),
     ("disksize 4K\nactor\nactor\nstates", 4, Cause::Order),
@@ -114,6 +123,7 @@ const FAULTY: [(&str, u32, Cause); 70] = [
     ("actor", 1, Cause::NoDisk),
     ("run\nactor\nstop", 2, Cause::NoDisk),
     ("mem_limit 4K\nactor\nrun", 2, Cause::NoDisk),
+    ("mem_used_max 0\nactor\nrun", 2, Cause::NoDisk),
     ("classes\nactor\nrun", 2, Cause::NoDisk),
     (
         "disksize 4K\nactor\nschedule 0*16777216\nschedule 0",
@@ -255,6 +265,7 @@ fn attr_shown(alloc: Global, attr: Attr) -> Result<String, AllocError> {
     match attr {
         Attr::DiskPages(pages) => format!(in alloc; "pages {pages}; "),
         Attr::LimitPages(pages) => format!(in alloc; "limit {pages}; "),
+        Attr::LowerMax => format!(in alloc; "lower; "),
     }
 }
 
@@ -311,6 +322,10 @@ fn reads_values(rt: HostRuntime) -> Result<(), Fail> {
         (
             "mem_limit 0\nmem_limit 1\nmem_limit 4096\nmem_limit 4097\nmem_limit 1073741824k\n",
             "limit 0; limit 1; limit 1; limit 2; limit 268435456; ",
+        ),
+        (
+            "mem_used_max 0\ndisksize 4K\nmm_stat\nmem_used_max 000",
+            "lower; pages 1; MmStat; lower; ",
         ),
         (
             "mm_stat\ndisksize 4K\nmem_limit 5K\nio_stat\nactor\nrun\nstates\nclasses\nmm_stat",

@@ -1,7 +1,7 @@
 use Rattle.std.proofs.Common.{map, Result, Ok, Err, OnOk, sym, ap, ◌∙◌}
 use Rattle.job_text.specs.declared.fault.NotTaken.{NotTaken}
 use Rattle.job_text.specs.Lines.{line_of}
-use Rattle.job_text.proofs.Steps.{goes_on}
+use Rattle.job_text.proofs.Steps.{goes_on, faultless}
 use Rattle.job_text.proofs.reader.take_line.Goals as goal
 
 on_ok : (P Q : Type 0) (r : Result (Unit {0}) NotTaken) → (P → Q) → OnOk r P → OnOk r Q
@@ -14,4 +14,12 @@ returns-clause-goes_on c =
     on_ok _ _ c.take.result
     (goes_on c.args.reading.now c.take.new.self c.args.number c.args.line.now c.in_ok-line.line
     (ap line_of (sym words) ∙ c.in_ok-line.ensures.said) c.in_ok-line.ensures.lawful)
+    c.take.ensures.taken
+
+pub returns-clause-faultless : goal.returns-clause-faultless
+returns-clause-faultless c =
+    let words = ap (map (λ word. word.now)) c.deref.ensures.value ∙ c.in_ok-words.ensures in
+    on_ok _ _ c.take.result
+    (faultless c.args.reading.now c.take.new.self c.args.number c.args.line.now c.in_ok-line.line
+    (ap line_of (sym words) ∙ c.in_ok-line.ensures.said))
     c.take.ensures.taken
