@@ -22,7 +22,7 @@ use Rattle.joint_rule.specs.Starts.{AtRest, Renewed, slots, accounts, stays, IsS
 use Rattle.zr_core.specs.Machines.{AllFinished, order_in, order_at, without_calls, without_orders, IsKept, KeepsValues, IsSetUp}
 use Rattle.zr_core.specs.declared.limits.TheConstants.{MOST_CHAIN}
 use Rattle.zr_core.specs.Noted.{HasAllOrders}
-use Rattle.zr_core.specs.Rests.{HasEntries, RestsAs, IsAtRest, begun, with_limit, left, touched_in, account_in, account_of}
+use Rattle.zr_core.specs.Rests.{HasEntries, RestsAs, IsAtRest, begun, with_account, left, touched_in, account_in, account_of}
 use Rattle.zr_core.proofs.Lists.{get_here, get_else}
 use Rattle.zr_core.proofs.Blanks.{leaves_proper}
 use Rattle.zr_core.proofs.Matches.{Row, IsWhole, matched, emptied_long, emptied_at, was_at, was_whole, rows_same, order_is}
@@ -78,7 +78,7 @@ IsNext (holds.Slot e) u =
     × (f.order ≡ [])
 IsNext (holds.Class q) u = u ≡ holds.Class q
 IsNext (holds.Account c) u = (d : Counters) × (u ≡ holds.Account d)
-    × (d ≡ record c { limit = d.limit })
+    × (d ≡ record c { limit = d.limit; most = d.most }) × (c.pages ≤ c.most → c.pages ≤ d.most)
 IsNext (holds.Blocks x) u = u ≡ holds.Blocks x
 IsNext (holds.Device x) u = u ≡ holds.Device x
 
@@ -161,7 +161,7 @@ module _ (g : Begin) (pages : ℕ) (cells : Row) (rests : RestsAs g pages cells)
           before = λ k lt. before (8 * j + k);
         }
     renewed j (holds.Class q) u at is = stays tt is
-    renewed j (holds.Account c) u at is = accounts c is.0 refl is.1 is.2
+    renewed j (holds.Account c) u at is = accounts c is.0 refl is.1 is.2 is.3
     renewed j (holds.Blocks x) u at is = stays tt is
     renewed j (holds.Device x) u at is = stays tt is
 
@@ -196,7 +196,7 @@ module _ (g : Begin) (pages : ℕ) (cells : Row) (rests : RestsAs g pages cells)
       (up.orders k is.0 (there ∙ ap (λ (x : DiskHeld). Some (Some x)) is.1)).0,
     )
     next_is k (holds.Class q) u there is = is
-    next_is k (holds.Account c) u there is = (c, is, refl)
+    next_is k (holds.Account c) u there is = (c, is, refl, λ le. le)
     next_is k (holds.Blocks x) u there is = is
     next_is k (holds.Device x) u there is = is
 
@@ -243,13 +243,13 @@ module _ (g : Begin) (pages : ℕ) (cells : Row) (rests : RestsAs g pages cells)
       count = up.count;
     }
 
-  -- ---- another limit
+  -- ---- another limit or maximum
 
-  module _ (limit : ℕ) (next : RestGoesOn) (after : Row)
-      (is : after ≡ slice_set cells (pages + 255)
-      (Some (holds.Account (record g.was { limit = limit })))) where
+  module _ (d : Counters) (only : d ≡ record g.was { limit = d.limit; most = d.most })
+      (keeps : g.was.pages ≤ g.was.most → g.was.pages ≤ d.most) (next : RestGoesOn) (after : Row)
+      (is : after ≡ slice_set cells (pages + 255) (Some (holds.Account d))) where
     abbrev now : DiskHeld
-    now = holds.Account (record g.was { limit = limit })
+    now = holds.Account d
 
     same_next : (v : DiskHeld) → IsNext v (without_calls v)
     same_next (holds.Slot e) = (
@@ -260,25 +260,25 @@ module _ (g : Begin) (pages : ℕ) (cells : Row) (rests : RestsAs g pages cells)
       refl,
     )
     same_next (holds.Class q) = refl
-    same_next (holds.Account c) = (c, refl, refl)
+    same_next (holds.Account c) = (c, refl, refl, λ le. le)
     same_next (holds.Blocks x) = refl
     same_next (holds.Device x) = refl
 
-    limited_at : slice_get after (pages + 255) ≡ Some (Some now)
-    limited_at = ap (λ (row : Row). slice_get row (pages + 255)) is
+    changed_at : slice_get after (pages + 255) ≡ Some (Some now)
+    changed_at = ap (λ (row : Row). slice_get row (pages + 255)) is
         ∙ get_here cells (pages + 255) (Some now) (Some (holds.Account g.was)) rests.account
 
-    limited_each : (k : ℕ) (v : DiskHeld) → slice_get cells k ≡ Some (Some v)
+    changed_each : (k : ℕ) (v : DiskHeld) → slice_get cells k ≡ Some (Some v)
         → (u : DiskHeld) × (slice_get (without_orders after) k ≡ Some (Some u)) × IsNext v u
-    limited_each k v at = dite (ℕ_discrete k (pages + 255))
+    changed_each k v at = dite (ℕ_discrete k (pages + 255))
         (λ here. (
           now,
-          emptied_at after k (Some now) (ap (slice_get after) here ∙ limited_at),
+          emptied_at after k (Some now) (ap (slice_get after) here ∙ changed_at),
           subst (λ (x : DiskHeld). IsNext x now)
               (let q : Some (Some (holds.Account g.was)) ≡ Some (Some v) = sym rests.account
               ∙ ap (slice_get cells) (sym here) ∙ at in
               let r : holds.Account g.was ≡ v = cc in r)
-              (record g.was { limit = limit }, refl, refl),
+              (d, refl, only, keeps),
         ))
         (λ ne. (
           without_calls v,
@@ -287,8 +287,8 @@ module _ (g : Begin) (pages : ℕ) (cells : Row) (rests : RestsAs g pages cells)
           same_next v,
         ))
 
-    pub limited : RestsAs (with_limit g limit) pages after
-    limited = record {
+    pub changed : RestsAs (with_account g d) pages after
+    changed = record {
       size = rests.size;
       some = rests.some;
       most = rests.most;
@@ -302,11 +302,11 @@ module _ (g : Begin) (pages : ℕ) (cells : Row) (rests : RestsAs g pages cells)
         few = rests.proper.few;
         pieces = rests.proper.pieces;
       };
-      row = goes_on (with_limit g limit) refl refl (λ j. refl) (λ p. refl) (λ s. refl) next
+      row = goes_on (with_account g d) refl refl (λ j. refl) (λ p. refl) (λ s. refl) next
           (without_orders after)
           (let a = emptied_long after in let b = ap length is
-          ∙ length-set cells (pages + 255) (Some now) in omega arith) limited_each;
-      account = limited_at;
+          ∙ length-set cells (pages + 255) (Some now) in omega arith) changed_each;
+      account = changed_at;
     }
 
 -- the account of a disk with pages
@@ -344,7 +344,7 @@ module _ (g : Begin) (w : State DiskHeld) (proper : Proper g) (rule : Rule g w)
             (ap (order_at w.row) (let q : (8 * j + k) / 8 ≡ j = omega arith in q) ∙ order);
       }
   gone_at j (holds.Class q) at = stays tt refl
-  gone_at j (holds.Account c) at = accounts c c refl refl refl
+  gone_at j (holds.Account c) at = accounts c c refl refl refl (λ le. le)
   gone_at j (holds.Blocks x) at = stays tt refl
   gone_at j (holds.Device x) at = stays tt refl
 

@@ -1,6 +1,7 @@
 -- What is told of a disk between two phases.
 use Rattle.std.proofs.Common.{◌≡◌, ℕ, zero, suc, ◌+◌, ◌<◌, ◌≤◌, Bool, cond, List, [], ◌∷◌, get_or, Option, Some, None, slice_get, slice_set, refl, sym, ap, ◌∙◌, arith, ⊎_elim}
 use Rattle.std.proofs.lemmas.Bool.{lt-ltb}
+use Rattle.std.proofs.lemmas.Option.{get_or_from_slice_get}
 use Rattle.mem_account.specs.Counters.{Counters, no_counts}
 use Rattle.lock_row.specs.declared.names.LockNo.TheVariants as lock
 use Rattle.lock_row.specs.declared.names.Held.TheVariants as holds
@@ -8,12 +9,13 @@ use Rattle.lock_row.specs.Laws.{NamesHavePlaces}
 use Rattle.lock_row.specs.Rows.{cell, at_home}
 use Rattle.lock_row.specs.Rows.{Row as Locks}
 use Rattle.page_steps.specs.Steps.{DiskHeld}
+use Rattle.joint_rule.specs.Begins.{Begin}
 use Rattle.joint_rule.specs.Laws.{RestGoesOn}
-use Rattle.zr_core.specs.Rests.{names_of, account_in, account_of, pool_in, pool_of, IsAtRest, with_limit}
+use Rattle.zr_core.specs.Rests.{names_of, account_in, account_of, pool_in, pool_of, IsAtRest, RestsAs, with_account}
 use Rattle.zr_core.proofs.Lists.{get_else}
 use Rattle.zr_core.proofs.Matches.{Row, order_is}
 use Rattle.zr_core.proofs.Names.{cell_at}
-use Rattle.zr_core.proofs.Rests.{account_some, at_rest, limited}
+use Rattle.zr_core.proofs.Rests.{account_some, at_rest, changed}
 
 home_is : (row : Row) (k : ℕ) → at_home (slice_get row k) ≡ get_or row k None
 home_is [] k = refl
@@ -42,7 +44,14 @@ module _ (places : NamesHavePlaces) (pages : ℕ) (some : 1 ≤ pages) (r : Lock
         pool_some (suc n) le = ap (λ (b : Bool). cond b (pool_in (get_or r.cells (suc n + class) None))
             None) (lt-ltb class 255 low)
 
--- ---- another limit
+-- ---- another account
+
+-- the account of a disk with pages is the one in its place
+pub account_told : (limit pages : ℕ) (cells : Row) (c : Counters) → 1 ≤ pages
+    → slice_get cells (pages + 255) ≡ Some (Some (holds.Account c)) → account_of limit pages cells ≡ c
+account_told limit pages cells c some at = account_some limit pages cells some
+    ∙ ap (account_in (record no_counts { limit = limit }))
+    (get_or_from_slice_get cells (pages + 255) (Some (holds.Account c)) None at)
 
 module _ (pages : ℕ) (noted : List ℕ) (cells : Row) (rest : IsAtRest pages noted cells) where
   -- a disk with pages has its account at home
@@ -60,20 +69,32 @@ module _ (pages : ℕ) (noted : List ℕ) (cells : Row) (rest : IsAtRest pages n
       sym (ap (λ (row : Row). slice_get row (pages + 255)) bare.1) ∙ at in cc)
       (λ r. let s = r.1.some in omega arith) rest.rests
 
-  pub limit_rests : 1 ≤ pages → (limit : ℕ) → RestGoesOn → (after : Row)
-      → ((c : Counters) → slice_get cells (pages + 255) ≡ Some (Some (holds.Account c))
-      → after ≡ slice_set cells (pages + 255) (Some (holds.Account (record c { limit = limit }))))
-      → IsAtRest pages noted after
-  limit_rests some limit next after set = ⊎_elim
-      (λ bare. absurd (let e = bare.0 in let none : ⊥ = omega arith in none))
-      (λ r.
-      let is = set r.0.was r.1.account in
-      at_rest (with_limit r.0 limit) pages after (limited r.0 pages cells r.1 limit next after is)
-      noted record {
-        listed = rest.orders.listed;
-        others = λ p lt off.
-            let e = rest.entries.each p lt in
-            order_is after p e.0 (ap (λ (row : Row). slice_get row p) is
-            ∙ get_else cells (pages + 255) p _ (λ same. let none : ⊥ = omega arith in none) ∙ e.1)
-            ∙ sym (order_is cells p e.0 e.1) ∙ rest.orders.others p lt off;
-      }) rest.rests
+  -- the account is put back with another limit or maximum
+  module _ (some : 1 ≤ pages) (f : Counters → Counters)
+      (only : (c : Counters) → f c ≡ record c { limit = (f c).limit; most = (f c).most })
+      (keeps : (c : Counters) → c.pages ≤ c.most → c.pages ≤ (f c).most) (next : RestGoesOn)
+      (limit : ℕ) (was now : Counters) (after : Row) (told : was ≡ account_of limit pages cells)
+      (is : now ≡ f was) (set : after ≡ slice_set cells (pages + 255) (Some (holds.Account now)))
+    where
+      put_back : (c : Counters) → slice_get cells (pages + 255) ≡ Some (Some (holds.Account c))
+          → after ≡ slice_set cells (pages + 255) (Some (holds.Account (f c)))
+      put_back c at = set ∙ ap (λ (x : Counters). slice_set cells (pages + 255) (Some (holds.Account x)))
+          (is ∙ ap f (told ∙ account_told limit pages cells c some at))
+
+      pub put_as : (g : Begin) → RestsAs g pages cells
+          → RestsAs (with_account g (f g.was)) pages after
+      put_as g rests = changed g pages cells rests (f g.was) (only g.was) (keeps g.was) next after
+          (put_back g.was rests.account)
+
+      pub put_rests : IsAtRest pages noted after
+      put_rests = ⊎_elim
+          (λ bare. absurd (let e = bare.0 in let none : ⊥ = omega arith in none))
+          (λ r. at_rest (with_account r.0 (f r.0.was)) pages after (put_as r.0 r.1) noted record {
+            listed = rest.orders.listed;
+            others = λ p lt off.
+                let e = rest.entries.each p lt in
+                order_is after p e.0 (ap (λ (row : Row). slice_get row p)
+                (put_back r.0.was r.1.account)
+                ∙ get_else cells (pages + 255) p _ (λ same. let none : ⊥ = omega arith in none) ∙ e.1)
+                ∙ sym (order_is cells p e.0 e.1) ∙ rest.orders.others p lt off;
+          }) rest.rests

@@ -115,17 +115,25 @@ new_disk pages limit = record {
   tight = false;
 }
 
--- the disk with another limit
-abbrev pub with_limit : Begin → ℕ → Begin
-with_limit g limit = record {
+-- the disk with another account
+abbrev pub with_account : Begin → Counters → Begin
+with_account g c = record {
   given = g.given;
   blank = g.blank;
   touched = g.touched;
   chain = g.chain;
   clock = g.clock;
-  was = record g.was { limit = limit };
+  was = c;
   tight = false;
 }
+
+-- the disk with another limit
+abbrev pub with_limit : Begin → ℕ → Begin
+with_limit g limit = with_account g (record g.was { limit = limit })
+
+-- the disk where the account's maximum is lowered to its frames
+abbrev pub with_lowered : Begin → Begin
+with_lowered g = with_account g (record g.was { most = g.was.pages })
 
 -- a phase of these actors at this time
 abbrev pub begun : Begin → List (List Op) → ℕ → Begin

@@ -5,10 +5,10 @@ ghost use Rattle.zr_base.specs.declared.limits.TheConstants.{MOST_PAGES};
 ghost use Rattle.mem_account.specs.Counters.{Counters};
 ghost use Rattle.lock_row.specs.declared.names.Held.TheVariants as holds;
 ghost use Rattle.joint_rule.specs.Begins.{Begin};
-ghost use Rattle.zr_core.specs.Rests.{names_by, IsAtRest, RestsAs, new_disk, with_limit};
+ghost use Rattle.zr_core.specs.Rests.{names_by, IsAtRest, RestsAs, new_disk, with_limit, with_lowered};
 ghost use Rattle.zr_core.specs.Rows.{AreNew};
 
-use crate::row::{entry_in, limit_account, new_row};
+use crate::row::{entry_in, new_row, put_account};
 use joint_rule::{disks_begin, phases_go_on};
 use lock_row::{LockNo, SimRow, names_have_places};
 use page_steps::DiskHeld;
@@ -97,8 +97,34 @@ impl World {
             self.limit = pages;
             return;
         }
-        limit_account(&mut self.row, self.pages, pages);
+        let mut account = self.account();
+        account.set_limit(pages);
+        put_account(&mut self.row, self.pages, account);
         self.limit = pages;
+    }
+
+    /// Makes the account's maximum what is charged now. Before the disk's size is given nothing
+    /// changes.
+    pub fn lower_max(&mut self)
+        requires rest { IsAtRest self.old.pages self.old.noted.items self.old.row.cells }
+        ensures pages { self.new.pages ≡ self.old.pages }
+        ensures noted { self.new.noted.items ≡ self.old.noted.items }
+        ensures limit { self.new.limit ≡ self.old.limit }
+        ensures none { self.old.pages ≡ 0 → self.new.row ≡ self.old.row }
+        ensures cells { (c : Counters) → slice_get self.old.row.cells (self.old.pages + 255) ≡ Some (Some (holds.Account c))
+            → self.new.row.cells ≡ slice_set self.old.row.cells (self.old.pages + 255)
+            (Some (holds.Account (record c { most = c.pages }))) }
+        ensures rest { IsAtRest self.new.pages self.new.noted.items self.new.row.cells }
+        ensures rests_as { (g : Begin) → RestsAs g self.old.pages self.old.row.cells
+            → RestsAs (with_lowered g) self.new.pages self.new.row.cells }
+    {
+        phases_go_on();
+        if self.pages == 0 {
+            return;
+        }
+        let mut account = self.account();
+        account.lower_max();
+        put_account(&mut self.row, self.pages, account);
     }
 
     /// The pages that may have an order, in rising order: between two phases no other page has one.

@@ -112,34 +112,19 @@ pub(crate) fn entry_in(value: &DiskHeld) -> &Entry
     }
 }
 
-/// The account that its lock guards.
-pub(crate) fn account_of(value: DiskHeld) -> Account
-    requires { (c : Counters) × (value ≡ holds.Account c) }
-    ensures { value ≡ holds.Account result }
-{
-    match value {
-        Held::Account(account) => account,
-        _ => unreachable!(),
-    }
-}
-
-/// Sets the limit of a disk's account, which is at home.
-pub(crate) fn limit_account(row: &mut SimRow<DiskHeld>, size: u32, limit: u64)
+/// Puts this account in place of a disk's, which is at home.
+pub(crate) fn put_account(row: &mut SimRow<DiskHeld>, size: u32, account: Account)
     requires names { row.old.names ≡ names_by size }
     requires some { 1 ≤ size }
-    requires small { limit < 2 ^ 52 }
     requires home { (c : Counters) × (slice_get row.old.cells (size + 255) ≡ Some (Some (holds.Account c))) }
     ensures names { row.new.names ≡ row.old.names }
-    ensures cells { (c : Counters) → slice_get row.old.cells (size + 255) ≡ Some (Some (holds.Account c))
-        → row.new.cells ≡ slice_set row.old.cells (size + 255)
-        (Some (holds.Account (record c { limit = limit }))) }
+    ensures cells { row.new.cells
+        ≡ slice_set row.old.cells (size + 255) (Some (holds.Account account)) }
 {
     names_have_places();
     let mut hand = row.hand(0);
-    let Some(value) = hand.try_take::<Still>(LockNo::Account) else {
+    let Some(_value) = hand.try_take::<Still>(LockNo::Account) else {
         unreachable!()
     };
-    let mut account = account_of(value);
-    account.set_limit(limit);
     hand.give::<Still>(LockNo::Account, Held::Account(account));
 }

@@ -35,7 +35,7 @@ fn account_in(value: &DiskHeld, other: Account) -> Account
 
 impl World {
     // The account that is at home, or one that has the limit alone.
-    fn account(&self) -> Account
+    pub(crate) fn account(&self) -> Account
         ensures { result ≡ account_of self.now.limit self.now.pages self.now.row.cells }
     {
         names_have_places();

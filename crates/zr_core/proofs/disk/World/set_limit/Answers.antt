@@ -1,6 +1,5 @@
-use Rattle.std.proofs.Common.{arith}
-use Rattle.zr_core.proofs.Rests.{limited}
-use Rattle.zr_core.proofs.Telling.{account_home, no_account, limit_rests}
+use Rattle.std.proofs.Common.{refl, arith}
+use Rattle.zr_core.proofs.Telling.{account_home, no_account, put_as, put_rests}
 use Rattle.zr_core.proofs.disk.World.set_limit.Goals as goal
 
 -- a disk without pages
@@ -16,19 +15,25 @@ returns-then-self-eq0-clause-rests_as c g rests =
 
 -- one with pages
 
-pub limit_account-requires-clause-home : goal.limit_account-requires-clause-home
-limit_account-requires-clause-home c =
+pub put_account-requires-clause-home : goal.put_account-requires-clause-home
+put_account-requires-clause-home c =
     account_home c.args.self.now.pages c.args.self.now.noted.items c.args.self.now.row.cells
     c.requires.rest (let b = c.if-self-eq0.false in omega arith)
 
 pub returns-clause-rest : goal.returns-clause-rest
 returns-clause-rest c =
-    limit_rests c.args.self.now.pages c.args.self.now.noted.items c.args.self.now.row.cells
-    c.requires.rest (let b = c.if-self-eq0.false in omega arith) c.args.pages
-    c.phases_go_on.ensures.next c.limit_account.new.row.cells c.limit_account.ensures.cells
+    put_rests
+    c.args.self.now.pages c.args.self.now.noted.items c.args.self.now.row.cells c.requires.rest
+    (let b = c.if-self-eq0.false in omega arith) (λ d. record d { limit = c.args.pages }) (λ d. refl)
+    (λ d le. le) c.phases_go_on.ensures.next c.args.self.now.limit
+    c.account-account.result c.set_limit.new.self c.put_account.new.row.cells
+    c.account-account.ensures c.set_limit.ensures.limit c.put_account.ensures.cells
 
 pub returns-clause-rests_as : goal.returns-clause-rests_as
-returns-clause-rests_as c g rests =
-    limited g c.args.self.now.pages c.args.self.now.row.cells rests c.args.pages
-    c.phases_go_on.ensures.next c.limit_account.new.row.cells
-    (c.limit_account.ensures.cells g.was rests.account)
+returns-clause-rests_as c =
+    put_as
+    c.args.self.now.pages c.args.self.now.noted.items c.args.self.now.row.cells c.requires.rest
+    (let b = c.if-self-eq0.false in omega arith) (λ d. record d { limit = c.args.pages }) (λ d. refl)
+    (λ d le. le) c.phases_go_on.ensures.next c.args.self.now.limit
+    c.account-account.result c.set_limit.new.self c.put_account.new.row.cells
+    c.account-account.ensures c.set_limit.ensures.limit c.put_account.ensures.cells

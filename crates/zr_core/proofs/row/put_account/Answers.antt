@@ -1,14 +1,13 @@
-use Rattle.std.proofs.Common.{◌≡◌, ◌+◌, Some, None, slice_set, sym, ap, ◌∙◌, subst}
+use Rattle.std.proofs.Common.{◌≡◌, Some, None, sym, ap, ◌∙◌, subst}
 use Rattle.lock_row.specs.Rows.{Row, IsIn, cell, with_cell}
 use Rattle.lock_row.specs.declared.names.LockNo.TheVariants as lock
 use Rattle.lock_row.specs.declared.names.Held.TheVariants as holds
-use Rattle.mem_account.specs.Counters.{Counters}
 use Rattle.page_steps.specs.Steps.{DiskHeld}
 use Rattle.zr_core.specs.Rests.{names_of}
 use Rattle.zr_core.proofs.Names.{names_some}
-use Rattle.zr_core.proofs.Preparing.{cell_home, is_in, there, not_out, is_out_now, cells_set}
-use Rattle.zr_core.proofs.row.limit_account.Goals as goal
-use Rattle.zr_core.proofs.row.limit_account.Goals.{After-hand-hand, After-row-2-1}
+use Rattle.zr_core.proofs.Preparing.{is_in, not_out, is_out_now, cells_set}
+use Rattle.zr_core.proofs.row.put_account.Goals as goal
+use Rattle.zr_core.proofs.row.put_account.Goals.{After-hand-hand, After-row-2-1}
 
 names_are : (c : After-hand-hand) → c.args.row.now.names ≡ names_of c.args.size
 names_are c = c.requires.names ∙ names_some c.args.size c.requires.some
@@ -28,30 +27,18 @@ unreachable-requires c =
     (ap (λ (r : Row DiskHeld). cell r lock.Account) (sym c.hand-hand.ensures.row)
     ∙ c.in_default.ensures.outcome.2.out)
 
-pub account_of-account-requires : goal.account_of-account-requires
-account_of-account-requires c =
-    let a = (goal.at.account_of-account-requires c).After-hand-hand in (
-      c.requires.home.0,
-      (let q : Some (Some c.in-Some.value) ≡ Some (Some (holds.Account c.requires.home.0)) =
-          sym c.in-Some.ensures.outcome.2.home
-          ∙ ap (λ (r : Row DiskHeld). cell r lock.Account) c.hand-hand.ensures.row
-          ∙ cell_home c.names_have_places.ensures.there c.args.size lock.Account tt c.args.row.now
-          (names_are a) (holds.Account c.requires.home.0) c.requires.home.1 in
-          let r : c.in-Some.value ≡ holds.Account c.requires.home.0 = cc in r),
-    )
-
 pub give-requires : goal.give-requires
 give-requires c =
     let a = (goal.at.give-requires c).After-hand-hand in
     is_out_now c.names_have_places.ensures.there c.args.size lock.Account tt c.args.row.now
-    (names_are a) c.in-Some.value
+    (names_are a) c.in-Some._value
     (ap (λ (r : Row DiskHeld). cell r lock.Account) (sym c.hand-hand.ensures.row)
     ∙ c.in-Some.ensures.outcome.2.home)
     c.try_take.new.self.row.now (c.in-Some.ensures.outcome.2.out
     ∙ ap (λ (r : Row DiskHeld). with_cell r lock.Account None) c.hand-hand.ensures.row)
 
 -- the row before, where the account is at home, and the row without it
-at_home : (c : After-row-2-1) → cell c.args.row.now lock.Account ≡ Some (Some c.in-Some.value)
+at_home : (c : After-row-2-1) → cell c.args.row.now lock.Account ≡ Some (Some c.in-Some._value)
 at_home c = ap (λ (r : Row DiskHeld). cell r lock.Account) (sym c.hand-hand.ensures.row)
     ∙ c.in-Some.ensures.outcome.2.home
 
@@ -64,25 +51,16 @@ taken_row c = c.in-Some.ensures.outcome.2.out
 given_row : (c : After-row-2-1)
     → c.row-2-1.given.0
     ≡ with_cell c.try_take.new.self.row.now lock.Account
-    (Some (holds.Account c.set_limit.new.self))
+    (Some (holds.Account c.args.account))
 given_row c =
     c.row-2-1.given.1
     (sym c.hand-hand.ensures.same ∙ sym c.in-Some.ensures.outcome.0 ∙ sym c.give.ensures.0)
     ∙ c.give.ensures.2.home
 
 pub returns-clause-cells : goal.returns-clause-cells
-returns-clause-cells c d at =
+returns-clause-cells c =
     let a = (goal.at.returns-clause-cells c).After-hand-hand in
     let b = (goal.at.returns-clause-cells c).After-row-2-1 in
-    let places = c.names_have_places.ensures.there in
-    let was : c.account_of-account.result ≡ d =
-    (let q : Some (Some (holds.Account c.account_of-account.result)) ≡ Some (Some (holds.Account d)) =
-    ap (λ (v : DiskHeld). Some (Some v)) (sym c.account_of-account.ensures)
-    ∙ sym (there places c.args.size lock.Account tt c.args.row.now (names_are a) c.in-Some.value
-    (at_home b) c.try_take.new.self.row.now (taken_row b)) ∙ at in cc) in
-    cells_set places c.args.size lock.Account tt c.args.row.now (names_are a) c.in-Some.value
-    (at_home b) c.try_take.new.self.row.now (taken_row b)
-    (holds.Account c.set_limit.new.self) c.row-2-1.given.0 (given_row b)
-    ∙ ap (λ (e : Counters). slice_set c.args.row.now.cells (c.args.size + 255)
-    (Some (holds.Account e))) (c.set_limit.ensures.limit
-    ∙ ap (λ (e : Counters). record e { limit = c.args.limit }) was)
+    cells_set c.names_have_places.ensures.there c.args.size lock.Account tt c.args.row.now
+    (names_are a) c.in-Some._value (at_home b) c.try_take.new.self.row.now (taken_row b)
+    (holds.Account c.args.account) c.row-2-1.given.0 (given_row b)
