@@ -8,7 +8,7 @@ use Rattle.page_steps.specs.Steps.{DiskHeld}
 use Rattle.zr_core.specs.declared.limits.TheConstants.{MOST_CHAIN}
 use Rattle.zr_core.specs.Machines.{PhaseSteps}
 use Rattle.job_text.specs.declared.job.Attr.{Attr}
-use Rattle.job_text.specs.declared.job.Attr.TheVariants.{DiskPages, LimitPages}
+use Rattle.job_text.specs.declared.job.Attr.TheVariants.{DiskPages, LimitPages, LowerMax}
 use Rattle.job_text.specs.declared.job.Report.{Report}
 use Rattle.job_text.specs.declared.job.Item.{Item}
 use Rattle.job_text.specs.declared.job.Item.TheVariants as items
@@ -32,6 +32,8 @@ stepped_append [] ys d m last ts us ls ks s next =
 stepped_append (items.Attr (DiskPages n) ∷ xs) ys d m last ts us ls ks s next =
     (s.0, s.1, stepped_append xs ys s.0 m last ts us ls ks s.2 next)
 stepped_append (items.Attr (LimitPages n) ∷ xs) ys d m last ts us ls ks s next =
+    (s.0, s.1, stepped_append xs ys s.0 m last ts us ls ks s.2 next)
+stepped_append (items.Attr LowerMax ∷ xs) ys d m last ts us ls ks s next =
     (s.0, s.1, stepped_append xs ys s.0 m last ts us ls ks s.2 next)
 stepped_append (items.Report report ∷ xs) ys d m last ts us ls ks s next = (
   s.0 ++ ks,
@@ -110,6 +112,8 @@ keeps_pages : (d m : Disk) (item : Item) (turns : List (List ℕ)) (lines : List
 keeps_pages d m (items.Attr (DiskPages n)) turns lines s =
     ap (λ (x : Disk). x.size) s.2.2 ∙ s.1.size
 keeps_pages d m (items.Attr (LimitPages n)) turns lines s =
+    ap (λ (x : Disk). x.size) s.2.2 ∙ s.1.size
+keeps_pages d m (items.Attr LowerMax) turns lines s =
     ap (λ (x : Disk). x.size) s.2.2 ∙ s.1.size
 keeps_pages d m (items.Report report) turns lines s = ap (λ (x : Disk). x.size) s.1.2
 keeps_pages d m (items.Phase text) turns lines s = ap (λ (x : Disk). x.size) s.8.2 ∙ s.5

@@ -10,7 +10,7 @@ use Rattle.zr_base.specs.declared.op.Turns.{Turns}
 use Rattle.zr_base.specs.Plain.{IsRequest}
 use Rattle.zr_base.specs.declared.limits.TheConstants.{MOST_ACTORS, MOST_OPERATIONS}
 use Rattle.actor_steps.specs.Places.{AreRequests, IsWork, operations}
-use Rattle.job_text.specs.declared.job.Attr.TheVariants.{DiskPages, LimitPages}
+use Rattle.job_text.specs.declared.job.Attr.TheVariants.{DiskPages, LimitPages, LowerMax}
 use Rattle.job_text.specs.declared.job.Item.{Item}
 use Rattle.job_text.specs.declared.job.Item.TheVariants as items
 use Rattle.job_text.specs.Jobs.{Used, with_attr, with_phase, with_op, with_ops, with_actors, with_text, HasDisk, MayOperate, MayAct, MayTurn, MayFollow}
@@ -115,6 +115,7 @@ none_without u (ops ∷ more) has none = absurd (true≢false (sym has ∙ none)
 abbrev pub KeepsPages : Item → ℕ → ℕ → Type 0
 KeepsPages (items.Attr (DiskPages n)) before after = after ≡ n
 KeepsPages (items.Attr (LimitPages n)) before after = after ≡ before
+KeepsPages (items.Attr LowerMax) before after = after ≡ before
 KeepsPages (items.Report report) before after = after ≡ before
 KeepsPages (items.Phase text) before after = after ≡ before
 
@@ -129,6 +130,12 @@ stand_on pages after (items.Attr (DiskPages n)) more keeps may = record {
 }
 stand_on pages after (items.Attr (LimitPages n)) more keeps may = record {
   used = with_attr may.used (LimitPages n);
+  bare = λ bare. keeps ∙ may.bare bare;
+  sized = λ none. may.sized (sym keeps ∙ none);
+  may = may.may.2;
+}
+stand_on pages after (items.Attr LowerMax) more keeps may = record {
+  used = with_attr may.used LowerMax;
   bare = λ bare. keeps ∙ may.bare bare;
   sized = λ none. may.sized (sym keeps ∙ none);
   may = may.may.2;

@@ -10,7 +10,7 @@ use Rattle.mem_account.specs.Stat.{mm_stat_of, io_stat_of}
 use Rattle.plain_disk.specs.Output.{OutLine, memory, calls}
 use Rattle.plain_disk.specs.Rests.{Rest, nothing_yet, stats, report, states, classes}
 use Rattle.plain_disk.specs.Phases.{IsPhase}
-use Rattle.plain_disk.specs.Legal.{IsNew, first_settings, sets}
+use Rattle.plain_disk.specs.Legal.{IsNew, first_settings, sets, lowered}
 use Rattle.call_history.specs.Histories.{HasSome, SomeEach, HasSomeEach}
 use Rattle.lock_row.specs.declared.names.Held.TheVariants as holds
 use Rattle.page_steps.specs.Steps.{DiskHeld, Terms}
@@ -20,11 +20,11 @@ use Rattle.joint_rule.specs.Laws.{StartHasRule, ReachedHasRule}
 use Rattle.joint_rule.specs.Ends.{begin_at, rest_after, new_rest}
 use Rattle.disk_rest.specs.Resting.{StandsFor}
 use Rattle.disk_rest.specs.Printed.{row_report}
-use Rattle.disk_rest.specs.Laws.{PrintsPhase, LeavesRest, PrintsReports, PrintsNothing, AccountTells, BeginsPhase, BeginsProper, BeginsDisk, SetsLimit}
+use Rattle.disk_rest.specs.Laws.{PrintsPhase, LeavesRest, PrintsReports, PrintsNothing, AccountTells, BeginsPhase, BeginsProper, BeginsDisk, SetsLimit, LowersMax}
 use Rattle.zr_core.specs.declared.limits.TheConstants.{MOST_CHAIN}
 use Rattle.zr_core.specs.Machines.{PhaseSteps}
 use Rattle.zr_core.specs.Rests.{account_in, account_of}
-use Rattle.job_text.specs.declared.job.Attr.TheVariants.{DiskPages, LimitPages}
+use Rattle.job_text.specs.declared.job.Attr.TheVariants.{DiskPages, LimitPages, LowerMax}
 use Rattle.job_text.specs.declared.job.Report.{Report}
 use Rattle.job_text.specs.declared.job.Report.TheVariants as reports
 use Rattle.job_text.specs.declared.job.Item.{Item}
@@ -32,7 +32,7 @@ use Rattle.job_text.specs.declared.job.Item.TheVariants as items
 use Rattle.job_text.specs.Jobs.{Used, with_attr, with_phase, with_op, with_ops, with_text, MayOperate, MayAct, MayFollow}
 use Rattle.job_session.specs.Legal.{Legal, plain_report}
 use Rattle.job_session.specs.Stands.{IsBare, HasRow, Stands}
-use Rattle.job_session.specs.Stepped.{Disk, terms_of, report_of, IsNewDisk, IsLimited, Stepped}
+use Rattle.job_session.specs.Stepped.{Disk, terms_of, report_of, IsNewDisk, IsLimited, IsLowered, Stepped}
 use Rattle.job_session.proofs.Bare.{phase_nowhere, phase_without}
 use Rattle.job_session.proofs.Lawful.{no_item, requests_each, work_by, few_operations, none_without, disk_by}
 use Rattle.job_session.proofs.Standing.{phase_on, disk_on}
@@ -66,7 +66,7 @@ account_some limit (suc n) row c some is =
     ap (account_in (record no_counts { limit = limit }))
     (get_or_from_slice_get row (suc n + 255) (Some (holds.Account c)) None is)
 
--- What is known of phases, of new disks, of limits and of reports.
+-- What is known of phases, of new disks, of limits, of lowered maxima and of reports.
 pub record Laws : Type 0 where
   pub starts : StartHasRule
   pub reached : ReachedHasRule
@@ -76,6 +76,7 @@ pub record Laws : Type 0 where
   pub leaves : LeavesRest
   pub new : BeginsDisk
   pub limits : SetsLimit
+  pub max : LowersMax
   pub reports : PrintsReports
   pub account : AccountTells
   pub nothing : PrintsNothing
@@ -137,6 +138,41 @@ module _ (laws : Laws) where
     clock = s.clock;
     chain = s.chain;
     row = limited_row r d m n s is s.row;
+  }
+
+  -- ---- the maximum
+
+  lowered_row : (r : Rest) (d m : Disk) → Stands r d → IsLowered d m → IsBare r d ⊎ HasRow r d
+      → IsBare (lowered r) m ⊎ HasRow (lowered r) m
+  lowered_row r d m s is (inl bare) = inl (record {
+    none = is.size ∙ bare.none;
+    empty = is.none bare.none ∙ bare.empty;
+    unused = record {
+      used = bare.unused.used;
+      most = ap (λ (c : Counters). c.pages) (laws.nothing r (s.size ∙ bare.none) bare.unused).0;
+      so_far = bare.unused.so_far;
+    };
+  })
+  lowered_row r d m s is (inr has) =
+      let c : Counters = stats page_weight r in
+      let there = laws.account r d.row has.stands in
+      let there_too = ap (λ (k : ℕ). slice_get d.row (k + 255)) (sym s.size) ∙ there in
+      let row = is.account c there_too
+      ∙ ap (λ (k : ℕ). slice_set d.row (k + 255)
+      (Some (holds.Account (record c { most = c.pages })))) (sym s.size) in
+      inr (record {
+        some = omega (arith, has.some, is.size);
+        stands = subst (StandsFor (lowered r)) (sym row) (laws.max r d.row c has.stands there);
+      })
+
+  lowered_stands : (r : Rest) (d m : Disk) → Stands r d → IsLowered d m → Stands (lowered r) m
+  lowered_stands r d m s is = record {
+    size = s.size ∙ sym is.size;
+    most = omega (arith, s.most, is.size);
+    limit = s.limit ∙ sym is.limit;
+    clock = s.clock;
+    chain = s.chain;
+    row = lowered_row r d m s is s.row;
   }
 
   -- ---- reports
@@ -271,6 +307,13 @@ module _ (laws : Laws) where
       (λ none. bare (sym steps.1.size ∙ none)) (limit_stands r d steps.0 n s steps.1) steps.2 in (
         rest.0,
         (next, [], lines, (refl, refl), rest.1, refl),
+        rest.2,
+      )
+  legal_by u (items.Attr LowerMax ∷ more) r d turns lines last may bare s steps =
+      let rest = legal_by (with_attr u LowerMax) more (lowered r) steps.0 turns lines last may.2
+      (λ none. bare (sym steps.1.size ∙ none)) (lowered_stands r d steps.0 s steps.1) steps.2 in (
+        rest.0,
+        (lowered r, [], lines, (refl, refl), rest.1, refl),
         rest.2,
       )
   legal_by u (items.Report q ∷ more) r d turns lines last may bare s steps =

@@ -15,7 +15,7 @@ use Rattle.zr_core.specs.Machines.{PhaseSteps, rounds_of}
 use Rattle.zr_core.specs.Rests.{account_of, new_disk}
 use Rattle.zr_core.specs.Rows.{AreNew}
 use Rattle.zr_core.specs.Runs.{turns_of}
-use Rattle.job_text.specs.declared.job.Attr.TheVariants.{DiskPages, LimitPages}
+use Rattle.job_text.specs.declared.job.Attr.TheVariants.{DiskPages, LimitPages, LowerMax}
 use Rattle.job_text.specs.declared.job.Report.{Report}
 use Rattle.job_text.specs.declared.job.Report.TheVariants as reports
 use Rattle.job_text.specs.declared.job.Item.{Item}
@@ -63,6 +63,14 @@ pub record IsLimited (d : Disk) (n : ℕ) (m : Disk) : Type 0 where
   pub account : (c : Counters) → slice_get d.row (d.size + 255) ≡ Some (Some (holds.Account c))
       → m.row ≡ slice_set d.row (d.size + 255) (Some (holds.Account (record c { limit = n })))
 
+-- The disk where the account's maximum is lowered to its frames, if there is an account.
+pub record IsLowered (d m : Disk) : Type 0 where
+  pub size : m.size ≡ d.size
+  pub limit : m.limit ≡ d.limit
+  pub none : d.size ≡ 0 → m.row ≡ d.row
+  pub account : (c : Counters) → slice_get d.row (d.size + 255) ≡ Some (Some (holds.Account c))
+      → m.row ≡ slice_set d.row (d.size + 255) (Some (holds.Account (record c { most = c.pages })))
+
 -- A job's lines by one list of turns for each phase. Attributes print nothing, a report changes
 -- nothing, and a phase begins on the disk that the items before it left.
 abbrev pub Stepped : Disk → List Item → List (List ℕ) → List OutLine → Disk → Type 0
@@ -71,6 +79,8 @@ Stepped d (items.Attr (DiskPages n) ∷ more) turns lines last =
     (m : Disk) × IsNewDisk d n m × Stepped m more turns lines last
 Stepped d (items.Attr (LimitPages n) ∷ more) turns lines last =
     (m : Disk) × IsLimited d n m × Stepped m more turns lines last
+Stepped d (items.Attr LowerMax ∷ more) turns lines last =
+    (m : Disk) × IsLowered d m × Stepped m more turns lines last
 Stepped d (items.Report report ∷ more) turns lines last =
     (rest : List OutLine) × Stepped d more turns rest last × (lines ≡ report_of d report ++ rest)
 Stepped d (items.Phase text ∷ more) turns lines last =

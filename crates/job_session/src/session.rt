@@ -27,6 +27,7 @@ fn set_attr(world: &mut World, attr: Attr) -> Result<(), AllocError>
     match attr {
         Attr::DiskPages(pages) => world.set_disk(pages)?,
         Attr::LimitPages(pages) => world.set_limit(pages),
+        Attr::LowerMax => world.lower_max(),
     }
     Ok(())
 }

@@ -118,6 +118,11 @@ fn tells_reports(rt: HostRuntime) -> Result<(), Fail> {
             "op 0 0 limit 0 2 1 done 0\nop 0 1 ok\norder 0 0:1\nmm_stat 4096 4096 4096 4096 4096 0 0 1 1\nio_stat 0 1 0 0\n",
         ),
         (
+            "mem_used_max 0\ndisksize 4K\nactor\nwrite 0 8 seq f4240 1\ndiscard 0 8\nrun\nmm_stat\nmem_used_max 0\nmm_stat\n",
+            Status::Done,
+            "op 0 0 ok\nop 0 1 ok\norder 0 0:0 0:1\nmm_stat 0 0 0 0 8192 0 0 0 0\nmm_stat 0 0 0 0 0 0 0 0 0\n",
+        ),
+        (
             "disksize 4K\nactor\nwrite 8 1 fill 1\nwrite 7 1 fill 1\nrun\nio_stat\n",
             Status::Refused,
             "op 0 0 range\nop 0 1 ok\norder 0 0:1\nio_stat 0 0 1 0\n",

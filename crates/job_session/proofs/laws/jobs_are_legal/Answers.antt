@@ -12,6 +12,7 @@ returns c =
       leaves = c.phases_end.ensures.leaves;
       new = c.disks_begin.ensures;
       limits = c.rows_stand.ensures.limit;
+      max = c.rows_stand.ensures.max;
       reports = c.rows_print.ensures.reports;
       account = c.rows_print.ensures.account;
       nothing = c.rows_print.ensures.nothing;
