@@ -94,6 +94,7 @@ class Value(NamedTuple):
 VALUES = {
     "SIZE": Value(size, lambda pages: 1 <= pages <= 262_144, "1 to 262,144 pages"),
     "LIMIT": Value(size, lambda pages: pages <= 2 ** 28, "at most 2^28 pages"),
+    "NUMBER": Value(number, lambda value: value == 0, "0"),
     "START": Value(number, lambda sector: sector < 2 ** 32, "a sector below 2^32"),
     "COUNT": Value(number, lambda count: 1 <= count <= 2_048, "1 to 2,048 sectors"),
     "WORD64": Value(word64, any_value, ""),
@@ -107,6 +108,7 @@ VALUES = {
 FORMS = [form.split() for form in (
     "disksize SIZE",
     "mem_limit LIMIT",
+    "mem_used_max NUMBER",
     "mm_stat",
     "io_stat",
     "states",
@@ -228,6 +230,10 @@ class Limit(NamedTuple):
     frames: int
 
 
+class LowerMax(NamedTuple):
+    """An item of a job: the greatest number of frames charged is from now on what is charged now."""
+
+
 class Report(NamedTuple):
     """An item of a job: a report is printed."""
     name: str
@@ -241,7 +247,7 @@ class Phase:
     schedule: list[Turns] = field(default_factory=list)
 
 
-Item = Union[Size, Limit, Report, Phase]
+Item = Union[Size, Limit, LowerMax, Report, Phase]
 AFTER_SCHEDULE = "after a `schedule` come only more of it and `run`"
 
 
@@ -296,6 +302,11 @@ class Reader:
         """`mem_limit LIMIT`: any time outside a phase, before and after the disk's size."""
         self.want(self.phase is None, "order", "`mem_limit` stands outside a phase")
         self.items.append(Limit(values["LIMIT"][0]))
+
+    def says_mem_used_max(self, values: dict[str, list[Any]], words: list[str]) -> None:
+        """`mem_used_max 0`: any time outside a phase, before and after the disk's size."""
+        self.want(self.phase is None, "order", "`mem_used_max` stands outside a phase")
+        self.items.append(LowerMax())
 
     def says_report(self, values: dict[str, list[Any]], words: list[str]) -> None:
         """`mm_stat`, `io_stat`, `states`, `classes`: any time outside a phase."""

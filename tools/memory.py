@@ -334,7 +334,7 @@ class Pool(NamedTuple):
 # ---- 5. the account
 
 class Account(NamedTuple):
-    """The frames charged, the limit, the greatest number of frames charged, and the counters. The first four of these
+    """The frames charged, the limit, their greatest number since it was lowered, and the counters. The first four of these
     are of the pages as they are, the others of what has happened."""
     frames: int = 0
     limit: int = 0
@@ -358,6 +358,10 @@ class Account(NamedTuple):
         """With so many frames more."""
         frames = self.frames + need
         return self._replace(frames=frames, most=max(self.most, frames))
+
+    def lowered(self) -> Account:
+        """With the frames that are charged as their greatest number."""
+        return self._replace(most=self.frames)
 
     def counted(self, counter: str, by: int = 1) -> Account:
         """With a counter raised."""

@@ -22,7 +22,8 @@ import sys
 from dataclasses import dataclass, field
 from typing import Callable, Dict, Iterable, Iterator, NamedTuple, Optional, Tuple, Type, Union
 
-from language import MOST_BYTES, SECTORS, WORDS, Fault, Item, Limit, Op, Phase, Report, Size, fill_sector, read_job
+from language import (MOST_BYTES, SECTORS, WORDS, Fault, Item, Limit, LowerMax, Op, Phase, Report, Size, fill_sector,
+                      read_job)
 from memory import (LAST_CLASS, ZERO_PAGE, Account, Form, Kept, Page, Pool, Pooled, Same, Stored, chain_of, form_of, per,
                     size_of, stands_as)
 
@@ -617,6 +618,8 @@ def results_of(items: Iterable[Item], row: Row, pages: int = 0,
             pages = item.pages
         elif isinstance(item, Limit):
             row[ACCOUNT] = account_at(row)._replace(limit=item.frames)
+        elif isinstance(item, LowerMax):
+            row[ACCOUNT] = account_at(row).lowered()
         elif isinstance(item, Report):
             yield list(report_of(item.name, row))
         else:
