@@ -51,7 +51,7 @@ split_near s line =
     true_near s.count (bound_of s) (modulus_of s) (values s.width s.count line)
     (length-values s.width s.count line)
 
-true_fits : (c : Code) (line : List ℕ) → fits c line ≡ true → FitsCode c line
+pub true_fits : (c : Code) (line : List ℕ) → fits c line ≡ true → FitsCode c line
 true_fits Zeros line e = λ k d lt. get_or_default_zero line k d lt ∙ all_true 0 line e k lt
 true_fits Repeated line e = λ j lt. all_true _ (values 8 8 line) e j
     (omega (arith, length-values 8 8 line))
@@ -63,7 +63,7 @@ true_fits B4D2 line e = near_split b4d2 line e
 true_fits B2D1 line e = near_split b2d1 line e
 true_fits Raw line e = tt
 
-fits_true : (c : Code) (line : List ℕ) → FitsCode c line → fits c line ≡ true
+pub fits_true : (c : Code) (line : List ℕ) → FitsCode c line → fits c line ≡ true
 fits_true Zeros line h = true_all 0 line (λ j lt. h j 0 lt)
 fits_true Repeated line h = true_all _ (values 8 8 line)
     (λ j lt. h j (omega (arith, length-values 8 8 line)))

@@ -1,6 +1,7 @@
 pub mod Bits
 pub mod Bytes
 pub mod Digits
+pub mod Equal
 pub mod Lanes
 pub mod Large
 pub mod Least

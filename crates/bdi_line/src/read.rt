@@ -6,6 +6,7 @@ ghost use Rattle.std.specs.Prelude.{◌≡◌, ◌≤◌, ◌↔◌, List, ℕ, 
 ghost use Rattle.std.specs.Simd.Lanes.{number_l, chunk};
 ghost use Rattle.bdi_line.specs.Line.{IsSplit, values, b8d1, b8d2, b8d4, b4d1, b4d2, b2d1};
 ghost use Rattle.bdi_line.specs.Coded.{IsCoded, IsByteLine, size_of};
+ghost use Rattle.bdi_line.specs.declared.codes.Code.TheVariants.{Zeros, Repeated};
 
 use crate::codes::Code;
 use crate::halves::{based_halves, halves_from_1, halves_from_2, line_of_halves, signed_halves};
@@ -18,7 +19,7 @@ use arrayvec::ArrayVec;
 use std::simd::prelude::*;
 
 /// The line whose packing is this code and payload; None where no line has it.
-#[inline]
+#[inline(always)]
 pub fn unpack_line(code: Code, payload: &[u8]) -> Option<[u8; 64]>
     ensures some { IfSome result (λ line. IsCoded line code payload.now) }
     ensures only { IfSome result (λ found. (line : List ℕ) → IsByteLine line
@@ -30,11 +31,50 @@ pub fn unpack_line(code: Code, payload: &[u8]) -> Option<[u8; 64]>
         return None;
     }
     let line = decode_line(code, payload);
-    if is_coded(&line, code, payload) {
+    if holds(&line, code, payload) {
         Some(line)
     } else {
         None
     }
+}
+
+// Whether the line that was decoded is packed so. The payload of equal words tells that by itself;
+// any other line is packed again.
+#[inline(always)]
+fn holds(line: &[u8; 64], code: Code, payload: &[u8]) -> bool
+    requires size { length payload.now ≡ size_of code }
+    requires only { (other : List ℕ) → IsByteLine other → IsCoded other code payload.now
+        → other ≡ line.now }
+    ensures { IsTrue result ↔ IsCoded line.now code payload.now }
+{
+    match code {
+        Code::Zeros => holds_zeros(line, payload),
+        Code::Repeated => holds_repeated(line, payload),
+        _ => is_coded(line, code, payload),
+    }
+}
+
+// Nothing is kept of zeros.
+#[inline(always)]
+fn holds_zeros(line: &[u8; 64], payload: &[u8]) -> bool
+    requires only { (other : List ℕ) → IsByteLine other → IsCoded other Zeros payload.now
+        → other ≡ line.now }
+    ensures { IsTrue result ↔ IsCoded line.now Zeros payload.now }
+{
+    let _size = line.len();
+    payload.is_empty()
+}
+
+// A word that isn't 0 is kept of equal words.
+#[inline(always)]
+fn holds_repeated(line: &[u8; 64], payload: &[u8]) -> bool
+    requires size { length payload.now ≡ 8 }
+    requires only { (other : List ℕ) → IsByteLine other → IsCoded other Repeated payload.now
+        → other ≡ line.now }
+    ensures { IsTrue result ↔ IsCoded line.now Repeated payload.now }
+{
+    let _size = line.len();
+    word_at_front(payload) != 0
 }
 
 // Whether this is how the line is packed.

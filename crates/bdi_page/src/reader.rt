@@ -7,10 +7,11 @@
 
 ghost use Rattle.std.specs.Prelude.{◌≡◌, ◌+◌, ◌*◌, ◌<◌, ◌≤◌, ℕ, List, false, length, IsTrue, IfSome, IsNone};
 ghost use Rattle.std.specs.Simd.Lanes.{put_chunk};
+ghost use Rattle.bdi_line.specs.Coded.{code_number};
 ghost use Rattle.bdi_page.specs.Packing.{IsPacking, IsPage};
 ghost use Rattle.bdi_page.specs.Pairs.{HasLine, IsLinePut, IsLineRead, HasPair, IsPairPut, IsPairRead};
 
-use bdi_line::{Code, decode_line, lines_have_one_coding, unpack_line};
+use bdi_line::{Code, codings_have_one_line, decode_line, lines_have_one_coding, unpack_line};
 use std::simd::prelude::*;
 use zr_base::Page;
 
@@ -62,8 +63,9 @@ fn unpack_pair(bytes: &[u8], j: usize, at: usize, read: &mut [u8]) -> Option<usi
     Some(next)
 }
 
-// Reads line i, whose code has this number and whose payload is at `at`.
-#[inline]
+// Reads line i, whose code has this number and whose payload is at `at`. Lines of equal words are
+// read where they are met, the others in a function of their own.
+#[inline(always)]
 fn read_line(bytes: &[u8], number: u8, at: usize, i: usize, read: &mut [u8]) -> Option<usize>
     requires within { at ≤ length bytes.now }
     requires line { i < 64 }
@@ -75,6 +77,26 @@ fn read_line(bytes: &[u8], number: u8, at: usize, i: usize, read: &mut [u8]) -> 
 {
     lines_have_one_coding();
     let code = Code::of_number(number)?;
+    match code {
+        Code::Zeros => read_coded(bytes, Code::Zeros, at, i, read),
+        Code::Repeated => read_coded(bytes, Code::Repeated, at, i, read),
+        _ => read_wider(bytes, code, at, i, read),
+    }
+}
+
+// Reads line i, which has this code and whose payload is at `at`.
+#[inline(always)]
+fn read_coded(bytes: &[u8], code: Code, at: usize, i: usize, read: &mut [u8]) -> Option<usize>
+    requires within { at ≤ length bytes.now }
+    requires line { i < 64 }
+    requires size { length read.old ≡ 4096 }
+    ensures size { length read.new ≡ 4096 }
+    ensures some { IfSome result (IsLineRead bytes.now (code_number code) at i read.old read.new) }
+    ensures none { IsNone result → (line rest : List ℕ)
+        → HasLine bytes.now (code_number code) at line rest → ⊥ }
+{
+    codings_have_one_line();
+    lines_have_one_coding();
     let size = code.size() as usize;
     if size > bytes.len() - at {
         return None;
@@ -82,6 +104,20 @@ fn read_line(bytes: &[u8], number: u8, at: usize, i: usize, read: &mut [u8]) -> 
     let line = unpack_line(code, &bytes[at..at + size])?;
     put_line(read, 64 * i, &line);
     Some(at + size)
+}
+
+// The same, in a function of its own.
+#[inline(never)]
+fn read_wider(bytes: &[u8], code: Code, at: usize, i: usize, read: &mut [u8]) -> Option<usize>
+    requires within { at ≤ length bytes.now }
+    requires line { i < 64 }
+    requires size { length read.old ≡ 4096 }
+    ensures size { length read.new ≡ 4096 }
+    ensures some { IfSome result (IsLineRead bytes.now (code_number code) at i read.old read.new) }
+    ensures none { IsNone result → (line rest : List ℕ)
+        → HasLine bytes.now (code_number code) at line rest → ⊥ }
+{
+    read_coded(bytes, code, at, i, read)
 }
 
 /// Sets the page whose packing `bytes` are known to be: what `unpack` sets, without its checks.

@@ -14,15 +14,13 @@ use size_class::ClassStat;
 use std::alloc::AllocError;
 use zr_base::{OpEnd, Tag};
 
+// A sum without a branch, so that many digits are made at once.
 fn hex_of(digit: u8) -> u8
     requires { digit ≤ 15 }
     ensures { result ≡ hex_digit digit }
 {
-    if digit < 10 {
-        b'0' + digit
-    } else {
-        b'a' + (digit - 10)
-    }
+    let above = if digit < 10 { 0 } else { b'a' - b'0' - 10 };
+    b'0' + digit + above
 }
 
 // Puts the digits of bytes, two lower-case ones each, over a text that is as long.

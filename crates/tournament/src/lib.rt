@@ -7,7 +7,7 @@ mod tree;
 
 ghost use Rattle.std.specs.Prelude.{◌≡◌, ◌+◌, ◌-◌, ◌*◌, ◌<◌, ◌≤◌, ◌^◌, ◌++◌, ◌∷◌, [], ℕ, List, length, take, replicate, slice_index, slice_set, IfOk, OnOk, OnErr};
 ghost use Rattle.tournament.specs.Winner.{IsWinner, IsLastWinner};
-ghost use Rattle.tournament.specs.Tree.{IsTournament, IsTree, node, leaf};
+ghost use Rattle.tournament.specs.Tree.{IsTournament, IsTree, node, leaf, spare};
 
 use crate::tree::{Node, better, put};
 use std::alloc::{AllocError, Global};
@@ -154,7 +154,19 @@ fn even_tree(alloc: Global, room: usize, rank: u32) -> Result<Vec<Node>, AllocEr
     Ok(nodes)
 }
 
-/// The tree of some ranks with room for more.
+// The leaf of a place, with its rank if it has one.
+fn leaf_of(ranks: &[u32], place: usize) -> Node
+    ensures leaf { place < length ranks.now → result ≡ leaf (slice_index ranks.now place) place }
+    ensures spare { length ranks.now ≤ place → result ≡ spare place }
+{
+    if place < ranks.len() {
+        Node::leaf(ranks[place], place)
+    } else {
+        Node::spare(place)
+    }
+}
+
+/// The tree of some ranks with room for more. It takes a time that grows with the room.
 fn nodes_of(alloc: Global, ranks: &[u32], room: usize) -> Result<Vec<Node>, AllocError>
     requires fits { length ranks.now ≤ room }
     requires small { room < 2 ^ 62 }
@@ -163,12 +175,10 @@ fn nodes_of(alloc: Global, ranks: &[u32], room: usize) -> Result<Vec<Node>, Allo
     let mut nodes = Vec::new(alloc);
     nodes.resize(2 * room, Node::spare(0))?;
     for place in 0..room {
-        let leaf = if place < ranks.len() {
-            Node::leaf(ranks[place], place)
-        } else {
-            Node::spare(place)
-        };
-        put(&mut nodes, room, place, leaf);
+        nodes[room + place] = leaf_of(ranks, place);
+    }
+    for at in (1..room).rev() {
+        nodes[at] = better(nodes[2 * at], nodes[2 * at + 1]);
     }
     Ok(nodes)
 }
