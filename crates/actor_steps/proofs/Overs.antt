@@ -117,7 +117,7 @@ fits_later size pl pl' k (Read start count) r ne on f = (
 fits_here : (size : ℕ) (pl pl' : Place) (op : Op) (was is : Reply) (k : Bool) (end : PieceEnd)
     (page : List ℕ) → IsOnward (behind pl) pl'
     → vec_len is.sectors ≤ vec_len was.sectors + reads op pl.page
-    → vec_capacity is.sectors ≡ vec_capacity was.sectors
+    → vec_capacity was.sectors ≤ vec_capacity is.sectors
     → is.sectors.items ≡ was.sectors.items ++ got_of_piece end page (part_at pl op)
     → is_single size op ≡ k → EndsAs k end
     → ReplyFits size pl pl.nr op was → ReplyFits size pl' pl.nr op is

@@ -22,4 +22,4 @@ pub record HasMore (nr : ℕ) (end : OpEnd) (got : List (List ℕ)) (n : ℕ) (o
   pub ends : is.end ≡ end
   pub sectors : is.sectors.items ≡ was.sectors.items ++ got
   pub len : vec_len is.sectors ≤ vec_len was.sectors + n
-  pub room : vec_capacity is.sectors ≡ vec_capacity was.sectors
+  pub room : vec_capacity was.sectors ≤ vec_capacity is.sectors

@@ -63,7 +63,7 @@ fn keep_sectors(op: &Op, page: u32, end: PieceEnd, read: &Page, sectors: &mut Ve
     ensures got { (p : Part) → p.op ≡ op.now → p.page ≡ page
         → sectors.new.items ≡ sectors.old.items ++ got_of end read.now p }
     ensures len { vec_len sectors.new ≤ vec_len sectors.old + reads op.now page }
-    ensures capacity { vec_capacity sectors.new ≡ vec_capacity sectors.old }
+    ensures capacity { vec_capacity sectors.old ≤ vec_capacity sectors.new }
 {
     if !matches!(end, PieceEnd::Read { .. }) {
         return;

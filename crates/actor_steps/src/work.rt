@@ -42,18 +42,20 @@ pub(crate) fn bring(start: u64, count: u32, stuff: &Stuff, piece: Piece, fresh: 
     put_sectors(stuff, from, fresh, piece.first, piece.count);
 }
 
-// Appends the sectors of a page from the `first`-th on.
+// Appends the sectors of a page from the `first`-th on, all at once.
 fn append_sectors(page: &Page, first: u8, count: u8, sectors: &mut Vec<[u8; 512]>)
     requires within { first + count ≤ 8 }
     requires room { vec_len sectors.old + count ≤ vec_capacity sectors.old }
     ensures items { sectors.new.items
         ≡ sectors.old.items ++ map (page_sector page.now) (range_with_len first count) }
     ensures len { vec_len sectors.new ≡ vec_len sectors.old + count }
-    ensures capacity { vec_capacity sectors.new ≡ vec_capacity sectors.old }
+    ensures capacity { vec_capacity sectors.old ≤ vec_capacity sectors.new }
 {
-    for at in first..first + count {
-        sectors.push_reserved(*page.sector(at));
-    }
+    let (all, _) = page.bytes().as_chunks::<512>();
+    let from = first as usize;
+    sectors
+        .extend_from_slice(&all[from..from + count as usize])
+        .unwrap();
 }
 
 /// Appends the sectors that a read has on a page.
@@ -72,7 +74,7 @@ pub(crate) fn append_read(
     ensures got { sectors.new.items ≡ sectors.old.items
         ++ got_by (Read start count) piece.page.0 (λ s. page_sector page.now (s - 8 * piece.page.0)) }
     ensures len { vec_len sectors.new ≡ vec_len sectors.old + reads (Read start count) piece.page.0 }
-    ensures capacity { vec_capacity sectors.new ≡ vec_capacity sectors.old }
+    ensures capacity { vec_capacity sectors.old ≤ vec_capacity sectors.new }
 {
     append_sectors(page, piece.first, piece.count, sectors);
 }
