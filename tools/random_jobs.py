@@ -29,7 +29,7 @@ STRANGE = (
     "", "x", "-1", "+1", "1.5", "0x1", "0", "00", "007", "2048", "2049", "4294967295", "4294967296",
     "18446744073709551616", "123456789012345678901234567890", "1K", "1k", "K", "4M", "1G", "1T", "262145", "0*1", "1*0",
     "*", "0*", "*1", "0*1*1", "0*16777217", "0*16777216", "63", "64", "99999999999999999", "00000000000000001", "fill",
-    "seq", "hex", "mem_limit", "mm_stat", "classes", "1048576M", "1048577M", "FILL", "read", "write", "discard", "compact", "run", "RUN", "actor", "disksize", "schedule", "idle", "all",
+    "seq", "hex", "mem_limit", "mem_used_max", "mm_stat", "classes", "1048576M", "1048577M", "FILL", "read", "write", "discard", "compact", "run", "RUN", "actor", "disksize", "schedule", "idle", "all",
     "\x0b", "\x0c", "\xa0", "\r", "\0", "\xff", "#", "run#", "a" * 60,
 )
 # Whole lines that are wrong in most places.
@@ -37,6 +37,7 @@ STRANGE_LINES = (
     "run", "actor", "disksize 8K", "disksize 0", "disksize 1G1", "schedule 0", "schedule 3", "schedule", "read 0 1",
     "write 0 1 fill 1", "write 0 1 hex 00", "write 4294967296 1 hex 00", "write 0 2049 hex 00", "discard 0 8", "idle 5",
     "mem_limit 4K", "mem_limit", "mem_limit 1T", "mem_limit 1048577M", "mem_limit 18446744073709551616", "mm_stat",
+    "mem_used_max 0", "mem_used_max 00", "mem_used_max 1", "mem_used_max 0K", "mem_used_max",
     "io_stat", "states", "classes", "mm_stat 1", "io_stat mm_stat", "classes all", "compact", "compact 0", "writeback idle", "read 4294967295 2048", "read 0 0", "write 0 1 seq 1", "write 0 1 fill 1 2", "run run",
 )
 
@@ -171,8 +172,9 @@ class Maker:
         return ["actor", "write 0 5 seq 0 9e3779b97f4a7c15"] + last + ["run"]
 
     def between(self) -> list[str]:
-        """What stands between phases: limits, mostly small ones, and reports."""
+        """What stands between phases: limits, mostly small ones, lowered maxima, and reports."""
         lines = [f"mem_limit {self.chance.choice(LIMITS)}"] if self.one_in(3) else []
+        lines += ["mem_used_max 0", "mm_stat"] if self.one_in(6) else []
         return lines + [self.chance.choice(REPORTS) for _ in range(self.chance.randrange(4) if self.one_in(2) else 0)]
 
     def read_back(self) -> list[str]:
