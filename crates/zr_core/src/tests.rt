@@ -17,10 +17,10 @@ fn makes_a_disk(rt: HostRuntime) -> Result<(), Fail> {
     world.set_disk(2)?;
     assert_eq!(rt; world.pages(), 2);
     assert_eq!(rt; world.mm_stat().limit, 12288);
-    world.lower_max();
-    assert_eq!(rt; world.mm_stat().max, 0);
     assert_eq!(rt; world.class_stat(71), None);
     assert!(rt; world.entry(PageIx(1)).order().is_empty());
+    world.lower_max();
+    assert_eq!(rt; world.mm_stat().max, 0);
     Ok(())
 }
 
