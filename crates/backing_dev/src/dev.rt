@@ -1,12 +1,11 @@
 //! A device with the counters of zram's `bd_stat`: a call is one call of the device, and counts
 //! where it succeeds.
 
-ghost use Rattle.std.specs.Prelude.{◌≡◌, ◌<◌, ◌≤◌, OnOk, OnErr, IfErr};
-ghost use Rattle.backing_dev.specs.Contents.{HasBlock, ChangesOnly, IsHonest};
-ghost use Rattle.backing_dev.specs.Calls.{HasOneCallMore};
-ghost use Rattle.zr_base.specs.Faults.{HasCause};
+ghost use Rattle.std.specs.Prelude.{◌≡◌, ◌<◌, OnOk, OnErr, IfErr};
+ghost use Rattle.backing_dev.specs.Dev.{DeviceState, ReadsBlock, FailsToRead, WritesBlock, FailsToWrite};
 
 use crate::backing::Backing;
+use std::marker::Model;
 use zr_base::Page;
 
 /// A device, and how many of its calls succeeded. A count stands still at 2^64 - 1.
@@ -17,14 +16,34 @@ pub struct Dev<D: Backing> {
     writes: u64,
 }
 
-impl<D: Backing> Dev<D> {
-    ghost use Rattle.backing_dev.specs.Dev.{device_of, reads_of, writes_of, count_after};
+impl<D: Backing> Model for Dev<D> {
+    ghost use Rattle.backing_dev.specs.Dev.{DeviceState};
 
+    ghost Value = { DeviceState };
+
+    ghost view = { λ d. record {
+      blocks = D.block_count d.dev;
+      contents = D.contents d.dev;
+      faults = D.fault_count d.dev;
+      calls = D.calls d.dev;
+      references = D.references d.dev;
+      reads = d.reads;
+      writes = d.writes;
+    } };
+}
+
+impl<D: Backing> Dev<D> {
     /// Takes the device, with no calls counted.
     pub fn new(dev: D) -> Dev<D>
-        ensures device { device_of result ≡ dev }
-        ensures reads { reads_of result ≡ 0 }
-        ensures writes { writes_of result ≡ 0 }
+        ensures { result ≡ record {
+          blocks = D.block_count dev;
+          contents = D.contents dev;
+          faults = D.fault_count dev;
+          calls = D.calls dev;
+          references = D.references dev;
+          reads = 0;
+          writes = 0;
+        } }
     {
         Dev {
             dev,
@@ -35,7 +54,11 @@ impl<D: Backing> Dev<D> {
 
     /// Gives the device back.
     pub fn into_inner(self) -> D
-        ensures device { result ≡ device_of self }
+        ensures blocks { D.block_count result ≡ self.blocks }
+        ensures contents { D.contents result ≡ self.contents }
+        ensures faults { D.fault_count result ≡ self.faults }
+        ensures calls { D.calls result ≡ self.calls }
+        ensures same { D.references result ≡ self.references }
     {
         let Dev {
             dev,
@@ -45,40 +68,33 @@ impl<D: Backing> Dev<D> {
         dev
     }
 
+    /// How many blocks the device has.
+    pub fn blocks(&self) -> u32
+        ensures { result ≡ self.now.blocks }
+    {
+        self.dev.blocks()
+    }
+
     /// How many reads succeeded.
     pub fn reads(&self) -> u64
-        ensures count { result ≡ reads_of self.now }
+        ensures count { result ≡ self.now.reads }
     {
         self.reads
     }
 
     /// How many writes succeeded.
     pub fn writes(&self) -> u64
-        ensures count { result ≡ writes_of self.now }
+        ensures count { result ≡ self.now.writes }
     {
         self.writes
     }
 
     /// Reads a block of the device. An error is the device's count of faults after the call.
     pub fn read(&mut self, b: u32, into: &mut Page) -> Result<(), u64>
-        requires { b < D.block_count (device_of self.old) }
-        ensures blocks { D.block_count (device_of self.new) ≡ D.block_count (device_of self.old) }
-        ensures same { D.references (device_of self.new) ≡ D.references (device_of self.old) }
-        ensures contents { D.contents (device_of self.new) ≡ D.contents (device_of self.old) }
-        ensures read { OnOk result (HasBlock (D.contents (device_of self.new)) b into.new) }
+        requires { b < self.old.blocks }
+        ensures read { OnOk result (ReadsBlock self.old self.new b into.new) }
+        ensures fault { IfErr result (FailsToRead self.old self.new) }
         ensures failed { OnErr result (into.new ≡ into.old) }
-        ensures cause { HasCause (D.fault_count (device_of self.old))
-            (D.fault_count (device_of self.new)) result }
-        ensures steady { OnOk result
-            (D.fault_count (device_of self.new) ≡ D.fault_count (device_of self.old)) }
-        ensures once { HasOneCallMore (D.calls (device_of self.old))
-            (D.calls (device_of self.new)) }
-        ensures honest { IsHonest (D.contents (device_of self.old))
-            (D.block_count (device_of self.old))
-            → IsHonest (D.contents (device_of self.new)) (D.block_count (device_of self.new)) }
-        ensures fault { IfErr result (λ f. f ≡ D.fault_count (device_of self.new)) }
-        ensures counted { reads_of self.new ≡ count_after result (reads_of self.old) }
-        ensures writes { writes_of self.new ≡ writes_of self.old }
     {
         match self.dev.read(b, into) {
             Ok(()) => {
@@ -92,24 +108,9 @@ impl<D: Backing> Dev<D> {
     /// Writes a block of the device. An error is the device's count of faults after the call; the
     /// block may have changed then, but no other.
     pub fn write(&mut self, b: u32, from: &Page) -> Result<(), u64>
-        requires { b < D.block_count (device_of self.old) }
-        ensures blocks { D.block_count (device_of self.new) ≡ D.block_count (device_of self.old) }
-        ensures same { D.references (device_of self.new) ≡ D.references (device_of self.old) }
-        ensures written { OnOk result (HasBlock (D.contents (device_of self.new)) b from.now) }
-        ensures others { ChangesOnly (D.contents (device_of self.old))
-            (D.contents (device_of self.new)) b }
-        ensures cause { HasCause (D.fault_count (device_of self.old))
-            (D.fault_count (device_of self.new)) result }
-        ensures steady { OnOk result
-            (D.fault_count (device_of self.new) ≡ D.fault_count (device_of self.old)) }
-        ensures once { HasOneCallMore (D.calls (device_of self.old))
-            (D.calls (device_of self.new)) }
-        ensures honest { IsHonest (D.contents (device_of self.old))
-            (D.block_count (device_of self.old))
-            → IsHonest (D.contents (device_of self.new)) (D.block_count (device_of self.new)) }
-        ensures fault { IfErr result (λ f. f ≡ D.fault_count (device_of self.new)) }
-        ensures counted { writes_of self.new ≡ count_after result (writes_of self.old) }
-        ensures reads { reads_of self.new ≡ reads_of self.old }
+        requires { b < self.old.blocks }
+        ensures written { OnOk result (WritesBlock self.old self.new b from.now) }
+        ensures fault { IfErr result (FailsToWrite self.old self.new b) }
     {
         match self.dev.write(b, from) {
             Ok(()) => {
