@@ -10,9 +10,11 @@ mod backing;
 mod dev;
 mod memory;
 mod plan;
+mod stat;
 #[cfg(test)]
 mod tests;
 
 pub use backing::Backing;
 pub use dev::Dev;
 pub use memory::MemBacking;
+pub use stat::BdStat;

@@ -6,10 +6,10 @@ use Rattle.zr_base.specs.declared.op.Tag.{Tag}
 use Rattle.zr_base.specs.declared.op.Op.{Op}
 use Rattle.zr_base.specs.declared.op.OpEnd.{OpEnd}
 use Rattle.zr_base.specs.Plain.{count_of, is_compaction}
-use Rattle.plain_disk.specs.Ends.{Ground, Bounds}
+use Rattle.plain_disk.specs.Ends.{Ground, Bounds, tells_fault}
 use Rattle.plain_disk.specs.Phases.{Given, nth_order}
 use Rattle.call_history.specs.declared.part.Done.{Done}
-use Rattle.call_history.specs.Parts.{program, EndsSo, KeepsTo, Follows, stands_so, noted_on, ops_of, ends_from, told_from}
+use Rattle.call_history.specs.Parts.{program, EndsSo, KeepsTo, Follows, stands_so, noted_on, ops_of, ends_from, told_from, dones_sum}
 use Rattle.call_history.specs.Shows.{IsTold}
 
 -- the ends of the actors' operations
@@ -52,5 +52,6 @@ pub record Agree (t : Ground) (b : ℕ → Bounds) (g : Given) (dones : List (Li
   pub turns : (p a : ℕ) → p < g.size → ops_of a (nth_order orders p) ≡ noted_on p (history dones a)
   pub reads : (a i : ℕ) (d : Done) → slice_get (history dones a) i ≡ Some d → d.part.page < g.size
       → stands_so d.part.op d.end ≡ true → IsTold g a d (nth_order orders d.part.page)
+  pub faults_differ : (f : ℕ) → dones_sum (tells_fault f) dones ≤ 1
   pub keeps : (a i : ℕ) (d : Done) → slice_get (history dones a) i ≡ Some d
       → KeepsTo t (b a) d.end

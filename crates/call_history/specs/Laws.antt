@@ -40,7 +40,8 @@ abbrev pub TellsPhase : Type 0
 TellsPhase =
     (form : List ℕ → Weight) (r : Rest) (actors : List (List Op)) (dones : List (List Done))
     (orders : List (List Tag)) (c : Counters) (m : Rest) → HasSomeEach actors
-    → Agree (phase_ground form r) (bounds form r actors orders) (begun r actors) dones orders
+    → Agree (phase_ground form r) (bounds form r actors orders m.device.faults) (begun r actors)
+    dones orders
     → Tallies form r actors dones orders c m
     → IsPhase form r actors
     (phase_lines (ends_each actors dones) (told_each actors dones) orders) m

@@ -1,9 +1,9 @@
 -- The pieces of operations that have events, and what is over of them.
-use Rattle.std.specs.Prelude.{◌≡◌, ℕ, zero, suc, ◌+◌, ◌-◌, ◌*◌, ◌<◌, ◌==◌, Bool, true, false, ◌&&◌, min, max, List, [], ◌∷◌, ◌++◌, map, if◌then◌else◌, ⊤}
+use Rattle.std.specs.Prelude.{◌≡◌, ℕ, zero, suc, ◌+◌, ◌-◌, ◌*◌, ◌<◌, ◌≤◌, ◌==◌, Bool, true, false, ◌&&◌, min, max, List, [], ◌∷◌, ◌++◌, map, if◌then◌else◌, ⊤}
 use Rattle.std.specs.List.{range_with_len}
 use Rattle.zr_base.specs.declared.op.Tag.{Tag}
 use Rattle.zr_base.specs.declared.op.Op.{Op}
-use Rattle.zr_base.specs.declared.op.Op.TheVariants.{Read}
+use Rattle.zr_base.specs.declared.op.Op.TheVariants.{Write, Read, Discard, Compact}
 use Rattle.zr_base.specs.declared.op.OpEnd.{OpEnd}
 use Rattle.zr_base.specs.declared.op.OpEnd.TheVariants as ends
 use Rattle.call_history.specs.declared.part.Part.{Part}
@@ -12,7 +12,7 @@ use Rattle.call_history.specs.declared.part.PartEnd.TheVariants as over
 use Rattle.call_history.specs.declared.part.Done.{Done}
 use Rattle.zr_base.specs.Pieces.{first_page, pages_of}
 use Rattle.zr_base.specs.Plain.{start_of, count_of, has_event}
-use Rattle.plain_disk.specs.Ends.{Ground, Bounds, is_single, MayWant, MayBeAtLimit, MayBeSingle}
+use Rattle.plain_disk.specs.Ends.{Ground, Bounds, is_single, MayWant, MayBeAtLimit, MayFault, MayBeSingle}
 
 -- the pieces with events of an operation on so many pages, from a page on
 abbrev pub parts_from : ℕ → Op → ℕ → ℕ → List Part
@@ -42,9 +42,17 @@ abbrev pub is_carried : PartEnd → Bool
 is_carried over.Carried = true
 is_carried _ = false
 
--- whether its tag was noted
+-- whether an operation is a read
+abbrev pub is_read : Op → Bool
+is_read (Write start count stuff) = false
+is_read (Read start count) = true
+is_read (Discard start count) = false
+is_read Compact = false
+
+-- whether its tag was noted: that of a read also where the device failed
 abbrev pub stands_so : Op → PartEnd → Bool
 stands_so op over.Carried = true
+stands_so op (over.Eio fault) = is_read op
 stands_so op _ = false
 
 -- what is left where a piece has ended so: a refusal ends its operation
@@ -57,11 +65,13 @@ EndsSo t p over.Carried = is_single t.size p.op ≡ false
 EndsSo t p (over.AtLimit charged need limit) = (is_single t.size p.op ≡ false)
     × MayBeAtLimit t p.op p.page charged need limit
 EndsSo t p over.NoMemory = (is_single t.size p.op ≡ false) × MayWant t.form p.op p.page
+EndsSo t p (over.Eio fault) = (is_single t.size p.op ≡ false) × MayFault t p.op p.page fault
 EndsSo t p (over.Whole end) = (is_single t.size p.op ≡ true) × MayBeSingle t p.op end
 
 -- what such an end says of the whole phase
 abbrev pub KeepsTo : Ground → Bounds → PartEnd → Type 0
 KeepsTo t b (over.AtLimit charged need limit) = limit < t.chain * b.reach
+KeepsTo t b (over.Eio fault) = fault ≤ b.faults
 KeepsTo t b _ = ⊤
 
 -- the pieces that are over, and those that are left, are those of the program; each ended in a way
@@ -109,6 +119,7 @@ abbrev pub op_end : PartEnd → ℕ → OpEnd
 op_end over.Carried n = ends.Ok
 op_end (over.AtLimit charged need limit) n = ends.AtLimit charged need limit n
 op_end over.NoMemory n = ends.NoMemory n
+op_end (over.Eio fault) n = ends.Eio fault n
 op_end (over.Whole end) n = end
 
 -- how an operation ends by one of its pieces and the end by the later ones
@@ -133,6 +144,7 @@ ends_from nr (op ∷ ops) done = end_of nr done ∷ ends_from (nr + 1) ops done
 -- the sectors that are told of an operation, of those that its pieces have read
 abbrev pub shown : Op → OpEnd → List (List ℕ) → List (List ℕ)
 shown (Read start count) ends.Ok got = got
+shown (Read start count) (ends.Eio fault done) got = got
 shown _ _ got = []
 
 -- what an actor's operations from the nr-th on tell, by their pieces

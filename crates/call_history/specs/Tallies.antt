@@ -5,10 +5,10 @@ use Rattle.zr_base.specs.declared.op.Op.{Op}
 use Rattle.mem_account.specs.declared.weight.Weight.{Weight}
 use Rattle.mem_account.specs.Counters.{Counters, at_most_end}
 use Rattle.mem_account.specs.Tally.{IsTally}
-use Rattle.plain_disk.specs.Ends.{failed_write, beyond, compacted}
-use Rattle.plain_disk.specs.Calls.{calls_sum, made_huge, freed}
+use Rattle.plain_disk.specs.Ends.{failed_read, failed_write, starved, beyond, compacted}
+use Rattle.plain_disk.specs.Calls.{calls_sum, made_huge, freed, may_fetch}
 use Rattle.plain_disk.specs.Rests.{Rest, kept_pages, frames_of, so_far_of}
-use Rattle.plain_disk.specs.Phases.{phase_sum, LeavesPages}
+use Rattle.plain_disk.specs.Phases.{phase_sum, LeavesPages, LeavesDevice}
 use Rattle.call_history.specs.declared.part.Done.{Done}
 use Rattle.call_history.specs.Alone.{IsAloneOver}
 use Rattle.call_history.specs.Parts.{dones_sum}
@@ -27,10 +27,13 @@ pub record Tallies (form : List ℕ → Weight) (r : Rest) (actors : List (List 
   pub huge_since : c.huge_since ≡ at_most_end
       (r.so_far.huge + phase_sum (λ p. calls_sum (made_huge form p) actors) r orders)
   pub compacted : c.compacted ≡ at_most_end (r.so_far.compacted + dones_sum compacted dones)
-  pub failed_reads : c.failed_reads ≡ r.so_far.failed_reads
+  pub failed_reads : c.failed_reads ≡ at_most_end
+      (r.so_far.failed_reads + dones_sum failed_read dones)
   pub failed_writes : c.failed_writes ≡ at_most_end
       (r.so_far.failed_writes + dones_sum failed_write dones)
   pub invalid_io : c.invalid_io ≡ at_most_end (r.so_far.beyond + dones_sum beyond dones)
   pub notify_free : c.notify_free ≡ at_most_end
       (r.so_far.freed + phase_sum (λ p. calls_sum freed actors) r orders)
+  pub device : LeavesDevice r.device m.device
+      (phase_sum (λ p. calls_sum may_fetch actors) r orders + dones_sum starved dones)
   pub alone : (done : List Done) → dones ≡ done ∷ [] → IsAloneOver form r done m

@@ -21,6 +21,8 @@ pub enum PartEnd {
     AtLimit { pages: u64, need: u64, limit: u64 },
     /// It was refused for want of memory.
     NoMemory,
+    /// A read of the device failed: the device's count of faults after it.
+    Eio { fault: u64 },
     /// It was all of its operation, which ended so: beyond the disk.
     Whole(OpEnd),
 }

@@ -54,6 +54,14 @@ pub enum At {
     Unpinning,
     /// It gives the slot, whose page is kept as it was.
     Leaving,
+    /// It takes the device, to read the page's block.
+    Away,
+    /// It gives the device, which has read the block or has failed.
+    Fetching,
+    /// It takes the account, to count that the device failed.
+    Failing,
+    /// It gives the account.
+    Counting,
     /// It takes the class of the new object.
     Wanting,
     /// It takes the account, to charge the new object.
@@ -66,6 +74,10 @@ pub enum At {
     Old,
     /// It gives that class, without the object.
     Freeing,
+    /// It takes the blocks, to free the one that has the page.
+    Backed,
+    /// It gives the blocks, without that one.
+    Releasing,
     /// It takes the account, to give back frames and to count the page.
     Owing,
     /// It gives the account.
@@ -132,7 +144,7 @@ pub struct Local<V> {
     pub ahead: Option<Weight>,
     /// what the entry shows, and the account doesn't count any more
     pub behind: Option<Weight>,
-    /// the page that it read from a pinned cell
+    /// the page that it read from a pinned cell or from the device
     pub page: Option<LinkedList<u8>>,
     /// the refusal that ends its piece
     pub fail: Option<PartEnd>,

@@ -1,8 +1,8 @@
 -- What the calls of an order do to one page, and sums over them.
-use Rattle.std.specs.Prelude.{ℕ, ◌+◌, Bool, true, false, ◌||◌, List, [], ◌∷◌, Option, Some, if◌then◌else◌}
+use Rattle.std.specs.Prelude.{ℕ, ◌+◌, Bool, true, false, ◌||◌, ◌&&◌, List, [], ◌∷◌, Option, Some, if◌then◌else◌}
 use Rattle.zr_base.specs.declared.op.Tag.{Tag}
 use Rattle.zr_base.specs.declared.op.Op.{Op}
-use Rattle.zr_base.specs.declared.op.Op.TheVariants.{Write, Discard}
+use Rattle.zr_base.specs.declared.op.Op.TheVariants.{Write, Read, Discard}
 use Rattle.zr_base.specs.Plain.{named, sector_after_named}
 use Rattle.mem_account.specs.declared.weight.Weight.{Weight}
 use Rattle.mem_account.specs.declared.weight.Weight.TheVariants.{Empty}
@@ -24,6 +24,16 @@ blank_by _ blank = blank
 abbrev pub after : Option Op → Found → Found
 after op f =
     record { holds = λ s. sector_after_named op s (f.holds s); blank = blank_by op f.blank }
+
+-- whether a call leaves a page where it is: only a read does
+abbrev pub leaves_page : Option Op → Bool
+leaves_page (Some (Read start count)) = true
+leaves_page _ = false
+
+-- whether all calls of an order do
+abbrev pub leave_page : List (List Op) → List Tag → Bool
+leave_page actors [] = true
+leave_page actors (tag ∷ tags) = leaves_page (named actors tag) && leave_page actors tags
 
 -- the page after the calls of an order
 abbrev pub after_all : List (List Op) → Found → List Tag → Found
@@ -56,3 +66,9 @@ made_huge form p _ before now = 0
 abbrev pub freed : Option Op → Found → Found → ℕ
 freed (Some (Discard start count)) before now = if before.blank then 0 else 1
 freed _ before now = 0
+
+-- one for a read or a write: its page may be read from the device
+abbrev pub may_fetch : Option Op → Found → Found → ℕ
+may_fetch (Some (Write start count stuff)) before now = 1
+may_fetch (Some (Read start count)) before now = 1
+may_fetch _ before now = 0

@@ -1,6 +1,6 @@
 -- How operations may end, the sectors that they then have to tell, and counts of them by their
 -- ends.
-use Rattle.std.specs.Prelude.{◌≡◌, ◌⊎◌, ℕ, ◌+◌, ◌-◌, ◌*◌, ◌<◌, ◌≤◌, Bool, true, false, ◌||◌, List, [], ◌∷◌, map, ⊤}
+use Rattle.std.specs.Prelude.{◌≡◌, ◌⊎◌, ℕ, ◌+◌, ◌-◌, ◌*◌, ◌/◌, ◌<◌, ◌≤◌, ◌==◌, min, Bool, true, false, ◌||◌, List, [], ◌∷◌, map, if◌then◌else◌, ⊤}
 use Rattle.std.specs.List.{flat_map, range_with_len}
 use Rattle.zr_base.specs.declared.op.Stuff.{Stuff}
 use Rattle.zr_base.specs.declared.op.Op.{Op}
@@ -16,17 +16,22 @@ use Rattle.plain_disk.specs.Forms.{is_pooled, in_class}
 -- ---- what ends are measured by
 
 -- What ends are measured by from the phase's start on: the form of a page by its bytes, the disk's
--- pages, the most frames of a chain, and the limit in frames, where 0 is none.
+-- pages, the most frames of a chain, the limit in frames, where 0 is none, which pages are on the
+-- backing device, and how many of its calls have failed.
 pub record Ground : Type 0 where
   pub form : List ℕ → Weight
   pub size : ℕ
   pub chain : ℕ
   pub limit : ℕ
+  pub back : ℕ → Bool
+  pub faults : ℕ
 
 -- What the ends of an actor's operations are measured by at the phase's end: the number of pages
--- that are in the pool at some moment, with that of actors.
+-- that are in the pool at some moment, with that of actors; and how many calls of the backing device
+-- have failed.
 pub record Bounds : Type 0 where
   pub reach : ℕ
+  pub faults : ℕ
 
 -- ---- the ends of an operation
 
@@ -67,6 +72,19 @@ pub record MayBeAtLimit (t : Ground) (op : Op) (page charged need limit : ℕ) :
   pub past : limit < charged + need
   pub needs : IsNeed t op page need
 
+-- The device may have failed at a read of the page, with this count of faults after it: the page
+-- was there at the phase's start, and the count has risen since.
+pub record IsFaultAt (t : Ground) (page fault : ℕ) : Type 0 where
+  pub back : t.back page ≡ true
+  pub rose : t.faults < fault
+
+-- the piece of a read may end so, and that of a write which has only a part of its page
+abbrev pub MayFault : Ground → Op → ℕ → ℕ → Type 0
+MayFault t (Write start count stuff) page fault =
+    IsFaultAt t page fault × (has_whole start count page ≡ false)
+MayFault t (Read start count) page fault = IsFaultAt t page fault
+MayFault t _ page fault = ⊥
+
 -- the ends of an operation that is over in one piece: `range` where it lies beyond the disk, and a
 -- compaction's numbers, which frees at most a chain's frames with each move
 abbrev pub MayBeSingle : Ground → Op → OpEnd → Type 0
@@ -81,13 +99,15 @@ IsCutAt pages op done = (is_single pages op ≡ false) × (done < pages_of op)
 
 -- The ends that an operation may have. A refused piece is the next one after those that were
 -- carried out. At a refusal the limit is below the frames that the pages in the pool and the actors
--- can have.
+-- can have. The count of faults that is told is at most the one at the phase's end.
 abbrev pub MayEnd : Ground → Bounds → Op → OpEnd → Type 0
 MayEnd t b op ends.Ok = is_single t.size op ≡ false
 MayEnd t b op (ends.AtLimit charged need limit done) = IsCutAt t.size op done
     × MayBeAtLimit t op (first_page op + done) charged need limit × (limit < t.chain * b.reach)
 MayEnd t b op (ends.NoMemory done) = IsCutAt t.size op done
     × MayWant t.form op (first_page op + done)
+MayEnd t b op (ends.Eio fault done) = IsCutAt t.size op done
+    × MayFault t op (first_page op + done) fault × (fault ≤ b.faults)
 MayEnd t b op end = MayBeSingle t op end
 
 -- those of an actor's operations
@@ -107,9 +127,15 @@ MayEndEach t b a (ops ∷ more) [] = ⊥
 
 -- ---- the sectors that are told
 
+-- how many sectors a request has on its first so many pages
+abbrev pub sectors_before : ℕ → ℕ → ℕ → ℕ
+sectors_before start count done = min count (8 * (start / 8 + done) - start)
+
 -- the sectors that an operation with its end tells, where a sector holds these bytes
 abbrev pub read_by : Op → OpEnd → (ℕ → List ℕ) → List (List ℕ)
 read_by (Read start count) ends.Ok bytes = map bytes (range_with_len start count)
+read_by (Read start count) (ends.Eio fault done) bytes =
+    map bytes (range_with_len start (sectors_before start count done))
 read_by _ _ bytes = []
 
 -- those of an actor's operations from the nr-th on, where each has bytes of its own
@@ -136,7 +162,24 @@ ends_sum f (ops ∷ more) (es ∷ others) = ops_sum f ops es + ends_sum f more o
 abbrev pub failed_write : Op → OpEnd → ℕ
 failed_write (Write start count stuff) (ends.AtLimit charged need limit done) = 1
 failed_write (Write start count stuff) (ends.NoMemory done) = 1
+failed_write (Write start count stuff) (ends.Eio fault done) = 1
 failed_write _ _ = 0
+
+-- one for a read that failed
+abbrev pub failed_read : Op → OpEnd → ℕ
+failed_read (Read start count) (ends.Eio fault done) = 1
+failed_read _ _ = 0
+
+-- one for a write that was refused for memory: its page may have been read from the device before
+abbrev pub starved : Op → OpEnd → ℕ
+starved (Write start count stuff) (ends.AtLimit charged need limit done) = 1
+starved (Write start count stuff) (ends.NoMemory done) = 1
+starved _ _ = 0
+
+-- one for an end that tells this count of faults
+abbrev pub tells_fault : ℕ → Op → OpEnd → ℕ
+tells_fault n op (ends.Eio fault done) = if fault == n then 1 else 0
+tells_fault n op _ = 0
 
 -- the frames that a compaction freed
 abbrev pub compacted : Op → OpEnd → ℕ

@@ -5,6 +5,7 @@ use Rattle.zr_base.specs.declared.op.OpEnd.{OpEnd}
 use Rattle.zr_base.specs.declared.op.OpEnd.TheVariants as ends
 use Rattle.mem_account.specs.declared.account.MmStat.{MmStat}
 use Rattle.mem_account.specs.declared.account.IoStat.{IoStat}
+use Rattle.backing_dev.specs.declared.stat.BdStat.{BdStat}
 use Rattle.mem_account.specs.declared.weight.Weight.{Weight}
 
 -- a page that isn't empty: its number, how it is kept, and when it was touched
@@ -20,6 +21,15 @@ pub record ClassLine : Type 0 where
   pub chain : ℕ
   pub used : List ℕ
 
+-- Why an attribute is refused.
+pub data AttrRefusal : Type 0 where
+  -- the disk's size is set already
+  disksize_busy : AttrRefusal
+  -- it is set, so that no backing can be
+  backing_busy : AttrRefusal
+  -- the device has fewer blocks
+  backing_range : AttrRefusal
+
 -- A line of an output.
 pub data OutLine : Type 0 where
   -- how an operation ended
@@ -32,6 +42,10 @@ pub data OutLine : Type 0 where
   memory : MmStat → OutLine
   -- those of what failed, was refused or was discarded
   calls : IoStat → OutLine
+  -- those of the backing device
+  device_calls : BdStat → OutLine
+  -- an attribute that was refused
+  refused : AttrRefusal → OutLine
   -- a page that isn't empty
   state : StateLine → OutLine
   -- a class of the pool
@@ -80,6 +94,7 @@ is_refused _ = true
 -- does
 abbrev pub is_refusal : OutLine → Bool
 is_refusal (ended tag end) = is_refused end
+is_refusal (refused why) = true
 is_refusal _ = false
 
 -- whether some line says that something was refused

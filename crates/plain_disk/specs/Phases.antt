@@ -1,6 +1,6 @@
 -- What a phase may print, and the rest that it leaves: its ends, for each page an order of the
 -- calls on it, and for each read the bytes that the calls before it left.
-use Rattle.std.specs.Prelude.{◌≡◌, ℕ, ◌+◌, ◌*◌, ◌/◌, ◌<◌, ◌≤◌, List, [], ◌∷◌, length, get_or, sum_by, count_by}
+use Rattle.std.specs.Prelude.{◌≡◌, ℕ, ◌+◌, ◌*◌, ◌/◌, ◌<◌, ◌≤◌, ◌&&◌, List, [], ◌∷◌, length, get_or, sum_by, count_by}
 use Rattle.std.specs.List.{range_with_len}
 use Rattle.zr_base.specs.declared.op.Tag.{Tag}
 use Rattle.zr_base.specs.declared.op.Op.{Op}
@@ -8,9 +8,10 @@ use Rattle.zr_base.specs.declared.op.OpEnd.{OpEnd}
 use Rattle.zr_base.specs.Plain.{content, order_before, IsOrder}
 use Rattle.mem_account.specs.declared.weight.Weight.{Weight}
 use Rattle.mem_account.specs.Counters.{at_most_end}
-use Rattle.plain_disk.specs.Ends.{Ground, Bounds, MayEndEach, due_from, ends_sum, failed_write, beyond, compacted}
+use Rattle.backing_dev.specs.Dev.{DeviceState, IsHonestDevice}
+use Rattle.plain_disk.specs.Ends.{Ground, Bounds, MayEndEach, due_from, ends_sum, failed_read, failed_write, starved, tells_fault, beyond, compacted}
 use Rattle.plain_disk.specs.Output.{OutLine, phase_lines}
-use Rattle.plain_disk.specs.Calls.{Found, after_all, ever_pooled, calls_sum, made_huge, freed}
+use Rattle.plain_disk.specs.Calls.{Found, leave_page, after_all, ever_pooled, calls_sum, made_huge, freed, may_fetch}
 use Rattle.plain_disk.specs.Compactions.{IsAlone}
 use Rattle.plain_disk.specs.Rests.{SoFar, Rest, page_of, kept_pages, frames_of, AreUsed}
 
@@ -53,8 +54,14 @@ begun r actors = record { size = r.size; actors = actors; before = r.holds }
 
 -- what its ends are measured by from its start on
 abbrev pub phase_ground : (List ℕ → Weight) → Rest → Ground
-phase_ground form r =
-    record { form = form; size = r.size; chain = r.set.chain; limit = r.set.limit }
+phase_ground form r = record {
+  form = form;
+  size = r.size;
+  chain = r.set.chain;
+  limit = r.set.limit;
+  back = r.back;
+  faults = r.device.faults;
+}
 
 -- the pages that are in the pool before the phase or after some first calls of their orders
 abbrev pub ever : (List ℕ → Weight) → Rest → List (List Op) → List (List Tag) → ℕ
@@ -66,9 +73,11 @@ ever form r actors orders =
 abbrev pub reach : (List ℕ → Weight) → Rest → List (List Op) → List (List Tag) → ℕ
 reach form r actors orders = ever form r actors orders + length actors
 
--- what the ends of an actor's operations are measured by at the phase's end
-abbrev pub bounds : (List ℕ → Weight) → Rest → List (List Op) → List (List Tag) → ℕ → Bounds
-bounds form r actors orders a = record { reach = reach form r actors orders }
+-- what the ends of an actor's operations are measured by at the phase's end, where so many calls of
+-- the device have failed
+abbrev pub bounds : (List ℕ → Weight) → Rest → List (List Op) → List (List Tag) → ℕ → ℕ → Bounds
+bounds form r actors orders faults a =
+    record { reach = reach form r actors orders; faults = faults }
 
 -- ---- the rest after a phase
 
@@ -84,6 +93,7 @@ so_far_after form r actors ends orders = record r.so_far {
   huge = at_most_end
       (r.so_far.huge + phase_sum (λ p. calls_sum (made_huge form p) actors) r orders);
   compacted = at_most_end (r.so_far.compacted + ends_sum compacted actors ends);
+  failed_reads = at_most_end (r.so_far.failed_reads + ends_sum failed_read actors ends);
   failed_writes = at_most_end (r.so_far.failed_writes + ends_sum failed_write actors ends);
   beyond = at_most_end (r.so_far.beyond + ends_sum beyond actors ends);
   freed = at_most_end (r.so_far.freed + phase_sum (λ p. calls_sum freed actors) r orders);
@@ -102,6 +112,23 @@ pub record IsMost (r : Rest) (reached most : ℕ) (used : ℕ → List ℕ) : Ty
   pub within : r.most < most → 0 < r.set.limit → most ≤ r.set.limit
   pub few : r.most < most → most ≤ r.set.chain * reached
 
+-- how often a phase may have read the device: once for each read and write in the orders, and for
+-- each write that was refused for memory
+abbrev pub fetches : Rest → List (List Op) → List (List OpEnd) → List (List Tag) → ℕ
+fetches r actors ends orders =
+    phase_sum (λ p. calls_sum may_fetch actors) r orders + ends_sum starved actors ends
+
+-- What a phase leaves of the device: it is the same, with as many blocks, honest where it was; its
+-- count of faults hasn't fallen; it has read at most so often; and nothing was written.
+pub record LeavesDevice (d e : DeviceState) (most : ℕ) : Type 0 where
+  pub same : e.references ≡ d.references
+  pub blocks : e.blocks ≡ d.blocks
+  pub honest : IsHonestDevice d → IsHonestDevice e
+  pub faults : d.faults ≤ e.faults
+  pub reads : d.reads ≤ e.reads
+  pub few : e.reads ≤ d.reads + most
+  pub writes : e.writes ≡ d.writes
+
 -- The rest that a phase with these orders leaves, but for what has happened so far.
 pub record LeavesPages (form : List ℕ → Weight) (r : Rest) (actors : List (List Op))
     (orders : List (List Tag)) (m : Rest) : Type 0 where
@@ -110,6 +137,8 @@ pub record LeavesPages (form : List ℕ → Weight) (r : Rest) (actors : List (L
       → m.holds s ≡ held_after (begun r actors) (nth_order orders (s / 8)) s
   pub blank : (p : ℕ) → p < r.size
       → m.blank p ≡ (after_all actors (page_of r p) (nth_order orders p)).blank
+  pub back : (p : ℕ) → p < r.size
+      → m.back p ≡ (r.back p && leave_page actors (nth_order orders p))
   pub touched : (p : ℕ) → p < r.size
       → m.touched p ≡ touched_by (nth_order orders p) r.set.clock (r.touched p)
   pub used : AreUsed r.set.chain (kept_pages form m) m.used
@@ -121,6 +150,7 @@ pub record Leaves (form : List ℕ → Weight) (r : Rest) (actors : List (List O
     (ends : List (List OpEnd)) (orders : List (List Tag)) (m : Rest) : Type 0 where
   pub pages : LeavesPages form r actors orders m
   pub so_far : m.so_far ≡ so_far_after form r actors ends orders
+  pub device : LeavesDevice r.device m.device (fetches r actors ends orders)
 
 -- ---- phases
 
@@ -129,7 +159,10 @@ pub record IsPhase (form : List ℕ → Weight) (r : Rest) (actors : List (List 
     (lines : List OutLine) (m : Rest) : Type 0 where
   pub ends : List (List OpEnd)
   pub orders : List (List Tag)
-  pub may : MayEndEach (phase_ground form r) (bounds form r actors orders) 0 actors ends
+  pub may : MayEndEach (phase_ground form r) (bounds form r actors orders m.device.faults) 0
+      actors ends
+  -- no two lines tell the same count of faults
+  pub faults_differ : (f : ℕ) → ends_sum (tells_fault f) actors ends ≤ 1
   pub every_page : length orders ≡ r.size
   pub each : (p : ℕ) → p < r.size → IsOrder actors ends p (nth_order orders p)
   pub lines_are : lines ≡ phase_lines ends (due (begun r actors) orders 0 actors ends) orders

@@ -1,16 +1,17 @@
 -- The state of a disk between two items of a job, and its statistics: sums over its pages, and
 -- counts of what has happened so far.
-use Rattle.std.specs.Prelude.{◌≡◌, ℕ, ◌*◌, ◌<◌, ◌≤◌, Bool, List, [], ◌∷◌, map, length, sum_by}
+use Rattle.std.specs.Prelude.{◌≡◌, ℕ, ◌*◌, ◌<◌, ◌≤◌, Bool, List, [], ◌∷◌, map, length, sum_by, if◌then◌else◌}
 use Rattle.std.specs.List.{flat_map, range_with_len, AllByRecursion}
 use Rattle.mem_account.specs.declared.weight.Weight.{Weight}
-use Rattle.mem_account.specs.declared.weight.Weight.TheVariants.{Empty}
+use Rattle.mem_account.specs.declared.weight.Weight.TheVariants.{Empty, Back}
 use Rattle.mem_account.specs.Counters.{Counters}
 use Rattle.mem_account.specs.Tally.{same_of, packed_of, packed_bytes_of, huge_of, back_of}
 use Rattle.mem_account.specs.Stat.{mm_stat_of, io_stat_of}
 use Rattle.size_class.specs.Classes.{chain_of, per_of}
+use Rattle.backing_dev.specs.Dev.{DeviceState}
 use Rattle.plain_disk.specs.Forms.{of_class}
 use Rattle.plain_disk.specs.Calls.{Found, kept_as}
-use Rattle.plain_disk.specs.Output.{OutLine, memory, calls, state, class_of}
+use Rattle.plain_disk.specs.Output.{OutLine, memory, calls, device_calls, state, class_of}
 
 -- ---- rests
 
@@ -40,24 +41,27 @@ nothing_yet = record {
   freed = 0;
 }
 
--- What a job has set: the limit in frames, where 0 is none, the clock in seconds, and the most
--- frames of a chain.
+-- What a job has set: the limit in frames, where 0 is none, the clock in seconds, the most frames of
+-- a chain, and how many blocks of the backing device are used, where 0 is none.
 pub record Settings : Type 0 where
   pub limit : ℕ
   pub clock : ℕ
   pub chain : ℕ
+  pub backing : ℕ
 
 -- A disk between two items of a job: its pages, none before its size is given; what each sector
--- holds; which pages are blank; when each was touched; for each class, how many cells of each of
--- its zspages are used; the greatest number of frames so far, since it was last lowered; what is set;
--- and what has happened so far.
+-- holds; which pages are blank; which are on the backing device; when each was touched; for each
+-- class, how many cells of each of its zspages are used; the greatest number of frames so far, since
+-- it was last lowered; the backing device; what is set; and what has happened so far.
 pub record Rest : Type 0 where
   pub size : ℕ
   pub holds : ℕ → List ℕ
   pub blank : ℕ → Bool
+  pub back : ℕ → Bool
   pub touched : ℕ → ℕ
   pub used : ℕ → List ℕ
   pub most : ℕ
+  pub device : DeviceState
   pub set : Settings
   pub so_far : SoFar
 
@@ -67,7 +71,7 @@ page_of r p = record { holds = r.holds; blank = r.blank p }
 
 -- how a page of the rest is kept
 abbrev pub kept_at : (List ℕ → Weight) → Rest → ℕ → Weight
-kept_at form r p = kept_as form p (page_of r p)
+kept_at form r p = if r.back p then Back else kept_as form p (page_of r p)
 
 -- how each page of the rest is kept
 abbrev pub kept_pages : (List ℕ → Weight) → Rest → List Weight
@@ -138,6 +142,8 @@ pub data Report : Type 0 where
   mm_stat : Report
   -- those of what failed, was refused or was discarded
   io_stat : Report
+  -- those of the backing device
+  bd_stat : Report
   -- a line for each page that isn't empty
   states : Report
   -- a line for each class that has zspages
@@ -147,6 +153,11 @@ pub data Report : Type 0 where
 abbrev pub report : (List ℕ → Weight) → Rest → Report → List OutLine
 report form r mm_stat = memory (mm_stat_of (stats form r)) ∷ []
 report form r io_stat = calls (io_stat_of (stats form r)) ∷ []
+report form r bd_stat = device_calls (record {
+  count = (stats form r).back;
+  reads = r.device.reads;
+  writes = r.device.writes;
+}) ∷ []
 report form r states =
     flat_map (λ p. state_line p (kept_at form r p) (r.touched p)) (range_with_len 0 r.size)
 report form r classes =

@@ -106,6 +106,7 @@ impl Entry {
             Kept::Empty => *b"....",
             Kept::Same(_) => *b"s...",
             Kept::Obj(object) => if object.huge { *b"..h." } else { *b"...." },
+            Kept::Wb(_) => *b".w..",
         }
     }
 

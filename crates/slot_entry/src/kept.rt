@@ -21,4 +21,6 @@ pub enum Kept {
     Same(u64),
     /// The page is in the pool, packed or as it is.
     Obj(Stored),
+    /// The page is in this block of the backing device.
+    Wb(u32),
 }

@@ -132,6 +132,14 @@ content actors s old (tag ∷ tags) =
 abbrev pub is_among : ℕ → ℕ → ℕ → Bool
 is_among first n page = nat_le first page && nat_lt page (first + n)
 
+-- how many pieces of an operation stand in orders where so many were carried out before a read of
+-- the device failed: a read's failed piece stands there too
+abbrev pub pieces_noted : Op → ℕ → ℕ
+pieces_noted (Write start count stuff) done = done
+pieces_noted (Read start count) done = done + 1
+pieces_noted (Discard start count) done = done
+pieces_noted Compact done = done
+
 -- whether an operation with its end stands in the order of a page: with all its pieces, or with
 -- those that were carried out before one was refused
 abbrev pub stands_on : Op → OpEnd → ℕ → Bool
@@ -139,6 +147,7 @@ stands_on op ends.Ok page = touches (start_of op) (count_of op) page && has_even
 stands_on op ends.Range page = false
 stands_on op (ends.AtLimit pages need limit done) page = is_among (start_of op / 8) done page
 stands_on op (ends.NoMemory done) page = is_among (start_of op / 8) done page
+stands_on op (ends.Eio fault done) page = is_among (start_of op / 8) (pieces_noted op done) page
 stands_on op (ends.Compacted moves frames) page = false
 
 -- whether the operation that is named stands in the order of a page with its end, where there are both

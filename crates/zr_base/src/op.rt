@@ -49,6 +49,12 @@ pub enum OpEnd {
     NoMemory {
         done: u32,
     },
+    /// A read of the device failed, after `done` pieces that were carried out: the device's count of
+    /// faults after it.
+    Eio {
+        fault: u64,
+        done: u32,
+    },
     /// A compaction was carried out: how many objects it moved, and how many frames of 4096 bytes
     /// it freed.
     Compacted {
