@@ -201,6 +201,6 @@ pub fn expand(kept: Kept, page: &mut Page)
             fill(page, word);
             is_page(page);
         }
-        Kept::Obj(_) => unreachable!(),
+        Kept::Obj(_) | Kept::Wb(_) => unreachable!(),
     }
 }
