@@ -179,13 +179,15 @@ pub data Works (t : Terms) (l : Here) (v : DiskHeld) (m : Here) : Type 0 where
       → l.held ≡ (slot p.page, holds.Slot e) ∷ [] → l.fail ≡ Some end
       → v ≡ holds.Slot e → m ≡ failing l v → Works t l v m
   -- a read of which the device failed is noted
-  errs : (p : Part) (rest : List Part) (e f : EntryState) → l.todo ≡ p ∷ rest → l.at ≡ at.Missed
-      → l.held ≡ (slot p.page, holds.Slot e) ∷ [] → is_read p.op ≡ true
+  errs : (p : Part) (rest : List Part) (e f : EntryState) (end : PartEnd) → l.todo ≡ p ∷ rest
+      → l.at ≡ at.Missed
+      → l.held ≡ (slot p.page, holds.Slot e) ∷ [] → l.fail ≡ Some end → is_read p.op ≡ true
       → Notes t.clock e f e.kept (tag_by l.actor p)
       → v ≡ holds.Slot f → m ≡ failing l v → Works t l v m
   -- a write of which it failed leaves its entry
-  leaves : (p : Part) (rest : List Part) (e : EntryState) → l.todo ≡ p ∷ rest → l.at ≡ at.Missed
-      → l.held ≡ (slot p.page, holds.Slot e) ∷ [] → is_read p.op ≡ false
+  leaves : (p : Part) (rest : List Part) (e : EntryState) (end : PartEnd) → l.todo ≡ p ∷ rest
+      → l.at ≡ at.Missed
+      → l.held ≡ (slot p.page, holds.Slot e) ∷ [] → l.fail ≡ Some end → is_read p.op ≡ false
       → v ≡ holds.Slot e → m ≡ failing l v → Works t l v m
   -- an event of a compaction
   compacts : Compacts t l v m → Works t l v m
