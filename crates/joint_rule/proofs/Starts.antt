@@ -18,7 +18,7 @@ use Rattle.joint_rule.proofs.Sums.{row_none, row_nothing}
 use Rattle.joint_rule.proofs.Takes.{IsAccount, IsDevice, IsMap, account_kind, device_kind, map_kind}
 use Rattle.joint_rule.specs.Alone.{IsCalm, compacting}
 use Rattle.joint_rule.specs.Begins.{Begin, ground_of, pieces_each, pieces_on}
-use Rattle.joint_rule.specs.Joint.{AtHome, IsActor, Joint, Sound}
+use Rattle.joint_rule.specs.Joint.{AtHome, IsActor, Joint, KeepsDevice, Sound}
 use Rattle.joint_rule.specs.Rule.{FailKeeps, OfOrder, Rule, ShowsOrder, done_by, dones, owed, owed_by, reach_at}
 use Rattle.joint_rule.specs.Stages.{StageBy, locks_by}
 use Rattle.joint_rule.specs.Starts.{IsStart}
@@ -158,6 +158,18 @@ module _ (g : Begin) (row : List (Option DiskHeld)) (size : length row ≡ g.giv
   device_sum f = row_lone (on_device f) row (g.given.size + 257)
       (holds.Device device_at.0) device_at.1
       (λ i u at ne. no_device f i u (home i u at).sound ne)
+
+-- a device is as it was
+pub keeps_self : (d : DeviceState) → d.reads < 2 ^ 64 → KeepsDevice d d
+keeps_self d low = record {
+  same = refl;
+  blocks = refl;
+  honest = λ h. h;
+  faults = omega arith;
+  reads = omega arith;
+  end = low;
+  writes = refl;
+}
 
 module _ (size : ℕ) where
   pub no_locals : (f : ℕ → DiskHeld → ℕ) (h : Here → ℕ) (ls : List Here)
