@@ -1,50 +1,26 @@
 -- What each giving does where the account counts a page or a failure of the device.
-use Rattle.std.proofs.Common.{◌≡◌, ◌+◌, ◌≤◌, ◌∷◌, ◌∙◌, ℕ, Bool, true, false, List, [], length, sum_by, Option, Some, None, slice_get, refl, sym, ap, subst, arith, inl, inr, ⊎_elim}
+use Rattle.std.proofs.Common.{◌≡◌, ◌+◌, ◌≤◌, ◌∷◌, ℕ, List, [], Some, slice_get, refl, ap, arith, inl}
 use Rattle.call_history.specs.declared.part.Part.{Part}
-use Rattle.call_history.specs.declared.part.PartEnd.{PartEnd}
-use Rattle.call_history.specs.declared.part.PartEnd.TheVariants.{AtLimit, NoMemory}
-use Rattle.class_pool.specs.Pool.{PoolState, used_cells}
-use Rattle.joint_rule.proofs.Balances.{IsBack, charged_count, fails_count, fails_fixed, fails_most, fails_pages, charged_fixed, failed_count, failed_fixed, is_back, less_outs, less_stored, more_outs, more_stored, none_fresh, settled_count, settled_fixed, settled_most, settled_pages, swap_home, swap_out, swap_stored}
+use Rattle.joint_rule.proofs.Balances.{fails_count, fails_fixed, fails_most, fails_pages, settled_count, settled_fixed, settled_most, settled_pages}
 use Rattle.joint_rule.proofs.Blocks.{apart}
-use Rattle.joint_rule.proofs.Events.{FreesPinned}
 use Rattle.joint_rule.proofs.Facts.{Known}
-use Rattle.joint_rule.proofs.Gifts.{Gift, all, fit, goes_on, locks, next_small, none_pin, old_is, some_one, stage}
-use Rattle.joint_rule.proofs.Lookups.{can_repay, class_is, has_counted, lone, mine_account, none_weight, nothing_shown, object_is, pin_is, under_account}
-use Rattle.joint_rule.proofs.Pages.{class_weight, content_page, ever_now, image_form, image_len, kept_small, pooled_weight, put_page}
-use Rattle.joint_rule.proofs.Pools.{Allocates, Swaps, chain_low, fits_less, fits_more, fits_swap}
-use Rattle.joint_rule.proofs.Stages.{made_locks, made_stage, settle_locks, settle_stage, write_blank}
-use Rattle.joint_rule.proofs.Takes.{form_claim}
-use Rattle.joint_rule.specs.Begins.{Begin, content, form_at, ground_of, image}
-use Rattle.joint_rule.specs.Joint.{AtHome, EntryFits, Joint, PoolFits, Sound}
-use Rattle.joint_rule.specs.Stages.{Bears, Changes, FailBy, IsForm, IsObj, IsPinned, IsRefusal, IsRight, IsSmall, IsWrite, Looks, MadeBy, MayFail, MayPin, Names, NoneOf, Stage, locks_at}
-use Rattle.joint_rule.specs.Weights.{Count, HeldAll, Limit, PinWeigh, at_place, cell_weight, chains, claim_by, claims, counter, counters, each_one, ever_at, fixed, fixed_count, measure, mosts, nothing, outs, pages, pin_in, shown, some_of, stored}
-use Rattle.lock_row.specs.Totals.{by_option, held_sum}
-use Rattle.lock_row.specs.declared.names.At.TheVariants.{Both, Counting, Missed, Freeing, Giving, Leaving, Made, Owing, Pinning, Ready, Unpinning}
-use Rattle.lock_row.specs.declared.names.LockNo.{LockNo}
-use Rattle.lock_row.specs.declared.names.Object.{Object}
-use Rattle.lock_row.specs.declared.names.Pin.{Pin}
+use Rattle.joint_rule.proofs.Gifts.{Gift, all, fit, goes_on, next_small, old_is, stage}
+use Rattle.joint_rule.proofs.Lookups.{can_repay, has_counted, none_weight}
+use Rattle.joint_rule.specs.Begins.{Begin}
+use Rattle.joint_rule.specs.Joint.{Joint}
+use Rattle.joint_rule.specs.Stages.{Stage}
+use Rattle.joint_rule.specs.Weights.{Count, at_place, chains, claims, counter, counters, each_one, ever_at, fixed, measure, mosts, nothing, outs, pages, shown, stored}
+use Rattle.lock_row.specs.Totals.{held_sum}
+use Rattle.lock_row.specs.declared.names.At.TheVariants.{Counting, Missed, Giving, Ready}
 use Rattle.lock_row.specs.declared.names.State.{State}
-use Rattle.mem_account.specs.Counters.{Counters, IsPastLimit, IsWithinLimit, charged, counted}
+use Rattle.mem_account.specs.Counters.{Counters}
 use Rattle.page_steps.specs.Givings.{fails_by, old_weight, settled}
-use Rattle.page_steps.specs.Nexts.{emptied, pin_of}
-use Rattle.page_steps.specs.Pages.{next_by, next_form, page_in, page_in_cell}
-use Rattle.page_steps.specs.Pools.{IsNeed}
-use Rattle.page_steps.specs.Steps.{DiskHeld, Here, on, pinned_at, quit_at, settle_at, slot, spot}
-use Rattle.plain_disk.specs.Ends.{IsOfClass, MayWant, page_put}
-use Rattle.plain_disk.specs.Forms.{in_class, is_pooled}
+use Rattle.page_steps.specs.Pages.{next_form}
+use Rattle.page_steps.specs.Steps.{DiskHeld, Here, on, slot, spot}
 use Rattle.slot_entry.specs.Entries.{EntryState, weight_of}
-use Rattle.slot_entry.specs.Forms.{PageForm, Pooled, class_in, form_of, form_weight, object_class, page_kept_as, page_weight}
-use Rattle.slot_entry.specs.declared.kept.Kept.{Kept}
-use Rattle.slot_entry.specs.declared.kept.Stored.{Stored}
-use Rattle.zr_base.specs.Plain.{has_whole}
-use Rattle.zr_base.specs.declared.op.Op.{Op}
-use Rattle.zr_base.specs.declared.op.Op.TheVariants.{Compact, Discard, Read, Write}
-use Rattle.zr_base.specs.declared.op.Stuff.{Stuff}
-use Rattle.zspage.specs.Cells.{CellState, IsStored, UsedCell, object_in}
+use Rattle.slot_entry.specs.Forms.{PageForm, form_weight}
 use Rattle.lock_row.specs.declared.names.LockNo.TheVariants as lock
 use Rattle.lock_row.specs.declared.names.Held.TheVariants as holds
-use Rattle.slot_entry.specs.declared.kept.Kept.TheVariants as kept
-use Rattle.mem_account.specs.declared.weight.Delta.TheVariants as delta
 
 module _ (g : Begin) (ok : Known g) (w : State DiskHeld) (j : Joint g w) (a : ℕ) (l : Here)
     (who : slice_get w.locals a ≡ Some l) (p : Part) (rest : List Part)

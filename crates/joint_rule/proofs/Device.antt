@@ -1,6 +1,6 @@
 -- What each giving does that has to do with the device and its blocks.
-use Rattle.std.proofs.Common.{◌≡◌, ◌+◌, ◌≤◌, ◌<◌, ◌∷◌, ◌∙◌, ◌&&◌, ℕ, Bool, true, false, List, [], length, Option, Some, None, slice_get, refl, sym, ap, subst, arith, inl, inr, length-set}
-use Rattle.backing_dev.specs.Dev.{DeviceState, FailsToRead, IsCalled, ReadsBlock}
+use Rattle.std.proofs.Common.{◌≡◌, ◌∷◌, ◌∙◌, ℕ, true, List, [], Option, Some, None, slice_get, refl, sym, ap, subst, arith, inl, inr, length-set}
+use Rattle.backing_dev.specs.Dev.{DeviceState, FailsToRead, ReadsBlock}
 use Rattle.block_map.specs.BlockMap.{BlockMap, with_state}
 use Rattle.block_map.specs.declared.state.BlockState.TheVariants.{Free, Owned}
 use Rattle.call_history.specs.Parts.{EndsSo, is_read}
@@ -8,7 +8,6 @@ use Rattle.call_history.specs.Shows.{tag_by}
 use Rattle.call_history.specs.declared.part.Part.{Part}
 use Rattle.call_history.specs.declared.part.PartEnd.{PartEnd}
 use Rattle.call_history.specs.declared.part.PartEnd.TheVariants.{Eio}
-use Rattle.joint_rule.proofs.Balances.{none_fresh}
 use Rattle.joint_rule.proofs.Blocks.{called_storage, owned_is, page_is, used_put}
 use Rattle.joint_rule.proofs.Facts.{Known}
 use Rattle.joint_rule.proofs.Gifts.{Gift, IsBare, all, fit, give_left, give_noted, goes_on, none_pin, stage}
@@ -17,11 +16,10 @@ use Rattle.joint_rule.proofs.Pages.{kept_small}
 use Rattle.joint_rule.proofs.Stages.{made_locks, made_stage, may_none, write_blank}
 use Rattle.joint_rule.specs.Begins.{Begin, content, ground_of, image}
 use Rattle.joint_rule.specs.Joint.{EntryFits, Joint, KeepsDevice, Sound}
-use Rattle.joint_rule.specs.Stages.{Bears, FailBy, IsFault, IsPartly, IsRight, IsSmall, IsWb, IsWrite, Looks, NoneOf, Stage, is_wb, locks_at}
-use Rattle.joint_rule.specs.Weights.{HeldAll, at_place, block_by, block_claims, chains, claim_by, claims, counters, device_size, each_one, ever_at, fixed, has_block, lies_at, map_size, mosts, nothing, outs, pages, shown, stored, stored_at, used_blocks, used_from}
+use Rattle.joint_rule.specs.Stages.{Bears, FailBy, IsFault, IsPartly, IsRight, IsSmall, IsWrite, Looks, Stage, is_wb, locks_at}
+use Rattle.joint_rule.specs.Weights.{HeldAll, at_place, block_by, block_claims, chains, claim_by, claims, counters, device_size, each_one, ever_at, fixed, lies_at, map_size, mosts, nothing, outs, pages, shown, stored, stored_at, used_blocks}
 use Rattle.lock_row.specs.Totals.{held_sum}
-use Rattle.lock_row.specs.declared.names.At.TheVariants.{Failing, Fetching, Leaving, Missed, Owing, Releasing}
-use Rattle.lock_row.specs.declared.names.LockNo.{LockNo}
+use Rattle.lock_row.specs.declared.names.At.TheVariants.{Failing, Fetching, Missed, Owing, Releasing}
 use Rattle.lock_row.specs.declared.names.State.{State}
 use Rattle.page_steps.specs.Givings.{Notes}
 use Rattle.page_steps.specs.Nexts.{emptied}
@@ -32,7 +30,6 @@ use Rattle.slot_entry.specs.Entries.{EntryState, weight_of}
 use Rattle.slot_entry.specs.Forms.{PageForm}
 use Rattle.slot_entry.specs.declared.kept.Kept.{Kept}
 use Rattle.std.proofs.lemmas.Bool.{and_parts}
-use Rattle.zr_base.specs.Plain.{has_whole}
 use Rattle.zr_base.specs.declared.op.Op.{Op}
 use Rattle.zr_base.specs.declared.op.Op.TheVariants.{Compact, Discard, Read, Write}
 use Rattle.lock_row.specs.declared.names.LockNo.TheVariants as lock

@@ -4,12 +4,12 @@ use Rattle.call_history.specs.declared.part.Part.{Part}
 use Rattle.call_history.specs.declared.part.PartEnd.{PartEnd}
 use Rattle.call_history.specs.declared.part.PartEnd.TheVariants.{AtLimit, NoMemory}
 use Rattle.class_pool.specs.Pool.{PoolState, used_cells}
-use Rattle.joint_rule.proofs.Balances.{IsBack, charged_count, charged_fixed, failed_count, failed_fixed, is_back, less_outs, less_stored, more_outs, more_stored, none_fresh, settled_count, settled_fixed, settled_most, settled_pages, swap_home, swap_out, swap_stored}
+use Rattle.joint_rule.proofs.Balances.{IsBack, charged_count, charged_fixed, failed_count, failed_fixed, is_back, less_outs, less_stored, more_outs, more_stored, none_fresh, swap_home, swap_out, swap_stored}
 use Rattle.joint_rule.proofs.Blocks.{apart}
 use Rattle.joint_rule.proofs.Events.{FreesPinned}
 use Rattle.joint_rule.proofs.Facts.{Known}
-use Rattle.joint_rule.proofs.Gifts.{Gift, all, fit, goes_on, locks, next_small, none_pin, old_is, some_one, stage}
-use Rattle.joint_rule.proofs.Lookups.{can_repay, class_is, has_counted, lone, mine_account, none_weight, nothing_shown, object_is, pin_is, under_account}
+use Rattle.joint_rule.proofs.Gifts.{Gift, all, fit, goes_on, locks, none_pin, some_one, stage}
+use Rattle.joint_rule.proofs.Lookups.{class_is, lone, mine_account, none_weight, nothing_shown, object_is, pin_is, under_account}
 use Rattle.joint_rule.proofs.Pages.{class_weight, content_page, ever_now, image_form, image_len, kept_small, pooled_weight, put_page}
 use Rattle.joint_rule.proofs.Pools.{Allocates, Swaps, chain_low, fits_less, fits_more, fits_swap}
 use Rattle.joint_rule.proofs.Stages.{made_locks, made_stage, settle_locks, settle_stage, write_blank}
@@ -17,15 +17,14 @@ use Rattle.joint_rule.proofs.Takes.{form_claim}
 use Rattle.joint_rule.specs.Begins.{Begin, content, form_at, ground_of, image}
 use Rattle.joint_rule.specs.Joint.{AtHome, EntryFits, Joint, PoolFits, Sound}
 use Rattle.joint_rule.specs.Stages.{Bears, Changes, FailBy, IsForm, IsObj, IsPinned, IsRefusal, IsRight, IsSmall, IsWrite, Looks, MadeBy, MayFail, MayPin, Names, NoneOf, Stage, locks_at}
-use Rattle.joint_rule.specs.Weights.{Count, HeldAll, Limit, PinWeigh, at_place, block_by, block_claims, cell_weight, chains, claim_by, claims, counter, counters, device_size, each_one, ever_at, fixed, fixed_count, lies_at, map_size, measure, mosts, nothing, outs, pages, pin_in, shown, some_of, stored, stored_at, used_blocks}
+use Rattle.joint_rule.specs.Weights.{HeldAll, Limit, PinWeigh, at_place, block_by, block_claims, cell_weight, chains, claim_by, claims, counters, device_size, each_one, ever_at, fixed, fixed_count, lies_at, map_size, mosts, nothing, outs, pages, pin_in, shown, some_of, stored, stored_at, used_blocks}
 use Rattle.lock_row.specs.Totals.{by_option, held_sum}
-use Rattle.lock_row.specs.declared.names.At.TheVariants.{Both, Freeing, Giving, Leaving, Made, Owing, Pinning, Ready, Unpinning}
+use Rattle.lock_row.specs.declared.names.At.TheVariants.{Both, Freeing, Leaving, Made, Owing, Pinning, Unpinning}
 use Rattle.lock_row.specs.declared.names.LockNo.{LockNo}
 use Rattle.lock_row.specs.declared.names.Object.{Object}
 use Rattle.lock_row.specs.declared.names.Pin.{Pin}
 use Rattle.lock_row.specs.declared.names.State.{State}
 use Rattle.mem_account.specs.Counters.{Counters, IsPastLimit, IsWithinLimit, charged, counted}
-use Rattle.page_steps.specs.Givings.{old_weight, settled}
 use Rattle.page_steps.specs.Nexts.{emptied, pin_of}
 use Rattle.page_steps.specs.Pages.{next_by, next_form, page_in, page_in_cell}
 use Rattle.page_steps.specs.Pools.{IsNeed}
