@@ -6,15 +6,16 @@ use Rattle.call_history.specs.declared.part.Done.{Done}
 use Rattle.call_history.specs.declared.part.Part.{Part}
 use Rattle.call_history.specs.declared.part.PartEnd.{PartEnd}
 use Rattle.call_history.specs.declared.part.PartEnd.TheVariants.{AtLimit, Carried, Eio, NoMemory, Whole}
+use Rattle.joint_rule.proofs.Blocks.{under_device}
 use Rattle.joint_rule.proofs.Counts.{fails_none}
 use Rattle.joint_rule.proofs.Events.{Event}
 use Rattle.joint_rule.proofs.Facts.{Known}
 use Rattle.joint_rule.proofs.Gifts.{stage}
 use Rattle.joint_rule.proofs.Lookups.{lone}
 use Rattle.joint_rule.proofs.Pools.{same_self}
-use Rattle.joint_rule.proofs.Sums.{Under, gone}
+use Rattle.joint_rule.proofs.Sums.{gone}
 use Rattle.joint_rule.specs.Begins.{Begin, ground_of, terms}
-use Rattle.joint_rule.specs.Joint.{IsActor, Joint, Sound}
+use Rattle.joint_rule.specs.Joint.{Joint}
 use Rattle.joint_rule.specs.Rule.{FailKeeps, FaultsDiffer, KeepsLimits, Limits, reach_at}
 use Rattle.joint_rule.specs.Stages.{FailAt, FailBy, IsFault, IsRefusal, NoneOf, StageBy}
 use Rattle.joint_rule.specs.Weights.{at_place, device_faults, fails_so, faults_told, none, on_device}
@@ -37,17 +38,6 @@ use Rattle.zr_base.specs.declared.op.OpEnd.TheVariants as ends
 -- ---- the device in hand
 
 module _ (g : Begin) where
-  -- another place has no device
-  under_device : (f : DeviceState → ℕ) → Under g.given.size (Sound g)
-      (at_place (spot g.given.size lock.Device)) (on_device f)
-  under_device f j (holds.Slot e) s z = refl
-  under_device f j (holds.Class p) s z = refl
-  under_device f j (holds.Account c) s z = refl
-  under_device f j (holds.Blocks x) s z = refl
-  under_device f j (holds.Device d) s z = absurd (
-      let q = ap (λ (i : ℕ). at_place (g.given.size + 257) i (holds.Device d)) s.0 in
-      let k = same_self (g.given.size + 257) in let none : ⊥ = omega arith in none)
-
   -- who holds the device has all that it weighs
   pub device_here : (w : State DiskHeld) (j : Joint g w) (a : ℕ) (l : Here)
       (who : slice_get w.locals a ≡ Some l) (d : DeviceState) (rest : List (LockNo × DiskHeld))
@@ -57,7 +47,7 @@ module _ (g : Begin) where
   device_here w j a l who d rest held f z =
       let r = ap (held_sum (spot g.given.size) (at_place (spot g.given.size lock.Device))) held in
       let k = same_self (g.given.size + 257) in
-      let t = lone g w j a l who lock.Device (on_device f) (under_device f) (omega arith) in
+      let t = lone g w j a l who lock.Device (on_device f) (under_device g f) (omega arith) in
       let s = ap (held_sum (spot g.given.size) (on_device f)) held in omega arith
 
 -- ---- what was told
