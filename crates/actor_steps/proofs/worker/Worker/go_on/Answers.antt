@@ -1,6 +1,7 @@
-use Rattle.std.proofs.Common.{List, None, refl}
+use Rattle.std.proofs.Common.{List, Option, None}
 use Rattle.call_history.specs.declared.part.Done.{Done}
 use Rattle.page_steps.specs.declared.stage.Progress.TheVariants as progress
+use Rattle.actor_steps.specs.declared.call.Call.{Call}
 use Rattle.actor_steps.specs.declared.worker.Worker.{Worker}
 use Rattle.actor_steps.specs.declared.worker.Turn.TheVariants as turn
 use Rattle.actor_steps.specs.Workers.{terms_of, with_call, Keeps}
@@ -9,12 +10,13 @@ use Rattle.actor_steps.proofs.Turns.{gone_on, call_allows, goes_on, still_fit, f
 use Rattle.actor_steps.proofs.Overs.{ends_as, can_finish, ends_fit, ends_turn}
 use Rattle.actor_steps.proofs.worker.Worker.go_on.Goals as goal
 
--- the worker beside its call
+-- the worker without its call
 abbrev beside : Worker → Worker
 beside w = with_call w None
 
-keeps_beside : (w : Worker) (done : List Done) → Keeps w done → Keeps (beside w) done
-keeps_beside w done keeps = record {
+keeps_with : (w : Worker) (o : Option Call) (done : List Done) → Keeps w done
+    → Keeps (with_call w o) done
+keeps_with w o done keeps = record {
   ends = keeps.ends;
   sectors = keeps.sectors;
   count = keeps.count;
@@ -55,10 +57,11 @@ finish-requires g c =
     let t = terms_of c.args.size c.args.now w in
     let call = c.in-Some.call in
     let fit = fit_with t ops w call c.in-Some.is c.requires.fit in
+    let v = with_call w c.clear.new.call in
     let op = there_is ops w.place.nr c.requires.more in
-    can_finish t ops (beside w) call fit op.0 op.1 c.requires.more c.advance.new.scratch
+    can_finish t ops v call fit op.0 op.1 c.requires.more c.advance.new.scratch
     c.in-Done.end
-    (ends_as t ops (beside w) call fit op.0 op.1 g.H.Hand.takes g.H.Hand.misses g.H.Hand.gives
+    (ends_as t ops v call fit op.0 op.1 g.H.Hand.takes g.H.Hand.misses g.H.Hand.gives
     c.args.hand.now c.advance.new.hand c.advance.new.scratch c.in-Done.end c.in-Done.ensures.turn)
 
 pub returns-in-Moved-clause-fit : goal.returns-in-Moved-clause-fit
@@ -85,7 +88,7 @@ returns-in-Moved-clause-turn g c done keeps =
     (gone_on (beside w) c.advance.new.scratch c.advance.new.self) c.advance.new.hand turn.Went done
     (goes_on t ops (beside w) call fit op.0 op.1 g.H.Hand.takes g.H.Hand.misses g.H.Hand.gives
     c.args.hand.now c.advance.new.hand c.advance.new.scratch c.advance.new.self progress.Moved
-    c.in-Moved.ensures.turn done (keeps_beside w done keeps))
+    c.in-Moved.ensures.turn done (keeps_with w None done keeps))
 
 pub returns-in-Waits-clause-fit : goal.returns-in-Waits-clause-fit
 returns-in-Waits-clause-fit g c =
@@ -111,7 +114,7 @@ returns-in-Waits-clause-turn g c done keeps =
     (gone_on (beside w) c.advance.new.scratch c.advance.new.self) c.advance.new.hand (turn.Waited c.in-Waits.lock) done
     (goes_on t ops (beside w) call fit op.0 op.1 g.H.Hand.takes g.H.Hand.misses g.H.Hand.gives
     c.args.hand.now c.advance.new.hand c.advance.new.scratch c.advance.new.self (progress.Waits c.in-Waits.lock)
-    c.in-Waits.ensures.turn done (keeps_beside w done keeps))
+    c.in-Waits.ensures.turn done (keeps_with w None done keeps))
 
 pub returns-in-Done-clause-fit : goal.returns-in-Done-clause-fit
 returns-in-Done-clause-fit g c =
@@ -120,10 +123,11 @@ returns-in-Done-clause-fit g c =
     let t = terms_of c.args.size c.args.now w in
     let call = c.in-Some.call in
     let fit = fit_with t ops w call c.in-Some.is c.requires.fit in
+    let v = with_call w c.clear.new.call in
     let op = there_is ops w.place.nr c.requires.more in
-    ends_fit t ops (beside w) call fit op.0 op.1 c.requires.more c.advance.new.scratch c.in-Done.end
-    (ends_as t ops (beside w) call fit op.0 op.1 g.H.Hand.takes g.H.Hand.misses g.H.Hand.gives
-    c.args.hand.now c.advance.new.hand c.advance.new.scratch c.in-Done.end c.in-Done.ensures.turn) refl c.finish.new.self c.finish.ensures c.in-Done.ensures.table
+    ends_fit t ops v call fit op.0 op.1 c.requires.more c.advance.new.scratch c.in-Done.end
+    (ends_as t ops v call fit op.0 op.1 g.H.Hand.takes g.H.Hand.misses g.H.Hand.gives
+    c.args.hand.now c.advance.new.hand c.advance.new.scratch c.in-Done.end c.in-Done.ensures.turn) c.clear.ensures c.finish.new.self c.finish.ensures c.in-Done.ensures.table
 
 pub returns-in-Done-clause-turn : goal.returns-in-Done-clause-turn
 returns-in-Done-clause-turn g c done keeps =
@@ -132,11 +136,12 @@ returns-in-Done-clause-turn g c done keeps =
     let t = terms_of c.args.size c.args.now w in
     let call = c.in-Some.call in
     let fit = fit_with t ops w call c.in-Some.is c.requires.fit in
+    let v = with_call w c.clear.new.call in
     let op = there_is ops w.place.nr c.requires.more in
     advanced_with t ops w call c.in-Some.is g.H.Hand.takes g.H.Hand.misses g.H.Hand.gives c.args.hand.now
     c.finish.new.self c.advance.new.hand turn.Went done
-    (ends_turn t ops (beside w) call fit op.0 op.1 c.requires.more c.advance.new.scratch
+    (ends_turn t ops v call fit op.0 op.1 c.requires.more c.advance.new.scratch
     c.in-Done.end
-    (ends_as t ops (beside w) call fit op.0 op.1 g.H.Hand.takes g.H.Hand.misses g.H.Hand.gives
-    c.args.hand.now c.advance.new.hand c.advance.new.scratch c.in-Done.end c.in-Done.ensures.turn) refl c.finish.new.self c.finish.ensures c.histories_go_on.ensures.got done
-    (keeps_beside w done keeps) g.H.Hand.takes g.H.Hand.misses g.H.Hand.gives c.args.hand.now c.advance.new.hand c.in-Done.ensures.turn)
+    (ends_as t ops v call fit op.0 op.1 g.H.Hand.takes g.H.Hand.misses g.H.Hand.gives
+    c.args.hand.now c.advance.new.hand c.advance.new.scratch c.in-Done.end c.in-Done.ensures.turn) c.clear.ensures c.finish.new.self c.finish.ensures c.histories_go_on.ensures.got done
+    (keeps_with w c.clear.new.call done keeps) g.H.Hand.takes g.H.Hand.misses g.H.Hand.gives c.args.hand.now c.advance.new.hand c.in-Done.ensures.turn)
