@@ -1,11 +1,11 @@
 //! An actor of a phase: its place among its operations, the call of its piece in work, and its
 //! replies. Its steps are written for any hand.
 
-ghost use Rattle.std.specs.Prelude.{◌≡◌, ◌<◌, ◌^◌, nat_le, List, length, Some, None, slice_get};
+ghost use Rattle.std.specs.Prelude.{◌≡◌, ◌≢◌, ◌<◌, ◌^◌, nat_le, List, length, Some, None, slice_get};
 ghost use Rattle.zr_base.specs.declared.op.Op.{Op};
 ghost use Rattle.call_history.specs.declared.part.Done.{Done};
 ghost use Rattle.actor_steps.specs.Places.{AreRequests, IsPlace, IsSettled};
-ghost use Rattle.actor_steps.specs.Workers.{IsFit, terms_of, with_call, IsBegun, CanFinish, Finishes, Keeps, Allows, Advanced};
+ghost use Rattle.actor_steps.specs.Workers.{IsFit, terms_of, IsBegun, CanFinish, Finishes, Keeps, Allows, Advanced};
 
 use crate::call::Call;
 use crate::place::{Place, next_place};
@@ -76,6 +76,14 @@ fn begun(size: u32, now: u64, actor: u32, place: Place, ops: &[Op], fresh: &mut 
     }
 }
 
+// Empties the place of a call that is over. It is a function of its own so that the other turns
+// don't pay for the empty value, which is as great as a call.
+fn clear(call: &mut Option<Call>)
+    ensures { call.new ≡ None }
+{
+    *call = None;
+}
+
 impl Worker {
     /// Whether the actor has no piece left.
     pub fn is_done(&self, ops: &[Op]) -> bool
@@ -107,43 +115,38 @@ impl Worker {
         };
     }
 
-    // One turn of the call of the piece in work.
+    // One turn of the call in work, which stays in its place until it is over.
     fn go_on<H: Hand<Value = DiskHeld>>(
         &mut self,
         size: u32,
         now: u64,
         ops: &[Op],
-        call: Call,
         hand: &mut H,
     ) -> Turn
         requires more { self.old.place.nr < length ops.now }
-        requires none { self.old.call ≡ None }
-        requires fit { IsFit (terms_of size now self.old) ops.now (with_call self.old (Some call)) }
+        requires begun { self.old.call ≢ None }
+        requires fit { IsFit (terms_of size now self.old) ops.now self.old }
         requires allows { Allows H.can_take H.takes H.can_give (terms_of size now self.old) ops.now
-            (with_call self.old (Some call)) hand.old }
+            self.old hand.old }
         ensures fit { IsFit (terms_of size now self.old) ops.now self.new }
         ensures turn { (done : List Done) → Keeps self.old done
             → Advanced H.takes H.misses H.gives (terms_of size now self.old) ops.now
-            (with_call self.old (Some call)) hand.old self.new hand.new result done }
+            self.old hand.old self.new hand.new result done }
     {
         calls_are_events();
         compactions_are_events();
         histories_go_on();
-        let mut going = call;
-        match going.advance(hand, &mut self.scratch) {
-            Progress::Moved => {
-                self.call.insert(going);
-                Turn::Went
-            }
-            Progress::Waits(lock) => {
-                self.call.insert(going);
-                Turn::Waited(lock)
-            }
-            Progress::Done(end) => {
-                drop(going);
-                self.finish(size, ops, end);
-                Turn::Went
-            }
+        match &mut self.call {
+            Some(call) => match call.advance(hand, &mut self.scratch) {
+                Progress::Moved => Turn::Went,
+                Progress::Waits(lock) => Turn::Waited(lock),
+                Progress::Done(end) => {
+                    clear(&mut self.call);
+                    self.finish(size, ops, end);
+                    Turn::Went
+                }
+            },
+            None => unreachable!(),
         }
     }
 
@@ -166,13 +169,11 @@ impl Worker {
         if self.is_done(ops) {
             return Turn::Finished;
         }
-        match self.call.take() {
-            Some(call) => self.go_on(size, now, ops, call, hand),
-            None => {
-                let fresh = &mut self.scratch.fresh;
-                let call = begun(size, now, self.actor, self.place, ops, fresh);
-                self.go_on(size, now, ops, call, hand)
-            }
+        if self.call.is_some() {
+            return self.go_on(size, now, ops, hand);
         }
+        let fresh = &mut self.scratch.fresh;
+        self.call = Some(begun(size, now, self.actor, self.place, ops, fresh));
+        self.go_on(size, now, ops, hand)
     }
 }
