@@ -12,6 +12,7 @@ use crate::place::{Place, next_place};
 use crate::reply::{Reply, goes_on, keep};
 use crate::work::bring;
 use call_history::histories_go_on;
+use backing_dev::Backing;
 use lock_row::{Hand, LockNo};
 use page_steps::{DiskHeld, PageCall, PieceEnd, Progress, Scratch, calls_are_events};
 use post_steps::{CompactCall, compactions_are_events};
@@ -30,19 +31,19 @@ pub enum Turn {
 
 /// An actor of a phase. Nothing else changes its scratch while the phase lasts.
 #[derive(Drop)]
-pub struct Worker {
+pub struct Worker<D: Backing> {
     pub actor: u32,
     pub place: Place,
     /// how many pieces of the operation in work were carried out
     pub carried: u32,
     /// the call of the piece in work, from the turn of its first event on
-    pub call: Option<Call>,
+    pub call: Option<Call<D>>,
     pub scratch: Scratch,
     pub replies: Vec<Reply>,
 }
 
 // The call of the next piece before its first event. The sectors of a write are put into `fresh`.
-fn begun(size: u32, now: u64, actor: u32, place: Place, ops: &[Op], fresh: &mut Page) -> Call
+fn begun<D: Backing>(size: u32, now: u64, actor: u32, place: Place, ops: &[Op], fresh: &mut Page) -> Call<D>
     requires requests { AreRequests ops.now }
     requires few { length ops.now < 2 ^ 32 }
     requires more { place.nr < length ops.now }
@@ -78,13 +79,13 @@ fn begun(size: u32, now: u64, actor: u32, place: Place, ops: &[Op], fresh: &mut 
 
 // Empties the place of a call that is over. It is a function of its own so that the other turns
 // don't pay for the empty value, which is as great as a call.
-fn clear(call: &mut Option<Call>)
+fn clear<D: Backing>(call: &mut Option<Call<D>>)
     ensures { call.new ≡ None }
 {
     *call = None;
 }
 
-impl Worker {
+impl<D: Backing> Worker<D> {
     /// Whether the actor has no piece left.
     pub fn is_done(&self, ops: &[Op]) -> bool
         ensures { result ≡ nat_le (length ops.now) self.now.place.nr }
@@ -116,7 +117,7 @@ impl Worker {
     }
 
     // One turn of the call in work, which stays in its place until it is over.
-    fn go_on<H: Hand<Value = DiskHeld>>(
+    fn go_on<H: Hand<Value = DiskHeld<D>>>(
         &mut self,
         size: u32,
         now: u64,
@@ -151,7 +152,7 @@ impl Worker {
     }
 
     /// One turn of the actor, by this hand, on a disk of `size` pages at the time `now`.
-    pub fn advance<H: Hand<Value = DiskHeld>>(
+    pub fn advance<H: Hand<Value = DiskHeld<D>>>(
         &mut self,
         size: u32,
         now: u64,
