@@ -16,7 +16,7 @@ use Rattle.job_text.specs.declared.line.Line.TheVariants.{Blank, Attribute, Tell
 use Rattle.job_text.specs.declared.begun.Begun.{Begun}
 use Rattle.job_text.specs.declared.reading.Reading.{Reading}
 use Rattle.job_text.specs.Lines.{Form, words_of, form_of, is_malformed, meaning, is_out_of_range, line_with, line_of}
-use Rattle.job_text.specs.Jobs.{Saying, says_turns, said_by, said_before, sayings, Used, with_attr, with_phase, turns_in, with_turns, has_phase_left, has_left_for, has_turns_left}
+use Rattle.job_text.specs.Jobs.{Saying, says_turns, said_by, said_before, sayings, Used, with_phase, turns_in, with_turns, has_phase_left, has_left_for, has_turns_left}
 use Rattle.job_text.specs.Faults.{Phase, said_in, cause_in, cause_of, used_with, phase_with, fault_at, first_fault_from}
 use Rattle.job_text.specs.Answers.{IsInRange}
 use Rattle.job_text.specs.Reading.{used_by, is_scheduled, phase_at, phase_of, all_actors, text_of, with_schedule, place_cause, begun_with, items_by, IsNext, items_from, items_with, items_after, fault_after}
