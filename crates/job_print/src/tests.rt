@@ -71,10 +71,9 @@ fn prints_what_it_read(rt: HostRuntime) -> Result<(), Fail> {
 }
 
 #[test]
-fn tells_the_first_faulty_line(rt: HostRuntime) -> Result<(), Fail> {
+fn tells_the_first_faulty_end(rt: HostRuntime) -> Result<(), Fail> {
     let table = [
         ("op 0 0 ok", 1),
-        ("\n", 1),
         ("op 00 0 ok\n", 1),
         ("op 0 0  ok\n", 1),
         ("op 0 0 ok \n", 1),
@@ -93,6 +92,18 @@ fn tells_the_first_faulty_line(rt: HostRuntime) -> Result<(), Fail> {
         ("op 0 0 compacted 0 18446744073709551616\n", 1),
         ("op 0 0 compacted 1\n", 1),
         ("op 0 0 compacted 1 2\nop 0 1 compacted 1 2 3\n", 2),
+    ];
+    for (text, number) in table {
+        let back = read_back(rt.alloc(), text.as_bytes())?;
+        assert!(rt; matches!(back, Err(n) if n == number), "at {text}");
+    }
+    Ok(())
+}
+
+#[test]
+fn tells_the_first_faulty_line(rt: HostRuntime) -> Result<(), Fail> {
+    let table = [
+        ("\n", 1),
         ("fill AA00000000000000\n", 1),
         ("fill 0\n", 1),
         ("hex 00\n", 1),
