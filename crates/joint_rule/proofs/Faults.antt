@@ -1,4 +1,5 @@
--- The device's counts of faults: a failure's is above all that was told before, so each is told once.
+-- The device's counts of faults: a failure's is above all that were told before, so each is told
+-- once.
 use Rattle.std.proofs.Common.{◌≡◌, ◌+◌, ◌≤◌, ◌<◌, ◌∷◌, ◌∙◌, ℕ, zero, suc, Bool, cond, eqb, List, [], Option, Some, None, slice_get, slice_set, refl, sym, ap, subst, arith, inl, inr}
 use Rattle.backing_dev.specs.Dev.{DeviceState}
 use Rattle.call_history.specs.Parts.{EndsSo, Follows, KeepsTo, done_sum, left_by, piece_gives, program}
@@ -161,7 +162,7 @@ module _ (g : Begin) (ok : Known g) (w : State DiskHeld) (j : Joint g w) (a : �
   Falls v m = mass (spot size) device_faults none l
       ≤ mass (spot size) device_faults none m + device_faults (spot size k) v
 
-  -- The giving tells no count of faults, or one that is above the device's, and is the device's then.
+  -- The giving tells no count of faults, or one that is above the device's before.
   pub data Blames (v : DiskHeld) (m : Here) : Type 0 where
     same : ((n : ℕ) → faults_told n m ≡ faults_told n l) → Falls v m → Blames v m
     blames : (fault : ℕ) → ((n : ℕ) → faults_told n m
@@ -177,8 +178,8 @@ module _ (g : Begin) (ok : Known g) (w : State DiskHeld) (j : Joint g w) (a : �
       → faults_told n (piece_over l p end got rest)
       ≡ done_sum (tells_fault n) l.done + piece_gives (tells_fault n) p.op end
   over_told n p end got rest =
-      let r = ok.facts.counted (tells_fault n) l.done (record { part = p; end = end; got = got } ∷ [])
-      in
+      let d : Done = record { part = p; end = end; got = got } in
+      let r = ok.facts.counted (tells_fault n) l.done (d ∷ []) in
       let z = fails_none (tells_fault n) (left_by end p.nr rest) in omega arith
 
   none_told : (n : ℕ) (x : Option PartEnd) → l.fail ≡ x → NoneOf x
@@ -214,15 +215,16 @@ module _ (g : Begin) (ok : Known g) (w : State DiskHeld) (j : Joint g w) (a : �
       ap (λ (ps : List Part). fails_so (tells_fault n) ps (Some x)) todo in omega arith
 
   pub blames_of : (v : DiskHeld) (m : Here) → Event g l v m → Blames v m
-  blames_of v m (event.pins p rest e o x x' u u' cell todo at held is sw named_u free outside is_cell
-      in_cell lk v_is m_is) =
+  blames_of v m (event.pins p rest e o x x' u u' cell todo at held is sw named_u free outside
+      is_cell in_cell lk v_is m_is) =
       same_blames v _ m _ v_is m_is (same (λ n. refl)
       (let r = ap (held_sum (spot size) device_faults) held in omega arith))
-  blames_of v m (event.unpins p rest e o x x' u u' todo at held is sw named_u outside free lk v_is m_is) =
+  blames_of v m (event.unpins p rest e o x x' u u' todo at held is sw named_u outside free lk v_is
+      m_is) =
       same_blames v _ m _ v_is m_is (same (λ n. refl)
       (let r = ap (held_sum (spot size) device_faults) held in omega arith))
-  blames_of v m (event.charges p rest e c x x' cl h need bytes huge todo at held is_form is_class within
-      al v_is m_is) =
+  blames_of v m (event.charges p rest e c x x' cl h need bytes huge todo at held is_form is_class
+      within al v_is m_is) =
       same_blames v _ m _ v_is m_is (same (λ n. refl)
       (let r = ap (held_sum (spot size) device_faults) held in omega arith))
   blames_of v m (event.stows p rest e x cl todo at held well v_is m_is) =
@@ -271,23 +273,26 @@ module _ (g : Begin) (ok : Known g) (w : State DiskHeld) (j : Joint g w) (a : �
       (let r = ap (held_sum (spot size) device_faults) held in omega arith))
   blames_of v m (event.starves p rest e c x cl todo at held v_is m_is) =
       let st = stage g ok w j a l who p rest todo _ Both held at in
-      same_blames v _ m _ v_is m_is (same (denied p rest NoMemory ((lock.Class cl, holds.Class x) ∷ (slot p.page, holds.Slot e) ∷ []) todo
-      st.fails (λ n. refl))
+      same_blames v _ m _ v_is m_is (same (denied p rest NoMemory
+      ((lock.Class cl, holds.Class x) ∷ (slot p.page, holds.Slot e) ∷ []) todo st.fails (λ n. refl))
       (let r = ap (held_sum (spot size) device_faults) held in omega arith))
   blames_of v m (event.refuses p rest c todo at held v_is m_is) =
       let st = stage g ok w j a l who p rest todo _ Refusing held at in
-      same_blames v _ m _ v_is m_is (same (quiet_over p (Whole ends.Range) [] rest st.fails (λ n. refl))
+      same_blames v _ m _ v_is m_is (same (quiet_over p (Whole ends.Range) [] rest st.fails
+      (λ n. refl))
       (let r = ap (held_sum (spot size) device_faults) held in omega arith))
   blames_of v m (event.closes p rest y x todo at held stuck last v_is m_is) =
       let st = stage g ok w j a l who p rest todo _ (Moving y) held at in
-      same_blames v _ m _ v_is m_is (same (quiet_over p (Whole (ends.Compacted y.moves y.frames)) [] rest st.fails (λ n. refl))
+      same_blames v _ m _ v_is m_is (same (quiet_over p (Whole (ends.Compacted y.moves y.frames)) []
+      rest st.fails (λ n. refl))
       (let r = ap (held_sum (spot size) device_faults) held in omega arith))
   blames_of v m (event.puts p rest e f todo at held notes v_is m_is) =
       let st = stage g ok w j a l who p rest todo _ Ready held at in
       same_blames v _ m _ v_is m_is (same (quiet_over p Carried [] rest st.fails (λ n. refl))
       (let r = ap (held_sum (spot size) device_faults) held in omega arith))
   blames_of v m (event.reads p rest e f todo at held well notes v_is m_is) =
-      same_blames v _ m _ v_is m_is (same (quiet_over p Carried _ rest (subst NoneOf (sym well) tt) (λ n. refl))
+      same_blames v _ m _ v_is m_is (same (quiet_over p Carried _ rest (subst NoneOf (sym well) tt)
+      (λ n. refl))
       (let r = ap (held_sum (spot size) device_faults) held in omega arith))
   blames_of v m (event.fails p rest e x todo at held bad v_is m_is) =
       same_blames v _ m _ v_is m_is (same (failed_over p rest x todo bad)

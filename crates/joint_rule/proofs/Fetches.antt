@@ -1,5 +1,5 @@
--- The reads of the device: each giving raises their count by one at most, and then its piece may have
--- read the device; a piece that is over tells that in its page's order or by its end.
+-- The reads of the device: each giving raises their count by one at most, and only at a piece that may
+-- not have read it before; a piece that is over tells that in its page's order or by its end.
 use Rattle.std.proofs.Common.{◌≡◌, ◌+◌, ◌≤◌, ◌∷◌, ◌++◌, ◌∙◌, ℕ, zero, suc, Bool, List, [], Option, Some, None, slice_get, refl, sym, ap, subst, arith}
 use Rattle.call_history.specs.Parts.{done_sum, left_by, piece_gives}
 use Rattle.call_history.specs.Shows.{tag_by}
@@ -203,7 +203,8 @@ module _ (g : Begin) (ok : Known g) (w : State DiskHeld) (j : Joint g w) (a : �
         (let r = ap (held_sum (spot n) device_reads) held in
         let s = ap (held_sum (spot n) (fetches_noted g)) held in let t = looks_pinned p.op
         (next_form p (Some (page_in_cell o cell)) e.kept) e.kept p.op in omega arith))
-    reads_of (event.unpins p rest e o x x' u u' todo at held is sw named_u outside free lk v_is m_is) =
+    reads_of (event.unpins p rest e o x x' u u' todo at held is sw named_u outside free lk v_is
+        m_is) =
         same_reads _ _ v_is m_is (goes_so p rest todo Unpinning _ at
         (let r = ap (held_sum (spot n) device_reads) held in
         let s = ap (held_sum (spot n) (fetches_noted g)) held in omega arith))
@@ -223,11 +224,13 @@ module _ (g : Begin) (ok : Known g) (w : State DiskHeld) (j : Joint g w) (a : �
     reads_of (event.stows p rest e x cl todo at held well v_is m_is) =
         same_reads _ _ v_is m_is (goes_so p rest todo Made _ at
         (let r = ap (held_sum (spot n) device_reads) held in
-        let s = ap (held_sum (spot n) (fetches_noted g)) held in let t = looks_settle e.kept p.op in omega arith))
+        let s = ap (held_sum (spot n) (fetches_noted g)) held in
+        let t = looks_settle e.kept p.op in omega arith))
     reads_of (event.quits p rest e x cl y todo at held bad v_is m_is) =
         same_reads _ _ v_is m_is (goes_so p rest todo Made _ at
         (let r = ap (held_sum (spot n) device_reads) held in
-        let s = ap (held_sum (spot n) (fetches_noted g)) held in let t = looks_quit l.pin p.op in omega arith))
+        let s = ap (held_sum (spot n) (fetches_noted g)) held in
+        let t = looks_quit l.pin p.op in omega arith))
     reads_of (event.frees p rest e o x x' frames todo at held is fp v_is m_is) =
         same_reads _ _ v_is m_is (goes_so p rest todo Freeing _ at
         (let r = ap (held_sum (spot n) device_reads) held in
@@ -273,13 +276,15 @@ module _ (g : Begin) (ok : Known g) (w : State DiskHeld) (j : Joint g w) (a : �
         (let r = ap (held_sum (spot n) device_reads) held in
         let s = ap (held_sum (spot n) (fetches_noted g)) held in omega arith))
     reads_of (event.closes p rest x y todo at held stuck last v_is m_is) =
-        same_reads _ _ v_is m_is (ends_so p rest (Whole (ends.Compacted x.moves x.frames)) [] todo (Moving x) at
+        same_reads _ _ v_is m_is (ends_so p rest (Whole (ends.Compacted x.moves x.frames)) [] todo
+        (Moving x) at
         (let r = ap (held_sum (spot n) device_reads) held in
         let s = ap (held_sum (spot n) (fetches_noted g)) held in omega arith))
     reads_of (event.leaves p rest e x todo at held bad other v_is m_is) =
         same_reads _ _ v_is m_is (ends_so p rest x [] todo Missed at
         (let r = ap (held_sum (spot n) device_reads) held in
-        let s = ap (held_sum (spot n) (fetches_noted g)) held in let z = ap (λ (i : LockNo). fetches_noted g (spot n i) (holds.Slot e)) (slot_is p
+        let s = ap (held_sum (spot n) (fetches_noted g)) held in
+        let z = ap (λ (i : LockNo). fetches_noted g (spot n i) (holds.Slot e)) (slot_is p
         (event_is g ok w j a l who k v m what p rest _ Missed todo held at)) in
         omega arith))
     reads_of (event.fails p rest e x todo at held bad v_is m_is) =

@@ -137,14 +137,13 @@ module _ (g : Begin) (ok : Known g) (w : State DiskHeld) (j : Joint g w) (a : â„
   limits_of c up low (event.refuses p rest x todo at held v_is m_is) h =
       subst (KeepsLimits g c) (sym m_is) (limits_over g (reach_at g w) c up l p
       (Whole ends.Range) [] rest tt h)
-  limits_of c up low (event.pins p rest e o q q' u u' cell todo at held is sw named_u free taken is_cell
-      in_cell lk v_is m_is) h = subst (KeepsLimits g c) (sym m_is)
+  limits_of c up low (event.pins p rest e o q q' u u' cell todo at held is sw named_u free taken
+      is_cell in_cell lk v_is m_is) h = subst (KeepsLimits g c) (sym m_is)
       (limits_same g (reach_at g w) c up l _ refl refl h)
-  limits_of c up low (event.unpins p rest e o q q' u u' todo at held is sw named_u taken free lk v_is
-      m_is)
-      h = subst (KeepsLimits g c) (sym m_is) (limits_same g (reach_at g w) c up l _ refl refl h)
-  limits_of c up low (event.charges p rest e x q q' cl hd need bytes huge todo at held is_form is_class
-      within al v_is m_is) h = subst (KeepsLimits g c) (sym m_is)
+  limits_of c up low (event.unpins p rest e o q q' u u' todo at held is sw named_u taken free lk
+      v_is m_is) h = subst (KeepsLimits g c) (sym m_is) (limits_same g (reach_at g w) c up l _ refl refl h)
+  limits_of c up low (event.charges p rest e x q q' cl hd need bytes huge todo at held is_form
+      is_class within al v_is m_is) h = subst (KeepsLimits g c) (sym m_is)
       (limits_same g (reach_at g w) c up l _ refl refl h)
   limits_of c up low (event.limits p rest e x q cl need todo at held is_need past v_is m_is) h =
       subst (KeepsLimits g c) (sym m_is) (record {
@@ -190,7 +189,8 @@ module _ (g : Begin) (ok : Known g) (w : State DiskHeld) (j : Joint g w) (a : â„
       (fail_up g (reach_at g w) c up (Some x) (subst (FailKeeps g (reach_at g w)) bad h.now)) h)
   limits_of c up low (event.releases p rest e b x todo at held is v_is m_is) h =
       subst (KeepsLimits g c) (sym m_is) (limits_same g (reach_at g w) c up l _ refl refl h)
-  limits_of c up low (event.moves p rest x q q' u u' budget frames todo at held sh some one v_is m_is) h =
+  limits_of c up low (event.moves p rest x q q' u u' budget frames todo at held sh some one v_is
+      m_is) h =
       subst (KeepsLimits g c) (sym m_is) (limits_same g (reach_at g w) c up l _ refl refl h)
   limits_of c up low (event.sweeps p rest x q todo at held stuck other v_is m_is) h =
       subst (KeepsLimits g c) (sym m_is) (limits_same g (reach_at g w) c up l _ refl refl h)
