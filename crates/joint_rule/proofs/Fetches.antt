@@ -1,5 +1,5 @@
--- The reads of the device: each giving raises their count by one at most, and only at a piece that may
--- not have read it before; a piece that is over tells that in its page's order or by its end.
+-- The reads of the device: a giving raises their count by one at most, and then for a piece that
+-- hasn't read it before; a piece that is over tells that in its page's order or by its end.
 use Rattle.std.proofs.Common.{◌≡◌, ◌+◌, ◌≤◌, ◌∷◌, ◌++◌, ◌∙◌, ℕ, zero, suc, Bool, List, [], Option, Some, None, slice_get, refl, sym, ap, subst, arith}
 use Rattle.call_history.specs.Parts.{done_sum, left_by, piece_gives}
 use Rattle.call_history.specs.Shows.{tag_by}

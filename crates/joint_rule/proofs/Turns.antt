@@ -141,7 +141,8 @@ module _ (g : Begin) (ok : Known g) (w : State DiskHeld) (j : Joint g w) (a : â„
       is_cell in_cell lk v_is m_is) h = subst (KeepsLimits g c) (sym m_is)
       (limits_same g (reach_at g w) c up l _ refl refl h)
   limits_of c up low (event.unpins p rest e o q q' u u' todo at held is sw named_u taken free lk
-      v_is m_is) h = subst (KeepsLimits g c) (sym m_is) (limits_same g (reach_at g w) c up l _ refl refl h)
+      v_is m_is) h = subst (KeepsLimits g c) (sym m_is)
+      (limits_same g (reach_at g w) c up l _ refl refl h)
   limits_of c up low (event.charges p rest e x q q' cl hd need bytes huge todo at held is_form
       is_class within al v_is m_is) h = subst (KeepsLimits g c) (sym m_is)
       (limits_same g (reach_at g w) c up l _ refl refl h)
