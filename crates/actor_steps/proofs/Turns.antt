@@ -1,5 +1,6 @@
 -- A worker's turns are those of its call.
-use Rattle.std.proofs.Common.{◌≡◌, ℕ, ◌≤◌, List, [], ◌∷◌, length, Some, None, slice_get, refl, sym, ap, ◌∙◌, subst}
+use Rattle.std.proofs.Common.{◌≡◌, ◌≢◌, ℕ, ◌≤◌, true, false, List, [], ◌∷◌, length, Option, Some, None, slice_get, refl, sym, ap, ◌∙◌, subst}
+use Rattle.std.specs.Option.{is_some}
 use Rattle.zr_base.specs.declared.op.Op.{Op}
 use Rattle.call_history.specs.declared.part.Part.{Part}
 use Rattle.call_history.specs.declared.part.Done.{Done}
@@ -153,10 +154,6 @@ module _ (t : Terms) (ops : List Op) (v : Worker) (c : Call)
 
 -- ---- workers with one local
 
--- the worker with the call that was in work
-pub same_worker : (w : Worker) (c : Call) → Some c ≡ w.call → with_call w (Some c) ≡ w
-same_worker w c is = ap (with_call w) is
-
 module _ (t : Terms) (ops : List Op) (w w' : Worker)
     (same : (done : List Done) → here t.size ops w done ≡ here t.size ops w' done) where
   -- what the hand allows one of them, it allows the other
@@ -187,6 +184,47 @@ module _ (t : Terms) (ops : List Op) (w w' : Worker)
     subst (λ (l : Here). Turned takes misses gives t l h (here t.size ops n turns.0) g p)
         (sym (same done)) turns.2,
   )
+
+-- ---- a call in its place
+
+module _ (t : Terms) (ops : List Op) (w : Worker) (c : Call) (is : w.call ≡ Some c) where
+  same_worker : with_call w (Some c) ≡ w
+  same_worker = ap (with_call w) (sym is)
+
+  same_here : (done : List Done)
+      → here t.size ops w done ≡ here t.size ops (with_call w (Some c)) done
+  same_here done = ap (λ (v : Worker). here t.size ops v done) (sym same_worker)
+
+  -- the worker with its own call is fit
+  pub fit_with : IsFit t ops w → IsFit t ops (with_call w (Some c))
+  fit_with fit = subst (IsFit t ops) (sym same_worker) fit
+
+  -- is allowed the same
+  pub allows_with : {X : Type 0} (can_take : X → LockNo → Next → Type 0)
+      (takes : X → LockNo → Next → DiskHeld → X → Type 0)
+      (can_give : X → LockNo → Next → DiskHeld → Type 0) (h : X)
+      → Allows can_take takes can_give t ops w h
+      → Allows can_take takes can_give t ops (with_call w (Some c)) h
+  allows_with can_take takes can_give h allows =
+      allows_too t ops w (with_call w (Some c)) same_here can_take takes can_give h allows
+
+  -- and makes the same turns
+  pub advanced_with : {X : Type 0} (takes : X → LockNo → Next → DiskHeld → X → Type 0)
+      (misses : X → LockNo → X → Type 0) (gives : X → LockNo → Next → DiskHeld → X → Type 0)
+      (h : X) (n : Worker) (g : X) (p : Turn) (done : List Done)
+      → Advanced takes misses gives t ops (with_call w (Some c)) h n g p done
+      → Advanced takes misses gives t ops w h n g p done
+  advanced_with takes misses gives h n g p done turns =
+      advanced_too t ops w (with_call w (Some c)) same_here takes misses gives h n g p done turns
+
+-- a worker whose call's place is filled has one
+pub is_begun : (o : Option Call) → is_some o ≡ true → o ≢ None
+is_begun o on none = let q : true ≡ false = sym on ∙ ap (λ (x : Option Call). is_some x) none in cc
+
+-- or else none
+pub is_empty : (o : Option Call) → is_some o ≡ false → None ≡ o
+is_empty None off = refl
+is_empty (Some c) off = absurd (let q : true ≡ false = off in cc)
 
 -- ---- a piece that begins
 

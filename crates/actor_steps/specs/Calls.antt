@@ -18,40 +18,40 @@ use Rattle.actor_steps.specs.declared.call.Call.{Call}
 use Rattle.actor_steps.specs.declared.call.Call.TheVariants as call
 
 -- the call does an actor's work
-abbrev pub Does : Call → Scratch → Frame → Type 0
+abbrev pub Does : {D : Type 0} → Call D → Scratch → Frame → Type 0
 Does (call.Page c) r x = IsPageWork c.head r x
 Does (call.Compact c) r x = IsCompactWork r.table x
 
 -- the local of an actor whose work it does
-abbrev pub local : Call → Scratch → Frame → Here
+abbrev pub local : {D : Type 0} → Call D → Scratch → Frame → Here
 local (call.Page c) r x = page_here x r c.stage
 local (call.Compact c) r x = compact_here x c.stage
 
 -- its next event
-abbrev pub next_event : Call → Plan
+abbrev pub next_event : {D : Type 0} → Call D → Plan
 next_event (call.Page c) = page_event c.head c.stage
 next_event (call.Compact c) = compact_event c.stage
 
 -- what holds of it between two events
-abbrev pub IsFit : Call → Scratch → Type 0
+abbrev pub IsFit : {D : Type 0} → Call D → Scratch → Type 0
 IsFit (call.Page c) r = IsPageFit c.head r c.stage
 IsFit (call.Compact c) r = IsCompactFit r.table c.stage
 
 -- it isn't over
-abbrev pub IsGoing : Call → Type 0
+abbrev pub IsGoing : {D : Type 0} → Call D → Type 0
 IsGoing (call.Page c) = IsPageGoing c.stage
 IsGoing (call.Compact c) = IsCompactGoing c.stage
 
 -- whether it does an operation that is over in one piece: it counts a request beyond the disk, or
 -- compacts
-abbrev pub is_alone : Call → Bool
+abbrev pub is_alone : {D : Type 0} → Call D → Bool
 is_alone (call.Page c) = is_count c.head.work
 is_alone (call.Compact c) = true
 
 -- ---- turns
 
 -- what its piece has read, where it ends so
-abbrev pub got_by : Call → Scratch → PieceEnd → Part → List (List ℕ)
+abbrev pub got_by : {D : Type 0} → Call D → Scratch → PieceEnd → Part → List (List ℕ)
 got_by (call.Page c) r end p = got_of end r.page p
 got_by (call.Compact c) r end p = []
 
@@ -62,7 +62,7 @@ after l m got (progress.Waits k) = m
 after l m got (progress.Done end) = ending_by l (end_of end) (got end) l.todo
 
 -- it goes on after each event but its last one
-abbrev pub IsOnward : Progress → Call → Type 0
+abbrev pub IsOnward : {D : Type 0} → Progress → Call D → Type 0
 IsOnward (progress.Done end) c = ⊤
 IsOnward p c = IsGoing c
 
@@ -70,7 +70,7 @@ module _ {X : Type 0} (takes : X → LockNo → Next → DiskHeld → X → Type
     (misses : X → LockNo → X → Type 0)
     (gives : X → LockNo → Next → DiskHeld → X → Type 0) where
   -- a turn of a call is one of each actor whose work it does
-  abbrev pub Advanced : Call → Scratch → X → Call → Scratch → X → Progress → Type 0
+  abbrev pub Advanced : {D : Type 0} → Call D → Scratch → X → Call D → Scratch → X → Progress → Type 0
   Advanced c r h d s g p = (x : Frame) → Does c r x
       → Turned takes misses gives x.terms (local c r x) h
       (after (local c r x) (local d s x) (got_by c s) p) g p

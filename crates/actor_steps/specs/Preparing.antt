@@ -32,7 +32,7 @@ pub record AreNewReplies (size : ℕ) (ops : List Op) (rs : List Reply) : Type 0
 
 -- A worker before its first turn, on a disk of so many pages whose chains have at most so many
 -- frames.
-pub record IsNewWorker (size chain actor : ℕ) (ops : List Op) (w : Worker) : Type 0 where
+pub record IsNewWorker {D : Type 0} (size chain actor : ℕ) (ops : List Op) (w : Worker D) : Type 0 where
   pub who : w.actor ≡ actor
   pub at : w.call ≡ None
   pub todo : todo_at size ops w.place ≡ program size 0 ops
@@ -40,8 +40,8 @@ pub record IsNewWorker (size chain actor : ℕ) (ops : List Op) (w : Worker) : T
   pub keeps : Keeps w []
 
 -- A worker for each actor, as it is before the first turn.
-pub record AreNewWorkers (size chain : ℕ) (actors : List (List Op)) (ws : List Worker)
+pub record AreNewWorkers {D : Type 0} (size chain : ℕ) (actors : List (List Op)) (ws : List (Worker D))
     : Type 0 where
   pub count : length ws ≡ length actors
-  pub each : (a : ℕ) (ops : List Op) (w : Worker) → slice_get actors a ≡ Some ops
+  pub each : (a : ℕ) (ops : List Op) (w : Worker D) → slice_get actors a ≡ Some ops
       → slice_get ws a ≡ Some w → IsNewWorker size chain a ops w

@@ -43,32 +43,32 @@ use Rattle.actor_steps.specs.Replies.{HasRoomFor, HasMore}
 -- ---- the local
 
 -- the stage of the machine, by the call in work; a piece without one is before its first event
-abbrev pub at_by : Option Call → At
+abbrev pub at_by : {D : Type 0} → Option (Call D) → At
 at_by None = at.Start
 at_by (Some (call.Page c)) = at_of c.stage
 at_by (Some (call.Compact c)) = compact_at c.stage
 
 -- the locks that are held with their values, for a piece of this page
-abbrev pub held_by : ℕ → Option Call → List (LockNo × DiskHeld)
+abbrev pub held_by : {D : Type 0} → ℕ → Option (Call D) → List (LockNo × DiskHeld)
 held_by page None = []
 held_by page (Some (call.Page c)) = held_of page c.stage
 held_by page (Some (call.Compact c)) = compact_held c.stage
 
 -- the frames that are owed
-abbrev pub owed_by : Option Call → ℕ
+abbrev pub owed_by : {D : Type 0} → Option (Call D) → ℕ
 owed_by None = 0
 owed_by (Some (call.Page c)) = owed_of c.stage
 owed_by (Some (call.Compact c)) = compact_owed c.stage
 
 -- the stage of a page's call, by which the rest of the local goes: all that is a page's alone, of
 -- which there is none without such a call
-abbrev pub stage_of : Option Call → Stage
+abbrev pub stage_of : {D : Type 0} → Option (Call D) → Stage D
 stage_of None = stage.Start
 stage_of (Some (call.Page c)) = c.stage
 stage_of (Some (call.Compact c)) = stage.Start
 
 -- the local, where these pieces are over
-abbrev pub here : ℕ → List Op → Worker → List Done → Here
+abbrev pub here : {D : Type 0} → ℕ → List Op → Worker D → List Done → Here
 here size ops w done = record {
   actor = w.actor;
   at = at_by w.call;
@@ -85,15 +85,15 @@ here size ops w done = record {
 }
 
 -- what it does next, whatever is over
-abbrev pub next_event : Terms → List Op → Worker → Plan
+abbrev pub next_event : {D : Type 0} → Terms → List Op → Worker D → Plan
 next_event t ops w = plan t (here t.size ops w [])
 
 -- what the terms of a phase are to a worker, by the disk's pages and the time
-abbrev pub terms_of : ℕ → ℕ → Worker → Terms
+abbrev pub terms_of : {D : Type 0} → ℕ → ℕ → Worker D → Terms
 terms_of size now w = record { size = size; chain = w.scratch.table; clock = now }
 
 -- the worker with this call in work
-abbrev pub with_call : Worker → Option Call → Worker
+abbrev pub with_call : {D : Type 0} → Worker D → Option (Call D) → Worker D
 with_call w o = record {
   actor = w.actor;
   place = w.place;
@@ -117,7 +117,7 @@ AllCarried nr (d ∷ ds) = (d.part.nr ≡ nr → is_carried d.end ≡ true) × A
 
 -- The replies have the ends of the operations by the pieces that are over, and what these have
 -- read; of the operation in work so many pieces are over, all carried out, and none of a later one.
-pub record Keeps (w : Worker) (done : List Done) : Type 0 where
+pub record Keeps {D : Type 0} (w : Worker D) (done : List Done) : Type 0 where
   pub ends : (k : ℕ) (r : Reply) → slice_get w.replies.items k ≡ Some r → r.end ≡ end_of k done
   pub sectors : (k : ℕ) (r : Reply) → slice_get w.replies.items k ≡ Some r
       → r.sectors.items ≡ got_of k done
@@ -144,7 +144,7 @@ ReplyFits size pl k (Discard start count) r = r.sectors.items ≡ []
 ReplyFits size pl k Compact r = r.sectors.items ≡ []
 
 -- what the call in work doesn't know of its actor, where these pieces follow and these are over
-abbrev pub frame : Terms → Worker → Op → List Part → List Done → Frame
+abbrev pub frame : {D : Type 0} → Terms → Worker D → Op → List Part → List Done → Frame
 frame t w op rest done = record {
   terms = t;
   actor = w.actor;
@@ -154,19 +154,19 @@ frame t w op rest done = record {
 }
 
 -- The call does the worker's piece, and goes on.
-pub record IsCallOf (t : Terms) (ops : List Op) (w : Worker) (c : Call) : Type 0 where
+pub record IsCallOf {D : Type 0} (t : Terms) (ops : List Op) (w : Worker D) (c : Call D) : Type 0 where
   pub going : IsGoing c
   pub fit : IsCallFit c w.scratch
   pub work : (op : Op) (rest : List Part) (done : List Done) → slice_get ops w.place.nr ≡ Some op
       → Does c w.scratch (frame t w op rest done)
 
 -- the call in work does the worker's piece, if there is one
-abbrev pub HasCall : Terms → List Op → Worker → Option Call → Type 0
+abbrev pub HasCall : {D : Type 0} → Terms → List Op → Worker D → Option (Call D) → Type 0
 HasCall t ops w None = ⊤
 HasCall t ops w (Some c) = IsCallOf t ops w c
 
 -- The worker is at a piece with events, or past all of them, with room for what is left to do.
-pub record IsFit (t : Terms) (ops : List Op) (w : Worker) : Type 0 where
+pub record IsFit {D : Type 0} (t : Terms) (ops : List Op) (w : Worker D) : Type 0 where
   pub requests : AreRequests ops
   pub few : length ops < 2 ^ 32
   pub place : IsPlace ops w.place
@@ -183,7 +183,7 @@ pub record IsFit (t : Terms) (ops : List Op) (w : Worker) : Type 0 where
 
 -- The call of an operation's piece on a page before its first event. With the page that stands in
 -- the scratch it does the work of each actor at this piece.
-pub record IsBegun (size now : ℕ) (tag : Tag) (op : Op) (page : ℕ) (fresh : List ℕ) (c : Call)
+pub record IsBegun {D : Type 0} (size now : ℕ) (tag : Tag) (op : Op) (page : ℕ) (fresh : List ℕ) (c : Call D)
     : Type 0 where
   pub going : IsGoing c
   pub fit : (r : Scratch) → r.table ≤ 16 → IsCallFit c r
@@ -195,7 +195,7 @@ pub record IsBegun (size now : ℕ) (tag : Tag) (op : Op) (page : ℕ) (fresh : 
 -- ---- ends of pieces
 
 -- What a worker needs where its piece is over with this end.
-pub record CanFinish (size : ℕ) (ops : List Op) (end : PieceEnd) (w : Worker) : Type 0 where
+pub record CanFinish {D : Type 0} (size : ℕ) (ops : List Op) (end : PieceEnd) (w : Worker D) : Type 0 where
   pub requests : AreRequests ops
   pub more : w.place.nr < length ops
   pub place : IsPlace ops w.place
@@ -207,7 +207,7 @@ pub record CanFinish (size : ℕ) (ops : List Op) (end : PieceEnd) (w : Worker) 
       → HasRoomFor end (vec_len r.sectors + reads op w.place.page) (vec_capacity r.sectors)
 
 -- The worker's piece is over with this end: its reply has that, and the place goes on.
-pub record Finishes (size : ℕ) (ops : List Op) (end : PieceEnd) (w w' : Worker) : Type 0 where
+pub record Finishes {D : Type 0} (size : ℕ) (ops : List Op) (end : PieceEnd) (w w' : Worker D) : Type 0 where
   pub actor : w'.actor ≡ w.actor
   pub call : w'.call ≡ w.call
   pub scratch : w'.scratch ≡ w.scratch
@@ -226,12 +226,12 @@ pub record Finishes (size : ℕ) (ops : List Op) (end : PieceEnd) (w w' : Worker
 -- ---- turns
 
 -- an event that takes a value may be told so, whatever is over
-abbrev pub TakesAs : Terms → List Op → Worker → Next → Type 0
+abbrev pub TakesAs : {D : Type 0} → Terms → List Op → Worker D → Next → Type 0
 TakesAs t ops w f = (done : List Done) (v : DiskHeld)
     → f (here t.size ops w done) v ≡ took t (here t.size ops w done) v
 
 -- an event that gives this value may be told so, whatever is over
-abbrev pub GivesAs : Terms → List Op → Worker → Next → DiskHeld → Type 0
+abbrev pub GivesAs : {D : Type 0} → Terms → List Op → Worker D → Next → DiskHeld → Type 0
 GivesAs t ops w f v = (done : List Done)
     → Works t (here t.size ops w done) v (f (here t.size ops w done) v)
 
@@ -239,7 +239,7 @@ module _ {X : Type 0} (can_take : X → LockNo → Next → Type 0)
     (takes : X → LockNo → Next → DiskHeld → X → Type 0)
     (can_give : X → LockNo → Next → DiskHeld → Type 0) where
   -- The hand allows the next event of a worker, and what it gives to a take fits.
-  pub record Allows (t : Terms) (ops : List Op) (w : Worker) (h : X) : Type 0 where
+  pub record Allows {D : Type 0} (t : Terms) (ops : List Op) (w : Worker D) (h : X) : Type 0 where
     pub take : (k : LockNo) (f : Next) → next_event t ops w ≡ Take k → TakesAs t ops w f
         → can_take h k f
     pub fits : (k : LockNo) (f : Next) (v : DiskHeld) (g : X) → next_event t ops w ≡ Take k
@@ -264,6 +264,6 @@ module _ {X : Type 0} (takes : X → LockNo → Next → DiskHeld → X → Type
         → Turned t l h m g n
 
   -- that of a worker, where these pieces are over before it
-  abbrev pub Advanced : Terms → List Op → Worker → X → Worker → X → Turn → List Done → Type 0
+  abbrev pub Advanced : {D : Type 0} → Terms → List Op → Worker D → X → Worker D → X → Turn → List Done → Type 0
   Advanced t ops w h w' g n done = (done' : List Done) × Keeps w' done'
       × Turned t (here t.size ops w done) h (here t.size ops w' done') g n

@@ -5,22 +5,23 @@ ghost use Rattle.page_steps.specs.Calls.{Frame};
 ghost use Rattle.post_steps.specs.Turns.{Allows};
 ghost use Rattle.actor_steps.specs.Calls.{Does, local, next_event, IsFit, IsGoing, IsOnward, Advanced};
 
+use backing_dev::Backing;
 use lock_row::Hand;
 use page_steps::{DiskHeld, PageCall, Progress, Scratch};
 use post_steps::CompactCall;
 
 /// The call of a piece in work.
 #[derive(Drop)]
-pub enum Call {
+pub enum Call<D: Backing> {
     /// A piece of a page, or the count of a request beyond the disk.
-    Page(PageCall),
+    Page(PageCall<D>),
     /// A compaction.
     Compact(CompactCall),
 }
 
-impl Call {
+impl<D: Backing> Call<D> {
     // Makes the next event, or misses.
-    pub(crate) fn advance<H: Hand<Value = DiskHeld>>(
+    pub(crate) fn advance<H: Hand<Value = DiskHeld<D>>>(
         &mut self,
         hand: &mut H,
         scratch: &mut Scratch,

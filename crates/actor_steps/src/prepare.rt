@@ -9,6 +9,7 @@ use crate::place::{first_piece, settled};
 use crate::reply::Reply;
 use crate::worker::Worker;
 use arrayvec::ArrayVec;
+use backing_dev::Backing;
 use page_steps::Scratch;
 use size_class::ClassTable;
 use std::alloc::{AllocError, Global};
@@ -43,12 +44,12 @@ fn new_replies(alloc: Global, size: u32, ops: &[Op]) -> Result<Vec<Reply>, Alloc
 }
 
 // Adds an actor, as it is before its first turn.
-fn push_worker(
+fn push_worker<D: Backing>(
     alloc: Global,
     size: u32,
     chain: u32,
     ops: &[Op],
-    workers: &mut Vec<Worker>,
+    workers: &mut Vec<Worker<D>>,
 ) -> Result<(), AllocError>
     requires requests { AreRequests ops.now }
     requires few { length ops.now < 2 ^ 32 }
@@ -58,7 +59,7 @@ fn push_worker(
     requires actors { vec_len workers.old < 2 ^ 32 }
     ensures len { OnOk result (vec_len workers.new ≡ vec_len workers.old + 1) }
     ensures capacity { OnOk result (vec_capacity workers.new ≡ vec_capacity workers.old) }
-    ensures added { OnOk result ((w : Worker)
+    ensures added { OnOk result ((w : Worker D)
         × IsNewWorker size chain (vec_len workers.old) ops.now w
         × (workers.new.items ≡ workers.old.items ++ w ∷ [])) }
 {
@@ -83,12 +84,12 @@ fn push_worker(
 
 /// The actors of a phase before their first turns, on a disk of `size` pages whose chains have at
 /// most `chain` frames.
-pub fn new_workers(
+pub fn new_workers<D: Backing>(
     alloc: Global,
     size: u32,
     chain: u32,
     ops: &[ActorOps],
-) -> Result<Vec<Worker>, AllocError>
+) -> Result<Vec<Worker<D>>, AllocError>
     requires work { IsWork ops.now }
     requires low { 4 ≤ chain }
     requires high { chain ≤ 16 }

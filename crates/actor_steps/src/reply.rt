@@ -36,6 +36,10 @@ fn op_end(end: PieceEnd, carried: u32) -> OpEnd
             done: carried,
         },
         PieceEnd::NoMemory => OpEnd::NoMemory { done: carried },
+        PieceEnd::Eio { fault } => OpEnd::Eio {
+            fault,
+            done: carried,
+        },
         PieceEnd::Compacted { moves, frames } => OpEnd::Compacted { moves, frames },
     }
 }
@@ -52,6 +56,7 @@ pub(crate) fn goes_on(end: PieceEnd) -> bool
         PieceEnd::Range
         | PieceEnd::AtLimit { .. }
         | PieceEnd::NoMemory
+        | PieceEnd::Eio { .. }
         | PieceEnd::Compacted { .. } => false,
     }
 }

@@ -1,17 +1,18 @@
 //! An actor of a phase: its place among its operations, the call of its piece in work, and its
 //! replies. Its steps are written for any hand.
 
-ghost use Rattle.std.specs.Prelude.{◌≡◌, ◌<◌, ◌^◌, nat_le, List, length, Some, None, slice_get};
+ghost use Rattle.std.specs.Prelude.{◌≡◌, ◌≢◌, ◌<◌, ◌^◌, nat_le, List, length, Some, None, slice_get};
 ghost use Rattle.zr_base.specs.declared.op.Op.{Op};
 ghost use Rattle.call_history.specs.declared.part.Done.{Done};
 ghost use Rattle.actor_steps.specs.Places.{AreRequests, IsPlace, IsSettled};
-ghost use Rattle.actor_steps.specs.Workers.{IsFit, terms_of, with_call, IsBegun, CanFinish, Finishes, Keeps, Allows, Advanced};
+ghost use Rattle.actor_steps.specs.Workers.{IsFit, terms_of, IsBegun, CanFinish, Finishes, Keeps, Allows, Advanced};
 
 use crate::call::Call;
 use crate::place::{Place, next_place};
 use crate::reply::{Reply, goes_on, keep};
 use crate::work::bring;
 use call_history::histories_go_on;
+use backing_dev::Backing;
 use lock_row::{Hand, LockNo};
 use page_steps::{DiskHeld, PageCall, PieceEnd, Progress, Scratch, calls_are_events};
 use post_steps::{CompactCall, compactions_are_events};
@@ -30,19 +31,19 @@ pub enum Turn {
 
 /// An actor of a phase. Nothing else changes its scratch while the phase lasts.
 #[derive(Drop)]
-pub struct Worker {
+pub struct Worker<D: Backing> {
     pub actor: u32,
     pub place: Place,
     /// how many pieces of the operation in work were carried out
     pub carried: u32,
     /// the call of the piece in work, from the turn of its first event on
-    pub call: Option<Call>,
+    pub call: Option<Call<D>>,
     pub scratch: Scratch,
     pub replies: Vec<Reply>,
 }
 
 // The call of the next piece before its first event. The sectors of a write are put into `fresh`.
-fn begun(size: u32, now: u64, actor: u32, place: Place, ops: &[Op], fresh: &mut Page) -> Call
+fn begun<D: Backing>(size: u32, now: u64, actor: u32, place: Place, ops: &[Op], fresh: &mut Page) -> Call<D>
     requires requests { AreRequests ops.now }
     requires few { length ops.now < 2 ^ 32 }
     requires more { place.nr < length ops.now }
@@ -76,7 +77,15 @@ fn begun(size: u32, now: u64, actor: u32, place: Place, ops: &[Op], fresh: &mut 
     }
 }
 
-impl Worker {
+// Empties the place of a call that is over. It is a function of its own so that the other turns
+// don't pay for the empty value, which is as great as a call.
+fn clear<D: Backing>(call: &mut Option<Call<D>>)
+    ensures { call.new ≡ None }
+{
+    *call = None;
+}
+
+impl<D: Backing> Worker<D> {
     /// Whether the actor has no piece left.
     pub fn is_done(&self, ops: &[Op]) -> bool
         ensures { result ≡ nat_le (length ops.now) self.now.place.nr }
@@ -107,48 +116,43 @@ impl Worker {
         };
     }
 
-    // One turn of the call of the piece in work.
-    fn go_on<H: Hand<Value = DiskHeld>>(
+    // One turn of the call in work, which stays in its place until it is over.
+    fn go_on<H: Hand<Value = DiskHeld<D>>>(
         &mut self,
         size: u32,
         now: u64,
         ops: &[Op],
-        call: Call,
         hand: &mut H,
     ) -> Turn
         requires more { self.old.place.nr < length ops.now }
-        requires none { self.old.call ≡ None }
-        requires fit { IsFit (terms_of size now self.old) ops.now (with_call self.old (Some call)) }
+        requires begun { self.old.call ≢ None }
+        requires fit { IsFit (terms_of size now self.old) ops.now self.old }
         requires allows { Allows H.can_take H.takes H.can_give (terms_of size now self.old) ops.now
-            (with_call self.old (Some call)) hand.old }
+            self.old hand.old }
         ensures fit { IsFit (terms_of size now self.old) ops.now self.new }
         ensures turn { (done : List Done) → Keeps self.old done
             → Advanced H.takes H.misses H.gives (terms_of size now self.old) ops.now
-            (with_call self.old (Some call)) hand.old self.new hand.new result done }
+            self.old hand.old self.new hand.new result done }
     {
         calls_are_events();
         compactions_are_events();
         histories_go_on();
-        let mut going = call;
-        match going.advance(hand, &mut self.scratch) {
-            Progress::Moved => {
-                self.call.insert(going);
-                Turn::Went
-            }
-            Progress::Waits(lock) => {
-                self.call.insert(going);
-                Turn::Waited(lock)
-            }
-            Progress::Done(end) => {
-                drop(going);
-                self.finish(size, ops, end);
-                Turn::Went
-            }
+        match &mut self.call {
+            Some(call) => match call.advance(hand, &mut self.scratch) {
+                Progress::Moved => Turn::Went,
+                Progress::Waits(lock) => Turn::Waited(lock),
+                Progress::Done(end) => {
+                    clear(&mut self.call);
+                    self.finish(size, ops, end);
+                    Turn::Went
+                }
+            },
+            None => unreachable!(),
         }
     }
 
     /// One turn of the actor, by this hand, on a disk of `size` pages at the time `now`.
-    pub fn advance<H: Hand<Value = DiskHeld>>(
+    pub fn advance<H: Hand<Value = DiskHeld<D>>>(
         &mut self,
         size: u32,
         now: u64,
@@ -166,13 +170,11 @@ impl Worker {
         if self.is_done(ops) {
             return Turn::Finished;
         }
-        match self.call.take() {
-            Some(call) => self.go_on(size, now, ops, call, hand),
-            None => {
-                let fresh = &mut self.scratch.fresh;
-                let call = begun(size, now, self.actor, self.place, ops, fresh);
-                self.go_on(size, now, ops, call, hand)
-            }
+        if self.call.is_some() {
+            return self.go_on(size, now, ops, hand);
         }
+        let fresh = &mut self.scratch.fresh;
+        self.call = Some(begun(size, now, self.actor, self.place, ops, fresh));
+        self.go_on(size, now, ops, hand)
     }
 }

@@ -1,6 +1,6 @@
 //! The block map behind one lock.
 
-ghost use Rattle.std.specs.Prelude.{◌≡◌, ℕ, ◌+◌, ◌-◌, ◌<◌, ◌≤◌, Some, IfOk, IfSome, IfNone, IsTrue, IsFalse, replicate, false, slice_get, length};
+ghost use Rattle.std.specs.Prelude.{◌≡◌, ℕ, ◌+◌, ◌-◌, ◌<◌, ◌≤◌, Some, [], IfOk, IfSome, IfNone, IsTrue, IsFalse, replicate, false, slice_get, length};
 
 use crate::state::BlockState;
 use crate::tree;
@@ -58,6 +58,19 @@ impl Blocks {
             budget: 0,
             enabled: false,
         })
+    }
+
+    /// No blocks, with the limit off and no budget. It takes no memory.
+    pub fn none(alloc: Global) -> Blocks
+        ensures { result ≡ record { states = []; budget = 0; enabled = false } }
+    {
+        Blocks {
+            states: Vec::new(alloc),
+            tree: Vec::new(alloc),
+            owned: 0,
+            budget: 0,
+            enabled: false,
+        }
     }
 
     /// Holds the least free block for one write. An enabled limit pays one unit for it, which never
@@ -133,6 +146,20 @@ impl Blocks {
         ensures enabled { self.new ≡ record self.old { enabled = on } }
     {
         self.enabled = on;
+    }
+
+    /// How many writes an enabled limit allows.
+    pub fn budget(&self) -> u64
+        ensures { result ≡ self.now.budget }
+    {
+        self.budget
+    }
+
+    /// Whether the limit is on.
+    pub fn is_enabled(&self) -> bool
+        ensures { result ≡ self.now.enabled }
+    {
+        self.enabled
     }
 
     /// How many blocks a page owns.

@@ -33,7 +33,7 @@ abbrev pub without_pages : Disk
 without_pages = record { size = 0; limit = 0; row = [] }
 
 -- the disk of a world
-abbrev pub disk_of : World → Disk
+abbrev pub disk_of : {D : Type 0} → World D → Disk
 disk_of world = record { size = world.pages; limit = world.limit; row = world.row.cells }
 
 -- what the steps of its phases go by

@@ -1,9 +1,14 @@
 -- The givings of an actor, by what they do to sums over pools.
 use Rattle.std.proofs.Common.{◌≡◌, ◌∷◌, ◌∙◌, ◌==◌, ◌⊎◌, ℕ, suc, Bool, true, false, List, [], Option, Some, None, refl, ap, subst}
+use Rattle.backing_dev.specs.Dev.{DeviceState, FailsToRead, ReadsBlock}
+use Rattle.bdi_page.specs.Packing.{IsPage}
+use Rattle.block_map.specs.BlockMap.{BlockMap, with_state}
+use Rattle.block_map.specs.declared.state.BlockState.TheVariants.{Free}
+use Rattle.call_history.specs.Parts.{is_read}
 use Rattle.call_history.specs.Shows.{got_from, tag_by}
 use Rattle.call_history.specs.declared.part.Part.{Part}
 use Rattle.call_history.specs.declared.part.PartEnd.{PartEnd}
-use Rattle.call_history.specs.declared.part.PartEnd.TheVariants.{AtLimit, Carried, NoMemory, Whole}
+use Rattle.call_history.specs.declared.part.PartEnd.TheVariants.{AtLimit, Carried, Eio, NoMemory, Whole}
 use Rattle.class_pool.specs.Pool.{PoolState}
 use Rattle.class_pool.specs.Rows.{rows}
 use Rattle.joint_rule.proofs.Facts.{Known}
@@ -14,16 +19,16 @@ use Rattle.joint_rule.specs.Facts.{Facts}
 use Rattle.joint_rule.specs.Joint.{Sound}
 use Rattle.joint_rule.specs.Weights.{HeldAll, used_each}
 use Rattle.lock_row.specs.declared.names.At.{At}
-use Rattle.lock_row.specs.declared.names.At.TheVariants.{Both, Freeing, Giving, Leaving, Made, Owing, Pinning, Ready, Refusing, Unpinning, Sweeping, Moving, Shrinking}
+use Rattle.lock_row.specs.declared.names.At.TheVariants.{Both, Counting, Failing, Fetching, Freeing, Giving, Leaving, Made, Missed, Owing, Pinning, Ready, Refusing, Releasing, Unpinning, Sweeping, Moving, Shrinking}
 use Rattle.lock_row.specs.declared.names.Compaction.{Compaction}
 use Rattle.lock_row.specs.declared.names.Pin.{Pin}
 use Rattle.mem_account.specs.Counters.{Counters, IsPastLimit, IsWithinLimit, charged, counted}
 use Rattle.page_steps.specs.Compactions.{Compacts, MovesOne, budget_in, compaction_at, moved_at, repaid, resting_by, with_frames, with_move, with_next}
-use Rattle.page_steps.specs.Givings.{Notes, Works, kept_by, old_weight, settled}
-use Rattle.page_steps.specs.Nexts.{emptied, ending_by, failing_by, pin_at, pin_of, slot_by, tail_of}
+use Rattle.page_steps.specs.Givings.{Notes, Works, fails_by, kept_by, old_weight, settled}
+use Rattle.page_steps.specs.Nexts.{emptied, ending_by, failing_by, fetch_at, pin_at, pin_of, slot_by, tail_of}
 use Rattle.page_steps.specs.Pages.{next_form, page_in, page_in_cell}
 use Rattle.page_steps.specs.Pools.{DropsPinned, IsNeed, ReturnsBy}
-use Rattle.page_steps.specs.Steps.{DiskHeld, Here, entry_in, on, piece_over, pinned_at, quit_at, settle_at, slot}
+use Rattle.page_steps.specs.Steps.{DiskHeld, Here, entry_in, fetched_at, on, piece_over, pinned_at, quit_at, settle_at, slot}
 use Rattle.slot_entry.specs.Entries.{EntryState, weight_of}
 use Rattle.slot_entry.specs.Forms.{Pooled, form_weight, object_class}
 use Rattle.slot_entry.specs.declared.kept.Stored.{Stored}
@@ -147,6 +152,46 @@ pub data Event (g : Begin) (l : Here) (v : DiskHeld) (m : Here) : Type 0 where
       → l.at ≡ Leaving
       → l.held ≡ (slot p.page, holds.Slot e) ∷ [] → l.fail ≡ Some x → v ≡ holds.Slot e
       → m ≡ piece_over l p x [] rest → Event g l v m
+  -- the page is read from its block
+  fetches : (p : Part) (rest : List Part) (e : EntryState) (b : ℕ) (d d' : DeviceState)
+      (page : List ℕ) → l.todo ≡ p ∷ rest → l.at ≡ Fetching
+      → l.held ≡ (lock.Device, holds.Device d) ∷ (slot p.page, holds.Slot e) ∷ []
+      → e.kept ≡ kept.Wb b → ReadsBlock d d' b page → IsPage page → v ≡ holds.Device d'
+      → m ≡ on l (fetched_at p.op (next_form p (Some page) e.kept) e.kept)
+      ((slot p.page, holds.Slot e) ∷ []) l.fresh l.pin l.owed l.ahead l.behind (Some page) l.fail
+      → Event g l v m
+  -- or the device fails
+  misses : (p : Part) (rest : List Part) (e : EntryState) (b : ℕ) (d d' : DeviceState) (fault : ℕ)
+      → l.todo ≡ p ∷ rest → l.at ≡ Fetching
+      → l.held ≡ (lock.Device, holds.Device d) ∷ (slot p.page, holds.Slot e) ∷ []
+      → e.kept ≡ kept.Wb b → FailsToRead d d' fault → v ≡ holds.Device d'
+      → m ≡ on l Failing ((slot p.page, holds.Slot e) ∷ []) l.fresh l.pin l.owed l.ahead l.behind
+      l.page (Some (Eio fault))
+      → Event g l v m
+  -- that is counted
+  counts : (p : Part) (rest : List Part) (e : EntryState) (c : Counters) → l.todo ≡ p ∷ rest
+      → l.at ≡ Counting → l.held ≡ (lock.Account, holds.Account c) ∷ (slot p.page, holds.Slot e) ∷ []
+      → v ≡ holds.Account (fails_by p.op c)
+      → m ≡ on l Missed ((slot p.page, holds.Slot e) ∷ []) l.fresh l.pin l.owed l.ahead l.behind
+      l.page l.fail
+      → Event g l v m
+  -- a read of which the device failed is noted
+  errs : (p : Part) (rest : List Part) (e f : EntryState) (x : PartEnd) → l.todo ≡ p ∷ rest
+      → l.at ≡ Missed → l.held ≡ (slot p.page, holds.Slot e) ∷ [] → l.fail ≡ Some x
+      → is_read p.op ≡ true → Notes g.clock e f e.kept (tag_by l.actor p) → v ≡ holds.Slot f
+      → m ≡ piece_over l p x [] rest → Event g l v m
+  -- a write of which it failed isn't
+  leaves : (p : Part) (rest : List Part) (e : EntryState) (x : PartEnd) → l.todo ≡ p ∷ rest
+      → l.at ≡ Missed → l.held ≡ (slot p.page, holds.Slot e) ∷ [] → l.fail ≡ Some x
+      → is_read p.op ≡ false → v ≡ holds.Slot e → m ≡ piece_over l p x [] rest → Event g l v m
+  -- the page's block is freed
+  releases : (p : Part) (rest : List Part) (e : EntryState) (b : ℕ) (x : BlockMap)
+      → l.todo ≡ p ∷ rest → l.at ≡ Releasing
+      → l.held ≡ (lock.Blocks, holds.Blocks x) ∷ (slot p.page, holds.Slot e) ∷ []
+      → e.kept ≡ kept.Wb b → v ≡ holds.Blocks (with_state x b Free)
+      → m ≡ on l Owing ((slot p.page, holds.Slot (emptied e)) ∷ []) l.fresh None 0
+      (Some (weight_of e.kept)) l.behind l.page l.fail
+      → Event g l v m
   -- a compaction moves an object
   moves : (p : Part) (rest : List Part) (x : Compaction) (q q' : PoolState) (u u' : UsedCell)
       (budget frames : ℕ) → l.todo ≡ p ∷ rest → l.at ≡ Moving x
@@ -292,4 +337,26 @@ module _ (g : Begin) (ok : Known g) (l : Here) (sound : HeldAll g.given.size (So
   event_of (work.fails p rest e x todo at held bad v_is m_is) =
       fails p rest e x todo at held bad v_is
       (m_is ∙ ap (failing_by l) bad ∙ ap (ending_by l x (λ q. [])) todo)
+  event_of (work.fetches p rest e b d d' page todo at held is read is_page v_is m_is) =
+      fetches p rest e b d d' page todo at held is read is_page v_is
+      (m_is ∙ (λ i. on l (fetch_at (todo i) page (entry_in (held i)).kept) (tail_of (held i)) l.fresh
+      l.pin l.owed l.ahead l.behind (Some page) l.fail))
+  event_of (work.misses p rest e b d d' fault todo at held is failed v_is m_is) =
+      misses p rest e b d d' fault todo at held is failed v_is
+      (m_is ∙ (λ i. on l Failing (tail_of (held i)) l.fresh l.pin l.owed l.ahead l.behind l.page
+      (Some (Eio fault))))
+  event_of (work.counts p rest e c todo at held v_is m_is) =
+      counts p rest e c todo at held v_is
+      (m_is ∙ (λ i. on l Missed (tail_of (held i)) l.fresh l.pin l.owed l.ahead l.behind l.page
+      l.fail))
+  event_of (work.errs p rest e f x todo at held bad a_read notes v_is m_is) =
+      errs p rest e f x todo at held bad a_read notes v_is
+      (m_is ∙ ap (failing_by l) bad ∙ ap (ending_by l x (λ q. [])) todo)
+  event_of (work.leaves p rest e x todo at held bad other v_is m_is) =
+      leaves p rest e x todo at held bad other v_is
+      (m_is ∙ ap (failing_by l) bad ∙ ap (ending_by l x (λ q. [])) todo)
+  event_of (work.releases p rest e b x todo at held is v_is m_is) =
+      releases p rest e b x todo at held is v_is
+      (m_is ∙ (λ i. on l Owing (slot_by (todo i) (emptied (entry_in (held i)))) l.fresh None 0
+      (Some (weight_of (entry_in (held i)).kept)) l.behind l.page l.fail))
   event_of (work.compacts c) = compact_of c

@@ -1,29 +1,33 @@
 -- What a phase begins with, and what a page is after the calls of an order.
-use Rattle.std.specs.Prelude.{◌≡◌, ℕ, ◌+◌, ◌-◌, ◌*◌, ◌^◌, ◌<◌, ◌≤◌, ◌==◌, ⊤, Bool, true, List, [], ◌∷◌, length, All, Option, Some, None, if◌then◌else◌}
+use Rattle.std.specs.Prelude.{◌≡◌, ℕ, ◌+◌, ◌-◌, ◌*◌, ◌^◌, ◌<◌, ◌≤◌, ◌==◌, ◌&&◌, ⊤, Bool, true, List, [], ◌∷◌, length, All, Option, Some, None, if◌then◌else◌}
 use Rattle.std.specs.List.{AllByRecursion}
 use Rattle.zr_base.specs.declared.op.Tag.{Tag}
 use Rattle.zr_base.specs.declared.op.Op.{Op}
 use Rattle.zr_base.specs.Plain.{named, has_event, zero_sector, IsRequest}
 use Rattle.mem_account.specs.Counters.{Counters}
+use Rattle.backing_dev.specs.Dev.{DeviceState}
 use Rattle.plain_disk.specs.Forms.{page_bytes}
 use Rattle.plain_disk.specs.Ends.{Ground, is_single}
-use Rattle.plain_disk.specs.Calls.{Found, after_all, ever_pooled}
+use Rattle.plain_disk.specs.Calls.{Found, leave_page, after_all, ever_pooled}
 use Rattle.plain_disk.specs.Phases.{Given, held_after}
 use Rattle.call_history.specs.declared.part.Part.{Part}
 use Rattle.call_history.specs.Parts.{program}
 use Rattle.slot_entry.specs.Forms.{PageForm, Blank, form_of, bytes_in, page_weight}
 use Rattle.page_steps.specs.Steps.{Terms}
 
--- What a phase begins with: a plain disk and its calls; the pages on which no write stands; when
--- each page was touched; the most frames of a chain; the time; the account's counters, the limit
--- among them; and whether each class is known to have at most one zspage with a free cell.
+-- What a phase begins with: a plain disk and its calls; the pages on which no write stands; those that
+-- are on the device; when each page was touched; the most frames of a chain; the time; the account's
+-- counters, the limit among them; the device; and whether each class is known to have at most one
+-- zspage with a free cell.
 pub record Begin : Type 0 where
   pub given : Given
   pub blank : ℕ → Bool
+  pub back : ℕ → Bool
   pub touched : ℕ → ℕ
   pub chain : ℕ
   pub clock : ℕ
   pub was : Counters
+  pub device : DeviceState
   pub tight : Bool
 
 -- what the phase's steps go by
@@ -32,8 +36,14 @@ terms g = record { size = g.given.size; chain = g.chain; clock = g.clock }
 
 -- what the phase's ends are measured by
 abbrev pub ground_of : Begin → Ground
-ground_of g =
-    record { form = page_weight; size = g.given.size; chain = g.chain; limit = g.was.limit }
+ground_of g = record {
+  form = page_weight;
+  size = g.given.size;
+  chain = g.chain;
+  limit = g.was.limit;
+  back = g.back;
+  faults = g.device.faults;
+}
 
 -- ---- pages
 
@@ -64,6 +74,10 @@ image g p order = bytes_in (form_at g p order)
 -- 1 where it is in the pool after some first calls of its order, or before them all
 abbrev pub ever : Begin → ℕ → List Tag → ℕ
 ever g p order = if ever_pooled page_weight p g.given.actors (found g p) order then 1 else 0
+
+-- whether a page is on the device: where it was before the phase, and its order has reads alone
+abbrev pub back_at : Begin → ℕ → List Tag → Bool
+back_at g p order = g.back p && leave_page g.given.actors order
 
 -- a call that is named is carried out on the page
 abbrev pub HasEvent : ℕ → Option Op → Type 0

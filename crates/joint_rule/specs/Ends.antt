@@ -1,12 +1,13 @@
 -- What a finished phase leaves: the orders of its pages, the histories of its actors, and the rest
 -- of the plain disk.
-use Rattle.std.specs.Prelude.{◌≡◌, ℕ, ◌+◌, ◌/◌, true, List, [], map, get_or, Option, Some, None, slice_get}
+use Rattle.std.specs.Prelude.{◌≡◌, ℕ, ◌+◌, ◌/◌, ◌&&◌, true, false, List, [], map, get_or, Option, Some, None, slice_get}
 use Rattle.std.specs.List.{range_with_len}
 use Rattle.zr_base.specs.declared.op.Tag.{Tag}
 use Rattle.zr_base.specs.declared.op.Op.{Op}
 use Rattle.zr_base.specs.Plain.{zero_sector}
 use Rattle.mem_account.specs.Counters.{Counters, no_counts}
-use Rattle.plain_disk.specs.Calls.{after_all}
+use Rattle.backing_dev.specs.Dev.{DeviceState}
+use Rattle.plain_disk.specs.Calls.{leave_page, after_all}
 use Rattle.plain_disk.specs.Compactions.{are_tight}
 use Rattle.plain_disk.specs.Rests.{Settings, Rest, page_of, stats, nothing_yet, so_far_of}
 use Rattle.plain_disk.specs.Phases.{begun, held_after, nth_order, touched_by}
@@ -24,10 +25,12 @@ abbrev pub begin_at : Rest → List (List Op) → Begin
 begin_at r actors = record {
   given = begun r actors;
   blank = r.blank;
+  back = r.back;
   touched = r.touched;
   chain = r.set.chain;
   clock = r.set.clock;
   was = stats page_weight r;
+  device = r.device;
   tight = are_tight r.set.chain r.used;
 }
 
@@ -66,17 +69,27 @@ account_in _ = no_counts
 abbrev pub account_of : ℕ → List (Option DiskHeld) → Counters
 account_of size row = account_in (value_at row (size + 255))
 
--- The rest of the plain disk after a phase with these orders: pages by the calls, pools and
--- counters
--- by the row.
+-- the device at a place, or this one where there is none
+abbrev pub device_in : DeviceState → Option DiskHeld → DeviceState
+device_in d (Some (holds.Device e)) = e
+device_in d _ = d
+
+-- the device of a disk of so many pages
+abbrev pub device_of : DeviceState → ℕ → List (Option DiskHeld) → DeviceState
+device_of d size row = device_in d (value_at row (size + 257))
+
+-- The rest of the plain disk after a phase with these orders: pages by the calls, pools, counters and
+-- the device by the row.
 abbrev pub rest_by : Rest → List (List Op) → List (List Tag) → List (Option DiskHeld) → Rest
 rest_by r actors orders row = record {
   size = r.size;
   holds = λ s. held_after (begun r actors) (nth_order orders (s / 8)) s;
   blank = λ p. (after_all actors (page_of r p) (nth_order orders p)).blank;
+  back = λ p. r.back p && leave_page actors (nth_order orders p);
   touched = λ p. touched_by (nth_order orders p) r.set.clock (r.touched p);
   used = λ k. used_in (value_at row (r.size + k));
   most = (account_of r.size row).most;
+  device = device_of r.device r.size row;
   set = r.set;
   so_far = so_far_of (account_of r.size row);
 }
@@ -85,15 +98,17 @@ rest_by r actors orders row = record {
 abbrev pub rest_after : Rest → List (List Op) → List (Option DiskHeld) → Rest
 rest_after r actors row = rest_by r actors (orders_of r.size row) row
 
--- the rest of a new disk of so many pages
-abbrev pub new_rest : ℕ → Settings → Rest
-new_rest n set = record {
+-- the rest of a new disk of so many pages, over this device
+abbrev pub new_rest : ℕ → Settings → DeviceState → Rest
+new_rest n set device = record {
   size = n;
   holds = λ s. zero_sector;
   blank = λ p. true;
+  back = λ p. false;
   touched = λ p. 0;
   used = λ k. [];
   most = 0;
+  device = device;
   set = set;
   so_far = nothing_yet;
 }

@@ -1,8 +1,9 @@
 -- The joint rule of pages, pools and the account: what each value and each actor is, and the sums
 -- over them all.
-use Rattle.std.specs.Prelude.{◌≡◌, ℕ, ◌+◌, ◌<◌, ◌≤◌, List, map, length, sum_by, Some, slice_get, ⊤}
+use Rattle.std.specs.Prelude.{◌≡◌, ℕ, ◌+◌, ◌^◌, ◌<◌, ◌≤◌, List, map, length, sum_by, Some, slice_get, ⊤}
 use Rattle.zr_base.specs.declared.op.Op.{Op}
 use Rattle.size_class.specs.Classes.{class_size, chain_of, per_of}
+use Rattle.backing_dev.specs.Dev.{DeviceState, IsHonestDevice}
 use Rattle.class_pool.specs.Pool.{PoolState, used_cells, IsPool}
 use Rattle.plain_disk.specs.Phases.{touched_by}
 use Rattle.call_history.specs.Parts.{program, EndsSo, Follows}
@@ -13,9 +14,9 @@ use Rattle.lock_row.specs.Totals.{held_sum, total}
 use Rattle.slot_entry.specs.Entries.{EntryState, weight_of}
 use Rattle.page_steps.specs.Pages.{new_class}
 use Rattle.page_steps.specs.Steps.{DiskHeld, Here, spot, class_by, entry_in}
-use Rattle.joint_rule.specs.Begins.{Begin, ground_of, form_at, AreCarried}
-use Rattle.joint_rule.specs.Weights.{HeldAll, Each, nothing, none, at_place, Weigh, each_one, claims, fresh_claim, cell_weight, stored, names, PinWeigh, outs, pinned, pages, chains, owing, ever_at, leaning, Fixed, fixed, fixed_count, Count, counters, shown, ahead, behind}
-use Rattle.joint_rule.specs.Stages.{IsForm, IsSmall, StageBy, locks_by}
+use Rattle.joint_rule.specs.Begins.{Begin, ground_of, form_at, back_at, AreCarried}
+use Rattle.joint_rule.specs.Weights.{HeldAll, Each, nothing, none, at_place, Weigh, each_one, claims, fresh_claim, BlockWeigh, block_claims, used_blocks, map_size, device_size, lies_at, stored_at, cell_weight, stored, names, PinWeigh, outs, pinned, pages, chains, owing, ever_at, leaning, Fixed, fixed, fixed_count, Count, counters, shown, ahead, behind}
+use Rattle.joint_rule.specs.Stages.{IsForm, is_wb, IsSmall, StageBy, locks_by}
 
 -- ---- each value by itself
 
@@ -36,13 +37,24 @@ pub record EntryFits (g : Begin) (j : ℕ) (e : EntryState) : Type 0 where
   pub touched : e.touched ≡ touched_by e.order g.clock (g.touched j)
   pub small : IsSmall (weight_of e.kept)
 
+-- The device is the one with which the phase began, with as many blocks, honest where it was. Its
+-- counts haven't fallen, that of reads isn't past its end, and nothing was written.
+pub record KeepsDevice (d e : DeviceState) : Type 0 where
+  pub same : e.references ≡ d.references
+  pub blocks : e.blocks ≡ d.blocks
+  pub honest : IsHonestDevice d → IsHonestDevice e
+  pub faults : d.faults ≤ e.faults
+  pub reads : d.reads ≤ e.reads
+  pub end : e.reads < 2 ^ 64
+  pub writes : e.writes ≡ d.writes
+
 -- the value fits its place
 abbrev pub Sound : Begin → ℕ → DiskHeld → Type 0
 Sound g j (holds.Slot e) = EntryFits g j e
 Sound g j (holds.Class p) = (j ≡ g.given.size + p.class) × PoolFits g.chain p
 Sound g j (holds.Account c) = j ≡ g.given.size + 255
 Sound g j (holds.Blocks x) = j ≡ g.given.size + 256
-Sound g j (holds.Device x) = j ≡ g.given.size + 257
+Sound g j (holds.Device x) = (j ≡ g.given.size + 257) × KeepsDevice g.device x
 
 -- an entry's form is the one in which its page has to be kept
 abbrev pub Stands : Begin → ℕ → DiskHeld → Type 0
@@ -52,10 +64,19 @@ Stands g j (holds.Account c) = ⊤
 Stands g j (holds.Blocks x) = ⊤
 Stands g j (holds.Device x) = ⊤
 
+-- an entry's page is on the device where it was before the phase and its order has reads alone
+abbrev pub Backs : Begin → ℕ → DiskHeld → Type 0
+Backs g j (holds.Slot e) = is_wb e.kept ≡ back_at g j e.order
+Backs g j (holds.Class p) = ⊤
+Backs g j (holds.Account c) = ⊤
+Backs g j (holds.Blocks x) = ⊤
+Backs g j (holds.Device x) = ⊤
+
 -- A value at home fits its place, and its page is kept as it has to be.
 pub record AtHome (g : Begin) (j : ℕ) (v : DiskHeld) : Type 0 where
   pub sound : Sound g j v
   pub stands : Stands g j v
+  pub backs : Backs g j v
 
 -- ---- each actor by itself
 
@@ -90,6 +111,15 @@ pub record Joint (g : Begin) (w : State DiskHeld) : Type 0 where
   -- the objects that entries and actors name are those of the pools, each once, with their bytes
   pub owners : (f : Weigh) → total (spot g.given.size) (claims g f) (fresh_claim f) w
       ≡ total (spot g.given.size) (stored f) none w
+  -- the blocks that the map has as taken are those in which pages are kept, each once
+  pub blocks : (f : BlockWeigh) → total (spot g.given.size) (block_claims f) none w
+      ≡ total (spot g.given.size) (used_blocks f) none w
+  -- the map has no more blocks than the device
+  pub size : total (spot g.given.size) map_size none w
+      ≤ total (spot g.given.size) device_size none w
+  -- where a page is kept in a block, the device tells that the block has the page
+  pub disk : (b : ℕ) (bytes : List ℕ) → 0 < total (spot g.given.size) (lies_at g b bytes) none w
+      → 0 < total (spot g.given.size) (stored_at b bytes) none w
   -- the cells that are out are those that actors have pinned
   pub pins : (f : PinWeigh) → total (spot g.given.size) (outs f) none w
       ≡ total (spot g.given.size) nothing (pinned f) w

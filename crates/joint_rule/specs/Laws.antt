@@ -3,6 +3,7 @@ use Rattle.std.specs.Prelude.{◌≡◌, ℕ, ◌+◌, ◌*◌, ◌<◌, ◌≤�
 use Rattle.zr_base.specs.declared.op.Op.{Op}
 use Rattle.zr_base.specs.Plain.{zero_sector}
 use Rattle.mem_account.specs.Counters.{no_counts}
+use Rattle.backing_dev.specs.Dev.{DeviceState}
 use Rattle.plain_disk.specs.Rests.{Settings, Rest, stats}
 use Rattle.plain_disk.specs.Phases.{begun, bounds}
 use Rattle.plain_disk.specs.Legal.{sets}
@@ -124,7 +125,8 @@ FinishedIsAtRest = (g : Begin) (w : State DiskHeld) → Rule g w → AllFinished
 abbrev pub FinishedAgrees : Type 0
 FinishedAgrees = (r : Rest) (actors : List (List Op)) (w : State DiskHeld)
     → Proper (begin_at r actors) → Rule (begin_at r actors) w → AllFinished (begin_at r actors) w
-    → Agree (ground_of (begin_at r actors)) (bounds page_weight r actors (orders_of r.size w.row))
+    → Agree (ground_of (begin_at r actors)) (bounds page_weight r actors (orders_of r.size w.row)
+    (rest_after r actors w.row).device.faults)
     (begun r actors) (histories w.locals) (orders_of r.size w.row)
 
 -- and the account has counted what the pages of the rest, the orders and the histories say
@@ -173,14 +175,15 @@ RequestsAreProper = (g : Begin) → AreRequests g.given.actors
 
 -- the first phase on a new disk
 abbrev pub NewIsProper : Type 0
-NewIsProper = (n : ℕ) (set : Settings) (actors : List (List Op)) → AreRequests actors
-    → IsRoomy (begin_at (new_rest n set) actors) → Proper (begin_at (new_rest n set) actors)
+NewIsProper = (n : ℕ) (set : Settings) (device : DeviceState) (actors : List (List Op))
+    → AreRequests actors → IsRoomy (begin_at (new_rest n set device) actors)
+    → Proper (begin_at (new_rest n set device) actors)
 
 -- the account of a new disk has counted nothing
 abbrev pub NewCountsNothing : Type 0
-NewCountsNothing = (n : ℕ) (set : Settings)
-    → stats page_weight (new_rest n set) ≡ record no_counts { limit = set.limit }
+NewCountsNothing = (n : ℕ) (set : Settings) (device : DeviceState)
+    → stats page_weight (new_rest n set device) ≡ record no_counts { limit = set.limit }
 
 -- the rest of a new disk is one
 abbrev pub NewIsNew : Type 0
-NewIsNew = (r : Rest) (n : ℕ) → IsNewDisk r n (new_rest n r.set)
+NewIsNew = (r : Rest) (n : ℕ) → IsNewDisk r n (new_rest n r.set r.device)

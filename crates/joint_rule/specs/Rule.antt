@@ -12,7 +12,7 @@ use Rattle.lock_row.specs.declared.names.State.{State}
 use Rattle.lock_row.specs.Totals.{locals_sum, total}
 use Rattle.page_steps.specs.Steps.{DiskHeld, Here, spot}
 use Rattle.joint_rule.specs.Begins.{Begin, ground_of, content, pieces_on, pieces_each}
-use Rattle.joint_rule.specs.Weights.{HeldAll, Each, none, one, pages, ever_at, mosts, Refusal, refusal_count, refusal_counter, refusals, compactions, freed_by, News, noted, told_ahead, news_count, news_counter}
+use Rattle.joint_rule.specs.Weights.{HeldAll, Each, none, one, pages, device_faults, device_reads, faults_told, fetches_told, fetches_noted, ever_at, mosts, Refusal, refusal_count, refusal_counter, refusals, compactions, freed_by, News, noted, told_ahead, news_count, news_counter}
 use Rattle.joint_rule.specs.Joint.{Joint}
 use Rattle.joint_rule.specs.Alone.{Alone}
 
@@ -88,9 +88,13 @@ CountsNews g q w = total (spot g.given.size) (news_counter q) none w
 
 -- ---- limits
 
--- what the ends of pieces are measured by at a state: the pages that were in the pool, and actors
+-- what the ends of pieces are measured by at a state: the pages that were in the pool, with actors, and
+-- how many calls of the device have failed
 abbrev pub reach_at : Begin → State DiskHeld → Bounds
-reach_at g w = record { reach = total (spot g.given.size) (ever_at g) one w }
+reach_at g w = record {
+  reach = total (spot g.given.size) (ever_at g) one w;
+  faults = total (spot g.given.size) device_faults none w;
+}
 
 -- a refusal is within these bounds
 abbrev pub FailKeeps : Begin → Bounds → Option PartEnd → Type 0
@@ -106,6 +110,18 @@ pub record KeepsLimits (g : Begin) (b : Bounds) (l : Here) : Type 0 where
 abbrev pub Limits : Begin → State DiskHeld → Type 0
 Limits g w = (a : ℕ) (l : Here) → slice_get w.locals a ≡ Some l → KeepsLimits g (reach_at g w) l
 
+-- ---- the device
+
+-- each count of faults is told once at most
+abbrev pub FaultsDiffer : State DiskHeld → Type 0
+FaultsDiffer w = (n : ℕ) → locals_sum (faults_told n) w.locals ≤ 1
+
+-- the device was read at most once for each read and write in the orders, for each write that was
+-- refused for memory, and for each piece in work that may have read it
+abbrev pub FewFetches : Begin → State DiskHeld → Type 0
+FewFetches g w = total (spot g.given.size) device_reads none w
+    ≤ g.device.reads + total (spot g.given.size) (fetches_noted g) fetches_told w
+
 -- ---- the rule
 
 -- The rule that each state of a phase has.
@@ -117,4 +133,6 @@ pub record Rule (g : Begin) (w : State DiskHeld) : Type 0 where
   pub freed : CountsFreed g w
   pub news : (q : News) → CountsNews g q w
   pub limits : Limits g w
+  pub faults : FaultsDiffer w
+  pub fetches : FewFetches g w
   pub alone : Alone g w

@@ -8,12 +8,12 @@ use Rattle.mem_account.specs.Tally.{packed_bytes_of}
 use Rattle.plain_disk.specs.Ends.{is_single}
 use Rattle.call_history.specs.declared.part.Part.{Part}
 use Rattle.call_history.specs.declared.part.PartEnd.{PartEnd}
-use Rattle.call_history.specs.declared.part.PartEnd.TheVariants.{Carried, AtLimit, NoMemory, Whole}
+use Rattle.call_history.specs.declared.part.PartEnd.TheVariants.{Carried, AtLimit, NoMemory, Eio, Whole}
 use Rattle.call_history.specs.Parts.{EndsSo}
 use Rattle.lock_row.specs.declared.names.LockNo.{LockNo}
 use Rattle.lock_row.specs.declared.names.LockNo.TheVariants as lock
 use Rattle.lock_row.specs.declared.names.At.{At}
-use Rattle.lock_row.specs.declared.names.At.TheVariants.{Start, Refusing, Seen, Pinning, Pinned, Unpinning, Leaving, Wanting, Inside, Both, Made, Old, Freeing, Owing, Giving, Ready, Sweeping, Moving, Shrunk, Shrinking}
+use Rattle.lock_row.specs.declared.names.At.TheVariants.{Start, Refusing, Seen, Pinning, Pinned, Unpinning, Leaving, Away, Fetching, Failing, Counting, Missed, Wanting, Inside, Both, Made, Old, Freeing, Backed, Releasing, Owing, Giving, Ready, Sweeping, Moving, Shrunk, Shrinking}
 use Rattle.lock_row.specs.declared.names.Compaction.{Compaction}
 use Rattle.lock_row.specs.declared.names.Object.{Object}
 use Rattle.lock_row.specs.declared.names.Pin.{Pin}
@@ -25,7 +25,7 @@ use Rattle.slot_entry.specs.Entries.{EntryState, weight_of}
 use Rattle.slot_entry.specs.Forms.{PageForm, Blank, Word, Pooled, object_class, form_weight}
 use Rattle.page_steps.specs.Pages.{page_in, next_form}
 use Rattle.page_steps.specs.Steps.{slot}
-use Rattle.joint_rule.specs.Begins.{Begin, ground_of, found_after, content, form_at}
+use Rattle.joint_rule.specs.Begins.{Begin, ground_of, found_after, content, form_at, back_at}
 use Rattle.joint_rule.specs.Weights.{Count, measure}
 
 -- ---- kinds
@@ -45,9 +45,20 @@ abbrev pub IsNothing : Kept → Type 0
 IsNothing kept.Empty = ⊤
 IsNothing _ = ⊥
 
--- the page isn't kept as an object
+-- the page is kept in a block of the device
+abbrev pub IsWb : Kept → Type 0
+IsWb (kept.Wb b) = ⊤
+IsWb _ = ⊥
+
+-- whether it is
+abbrev pub is_wb : Kept → Bool
+is_wb (kept.Wb b) = true
+is_wb _ = false
+
+-- the page is kept neither as an object nor in a block
 abbrev pub NoObj : Kept → Type 0
 NoObj (kept.Obj o) = ⊥
+NoObj (kept.Wb b) = ⊥
 NoObj _ = ⊤
 
 -- a page of this form is in the pool
@@ -72,18 +83,22 @@ Looks (Discard start count) = ⊥
 Looks Compact = ⊥
 Looks _ = ⊤
 
--- the form in which a page is kept is the one in which it has to be
+-- the form in which a page is kept is the one in which it has to be; a page for the pool may be on the
+-- device
 abbrev pub IsForm : ℕ → PageForm → Kept → Type 0
 IsForm chain Blank kept.Empty = ⊤
 IsForm chain Blank (kept.Same w) = ⊥
 IsForm chain Blank (kept.Obj o) = ⊥
+IsForm chain Blank (kept.Wb b) = ⊥
 IsForm chain (Word v) kept.Empty = ⊥
 IsForm chain (Word v) (kept.Same w) = w ≡ v
 IsForm chain (Word v) (kept.Obj o) = ⊥
+IsForm chain (Word v) (kept.Wb b) = ⊥
 IsForm chain (Pooled bytes huge) kept.Empty = ⊥
 IsForm chain (Pooled bytes huge) (kept.Same w) = ⊥
 IsForm chain (Pooled bytes huge) (kept.Obj o) =
     (o.class ≡ object_class chain bytes huge) × (o.len ≡ length bytes) × (o.huge ≡ huge)
+IsForm chain (Pooled bytes huge) (kept.Wb b) = ⊤
 
 -- the new object of a piece is that of the form
 abbrev pub Bears : ℕ → PageForm → Option Object → Type 0
@@ -116,6 +131,7 @@ module _ (g : Begin) (p : Part) where
   IsRefusal Carried = ⊥
   IsRefusal (AtLimit charged need limit) = EndsSo (ground_of g) p (AtLimit charged need limit)
   IsRefusal NoMemory = EndsSo (ground_of g) p NoMemory
+  IsRefusal (Eio fault) = ⊥
   IsRefusal (Whole end) = ⊥
 
   -- nothing is refused, or it is so
@@ -127,6 +143,11 @@ module _ (g : Begin) (p : Part) where
   abbrev pub HasFailed : Option PartEnd → Type 0
   HasFailed None = ⊥
   HasFailed (Some x) = IsRefusal x
+
+  -- the device has failed
+  abbrev pub IsFault : Option PartEnd → Type 0
+  IsFault (Some (Eio fault)) = EndsSo (ground_of g) p (Eio fault)
+  IsFault _ = ⊥
 
   -- a write was refused, and a read wasn't
   abbrev pub FailBy : Op → Option PartEnd → Type 0
@@ -140,6 +161,9 @@ module _ (g : Begin) (p : Part) where
   FailAt Pinned op x = FailBy op x
   FailAt Unpinning op x = FailBy op x
   FailAt Leaving op x = FailBy op x
+  FailAt Failing op x = IsFault x
+  FailAt Counting op x = IsFault x
+  FailAt Missed op x = IsFault x
   FailAt Made op x = MayFail x
   FailAt at op x = NoneOf x
 
@@ -154,12 +178,19 @@ KindAt Pinning op k f = Looks op × IsObj k
 KindAt Pinned op k f = Looks op × IsObj k
 KindAt Unpinning op k f = Looks op × IsObj k
 KindAt Leaving op k f = Looks op
+KindAt Away op k f = Looks op × IsWb k
+KindAt Fetching op k f = Looks op × IsWb k
+KindAt Failing op k f = Looks op × IsWb k
+KindAt Counting op k f = Looks op × IsWb k
+KindAt Missed op k f = Looks op × IsWb k
 KindAt Wanting op k f = IsWrite op × IsPooled f
 KindAt Inside op k f = IsWrite op × IsPooled f
 KindAt Both op k f = IsWrite op × IsPooled f
 KindAt Made op k f = IsWrite op × IsPooled f
 KindAt Old op k f = Changes op × IsObj k
 KindAt Freeing op k f = Changes op × IsObj k
+KindAt Backed op k f = Changes op × IsWb k
+KindAt Releasing op k f = Changes op × IsWb k
 KindAt Owing op k f = Changes op × NoObj k
 KindAt Giving op k f = Changes op × NoObj k
 KindAt Ready op k f = Changes op × NoObj k
@@ -178,6 +209,8 @@ abbrev pub MadeAt : ℕ → At → PageForm → Option PartEnd → Option Object
 MadeAt chain Made f e x = MadeBy chain e f x
 MadeAt chain Old f e x = Bears chain f x
 MadeAt chain Freeing f e x = Bears chain f x
+MadeAt chain Backed f e x = Bears chain f x
+MadeAt chain Releasing f e x = Bears chain f x
 MadeAt chain Owing f e x = Bears chain f x
 MadeAt chain Giving f e x = Bears chain f x
 MadeAt chain Ready f e x = Bears chain f x
@@ -216,6 +249,31 @@ StandAt chain (Shrunk x) f k = ⊤
 StandAt chain (Shrinking x) f k = ⊤
 StandAt chain at f k = IsForm chain f k
 
+-- the page is on the device where it was before the phase and its order has reads alone, until its
+-- block is given up
+abbrev pub BackAt : At → Kept → Bool → Type 0
+BackAt Start k back = ⊤
+BackAt Refusing k back = ⊤
+BackAt Owing k back = ⊤
+BackAt Giving k back = ⊤
+BackAt Ready k back = ⊤
+BackAt (Sweeping x) k back = ⊤
+BackAt (Moving x) k back = ⊤
+BackAt (Shrunk x) k back = ⊤
+BackAt (Shrinking x) k back = ⊤
+BackAt at k back = is_wb k ≡ back
+
+-- a write that reads the device has only a part of its page
+abbrev pub IsPartly : Op → ℕ → Type 0
+IsPartly (Write start count stuff) page = has_whole start count page ≡ false
+IsPartly _ page = ⊤
+
+-- what reads the device
+abbrev pub PartlyAt : At → Op → ℕ → Type 0
+PartlyAt Away op page = IsPartly op page
+PartlyAt Fetching op page = IsPartly op page
+PartlyAt at op page = ⊤
+
 -- the page that the actor sees is the page, where its piece depends on that
 abbrev pub IsRight : Op → ℕ → List ℕ → List ℕ → Type 0
 IsRight (Write start count stuff) p page was = (has_whole start count p ≡ true) ⊎ (page ≡ was)
@@ -229,6 +287,11 @@ RightAt Start op p x page was = NoneOf x
 RightAt Refusing op p x page was = NoneOf x
 RightAt Seen op p x page was = NoneOf x
 RightAt Pinning op p x page was = NoneOf x
+RightAt Away op p x page was = NoneOf x
+RightAt Fetching op p x page was = NoneOf x
+RightAt Failing op p x page was = NoneOf x
+RightAt Counting op p x page was = NoneOf x
+RightAt Missed op p x page was = NoneOf x
 RightAt (Sweeping y) op p x page was = NoneOf x
 RightAt (Moving y) op p x page was = NoneOf x
 RightAt (Shrunk y) op p x page was = NoneOf x
@@ -271,6 +334,8 @@ BlankBy op (Some w) blank = WasBlank op false blank
 abbrev pub BlankAt : At → Op → Option Weight → Bool → Type 0
 BlankAt Old op x blank = WasBlank op false blank
 BlankAt Freeing op x blank = WasBlank op false blank
+BlankAt Backed op x blank = WasBlank op false blank
+BlankAt Releasing op x blank = WasBlank op false blank
 BlankAt Owing op x blank = WasBlank op false blank
 BlankAt Giving op x blank = WasBlank op false blank
 BlankAt Ready op x blank = BlankBy op x blank
@@ -308,6 +373,8 @@ pub record Stage (g : Begin) (p : Part) (e : EntryState) (at : At) (fresh : Opti
   pub pins : PinAt at e.kept pin
   pub owes : OweAt g.chain at owed
   pub stands : StandAt g.chain at (form_at g p.page e.order) e.kept
+  pub backs : BackAt at e.kept (back_at g p.page e.order)
+  pub partly : PartlyAt at p.op p.page
   pub right : RightAt at p.op p.page page (page_in page e.kept) (content g p.page e.order)
   pub counts : CountAt at ahead behind (next_form p page e.kept) e.kept
   pub blank : BlankAt at p.op ahead (found_after g p.page e.order).blank
@@ -345,12 +412,19 @@ locks_at Pinning p c d = lock.Class c ∷ slot p.page ∷ []
 locks_at Pinned p c d = slot p.page ∷ []
 locks_at Unpinning p c d = lock.Class c ∷ slot p.page ∷ []
 locks_at Leaving p c d = slot p.page ∷ []
+locks_at Away p c d = slot p.page ∷ []
+locks_at Fetching p c d = lock.Device ∷ slot p.page ∷ []
+locks_at Failing p c d = slot p.page ∷ []
+locks_at Counting p c d = lock.Account ∷ slot p.page ∷ []
+locks_at Missed p c d = slot p.page ∷ []
 locks_at Wanting p c d = slot p.page ∷ []
 locks_at Inside p c d = lock.Class d ∷ slot p.page ∷ []
 locks_at Both p c d = lock.Account ∷ lock.Class d ∷ slot p.page ∷ []
 locks_at Made p c d = lock.Class d ∷ slot p.page ∷ []
 locks_at Old p c d = slot p.page ∷ []
 locks_at Freeing p c d = lock.Class c ∷ slot p.page ∷ []
+locks_at Backed p c d = slot p.page ∷ []
+locks_at Releasing p c d = lock.Blocks ∷ slot p.page ∷ []
 locks_at Owing p c d = slot p.page ∷ []
 locks_at Giving p c d = lock.Account ∷ slot p.page ∷ []
 locks_at Ready p c d = slot p.page ∷ []

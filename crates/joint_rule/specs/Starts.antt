@@ -1,7 +1,11 @@
 -- The state before the first turn of a phase, and the one between two phases.
-use Rattle.std.specs.Prelude.{◌≡◌, ℕ, suc, ◌+◌, ◌*◌, ◌^◌, ◌<◌, ◌≤◌, true, List, [], ◌∷◌, length, Option, Some, None, slice_get}
+use Rattle.std.specs.Prelude.{◌≡◌, ℕ, suc, ◌+◌, ◌*◌, ◌^◌, ◌<◌, ◌≤◌, true, false, List, [], ◌∷◌, length, Option, Some, None, slice_get}
 use Rattle.zr_base.specs.declared.op.Op.{Op}
 use Rattle.size_class.specs.Classes.{class_size, chain_of, per_of}
+use Rattle.block_map.specs.declared.state.BlockState.{BlockState}
+use Rattle.block_map.specs.declared.state.BlockState.TheVariants.{Free}
+use Rattle.block_map.specs.BlockMap.{BlockMap}
+use Rattle.backing_dev.specs.Dev.{DeviceState}
 use Rattle.mem_account.specs.Counters.{Counters, no_counts}
 use Rattle.plain_disk.specs.Phases.{held_after}
 use Rattle.call_history.specs.Parts.{program}
@@ -9,11 +13,12 @@ use Rattle.lock_row.specs.declared.names.At.TheVariants.{Start}
 use Rattle.lock_row.specs.declared.names.Held.TheVariants as holds
 use Rattle.lock_row.specs.declared.names.State.{State}
 use Rattle.lock_row.specs.Totals.{row_sum}
+use Rattle.class_pool.specs.Pool.{PoolState}
 use Rattle.slot_entry.specs.declared.kept.Kept.TheVariants as kept
 use Rattle.slot_entry.specs.Entries.{EntryState}
 use Rattle.page_steps.specs.Steps.{DiskHeld, Here}
-use Rattle.joint_rule.specs.Begins.{Begin, found_after}
-use Rattle.joint_rule.specs.Weights.{Weigh, claims, stored, PinWeigh, outs, pages, chains, Count, counters, shown, mosts, Refusal, refusal_counter, compactions, loose_pools, News, news_counter}
+use Rattle.joint_rule.specs.Begins.{Begin, found_after, back_at}
+use Rattle.joint_rule.specs.Weights.{Weigh, claims, stored, BlockWeigh, block_claims, used_blocks, map_size, device_size, lies_at, stored_at, PinWeigh, outs, pages, chains, Count, counters, shown, mosts, Refusal, refusal_counter, compactions, loose_pools, News, news_counter}
 use Rattle.joint_rule.specs.Joint.{AtHome}
 use Rattle.joint_rule.specs.Rule.{owed}
 
@@ -25,6 +30,10 @@ pub record AtRest (g : Begin) (row : List (Option DiskHeld)) : Type 0 where
   pub whole : (k : ℕ) → k < length row → (v : DiskHeld) × (slice_get row k ≡ Some (Some v))
   pub home : (k : ℕ) (v : DiskHeld) → slice_get row k ≡ Some (Some v) → AtHome g k v
   pub owners : (f : Weigh) → row_sum (claims g f) row ≡ row_sum (stored f) row
+  pub blocks : (f : BlockWeigh) → row_sum (block_claims f) row ≡ row_sum (used_blocks f) row
+  pub fits : row_sum map_size row ≤ row_sum device_size row
+  pub disk : (b : ℕ) (bytes : List ℕ) → 0 < row_sum (lies_at g b bytes) row
+      → 0 < row_sum (stored_at b bytes) row
   pub pins : (f : PinWeigh) → row_sum (outs f) row ≡ 0
   pub frames : row_sum pages row ≡ row_sum chains row
   pub counts : (q : Count) → row_sum (counters q) row ≡ row_sum (shown q) row
@@ -52,13 +61,15 @@ pub record Starts (g : Begin) (a : ℕ) (l : Here) : Type 0 where
   pub fail : l.fail ≡ None
 
 -- The state before the first turn: orders are empty, with room for the phase's pieces, and the
--- account is as the phase finds it.
+-- account and the device are as the phase finds them.
 pub record IsStart (g : Begin) (w : State DiskHeld) : Type 0 where
   pub rest : AtRest g w.row
   pub orders : (k : ℕ) (e : EntryState) → slice_get w.row k ≡ Some (Some (holds.Slot e))
       → (e.order ≡ []) × (owed g.given.size w.locals k ≤ e.room)
   pub account : (k : ℕ) (c : Counters) → slice_get w.row k ≡ Some (Some (holds.Account c))
       → c ≡ g.was
+  pub device : (k : ℕ) (d : DeviceState) → slice_get w.row k ≡ Some (Some (holds.Device d))
+      → d ≡ g.device
   pub actors : (a : ℕ) (l : Here) → slice_get w.locals a ≡ Some l → Starts g a l
   pub count : length w.locals ≡ length g.given.actors
   pub tight : g.tight ≡ true → row_sum loose_pools w.row ≡ 0
@@ -73,26 +84,24 @@ pub record IsRenewed (g h : Begin) (j : ℕ) (e f : EntryState) : Type 0 where
   pub touched : f.touched ≡ e.touched
   pub time : h.touched j ≡ e.touched
   pub blank : h.blank j ≡ (found_after g j e.order).blank
+  pub back : h.back j ≡ back_at g j e.order
   pub before : (k : ℕ) → k < 8
       → h.given.before (8 * j + k) ≡ held_after g.given e.order (8 * j + k)
 
--- the value is no entry and no account
-abbrev pub IsOther : DiskHeld → Type 0
-IsOther (holds.Slot e) = ⊥
-IsOther (holds.Class p) = Unit {0}
-IsOther (holds.Account c) = ⊥
-IsOther (holds.Blocks x) = Unit {0}
-IsOther (holds.Device x) = Unit {0}
-
--- What lies between two phases does this to a value: orders are emptied, and the account's limit and
--- its maximum may change, where this stays at its frames or above.
+-- What lies between two phases does this to a value: orders are emptied; the account's limit and its
+-- maximum may change, where this stays at its frames or above; so may the budget of the map of blocks;
+-- and the second phase begins with the device.
 pub data Renewed (g h : Begin) (j : ℕ) (v u : DiskHeld) : Type 0 where
   slots : (e f : EntryState) → v ≡ holds.Slot e → u ≡ holds.Slot f → IsRenewed g h j e f
       → Renewed g h j v u
   accounts : (c d : Counters) → v ≡ holds.Account c → u ≡ holds.Account d
       → d ≡ record c { limit = d.limit; most = d.most } → (c.pages ≤ c.most → c.pages ≤ d.most)
       → Renewed g h j v u
-  stays : IsOther v → u ≡ v → Renewed g h j v u
+  pools : (p : PoolState) → v ≡ holds.Class p → u ≡ holds.Class p → Renewed g h j v u
+  maps : (x y : BlockMap) → v ≡ holds.Blocks x → u ≡ holds.Blocks y → y.states ≡ x.states
+      → Renewed g h j v u
+  devices : (d : DeviceState) → v ≡ holds.Device d → u ≡ holds.Device d → h.device ≡ d
+      → Renewed g h j v u
 
 -- the values of two rows, place by place
 abbrev pub Matched : (ℕ → DiskHeld → DiskHeld → Type 0) → List (Option DiskHeld)
@@ -111,10 +120,14 @@ pub record IsNextDisk (g h : Begin) : Type 0 where
 
 -- ---- a new disk
 
+-- each block is free
+abbrev pub AreFree : List BlockState → Type 0
+AreFree states = (b : ℕ) (s : BlockState) → slice_get states b ≡ Some s → s ≡ Free
+
 -- a value of a disk on which nothing was ever written
 abbrev pub IsNew : Begin → ℕ → DiskHeld → Type 0
 IsNew g j (holds.Slot e) = (j < g.given.size) × (e.kept ≡ kept.Empty) × (e.order ≡ [])
-    × (e.touched ≡ g.touched j) × (g.blank j ≡ true)
+    × (e.touched ≡ g.touched j) × (g.blank j ≡ true) × (g.back j ≡ false)
 IsNew g j (holds.Class p) = (j ≡ g.given.size + p.class) × (p.class < 255)
     × (p ≡ record {
       class = p.class;
@@ -124,5 +137,6 @@ IsNew g j (holds.Class p) = (j ≡ g.given.size + p.class) × (p.class < 255)
       zspages = [];
     })
 IsNew g j (holds.Account c) = (j ≡ g.given.size + 255) × (c ≡ record no_counts { limit = c.limit })
-IsNew g j (holds.Blocks x) = j ≡ g.given.size + 256
-IsNew g j (holds.Device x) = j ≡ g.given.size + 257
+IsNew g j (holds.Blocks x) = (j ≡ g.given.size + 256) × AreFree x.states
+    × (length x.states ≤ g.device.blocks)
+IsNew g j (holds.Device x) = (j ≡ g.given.size + 257) × (x ≡ g.device) × (x.reads < 2 ^ 64)

@@ -1,5 +1,5 @@
 -- What values and actors weigh: the sums over them that the joint rule compares.
-use Rattle.std.specs.Prelude.{◌≡◌, ℕ, zero, suc, ◌+◌, ◌==◌, ◌&&◌, Bool, true, false, cond, is_some, List, [], ◌∷◌, sum_by, Option, Some, None, slice_get}
+use Rattle.std.specs.Prelude.{◌≡◌, ℕ, zero, suc, ◌+◌, ◌==◌, ◌&&◌, Bool, true, false, cond, is_some, List, [], ◌∷◌, length, sum_by, Option, Some, None, slice_get}
 use denote.RawPtr.{Ptr, block_ptr, null_ptr}
 use Rattle.zr_base.specs.declared.op.Tag.{Tag}
 use Rattle.zr_base.specs.declared.op.Op.{Op}
@@ -10,18 +10,22 @@ use Rattle.class_pool.specs.Zspages.{Cells}
 use Rattle.class_pool.specs.Pool.{PoolState, used_cells}
 use Rattle.class_pool.specs.Laws.{frames_of}
 use Rattle.mem_account.specs.Counters.{Counters}
+use Rattle.block_map.specs.declared.state.BlockState.{BlockState}
+use Rattle.block_map.specs.declared.state.BlockState.TheVariants.{Free, Held, Owned, Left}
+use Rattle.block_map.specs.BlockMap.{BlockMap}
+use Rattle.backing_dev.specs.Dev.{DeviceState}
 use Rattle.mem_account.specs.Tally.{same_of, packed_of, packed_bytes_of, huge_of, back_of}
 use Rattle.mem_account.specs.declared.weight.Weight.{Weight}
-use Rattle.plain_disk.specs.Ends.{failed_write, beyond, compacted}
+use Rattle.plain_disk.specs.Ends.{failed_read, failed_write, starved, tells_fault, beyond, compacted}
 use Rattle.plain_disk.specs.Compactions.{loose}
-use Rattle.plain_disk.specs.Calls.{Found, calls_sum, made_huge, freed}
+use Rattle.plain_disk.specs.Calls.{Found, calls_sum, made_huge, freed, may_fetch}
 use Rattle.call_history.specs.declared.part.Part.{Part}
 use Rattle.call_history.specs.declared.part.PartEnd.{PartEnd}
 use Rattle.call_history.specs.Parts.{piece_gives, done_sum}
 use Rattle.lock_row.specs.declared.names.LockNo.{LockNo}
 use Rattle.lock_row.specs.declared.names.Held.TheVariants as holds
 use Rattle.lock_row.specs.declared.names.At.{At}
-use Rattle.lock_row.specs.declared.names.At.TheVariants.{Ready}
+use Rattle.lock_row.specs.declared.names.At.TheVariants.{Start, Refusing, Away, Fetching, Failing, Counting, Missed, Ready, Sweeping, Moving, Shrunk, Shrinking}
 use Rattle.lock_row.specs.declared.names.State.{State}
 use Rattle.lock_row.specs.declared.names.Object.{Object}
 use Rattle.lock_row.specs.declared.names.Pin.{Pin}
@@ -32,7 +36,7 @@ use Rattle.slot_entry.specs.Forms.{same_list, page_weight}
 use Rattle.slot_entry.specs.Entries.{weight_of}
 use Rattle.page_steps.specs.Steps.{DiskHeld, Here, spot}
 use Rattle.page_steps.specs.Compactions.{compaction_at}
-use Rattle.joint_rule.specs.Begins.{Begin, found, image, ever}
+use Rattle.joint_rule.specs.Begins.{Begin, found, content, image, ever}
 
 -- ---- values and actors
 
@@ -95,6 +99,22 @@ on_account f j (holds.Account c) = f c
 on_account f j (holds.Blocks x) = 0
 on_account f j (holds.Device x) = 0
 
+-- the weight of the map of blocks
+abbrev pub on_blocks : (BlockMap → ℕ) → ℕ → DiskHeld → ℕ
+on_blocks f j (holds.Slot e) = 0
+on_blocks f j (holds.Class p) = 0
+on_blocks f j (holds.Account c) = 0
+on_blocks f j (holds.Blocks x) = f x
+on_blocks f j (holds.Device x) = 0
+
+-- the device's weight
+abbrev pub on_device : (DeviceState → ℕ) → ℕ → DiskHeld → ℕ
+on_device f j (holds.Slot e) = 0
+on_device f j (holds.Class p) = 0
+on_device f j (holds.Account c) = 0
+on_device f j (holds.Blocks x) = 0
+on_device f j (holds.Device x) = f x
+
 -- ---- objects
 
 -- a weight of objects, by class, handle and bytes
@@ -110,6 +130,7 @@ abbrev pub claim_by : Weigh → Kept → List ℕ → ℕ
 claim_by f kept.Empty b = 0
 claim_by f (kept.Same w) b = 0
 claim_by f (kept.Obj o) b = f o.class o.handle.0 b
+claim_by f (kept.Wb x) b = 0
 
 -- the object that an entry names, with the bytes in which its page has to be kept
 abbrev pub claims : Begin → Weigh → ℕ → DiskHeld → ℕ
@@ -176,6 +197,124 @@ abbrev pub same_pin : Pin → Pin → Bool
 same_pin x y = ((x.class == y.class) && (x.handle == y.handle))
     && (same_ptr x.chain y.chain && ((x.number == y.number) && ((x.size == y.size)
     && same_list x.bytes y.bytes)))
+
+-- ---- blocks
+
+-- a weight of blocks, by who has them: 0 for a writeback, 1 for a page, 2 for readers alone
+abbrev pub BlockWeigh : Type 0
+BlockWeigh = ℕ → ℕ → ℕ
+
+-- the block in which a page is kept
+abbrev pub block_by : BlockWeigh → Kept → ℕ
+block_by f kept.Empty = 0
+block_by f (kept.Same w) = 0
+block_by f (kept.Obj o) = 0
+block_by f (kept.Wb b) = f 1 b
+
+-- the block in which an entry's page is kept
+abbrev pub block_claims : BlockWeigh → ℕ → DiskHeld → ℕ
+block_claims f = on_entry (λ j k order. block_by f k)
+
+-- a block by its state
+abbrev pub use_by : BlockWeigh → ℕ → BlockState → ℕ
+use_by f b Free = 0
+use_by f b Held = f 0 b
+use_by f b Owned = f 1 b
+use_by f b Left = f 2 b
+
+-- the blocks of a map from the b-th on
+abbrev pub used_from : BlockWeigh → ℕ → List BlockState → ℕ
+used_from f b [] = 0
+used_from f b (s ∷ states) = use_by f b s + used_from f (suc b) states
+
+-- those of the map
+abbrev pub used_blocks : BlockWeigh → ℕ → DiskHeld → ℕ
+used_blocks f = on_blocks (λ x. used_from f 0 x.states)
+
+-- how many blocks the map has
+abbrev pub map_size : ℕ → DiskHeld → ℕ
+map_size = on_blocks (λ x. length x.states)
+
+-- how many the device has
+abbrev pub device_size : ℕ → DiskHeld → ℕ
+device_size = on_device (λ d. d.blocks)
+
+-- 1 where they are equal, else 0
+abbrev pub same_bytes : List ℕ → List ℕ → ℕ
+same_bytes x y = cond (same_list x y) 1 0
+
+-- 1 for a page that is kept in this block and has these bytes
+abbrev pub lies_by : ℕ → List ℕ → Kept → List ℕ → ℕ
+lies_by b bytes (kept.Wb x) page = cond (b == x) (same_bytes bytes page) 0
+lies_by b bytes _ page = 0
+
+-- 1 for an entry whose page is kept in this block and has to have these bytes
+abbrev pub lies_at : Begin → ℕ → List ℕ → ℕ → DiskHeld → ℕ
+lies_at g b bytes = on_entry (λ j k order. lies_by b bytes k (content g j order))
+
+-- 1 for a device of which this block is known to have these bytes
+abbrev pub has_block : ℕ → List ℕ → Option (List (List ℕ)) → ℕ
+has_block b bytes None = 0
+has_block b bytes (Some pages) = by_option (same_bytes bytes) (slice_get pages b)
+
+-- 1 where the device's block has these bytes
+abbrev pub stored_at : ℕ → List ℕ → ℕ → DiskHeld → ℕ
+stored_at b bytes = on_device (λ d. has_block b bytes d.contents)
+
+-- ---- the calls of the device
+
+-- how many of them failed
+abbrev pub device_faults : ℕ → DiskHeld → ℕ
+device_faults = on_device (λ d. d.faults)
+
+-- how many reads succeeded
+abbrev pub device_reads : ℕ → DiskHeld → ℕ
+device_reads = on_device (λ d. d.reads)
+
+-- what a piece in work gives by the refusal that it has already
+abbrev pub fails_so : (Op → OpEnd → ℕ) → List Part → Option PartEnd → ℕ
+fails_so f [] x = 0
+fails_so f (p ∷ ps) x = by_option (piece_gives f p.op) x
+
+-- how often an actor tells a count of faults
+abbrev pub faults_told : ℕ → Here → ℕ
+faults_told n l = done_sum (tells_fault n) l.done + fails_so (tells_fault n) l.todo l.fail
+
+-- 1 for an operation whose piece may read the device
+abbrev pub looks : Op → ℕ
+looks (Write start count stuff) = 1
+looks (Read start count) = 1
+looks (Discard start count) = 0
+looks Compact = 0
+
+-- 1 for a piece at a stage that may have read the device
+abbrev pub fetched_by : At → Op → ℕ
+fetched_by Start op = 0
+fetched_by Refusing op = 0
+fetched_by Away op = 0
+fetched_by Fetching op = 0
+fetched_by Failing op = 0
+fetched_by Counting op = 0
+fetched_by Missed op = 0
+fetched_by (Sweeping x) op = 0
+fetched_by (Moving x) op = 0
+fetched_by (Shrunk x) op = 0
+fetched_by (Shrinking x) op = 0
+fetched_by at op = looks op
+
+-- 1 for a piece in work that may have read the device
+abbrev pub fetched_now : List Part → At → ℕ
+fetched_now [] at = 0
+fetched_now (p ∷ ps) at = fetched_by at p.op
+
+-- how often an actor may have read the device beside what stands in orders: for writes that were
+-- refused for memory, and for the piece in work
+abbrev pub fetches_told : Here → ℕ
+fetches_told l = done_sum starved l.done + fetched_now l.todo l.at
+
+-- how often the calls of an entry's order may have read it
+abbrev pub fetches_noted : Begin → ℕ → DiskHeld → ℕ
+fetches_noted g = on_entry (λ j k order. calls_sum may_fetch g.given.actors (found g j) order)
 
 -- ---- frames
 
@@ -248,15 +387,13 @@ behind q l = by_option (measure q) l.behind
 
 -- ---- the counters that no event changes
 
--- The limit, and the reads that failed.
+-- The limit.
 pub data Fixed : Type 0 where
   Limit : Fixed
-  FailedReads : Fixed
 
 -- the account's counter
 abbrev pub fixed_count : Fixed → Counters → ℕ
 fixed_count Limit c = c.limit
-fixed_count FailedReads c = c.failed_reads
 
 -- the account's counter, as a weight
 abbrev pub fixed : Fixed → ℕ → DiskHeld → ℕ
@@ -268,27 +405,32 @@ mosts = on_account (λ c. c.most)
 
 -- ---- the counters of refusals
 
--- Writes that were refused, and requests beyond the disk.
+-- Reads and writes that were refused, and requests beyond the disk.
 pub data Refusal : Type 0 where
+  FailedReads : Refusal
   FailedWrites : Refusal
   OutOfRange : Refusal
 
 -- what an operation gives by its end
 abbrev pub refusal_of : Refusal → Op → OpEnd → ℕ
+refusal_of FailedReads op end = failed_read op end
 refusal_of FailedWrites op end = failed_write op end
 refusal_of OutOfRange op end = beyond op end
 
--- what a piece in work gives that is refused already
-abbrev pub refused_by : Refusal → List Part → Option PartEnd → ℕ
-refused_by q [] x = 0
-refused_by q (p ∷ ps) x = by_option (piece_gives (refusal_of q) p.op) x
+-- what a piece in work gives that is refused already; a failure of the device is counted after it is
+-- known
+abbrev pub refused_by : Refusal → At → List Part → Option PartEnd → ℕ
+refused_by q Failing ps x = 0
+refused_by q Counting ps x = 0
+refused_by q at ps x = fails_so (refusal_of q) ps x
 
 -- the refusals that an actor tells
 abbrev pub refusals : Refusal → Here → ℕ
-refusals q l = done_sum (refusal_of q) l.done + refused_by q l.todo l.fail
+refusals q l = done_sum (refusal_of q) l.done + refused_by q l.at l.todo l.fail
 
 -- the account's counter
 abbrev pub refusal_count : Refusal → Counters → ℕ
+refusal_count FailedReads c = c.failed_reads
 refusal_count FailedWrites c = c.failed_writes
 refusal_count OutOfRange c = c.invalid_io
 

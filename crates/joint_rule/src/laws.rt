@@ -4,21 +4,24 @@
 ghost use Rattle.joint_rule.specs.Facts.{Facts};
 ghost use Rattle.joint_rule.specs.Laws.{StartHasRule, TurnKeepsRule, ReachedHasRule, NobodyWaitsForever, TakesLock, GivesLock, TakenValueFits, ObjectsAreFew, CompactedIsFew, FinishedIsAtRest, FinishedAgrees, FinishedTallies, RestGoesOn, EntryGoesOn, NextIsProper, NewIsAtRest, RequestsAreProper, NewIsProper, NewCountsNothing, NewIsNew};
 
+use backing_dev::{Dev, MemBacking};
+use block_map::Blocks;
 use call_history::{histories_go_on, pieces_keep};
 use class_pool::{ClassPool, compactions_end, objects_move};
 use lock_row::{Held, sums_move, totals_move};
 use mem_account::Account;
 use slot_entry::{Entry, forms_tell_pages, kept_bytes_have_one_page};
 
-/// What a lock of a disk guards.
-type DiskHeld = Held<Entry, ClassPool, Account, (), ()>;
+/// What a lock of a disk guards. The laws are of what is seen of it, which is the same for each
+/// device.
+type DiskHeld<D> = Held<Entry, ClassPool, Account, Blocks, Dev<D>>;
 
 /// What the rule rests on.
 fn lower_laws()
     ensures { Facts }
 {
-    totals_move::<DiskHeld>();
-    sums_move::<DiskHeld>();
+    totals_move::<DiskHeld<MemBacking>>();
+    sums_move::<DiskHeld<MemBacking>>();
     pieces_keep();
     histories_go_on();
     objects_move();

@@ -62,6 +62,8 @@ pub enum At {
     Failing,
     /// It gives the account.
     Counting,
+    /// It gives the slot, whose page couldn't be read: a read is noted, a write is not.
+    Missed,
     /// It takes the class of the new object.
     Wanting,
     /// It takes the account, to charge the new object.

@@ -235,6 +235,13 @@ impl Account {
         }
     }
 
+    /// How many pages are on the backing device.
+    pub fn bd_count(&self) -> u64
+        ensures { result ≡ self.now.back }
+    {
+        self.back
+    }
+
     /// zram's `io_stat`.
     pub fn io_stat(&self) -> IoStat
         ensures fields { result ≡ io_stat_of self.now }

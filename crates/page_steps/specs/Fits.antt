@@ -1,5 +1,5 @@
 -- What a value has to be for an actor to go on with it, by the stage at which the actor takes it.
-use Rattle.std.specs.Prelude.{◌≡◌, ℕ, ◌+◌, ◌-◌, ◌<◌, ◌≤◌, ◌^◌, ⊤, Bool, true, false, Contains, List, [], ◌∷◌, length, Option, Some, None}
+use Rattle.std.specs.Prelude.{◌≡◌, ℕ, ◌+◌, ◌-◌, ◌<◌, ◌≤◌, ◌^◌, ⊤, Bool, true, false, Contains, List, [], ◌∷◌, length, Option, Some, None, slice_get}
 use Rattle.zr_base.specs.Plain.{is_beyond, is_compaction}
 use Rattle.zspage.specs.Cells.{CellState, UsedCell}
 use Rattle.zspage.specs.Cells.{Fits as CellFits}
@@ -8,6 +8,9 @@ use Rattle.mem_account.specs.Counters.{Counters, IsCounted, HasFittingSizes, cou
 use Rattle.mem_account.specs.declared.weight.Weight.{Weight}
 use Rattle.mem_account.specs.declared.weight.Delta.TheVariants as delta
 use Rattle.bdi_page.specs.Packing.{IsPage}
+use Rattle.block_map.specs.declared.state.BlockState.TheVariants.{Owned}
+use Rattle.block_map.specs.BlockMap.{BlockMap}
+use Rattle.backing_dev.specs.Dev.{DeviceState}
 use Rattle.call_history.specs.declared.part.Part.{Part}
 use Rattle.lock_row.specs.declared.names.Held.TheVariants as holds
 use Rattle.lock_row.specs.declared.names.At.{At}
@@ -73,6 +76,16 @@ abbrev pub AsAccount : (Counters → Type 0) → DiskHeld → Type 0
 AsAccount P (holds.Account c) = P c
 AsAccount P _ = ⊥
 
+-- the value is the map of blocks, of which this holds
+abbrev pub AsBlocks : (BlockMap → Type 0) → DiskHeld → Type 0
+AsBlocks P (holds.Blocks x) = P x
+AsBlocks P _ = ⊥
+
+-- the value is the device, of which this holds
+abbrev pub AsDevice : (DeviceState → Type 0) → DiskHeld → Type 0
+AsDevice P (holds.Device d) = P d
+AsDevice P _ = ⊥
+
 -- the cell that an actor has pinned
 abbrev pub cell_of : Pin → CellState
 cell_of x = record { chain = x.chain; number = x.number; size = x.size; bytes = x.bytes }
@@ -92,6 +105,16 @@ StartFits chain false false v = AsSlot HasPlace v
 abbrev pub PinFits : Kept → DiskHeld → Type 0
 PinFits (kept.Obj o) v = AsPool (CanPin o) v
 PinFits _ v = ⊤
+
+-- the device from which a page is to be read: it has the page's block
+abbrev pub FetchFits : Kept → DiskHeld → Type 0
+FetchFits (kept.Wb b) v = AsDevice (λ d. b < d.blocks) v
+FetchFits _ v = ⊤
+
+-- the map in which a page's block is to be freed: the page owns it
+abbrev pub ReleaseFits : Kept → DiskHeld → Type 0
+ReleaseFits (kept.Wb b) v = AsBlocks (λ x. slice_get x.states b ≡ Some Owned) v
+ReleaseFits _ v = ⊤
 
 -- the pool whose cell is pinned
 abbrev pub PinnedFits : Option Pin → DiskHeld → Type 0
@@ -116,9 +139,12 @@ FitsAt t at.Start p e pin owed ahead page v =
     StartFits t.chain (is_compaction p.op) (is_beyond t.size p.op) v
 FitsAt t at.Seen p e pin owed ahead page v = PinFits e.kept v
 FitsAt t at.Pinned p e pin owed ahead page v = PinnedFits pin v
+FitsAt t at.Away p e pin owed ahead page v = FetchFits e.kept v
+FitsAt t at.Failing p e pin owed ahead page v = AsAccount (λ c. ⊤) v
 FitsAt t at.Wanting p e pin owed ahead page v = StoreFits t.chain (next_form p page e.kept) v
 FitsAt t at.Inside p e pin owed ahead page v = AsAccount (CanCharge t.chain) v
 FitsAt t at.Old p e pin owed ahead page v = FreeFits e.kept pin v
+FitsAt t at.Backed p e pin owed ahead page v = ReleaseFits e.kept v
 FitsAt t at.Owing p e pin owed ahead page v =
     AsAccount (CanPay owed (old_weight ahead e.kept) (form_weight (next_form p page e.kept))) v
 FitsAt t (at.Sweeping x) p e pin owed ahead page v = SweepFits t.chain v

@@ -1,5 +1,5 @@
 -- The givings of a page's events: which value is given, and which local follows.
-use Rattle.std.specs.Prelude.{◌≡◌, ℕ, ◌+◌, ◌≤◌, Bool, length, List, [], ◌∷◌, ◌++◌, Option, Some, None}
+use Rattle.std.specs.Prelude.{◌≡◌, ℕ, ◌+◌, ◌≤◌, Bool, true, false, length, List, [], ◌∷◌, ◌++◌, Option, Some, None}
 use Rattle.zr_base.specs.declared.op.Tag.{Tag}
 use Rattle.zr_base.specs.declared.op.Op.{Op}
 use Rattle.zr_base.specs.declared.op.Op.TheVariants.{Write, Read, Discard, Compact}
@@ -7,10 +7,15 @@ use Rattle.zspage.specs.Cells.{CellState}
 use Rattle.class_pool.specs.Pool.{PoolState, PoolHasRoom}
 use Rattle.mem_account.specs.Counters.{Counters, charged, counted, IsPastLimit, IsWithinLimit}
 use Rattle.mem_account.specs.declared.weight.Weight.{Weight}
+use Rattle.block_map.specs.declared.state.BlockState.TheVariants.{Free}
+use Rattle.block_map.specs.BlockMap.{BlockMap, with_state}
+use Rattle.backing_dev.specs.Dev.{DeviceState, ReadsBlock, FailsToRead}
+use Rattle.bdi_page.specs.Packing.{IsPage}
 use Rattle.mem_account.specs.declared.weight.Delta.TheVariants as delta
 use Rattle.call_history.specs.declared.part.Part.{Part}
 use Rattle.call_history.specs.declared.part.PartEnd.{PartEnd}
 use Rattle.call_history.specs.declared.part.PartEnd.TheVariants as over
+use Rattle.call_history.specs.Parts.{is_read}
 use Rattle.call_history.specs.Shows.{tag_by}
 use Rattle.lock_row.specs.declared.names.LockNo.TheVariants as lock
 use Rattle.lock_row.specs.declared.names.Held.TheVariants as holds
@@ -25,7 +30,7 @@ use Rattle.page_steps.specs.Pages.{next_form}
 use Rattle.page_steps.specs.Pools.{IsNeed, Adds, Lends, Returns, DropsPinned}
 use Rattle.page_steps.specs.Steps.{Terms, DiskHeld, Here, slot}
 use Rattle.page_steps.specs.Compactions.{repaid, Compacts}
-use Rattle.page_steps.specs.Nexts.{refusing, reading, putting, failing, pinning, unpinning, charging, denying, stowing, quitting, freeing, repaying}
+use Rattle.page_steps.specs.Nexts.{refusing, reading, putting, failing, fetching, missing, counting_failure, pinning, unpinning, charging, denying, stowing, quitting, freeing, repaying}
 
 -- the entry's form after a piece: its new object stands where it has one
 abbrev pub kept_by : PageForm → Option Object → Kept
@@ -59,6 +64,13 @@ tells (Read start count) c = c
 tells (Discard start count) c = counted c delta.NotifyFree
 tells Compact c = c
 
+-- a failure of the device is counted
+abbrev pub fails_by : Op → Counters → Counters
+fails_by (Write start count stuff) c = counted c delta.FailedWrite
+fails_by (Read start count) c = counted c delta.FailedRead
+fails_by (Discard start count) c = counted c delta.FailedWrite
+fails_by Compact c = counted c delta.FailedWrite
+
 -- the account once a page is counted: frames are given back, and the page has a new weight
 abbrev pub settled : Op → ℕ → Weight → Weight → Counters → Counters
 settled op frames old new c = tells op (counted (repaid c frames) (delta.Kept old new))
@@ -81,6 +93,23 @@ pub data Works (t : Terms) (l : Here) (v : DiskHeld) (m : Here) : Type 0 where
       → l.held ≡ (lock.Class o.class, holds.Class q) ∷ (slot p.page, holds.Slot e) ∷ []
       → e.kept ≡ kept.Obj o → Returns q q' o.handle.0
       → v ≡ holds.Class q' → m ≡ unpinning l v → Works t l v m
+  -- the page is read from its block of the device
+  fetches : (p : Part) (rest : List Part) (e : EntryState) (b : ℕ) (d d' : DeviceState)
+      (page : List ℕ) → l.todo ≡ p ∷ rest → l.at ≡ at.Fetching
+      → l.held ≡ (lock.Device, holds.Device d) ∷ (slot p.page, holds.Slot e) ∷ []
+      → e.kept ≡ kept.Wb b → ReadsBlock d d' b page → IsPage page
+      → v ≡ holds.Device d' → m ≡ fetching page l v → Works t l v m
+  -- or the device fails
+  misses : (p : Part) (rest : List Part) (e : EntryState) (b : ℕ) (d d' : DeviceState) (fault : ℕ)
+      → l.todo ≡ p ∷ rest → l.at ≡ at.Fetching
+      → l.held ≡ (lock.Device, holds.Device d) ∷ (slot p.page, holds.Slot e) ∷ []
+      → e.kept ≡ kept.Wb b → FailsToRead d d' fault
+      → v ≡ holds.Device d' → m ≡ missing fault l v → Works t l v m
+  -- the failure is counted
+  counts : (p : Part) (rest : List Part) (e : EntryState) (c : Counters)
+      → l.todo ≡ p ∷ rest → l.at ≡ at.Counting
+      → l.held ≡ (lock.Account, holds.Account c) ∷ (slot p.page, holds.Slot e) ∷ []
+      → v ≡ holds.Account (fails_by p.op c) → m ≡ counting_failure l v → Works t l v m
   -- a new object is charged and made
   charges : (p : Part) (rest : List Part) (e : EntryState) (c : Counters) (q q' : PoolState)
       (class handle need : ℕ) (bytes : List ℕ) (huge : Bool) → l.todo ≡ p ∷ rest → l.at ≡ at.Both
@@ -121,6 +150,12 @@ pub data Works (t : Terms) (l : Here) (v : DiskHeld) (m : Here) : Type 0 where
       → l.held ≡ (lock.Class o.class, holds.Class q) ∷ (slot p.page, holds.Slot e) ∷ []
       → e.kept ≡ kept.Obj o → DropsPinned l.pin q q' o.handle.0 frames
       → v ≡ holds.Class q' → m ≡ freeing frames l v → Works t l v m
+  -- the block that has the page is freed
+  releases : (p : Part) (rest : List Part) (e : EntryState) (b : ℕ) (x : BlockMap)
+      → l.todo ≡ p ∷ rest → l.at ≡ at.Releasing
+      → l.held ≡ (lock.Blocks, holds.Blocks x) ∷ (slot p.page, holds.Slot e) ∷ []
+      → e.kept ≡ kept.Wb b
+      → v ≡ holds.Blocks (with_state x b Free) → m ≡ freeing 0 l v → Works t l v m
   -- frames are given back, and the page is counted
   repays : (p : Part) (rest : List Part) (e : EntryState) (c : Counters)
       → l.todo ≡ p ∷ rest → l.at ≡ at.Giving
@@ -142,6 +177,17 @@ pub data Works (t : Terms) (l : Here) (v : DiskHeld) (m : Here) : Type 0 where
   fails : (p : Part) (rest : List Part) (e : EntryState) (end : PartEnd)
       → l.todo ≡ p ∷ rest → l.at ≡ at.Leaving
       → l.held ≡ (slot p.page, holds.Slot e) ∷ [] → l.fail ≡ Some end
+      → v ≡ holds.Slot e → m ≡ failing l v → Works t l v m
+  -- a read of which the device failed is noted
+  errs : (p : Part) (rest : List Part) (e f : EntryState) (end : PartEnd) → l.todo ≡ p ∷ rest
+      → l.at ≡ at.Missed
+      → l.held ≡ (slot p.page, holds.Slot e) ∷ [] → l.fail ≡ Some end → is_read p.op ≡ true
+      → Notes t.clock e f e.kept (tag_by l.actor p)
+      → v ≡ holds.Slot f → m ≡ failing l v → Works t l v m
+  -- a write of which it failed leaves its entry
+  leaves : (p : Part) (rest : List Part) (e : EntryState) (end : PartEnd) → l.todo ≡ p ∷ rest
+      → l.at ≡ at.Missed
+      → l.held ≡ (slot p.page, holds.Slot e) ∷ [] → l.fail ≡ Some end → is_read p.op ≡ false
       → v ≡ holds.Slot e → m ≡ failing l v → Works t l v m
   -- an event of a compaction
   compacts : Compacts t l v m → Works t l v m

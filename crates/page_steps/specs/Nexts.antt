@@ -20,7 +20,7 @@ use Rattle.slot_entry.specs.declared.kept.Kept.{Kept}
 use Rattle.slot_entry.specs.declared.kept.Kept.TheVariants as kept
 use Rattle.slot_entry.specs.Entries.{EntryState, weight_of}
 use Rattle.page_steps.specs.Pages.{page_in, next_form, page_in_cell}
-use Rattle.page_steps.specs.Steps.{DiskHeld, Here, slot, entry_in, entry_or, on, piece_over, pinned_at, settle_at, quit_at, entered_at, with_lock}
+use Rattle.page_steps.specs.Steps.{DiskHeld, Here, slot, entry_in, entry_or, on, piece_over, pinned_at, settle_at, quit_at, entered_at, fetched_at, with_lock}
 
 -- what names the local after an event
 abbrev pub Next : Type 0
@@ -72,6 +72,30 @@ failing_by l (Some end) = ending_by l end (λ p. []) l.todo
 -- a refused piece is over
 abbrev pub failing : Next
 failing l v = failing_by l l.fail
+
+-- ---- the device
+
+-- the stage of the piece in work once its page was read from the device
+abbrev pub fetch_at : List Part → List ℕ → Kept → At
+fetch_at [] page k = at.Start
+fetch_at (p ∷ ps) page k = fetched_at p.op (next_form p (Some page) k) k
+
+-- the page was read from the device
+abbrev pub fetching : List ℕ → Next
+fetching page l v =
+    on l (fetch_at l.todo page (own_entry l).kept) (tail_of l.held) l.fresh l.pin l.owed l.ahead
+    l.behind (Some page) l.fail
+
+-- the device failed, with this count of faults
+abbrev pub missing : ℕ → Next
+missing fault l v =
+    on l at.Failing (tail_of l.held) l.fresh l.pin l.owed l.ahead l.behind l.page
+    (Some (over.Eio fault))
+
+-- the failure was counted
+abbrev pub counting_failure : Next
+counting_failure l v =
+    on l at.Missed (tail_of l.held) l.fresh l.pin l.owed l.ahead l.behind l.page l.fail
 
 -- ---- pins
 
@@ -127,7 +151,7 @@ abbrev pub quitting : Next
 quitting l v =
     on l (quit_at l.pin) (tail_of l.held) l.fresh l.pin l.owed l.ahead l.behind l.page l.fail
 
--- the old object is gone, with so many frames
+-- the old object is gone, with so many frames, or the block, with none
 abbrev pub freeing : ℕ → Next
 freeing frames l v =
     on l at.Owing (slot_by l.todo (emptied (own_entry l))) l.fresh None frames

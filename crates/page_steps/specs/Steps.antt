@@ -6,6 +6,8 @@ use Rattle.zr_base.specs.Plain.{is_beyond, is_compaction, has_whole}
 use Rattle.class_pool.specs.Pool.{PoolState}
 use Rattle.mem_account.specs.Counters.{Counters}
 use Rattle.mem_account.specs.declared.weight.Weight.{Weight}
+use Rattle.block_map.specs.BlockMap.{BlockMap}
+use Rattle.backing_dev.specs.Dev.{DeviceState}
 use Rattle.call_history.specs.declared.part.Part.{Part}
 use Rattle.call_history.specs.declared.part.PartEnd.{PartEnd}
 use Rattle.call_history.specs.Parts.{left_by}
@@ -14,7 +16,7 @@ use Rattle.lock_row.specs.declared.names.LockNo.TheVariants as lock
 use Rattle.lock_row.specs.declared.names.Held.{Held}
 use Rattle.lock_row.specs.declared.names.Held.TheVariants as holds
 use Rattle.lock_row.specs.declared.names.At.{At}
-use Rattle.lock_row.specs.declared.names.At.TheVariants.{Start, Refusing, Seen, Pinning, Pinned, Unpinning, Leaving, Wanting, Inside, Both, Made, Old, Freeing, Owing, Giving, Ready, Sweeping, Moving, Shrunk, Shrinking}
+use Rattle.lock_row.specs.declared.names.At.TheVariants.{Start, Refusing, Seen, Pinning, Pinned, Unpinning, Leaving, Away, Fetching, Failing, Counting, Missed, Wanting, Inside, Both, Made, Old, Freeing, Backed, Releasing, Owing, Giving, Ready, Sweeping, Moving, Shrunk, Shrinking}
 use Rattle.lock_row.specs.declared.names.Compaction.{Compaction}
 use Rattle.lock_row.specs.declared.names.Plan.{Plan}
 use Rattle.lock_row.specs.declared.names.Plan.TheVariants.{Finished, Take, Give}
@@ -33,10 +35,10 @@ pub record Terms : Type 0 where
   pub chain : ℕ
   pub clock : ℕ
 
--- what a lock guards: a slot has its page's entry, a class its pool, and the account its counters;
--- the blocks and the device, which aren't there yet, have the value () and are taken by nobody
+-- what a lock guards: a slot has its page's entry, a class its pool, the account its counters, the
+-- blocks their map, and the device's lock the device
 abbrev pub DiskHeld : Type 0
-DiskHeld = Held EntryState PoolState Counters (Unit {0}) (Unit {0})
+DiskHeld = Held EntryState PoolState Counters BlockMap DeviceState
 
 -- the local of an actor of a disk
 abbrev pub Here : Type 0
@@ -59,6 +61,7 @@ abbrev pub class_by : Kept → ℕ
 class_by kept.Empty = 0
 class_by (kept.Same w) = 0
 class_by (kept.Obj o) = o.class
+class_by (kept.Wb b) = 0
 
 -- ---- plans
 
@@ -82,12 +85,19 @@ plan_at size Pinning p c d = Give (lock.Class c)
 plan_at size Pinned p c d = Take (lock.Class c)
 plan_at size Unpinning p c d = Give (lock.Class c)
 plan_at size Leaving p c d = Give (slot p.page)
+plan_at size Away p c d = Take lock.Device
+plan_at size Fetching p c d = Give lock.Device
+plan_at size Failing p c d = Take lock.Account
+plan_at size Counting p c d = Give lock.Account
+plan_at size Missed p c d = Give (slot p.page)
 plan_at size Wanting p c d = Take (lock.Class d)
 plan_at size Inside p c d = Take lock.Account
 plan_at size Both p c d = Give lock.Account
 plan_at size Made p c d = Give (lock.Class d)
 plan_at size Old p c d = Take (lock.Class c)
 plan_at size Freeing p c d = Give (lock.Class c)
+plan_at size Backed p c d = Take lock.Blocks
+plan_at size Releasing p c d = Give lock.Blocks
 plan_at size Owing p c d = Take lock.Account
 plan_at size Giving p c d = Give lock.Account
 plan_at size Ready p c d = Give (slot p.page)
@@ -125,6 +135,7 @@ abbrev pub settle_at : Kept → At
 settle_at kept.Empty = Owing
 settle_at (kept.Same w) = Owing
 settle_at (kept.Obj o) = Old
+settle_at (kept.Wb b) = Backed
 
 -- a new form needs an object, or what stands is given up
 abbrev pub made_at : PageForm → Kept → At
@@ -132,17 +143,19 @@ made_at Blank k = settle_at k
 made_at (Word w) k = settle_at k
 made_at (Pooled bytes huge) k = Wanting
 
--- a page with an object is read from its cell
+-- a page with an object is read from its cell, and one on the device from its block
 abbrev pub seen_at : Kept → At
 seen_at kept.Empty = Leaving
 seen_at (kept.Same w) = Leaving
 seen_at (kept.Obj o) = Seen
+seen_at (kept.Wb b) = Away
 
--- a page of which a part is written is read before where it has an object
+-- a page of which a part is written is read before where it has an object or is on the device
 abbrev pub part_at : PageForm → Kept → At
 part_at f kept.Empty = made_at f kept.Empty
 part_at f (kept.Same w) = made_at f (kept.Same w)
 part_at f (kept.Obj o) = Seen
+part_at f (kept.Wb b) = Away
 
 -- a write of a whole page doesn't read it
 abbrev pub write_at : Bool → PageForm → Kept → At
@@ -154,6 +167,7 @@ abbrev pub discard_at : Kept → At
 discard_at kept.Empty = Ready
 discard_at (kept.Same w) = Owing
 discard_at (kept.Obj o) = Old
+discard_at (kept.Wb b) = Backed
 
 -- a piece has its page's slot; a compaction takes none
 abbrev pub entered_at : Op → ℕ → PageForm → Kept → At
@@ -177,12 +191,19 @@ after_take size Pinning p f k = Pinning
 after_take size Pinned p f k = Unpinning
 after_take size Unpinning p f k = Unpinning
 after_take size Leaving p f k = Leaving
+after_take size Away p f k = Fetching
+after_take size Fetching p f k = Fetching
+after_take size Failing p f k = Counting
+after_take size Counting p f k = Counting
+after_take size Missed p f k = Missed
 after_take size Wanting p f k = Inside
 after_take size Inside p f k = Both
 after_take size Both p f k = Both
 after_take size Made p f k = Made
 after_take size Old p f k = Freeing
 after_take size Freeing p f k = Freeing
+after_take size Backed p f k = Releasing
+after_take size Releasing p f k = Releasing
 after_take size Owing p f k = Giving
 after_take size Giving p f k = Giving
 after_take size Ready p f k = Ready
@@ -202,6 +223,13 @@ pinned_at (Write start count stuff) f k = made_at f k
 pinned_at (Read start count) f k = Pinned
 pinned_at (Discard start count) f k = Pinned
 pinned_at Compact f k = Pinned
+
+-- a page was read from the device
+abbrev pub fetched_at : Op → PageForm → Kept → At
+fetched_at (Write start count stuff) f k = made_at f k
+fetched_at (Read start count) f k = Leaving
+fetched_at (Discard start count) f k = Leaving
+fetched_at Compact f k = Leaving
 
 -- a refused piece has nothing in the pool
 abbrev pub quit_at : Option Pin → At

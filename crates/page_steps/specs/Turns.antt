@@ -1,5 +1,5 @@
 -- The turns of a call: what its hand has to allow, and what a turn leaves.
-use Rattle.std.specs.Prelude.{◌≡◌, ◌⊎◌, ℕ, ⊤, true, length, List, [], ◌∷◌, Option, Some, None, is_some}
+use Rattle.std.specs.Prelude.{◌≡◌, ◌⊎◌, ℕ, ⊤, true, length, List, [], ◌∷◌, Option, Some, None}
 use Rattle.zr_base.specs.declared.op.Piece.{Piece}
 use Rattle.lock_row.specs.declared.names.LockNo.{LockNo}
 use Rattle.lock_row.specs.declared.names.LockNo.TheVariants as lock
@@ -13,7 +13,7 @@ use Rattle.slot_entry.specs.declared.kept.Kept.{Kept}
 use Rattle.slot_entry.specs.Entries.{EntryState, IsPlain, plain_page}
 use Rattle.slot_entry.specs.Forms.{form_of}
 use Rattle.page_steps.specs.Pages.{next_form}
-use Rattle.page_steps.specs.Steps.{Terms, DiskHeld, Here, slot, plan, took, with_lock, made_at, entered_at, pinned_at}
+use Rattle.page_steps.specs.Steps.{Terms, DiskHeld, Here, slot, plan, took, with_lock, made_at, entered_at, pinned_at, fetched_at}
 use Rattle.page_steps.specs.Givings.{Works}
 use Rattle.page_steps.specs.Nexts.{Next, ending_by, own_entry}
 use Rattle.page_steps.specs.Fits.{StageFits, IsKept}
@@ -40,21 +40,21 @@ abbrev pub wanting : ℕ → Next
 wanting class l v = with_lock l at.Inside (lock.Class class) v
 
 -- an event that takes a value may be told so, whatever the call doesn't know
-abbrev pub TakesAs : Head → Scratch → Stage → Next → Type 0
+abbrev pub TakesAs : {D : Type 0} → Head → Scratch → Stage D → Next → Type 0
 TakesAs c r s f = (x : Frame) (v : DiskHeld) → IsWork c r x
     → f (here x r s) v ≡ took x.terms (here x r s) v
 
 -- an event that gives this value may be told so, whatever the call doesn't know
-abbrev pub GivesAs : Head → Scratch → Stage → Next → DiskHeld → Type 0
+abbrev pub GivesAs : {D : Type 0} → Head → Scratch → Stage D → Next → DiskHeld → Type 0
 GivesAs c r s f v = (x : Frame) → IsWork c r x
     → Works x.terms (here x r s) v (f (here x r s) v)
 
 -- the value fits an actor whose call is at this stage
-abbrev pub FitsSome : Head → Scratch → Stage → DiskHeld → Type 0
+abbrev pub FitsSome : {D : Type 0} → Head → Scratch → Stage D → DiskHeld → Type 0
 FitsSome c r s v = (x : Frame) × IsWork c r x × StageFits x.terms (here x r s) v
 
 -- the local after a turn: an end hands it on to what follows
-abbrev pub after : Frame → Here → Scratch → Stage → Progress → Here
+abbrev pub after : {D : Type 0} → Frame → Here → Scratch → Stage D → Progress → Here
 after x l r s progress.Moved = here x r s
 after x l r s (progress.Waits k) = here x r s
 after x l r s (progress.Done end) = ending_by l (end_of end) (got_of end r.page) l.todo
@@ -71,7 +71,7 @@ HasMoved (progress.Waits k) l = ⊥
 HasMoved (progress.Done end) l = IsPlaced end (length (own_entry l).order)
 
 -- the call is over exactly where its last event was made
-abbrev pub IsOnward : Progress → Stage → Type 0
+abbrev pub IsOnward : {D : Type 0} → Progress → Stage D → Type 0
 IsOnward (progress.Done end) s = s ≡ stage.Over
 IsOnward t s = IsGoing s
 
@@ -79,7 +79,7 @@ module _ {X : Type 0} (can_take : X → LockNo → Next → Type 0)
     (takes : X → LockNo → Next → DiskHeld → X → Type 0)
     (can_give : X → LockNo → Next → DiskHeld → Type 0) where
   -- The hand allows the next event of a call, and what it gives to a take fits.
-  pub record Allows (c : Head) (r : Scratch) (s : Stage) (h : X) : Type 0 where
+  pub record Allows {D : Type 0} (c : Head) (r : Scratch) (s : Stage D) (h : X) : Type 0 where
     pub take : (k : LockNo) (f : Next) → next_event c s ≡ Take k → TakesAs c r s f → can_take h k f
     pub fits : (k : LockNo) (f : Next) (v : DiskHeld) (g : X) → next_event c s ≡ Take k
         → TakesAs c r s f → takes h k f v g → FitsSome c r s v
@@ -87,7 +87,7 @@ module _ {X : Type 0} (can_take : X → LockNo → Next → Type 0)
         → GivesAs c r s f v → can_give h k f v
 
   -- A call at its stage, before a turn by a hand.
-  pub record IsReady (c : Head) (r : Scratch) (s : Stage) (h : X) : Type 0 where
+  pub record IsReady {D : Type 0} (c : Head) (r : Scratch) (s : Stage D) (h : X) : Type 0 where
     pub fit : IsFit c r s
     pub allows : Allows c r s h
 
@@ -104,12 +104,12 @@ module _ {X : Type 0} (takes : X → LockNo → Next → DiskHeld → X → Type
         → f l v ≡ m → Works t l v m → HasMoved p l → Turned t l h m g p
 
   -- a turn of a call is one of each actor whose work it does
-  abbrev pub Advanced : Head → Scratch → Stage → X → Scratch → Stage → X → Progress → Type 0
+  abbrev pub Advanced : {D : Type 0} → Head → Scratch → Stage D → X → Scratch → Stage D → X → Progress → Type 0
   Advanced c r s h r' s' g p = (x : Frame) → IsWork c r x
       → Turned x.terms (here x r s) h (after x (here x r s) r' s' p) g p
 
   -- What a turn of a call leaves.
-  pub record HasAdvanced (c : Head) (r : Scratch) (s : Stage) (h : X) (r' : Scratch) (s' : Stage)
+  pub record HasAdvanced {D : Type 0} (c : Head) (r : Scratch) (s : Stage D) (h : X) (r' : Scratch) (s' : Stage D)
       (g : X) (p : Progress) : Type 0 where
     pub fit : IsFit c r' s'
     pub turn : Advanced c r s h r' s' g p
@@ -130,12 +130,12 @@ owning x r a own fresh = record {
   owed = 0;
   ahead = None;
   behind = None;
-  page = page_if r (is_some own.lent);
+  page = page_if r own.read;
   fail = None;
 }
 
 -- What a call is where its new page stands in the scratch.
-pub record IsFormed (c : Head) (own : Own) (r' : Scratch) (s : Stage) : Type 0 where
+pub record IsFormed {D : Type 0} (c : Head) (own : Own) (r' : Scratch) (s : Stage D) : Type 0 where
   pub fit : IsFit c r' s
   pub stage : (x : Frame)
       → here x r' s ≡ owning x r' (made_at (form_of r'.fresh) own.entry.kept) own None
@@ -146,25 +146,38 @@ abbrev pub HasOld : Piece → List ℕ → Kept → Type 0
 HasOld p page k = (is_whole p ≡ true) ⊎ ((page ≡ plain_page k) × IsPlain k)
 
 -- What a call is where it has its page's slot.
-pub record HasEntered (c : Head) (r : Scratch) (e : EntryState) (r' : Scratch) (s : Stage)
+pub record HasEntered {D : Type 0} (c : Head) (r : Scratch) (e : EntryState) (r' : Scratch) (s : Stage D)
     : Type 0 where
   pub fit : IsFit c r' s
   pub stage : (x : Frame) → IsWork c r x
       → here x r' s ≡ owning x r'
       (entered_at x.part.op x.part.page (next_form x.part None e.kept) e.kept)
-      (record { entry = e; lent = None }) None
+      (record { entry = e; lent = None; read = false }) None
   pub going : IsGoing s
   pub work : (x : Frame) → IsWork c r x → IsWork c r' x
   pub table : r'.table ≡ r.table
 
 -- What a call is where its page was read from a cell.
-pub record HasRead (c : Head) (r : Scratch) (e : EntryState) (y : Lent) (r' : Scratch) (s : Stage)
+pub record HasRead {D : Type 0} (c : Head) (r : Scratch) (e : EntryState) (y : Lent) (r' : Scratch) (s : Stage D)
     : Type 0 where
   pub fit : IsFit c r' s
   pub stage : (x : Frame) → IsWork c r x
       → here x r' s ≡ owning x r'
       (pinned_at x.part.op (next_form x.part (Some r.page) e.kept) e.kept)
-      (record { entry = e; lent = Some y }) None
+      (record { entry = e; lent = Some y; read = true }) None
+  pub going : IsGoing s
+  pub work : (x : Frame) → IsWork c r x → IsWork c r' x
+  pub table : r'.table ≡ r.table
+  pub page : r'.page ≡ r.page
+
+-- What a call is where its page was read from the device.
+pub record HasFetched {D : Type 0} (c : Head) (r : Scratch) (e : EntryState) (r' : Scratch)
+    (s : Stage D) : Type 0 where
+  pub fit : IsFit c r' s
+  pub stage : (x : Frame) → IsWork c r x
+      → here x r' s ≡ owning x r'
+      (fetched_at x.part.op (next_form x.part (Some r.page) e.kept) e.kept)
+      (record { entry = e; lent = None; read = true }) None
   pub going : IsGoing s
   pub work : (x : Frame) → IsWork c r x → IsWork c r' x
   pub table : r'.table ≡ r.table

@@ -3,29 +3,33 @@
 ghost use Rattle.std.specs.Prelude.{◌≡◌};
 ghost use Rattle.page_steps.specs.declared.stage.Stage.TheVariants as stage;
 ghost use Rattle.page_steps.specs.declared.stage.Work.TheVariants as work;
-ghost use Rattle.page_steps.specs.Calls.{Frame, IsFit, IsGoing, IsWork, is_skipped, started, counting};
+ghost use Rattle.page_steps.specs.Calls.{Frame, IsFit, IsGoing, IsWork, has_fetched, is_skipped, started, counting};
 ghost use Rattle.page_steps.specs.Turns.{Allows, IsReady, Advanced, HasAdvanced, IsOnward};
 
 use crate::enter::{beyond, refuse_request, start};
-use crate::leave::{leave, leave_plain, refuse};
+use crate::device::{away, backed, count, fail, fetch, release};
+use crate::leave::{leave, leave_plain, miss, refuse};
 use crate::objects::{ask, charge, made, want};
 use crate::pins::{pin, pinned, seen, unpin};
 use crate::settle::{free, old, owe, put, repay};
 use crate::stage::{DiskHeld, Head, Progress, Scratch, Stage, Work};
+use backing_dev::Backing;
 use lock_row::Hand;
 use std::mem;
 use zr_base::{PageIx, Piece, Tag};
 
 /// A call in work.
 #[derive(Drop)]
-pub struct PageCall {
+pub struct PageCall<D: Backing> {
     pub head: Head,
-    pub stage: Stage,
+    pub stage: Stage<D>,
+    /// whether a read of the device succeeded
+    pub fetched: bool,
 }
 
-impl PageCall {
+impl<D: Backing> PageCall<D> {
     /// Begins a read. Where it is done, the page stands in the scratch.
-    pub fn read(piece: Piece, tag: Tag, now: u64) -> PageCall
+    pub fn read(piece: Piece, tag: Tag, now: u64) -> PageCall<D>
         ensures { result ≡ started work.Reads piece tag now }
     {
         PageCall {
@@ -36,12 +40,13 @@ impl PageCall {
                 now,
             },
             stage: Stage::Start,
+            fetched: false,
         }
     }
 
     /// Begins a write. The piece's sectors stand in the scratch, in `fresh`, each at its place in
     /// the page.
-    pub fn write(piece: Piece, tag: Tag, now: u64) -> PageCall
+    pub fn write(piece: Piece, tag: Tag, now: u64) -> PageCall<D>
         ensures { result ≡ started work.Writes piece tag now }
     {
         PageCall {
@@ -52,11 +57,12 @@ impl PageCall {
                 now,
             },
             stage: Stage::Start,
+            fetched: false,
         }
     }
 
     /// Begins a discard of a whole page.
-    pub fn discard(piece: Piece, tag: Tag, now: u64) -> PageCall
+    pub fn discard(piece: Piece, tag: Tag, now: u64) -> PageCall<D>
         ensures { result ≡ started work.Discards piece tag now }
     {
         PageCall {
@@ -67,11 +73,12 @@ impl PageCall {
                 now,
             },
             stage: Stage::Start,
+            fetched: false,
         }
     }
 
     /// Begins the count of a request beyond the disk.
-    pub fn out_of_range() -> PageCall
+    pub fn out_of_range() -> PageCall<D>
         ensures { result ≡ counting }
     {
         let piece = Piece {
@@ -88,6 +95,7 @@ impl PageCall {
                 now: 0,
             },
             stage: Stage::Beyond,
+            fetched: false,
         }
     }
 
@@ -98,8 +106,15 @@ impl PageCall {
         matches!(&self.head.work, Work::Discards) && self.head.piece.count < 8
     }
 
+    /// Whether a read of the device of this call succeeded.
+    pub fn device_read(&self) -> bool
+        ensures { result ≡ self.now.fetched }
+    {
+        self.fetched
+    }
+
     /// Makes the next event, or misses.
-    pub fn advance<H: Hand<Value = DiskHeld>>(
+    pub fn advance<H: Hand<Value = DiskHeld<D>>>(
         &mut self,
         hand: &mut H,
         scratch: &mut Scratch,
@@ -117,21 +132,25 @@ impl PageCall {
         ensures work { (x : Frame) → IsWork self.old.head scratch.old x → IsWork self.old.head
             scratch.new x }
         ensures table { scratch.new.table ≡ scratch.old.table }
+        ensures read { self.new.fetched
+            ≡ has_fetched self.old.fetched self.old.stage self.new.stage }
     {
         let at = mem::replace(&mut self.stage, Stage::Over);
+        let reads = matches!(&at, Stage::Fetching(_, _, _));
         let (next, progress) = step(self.head, at, hand, scratch);
+        self.fetched = self.fetched || reads && !matches!(&next, Stage::Failing(_, _));
         self.stage = next;
         progress
     }
 }
 
 // One event, or a miss, of a call that isn't over.
-fn step<H: Hand<Value = DiskHeld>>(
+fn step<D: Backing, H: Hand<Value = DiskHeld<D>>>(
     head: Head,
-    at: Stage,
+    at: Stage<D>,
     hand: &mut H,
     scratch: &mut Scratch,
-) -> (Stage, Progress)
+) -> (Stage<D>, Progress)
     requires going { IsGoing at }
     requires ready { IsReady H.can_take H.takes H.can_give head scratch.old at hand.old }
     ensures { HasAdvanced H.takes H.misses H.gives head scratch.old at hand.old scratch.new
@@ -147,6 +166,15 @@ fn step<H: Hand<Value = DiskHeld>>(
         Stage::Unpinning(entry, lent, end, pool) => unpin(
             head, entry, lent, end, pool, hand, scratch,
         ),
+        Stage::Away(entry, block) => away(head, entry, block, hand, scratch),
+        Stage::Fetching(entry, block, device) => fetch(
+            head, entry, block, device, hand, scratch,
+        ),
+        Stage::Failing(entry, fault) => fail(head, entry, fault, hand, scratch),
+        Stage::Counting(entry, fault, account) => count(
+            head, entry, fault, account, hand, scratch,
+        ),
+        Stage::Missed(entry, fault) => miss(head, entry, fault, hand, scratch),
         Stage::Plain(entry) => leave_plain(head, entry, hand, scratch),
         Stage::Leaving(entry) => leave(head, entry, hand, scratch),
         Stage::Refused(entry, read, end) => refuse(head, entry, read, end, hand, scratch),
@@ -161,6 +189,10 @@ fn step<H: Hand<Value = DiskHeld>>(
         Stage::Old(own, object, next) => old(head, own, object, next, hand, scratch),
         Stage::Freeing(own, object, next, pool) => free(
             head, own, object, next, pool, hand, scratch,
+        ),
+        Stage::Backed(own, block, next) => backed(head, own, block, next, hand, scratch),
+        Stage::Releasing(own, block, next, blocks) => release(
+            head, own, block, next, blocks, hand, scratch,
         ),
         Stage::Owing(due, frames, ahead) => owe(head, due, frames, ahead, hand, scratch),
         Stage::Giving(due, frames, ahead, account) => repay(

@@ -1,7 +1,7 @@
 //! The first event of a call: it takes its page's slot, or the account for a request beyond the
 //! disk.
 
-ghost use Rattle.std.specs.Prelude.{◌≡◌, false, true};
+ghost use Rattle.std.specs.Prelude.{◌≡◌, None, false, true};
 ghost use Rattle.page_steps.specs.declared.stage.Stage.TheVariants as stage;
 ghost use Rattle.page_steps.specs.Fits.{HasPlace};
 ghost use Rattle.page_steps.specs.Calls.{IsWithin, is_count, is_write, read_by, discard_by};
@@ -11,22 +11,35 @@ use crate::forms::{formed, merge};
 use crate::nexts::{Asks, Enters, Refuses, Takes};
 use crate::stage::{DiskHeld, Due, Head, Own, PieceEnd, Progress, Scratch, Stage, Work};
 use crate::values::{account_of, entry_of};
+use backing_dev::Backing;
 use lock_row::{Hand, Held, LockNo};
 use mem_account::{Account, Delta};
 use slot_entry::{Entry, Kept, expand};
 
+// A page that wasn't read.
+fn unread(entry: Entry) -> Own
+    ensures { result ≡ record { entry = entry; lent = None; read = false } }
+{
+    Own {
+        entry,
+        lent: None,
+        read: false,
+    }
+}
+
 // A read has its page's slot.
-fn entered_read(entry: Entry) -> Stage
+fn entered_read<D: Backing>(entry: Entry) -> Stage<D>
     ensures is { result ≡ read_by entry entry.kept }
 {
     match entry.kept() {
         Kept::Obj(object) => Stage::Seen(entry, object),
+        Kept::Wb(block) => Stage::Away(entry, block),
         _ => Stage::Plain(entry),
     }
 }
 
 // A discard has its page's slot.
-fn entered_discard(entry: Entry) -> Stage
+fn entered_discard<D: Backing>(entry: Entry) -> Stage<D>
     ensures is { result ≡ discard_by entry entry.kept }
 {
     match entry.kept() {
@@ -48,12 +61,13 @@ fn entered_discard(entry: Entry) -> Stage
             0,
             None,
         ),
-        Kept::Obj(object) => Stage::Old(Own { entry, lent: None }, object, Kept::Empty),
+        Kept::Obj(object) => Stage::Old(unread(entry), object, Kept::Empty),
+        Kept::Wb(block) => Stage::Backed(unread(entry), block, Kept::Empty),
     }
 }
 
 // A write has its page's slot, and the sectors of the old page that it leaves are known.
-fn written(head: Head, entry: Entry, scratch: &mut Scratch) -> Stage
+fn written<D: Backing>(head: Head, entry: Entry, scratch: &mut Scratch) -> Stage<D>
     requires write { is_write head.work ≡ true }
     requires within { IsWithin head.piece }
     requires place { HasPlace entry }
@@ -61,13 +75,13 @@ fn written(head: Head, entry: Entry, scratch: &mut Scratch) -> Stage
     ensures { HasEntered head scratch.old entry scratch.new result }
 {
     merge(head.piece, &scratch.page, &mut scratch.fresh);
-    formed(head, Own { entry, lent: None }, scratch)
+    formed(head, unread(entry), scratch)
 }
 
 // A write has its page's slot. Where it has a part of the page, the other sectors come from the old
 // page: this is
-// read from its cell first, or stands as a word.
-fn entered_write(head: Head, entry: Entry, scratch: &mut Scratch) -> Stage
+// read from its cell or from the device first, or stands as a word.
+fn entered_write<D: Backing>(head: Head, entry: Entry, scratch: &mut Scratch) -> Stage<D>
     requires write { is_write head.work ≡ true }
     requires within { IsWithin head.piece }
     requires place { HasPlace entry }
@@ -78,6 +92,7 @@ fn entered_write(head: Head, entry: Entry, scratch: &mut Scratch) -> Stage
     }
     match entry.kept() {
         Kept::Obj(object) => Stage::Seen(entry, object),
+        Kept::Wb(block) => Stage::Away(entry, block),
         kept => {
             expand(kept, &mut scratch.page);
             written(head, entry, scratch)
@@ -86,7 +101,7 @@ fn entered_write(head: Head, entry: Entry, scratch: &mut Scratch) -> Stage
 }
 
 // The piece has its page's slot.
-fn entered(head: Head, entry: Entry, scratch: &mut Scratch) -> Stage
+fn entered<D: Backing>(head: Head, entry: Entry, scratch: &mut Scratch) -> Stage<D>
     requires piece { is_count head.work ≡ false }
     requires within { IsWithin head.piece }
     requires place { HasPlace entry }
@@ -101,11 +116,11 @@ fn entered(head: Head, entry: Entry, scratch: &mut Scratch) -> Stage
 }
 
 /// Takes the slot.
-pub(crate) fn start<H: Hand<Value = DiskHeld>>(
+pub(crate) fn start<D: Backing, H: Hand<Value = DiskHeld<D>>>(
     head: Head,
     hand: &mut H,
     scratch: &mut Scratch,
-) -> (Stage, Progress)
+) -> (Stage<D>, Progress)
     requires { IsReady H.can_take H.takes H.can_give head scratch.old stage.Start hand.old }
     ensures { HasAdvanced H.takes H.misses H.gives head scratch.old stage.Start hand.old
         scratch.new result.0 hand.new result.1 }
@@ -118,11 +133,11 @@ pub(crate) fn start<H: Hand<Value = DiskHeld>>(
 }
 
 /// Takes the account for a request beyond the disk.
-pub(crate) fn beyond<H: Hand<Value = DiskHeld>>(
+pub(crate) fn beyond<D: Backing, H: Hand<Value = DiskHeld<D>>>(
     head: Head,
     hand: &mut H,
     scratch: &Scratch,
-) -> (Stage, Progress)
+) -> (Stage<D>, Progress)
     requires { IsReady H.can_take H.takes H.can_give head scratch.now stage.Beyond hand.old }
     ensures { HasAdvanced H.takes H.misses H.gives head scratch.now stage.Beyond hand.old
         scratch.now result.0 hand.new result.1 }
@@ -135,12 +150,12 @@ pub(crate) fn beyond<H: Hand<Value = DiskHeld>>(
 }
 
 /// Counts a request beyond the disk.
-pub(crate) fn refuse_request<H: Hand<Value = DiskHeld>>(
+pub(crate) fn refuse_request<D: Backing, H: Hand<Value = DiskHeld<D>>>(
     head: Head,
     account: Account,
     hand: &mut H,
     scratch: &Scratch,
-) -> (Stage, Progress)
+) -> (Stage<D>, Progress)
     requires { IsReady H.can_take H.takes H.can_give head scratch.now (stage.Refusing account)
         hand.old }
     ensures { HasAdvanced H.takes H.misses H.gives head scratch.now (stage.Refusing account)

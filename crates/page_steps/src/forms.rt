@@ -6,6 +6,7 @@ ghost use Rattle.page_steps.specs.Calls.{IsBeside, IsOwn, IsWithin, is_write, se
 ghost use Rattle.page_steps.specs.Turns.{IsFormed, Keeps};
 
 use crate::stage::{Due, Head, New, Own, Scratch, Stage, Work};
+use backing_dev::Backing;
 use slot_entry::{Form, HUGE_CLASS, Kept, form_of, packed_objects_have_classes};
 use zr_base::{Page, Piece};
 
@@ -34,15 +35,16 @@ pub(crate) fn merge(piece: Piece, old: &Page, fresh: &mut Page)
 }
 
 /// What stands has to be given up, and `next` is to be put.
-pub(crate) fn settled(own: Own, next: Kept) -> Stage
+pub(crate) fn settled<D: Backing>(own: Own, next: Kept) -> Stage<D>
     ensures is { result ≡ settled_by own next own.entry.kept }
 {
     match own.entry.kept() {
         Kept::Obj(object) => Stage::Old(own, object, next),
+        Kept::Wb(block) => Stage::Backed(own, block, next),
         _ => Stage::Owing(
             Due {
                 entry: own.entry,
-                read: false,
+                read: own.read,
                 next,
             },
             0,
@@ -52,7 +54,7 @@ pub(crate) fn settled(own: Own, next: Kept) -> Stage
 }
 
 /// The form of the new page is found.
-pub(crate) fn formed(head: Head, own: Own, scratch: &mut Scratch) -> Stage
+pub(crate) fn formed<D: Backing>(head: Head, own: Own, scratch: &mut Scratch) -> Stage<D>
     requires own { IsOwn head scratch.old own }
     requires write { is_write head.work ≡ true }
     ensures formed { IsFormed head own scratch.new result }

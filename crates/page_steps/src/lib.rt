@@ -2,6 +2,7 @@
 #![tactic(auto)]
 
 mod call;
+mod device;
 mod enter;
 mod forms;
 mod laws;

@@ -5,13 +5,14 @@ ghost use Rattle.lock_row.specs.declared.names.Local.{Local};
 ghost use Rattle.page_steps.specs.Steps.{DiskHeld};
 
 use crate::stage::DiskHeld;
+use backing_dev::Backing;
 use lock_row::{Hand, LockNo, NextLocal};
 use std::marker::{Brand, PhantomData};
 
 /// A piece on the disk takes its slot.
 pub(crate) struct Enters;
 
-impl NextLocal<DiskHeld> for Enters {
+impl<D: Backing> NextLocal<DiskHeld<D>> for Enters {
     ghost use Rattle.page_steps.specs.Nexts.{entering};
 
     ghost next = { entering };
@@ -20,7 +21,7 @@ impl NextLocal<DiskHeld> for Enters {
 /// A request beyond the disk takes the account.
 pub(crate) struct Asks;
 
-impl NextLocal<DiskHeld> for Asks {
+impl<D: Backing> NextLocal<DiskHeld<D>> for Asks {
     ghost use Rattle.page_steps.specs.Turns.{asking};
 
     ghost next = { asking };
@@ -29,7 +30,7 @@ impl NextLocal<DiskHeld> for Asks {
 /// A taking within a piece, by the plan.
 pub struct Takes;
 
-impl NextLocal<DiskHeld> for Takes {
+impl<D: Backing> NextLocal<DiskHeld<D>> for Takes {
     ghost use Rattle.page_steps.specs.Steps.{took};
     ghost use Rattle.page_steps.specs.Turns.{no_terms};
 
@@ -39,7 +40,7 @@ impl NextLocal<DiskHeld> for Takes {
 /// A request beyond the disk was counted.
 pub(crate) struct Refuses;
 
-impl NextLocal<DiskHeld> for Refuses {
+impl<D: Backing> NextLocal<DiskHeld<D>> for Refuses {
     ghost use Rattle.page_steps.specs.Nexts.{refusing};
 
     ghost next = { refusing };
@@ -48,7 +49,7 @@ impl NextLocal<DiskHeld> for Refuses {
 /// The cell is back.
 pub(crate) struct Unpins;
 
-impl NextLocal<DiskHeld> for Unpins {
+impl<D: Backing> NextLocal<DiskHeld<D>> for Unpins {
     ghost use Rattle.page_steps.specs.Nexts.{unpinning};
 
     ghost next = { unpinning };
@@ -57,7 +58,7 @@ impl NextLocal<DiskHeld> for Unpins {
 /// A read is over.
 pub(crate) struct Reads;
 
-impl NextLocal<DiskHeld> for Reads {
+impl<D: Backing> NextLocal<DiskHeld<D>> for Reads {
     ghost use Rattle.page_steps.specs.Nexts.{reading};
 
     ghost next = { reading };
@@ -66,7 +67,7 @@ impl NextLocal<DiskHeld> for Reads {
 /// A refused piece is over.
 pub(crate) struct Fails;
 
-impl NextLocal<DiskHeld> for Fails {
+impl<D: Backing> NextLocal<DiskHeld<D>> for Fails {
     ghost use Rattle.page_steps.specs.Nexts.{failing};
 
     ghost next = { failing };
@@ -75,7 +76,7 @@ impl NextLocal<DiskHeld> for Fails {
 /// The class of a new object goes back.
 pub(crate) struct Stows;
 
-impl NextLocal<DiskHeld> for Stows {
+impl<D: Backing> NextLocal<DiskHeld<D>> for Stows {
     ghost use Rattle.page_steps.specs.Nexts.{stowing};
 
     ghost next = { stowing };
@@ -84,7 +85,7 @@ impl NextLocal<DiskHeld> for Stows {
 /// A class goes back in which no object was made.
 pub(crate) struct Quits;
 
-impl NextLocal<DiskHeld> for Quits {
+impl<D: Backing> NextLocal<DiskHeld<D>> for Quits {
     ghost use Rattle.page_steps.specs.Nexts.{quitting};
 
     ghost next = { quitting };
@@ -93,10 +94,28 @@ impl NextLocal<DiskHeld> for Quits {
 /// A piece that changed its page is over.
 pub(crate) struct Puts;
 
-impl NextLocal<DiskHeld> for Puts {
+impl<D: Backing> NextLocal<DiskHeld<D>> for Puts {
     ghost use Rattle.page_steps.specs.Nexts.{putting};
 
     ghost next = { putting };
+}
+
+/// A failure of the device was counted.
+pub(crate) struct Counts;
+
+impl<D: Backing> NextLocal<DiskHeld<D>> for Counts {
+    ghost use Rattle.page_steps.specs.Nexts.{counting_failure};
+
+    ghost next = { counting_failure };
+}
+
+/// A page's block was freed.
+pub(crate) struct Releases;
+
+impl<D: Backing> NextLocal<DiskHeld<D>> for Releases {
+    ghost use Rattle.page_steps.specs.Nexts.{freeing};
+
+    ghost next = { freeing 0 };
 }
 
 /// Names the local after an event by what the call chose in it. It has no method that runs: a call
@@ -114,16 +133,16 @@ pub struct Told<C: Chosen> {
     of: PhantomData<C>,
 }
 
-impl<C: Chosen> NextLocal<DiskHeld> for Told<C> {
+impl<C: Chosen, D: Backing> NextLocal<DiskHeld<D>> for Told<C> {
     ghost next = { C.next };
 }
 
 /// Takes a lock; the local after is named by the value beside, which is for the proof alone.
-pub fn take_by<H: Hand<Value = DiskHeld>, C: Chosen, A>(
+pub fn take_by<D: Backing, H: Hand<Value = DiskHeld<D>>, C: Chosen, A>(
     hand: &mut H,
     lock: LockNo,
     _a: &A,
-) -> Option<DiskHeld>
+) -> Option<DiskHeld<D>>
     requires { H.can_take hand.old lock C.next }
     ensures { MatchOption result (H.misses hand.old lock hand.new)
         (λ v. H.takes hand.old lock C.next v hand.new) }
@@ -132,10 +151,10 @@ pub fn take_by<H: Hand<Value = DiskHeld>, C: Chosen, A>(
 }
 
 /// Gives a lock; the local after is named by the values beside, which are for the proof alone.
-pub fn give_by<H: Hand<Value = DiskHeld>, C: Chosen, X, Y, Z>(
+pub fn give_by<D: Backing, H: Hand<Value = DiskHeld<D>>, C: Chosen, X, Y, Z>(
     hand: &mut H,
     lock: LockNo,
-    value: DiskHeld,
+    value: DiskHeld<D>,
     _x: &X,
     _y: &Y,
     _z: &Z,

@@ -19,6 +19,7 @@ use crate::forms::settled;
 use crate::nexts::{Quits, Stows, Takes, give_by, take_by};
 use crate::stage::{DiskHeld, Head, Lent, New, Outcome, Own, PieceEnd, Progress, Scratch, Stage};
 use crate::values::{account_of, pool_of};
+use backing_dev::Backing;
 use class_pool::ClassPool;
 use lock_row::{Hand, Held, LockNo};
 use mem_account::{Account, Charge, Delta};
@@ -28,34 +29,34 @@ use std::marker::Brand;
 use zr_base::Handle;
 
 /// Takes the class of the new object.
-pub(crate) fn want<H: Hand<Value = DiskHeld>>(
+pub(crate) fn want<D: Backing, H: Hand<Value = DiskHeld<D>>>(
     head: Head,
     own: Own,
     new: New,
     hand: &mut H,
     scratch: &Scratch,
-) -> (Stage, Progress)
+) -> (Stage<D>, Progress)
     requires { IsReady H.can_take H.takes H.can_give head scratch.now (stage.Wanting own new)
         hand.old }
     ensures { HasAdvanced H.takes H.misses H.gives head scratch.now (stage.Wanting own new)
         hand.old scratch.now result.0 hand.new result.1 }
 {
     let lock = LockNo::Class(new.class);
-    match take_by::<H, Brand, New>(hand, lock, &new) {
+    match take_by::<D, H, Brand, New>(hand, lock, &new) {
         None => (Stage::Wanting(own, new), Progress::Waits(lock)),
         Some(value) => (Stage::Inside(own, new, pool_of(value)), Progress::Moved),
     }
 }
 
 /// Takes the account.
-pub(crate) fn ask<H: Hand<Value = DiskHeld>>(
+pub(crate) fn ask<D: Backing, H: Hand<Value = DiskHeld<D>>>(
     head: Head,
     own: Own,
     new: New,
     pool: ClassPool,
     hand: &mut H,
     scratch: &Scratch,
-) -> (Stage, Progress)
+) -> (Stage<D>, Progress)
     requires { IsReady H.can_take H.takes H.can_give head scratch.now (stage.Inside own new pool)
         hand.old }
     ensures { HasAdvanced H.takes H.misses H.gives head scratch.now (stage.Inside own new pool)
@@ -105,7 +106,7 @@ fn add(pool: &mut ClassPool, bytes: &[u8]) -> Result<Handle, AllocError>
 }
 
 // Counts a failed write, and gives the account, of which nothing was charged.
-fn deny<H: Hand<Value = DiskHeld>>(
+fn deny<D: Backing, H: Hand<Value = DiskHeld<D>>>(
     head: Head,
     own: Own,
     new: New,
@@ -114,7 +115,7 @@ fn deny<H: Hand<Value = DiskHeld>>(
     end: PieceEnd,
     hand: &mut H,
     scratch: &Scratch,
-) -> (Stage, Progress)
+) -> (Stage<D>, Progress)
     requires ready { IsReady H.can_take H.takes H.can_give head scratch.now (stage.Both own new
         pool account) hand.old }
     requires refusal { IsRefusal end }
@@ -127,7 +128,7 @@ fn deny<H: Hand<Value = DiskHeld>>(
     let mut after = account;
     after.count(Delta::FailedWrite);
     let lock = LockNo::Account;
-    give_by::<H, Brand, PieceEnd, LockNo, LockNo>(
+    give_by::<D, H, Brand, PieceEnd, LockNo, LockNo>(
         hand,
         lock,
         Held::Account(after),
@@ -144,7 +145,7 @@ fn deny<H: Hand<Value = DiskHeld>>(
 /// Charges the new object and makes it, and gives the account. Where it is refused, at the limit or
 /// for want
 /// of memory, the account is as before the charge, with a failed write.
-pub(crate) fn charge<H: Hand<Value = DiskHeld>>(
+pub(crate) fn charge<D: Backing, H: Hand<Value = DiskHeld<D>>>(
     head: Head,
     own: Own,
     new: New,
@@ -152,7 +153,7 @@ pub(crate) fn charge<H: Hand<Value = DiskHeld>>(
     account: Account,
     hand: &mut H,
     scratch: &Scratch,
-) -> (Stage, Progress)
+) -> (Stage<D>, Progress)
     requires { IsReady H.can_take H.takes H.can_give head scratch.now (stage.Both own new pool
         account) hand.old }
     ensures { HasAdvanced H.takes H.misses H.gives head scratch.now (stage.Both own new pool
@@ -180,7 +181,7 @@ pub(crate) fn charge<H: Hand<Value = DiskHeld>>(
                         len,
                         huge: new.huge,
                     };
-                    give_by::<H, Brand, Stored, ClassPool, Scratch>(
+                    give_by::<D, H, Brand, Stored, ClassPool, Scratch>(
                         hand,
                         LockNo::Account,
                         Held::Account(paid),
@@ -199,7 +200,7 @@ pub(crate) fn charge<H: Hand<Value = DiskHeld>>(
 }
 
 // Gives the class of the object that was made.
-fn stow<H: Hand<Value = DiskHeld>>(
+fn stow<D: Backing, H: Hand<Value = DiskHeld<D>>>(
     head: Head,
     own: Own,
     class: u8,
@@ -207,7 +208,7 @@ fn stow<H: Hand<Value = DiskHeld>>(
     object: Stored,
     hand: &mut H,
     scratch: &Scratch,
-) -> (Stage, Progress)
+) -> (Stage<D>, Progress)
     requires { IsReady H.can_take H.takes H.can_give head scratch.now (stage.Made own class pool
         (outcome.Object object)) hand.old }
     ensures { HasAdvanced H.takes H.misses H.gives head scratch.now (stage.Made own class pool
@@ -218,17 +219,17 @@ fn stow<H: Hand<Value = DiskHeld>>(
 }
 
 // A refused piece has nothing in the pool. What it has pinned is unpinned next.
-fn quitted(entry: Entry, end: PieceEnd, lent: Option<Lent>) -> Stage
-    ensures { result ≡ quit_by entry end lent }
+fn quitted<D: Backing>(entry: Entry, read: bool, end: PieceEnd, lent: Option<Lent>) -> Stage<D>
+    ensures { result ≡ quit_by entry read end lent }
 {
     match lent {
-        None => Stage::Refused(entry, false, end),
+        None => Stage::Refused(entry, read, end),
         Some(lent) => Stage::Pinned(entry, lent, Some(end)),
     }
 }
 
 // Gives the class in which no object was made.
-fn quit<H: Hand<Value = DiskHeld>>(
+fn quit<D: Backing, H: Hand<Value = DiskHeld<D>>>(
     head: Head,
     own: Own,
     class: u8,
@@ -236,19 +237,19 @@ fn quit<H: Hand<Value = DiskHeld>>(
     end: PieceEnd,
     hand: &mut H,
     scratch: &Scratch,
-) -> (Stage, Progress)
+) -> (Stage<D>, Progress)
     requires { IsReady H.can_take H.takes H.can_give head scratch.now (stage.Made own class pool
         (outcome.Refused end)) hand.old }
     ensures { HasAdvanced H.takes H.misses H.gives head scratch.now (stage.Made own class pool
         (outcome.Refused end)) hand.old scratch.now result.0 hand.new result.1 }
 {
     hand.give::<Quits>(LockNo::Class(class), Held::Class(pool));
-    let Own { entry, lent } = own;
-    (quitted(entry, end, lent), Progress::Moved)
+    let Own { entry, lent, read } = own;
+    (quitted(entry, read, end, lent), Progress::Moved)
 }
 
 /// Gives the class of the new object.
-pub(crate) fn made<H: Hand<Value = DiskHeld>>(
+pub(crate) fn made<D: Backing, H: Hand<Value = DiskHeld<D>>>(
     head: Head,
     own: Own,
     class: u8,
@@ -256,7 +257,7 @@ pub(crate) fn made<H: Hand<Value = DiskHeld>>(
     outcome: Outcome,
     hand: &mut H,
     scratch: &Scratch,
-) -> (Stage, Progress)
+) -> (Stage<D>, Progress)
     requires { IsReady H.can_take H.takes H.can_give head scratch.now (stage.Made own class pool
         outcome) hand.old }
     ensures { HasAdvanced H.takes H.misses H.gives head scratch.now (stage.Made own class pool

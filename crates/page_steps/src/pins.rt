@@ -13,6 +13,7 @@ use crate::forms::{formed, is_write, merge};
 use crate::nexts::{Takes, Unpins, give_by};
 use crate::stage::{DiskHeld, Head, Lent, Own, PieceEnd, Progress, Scratch, Stage};
 use crate::values::pool_of;
+use backing_dev::Backing;
 use cell_arena::Cell;
 use class_pool::ClassPool;
 use lock_row::{Hand, Held, LockNo};
@@ -21,13 +22,13 @@ use std::marker::Brand;
 use zr_base::Page;
 
 /// Takes the class of the page's object.
-pub(crate) fn seen<H: Hand<Value = DiskHeld>>(
+pub(crate) fn seen<D: Backing, H: Hand<Value = DiskHeld<D>>>(
     head: Head,
     entry: Entry,
     object: Stored,
     hand: &mut H,
     scratch: &Scratch,
-) -> (Stage, Progress)
+) -> (Stage<D>, Progress)
     requires { IsReady H.can_take H.takes H.can_give head scratch.now (stage.Seen entry object)
         hand.old }
     ensures { HasAdvanced H.takes H.misses H.gives head scratch.now (stage.Seen entry object)
@@ -81,7 +82,7 @@ fn read_cell(lent: &Lent, page: &mut Page)
 }
 
 // The page was read from its object's cell.
-fn read_stage(head: Head, entry: Entry, lent: Lent, scratch: &mut Scratch) -> Stage
+fn read_stage<D: Backing>(head: Head, entry: Entry, lent: Lent, scratch: &mut Scratch) -> Stage<D>
     requires { HasObject head entry lent.object }
     ensures { HasRead head scratch.old entry lent scratch.new result }
 {
@@ -92,6 +93,7 @@ fn read_stage(head: Head, entry: Entry, lent: Lent, scratch: &mut Scratch) -> St
             Own {
                 entry,
                 lent: Some(lent),
+                read: true,
             },
             scratch,
         )
@@ -101,14 +103,14 @@ fn read_stage(head: Head, entry: Entry, lent: Lent, scratch: &mut Scratch) -> St
 }
 
 /// Pins the object, gives its class back, and reads the page.
-pub(crate) fn pin<H: Hand<Value = DiskHeld>>(
+pub(crate) fn pin<D: Backing, H: Hand<Value = DiskHeld<D>>>(
     head: Head,
     entry: Entry,
     object: Stored,
     pool: ClassPool,
     hand: &mut H,
     scratch: &mut Scratch,
-) -> (Stage, Progress)
+) -> (Stage<D>, Progress)
     requires { IsReady H.can_take H.takes H.can_give head scratch.old (stage.Pinning entry object
         pool) hand.old }
     ensures { HasAdvanced H.takes H.misses H.gives head scratch.old (stage.Pinning entry object
@@ -117,7 +119,7 @@ pub(crate) fn pin<H: Hand<Value = DiskHeld>>(
     let mut lender = pool;
     let cell = lender.pin(object.handle);
     let lock = LockNo::Class(object.class);
-    give_by::<H, Brand, Stored, Cell, LockNo>(
+    give_by::<D, H, Brand, Stored, Cell, LockNo>(
         hand,
         lock,
         Held::Class(lender),
@@ -131,14 +133,14 @@ pub(crate) fn pin<H: Hand<Value = DiskHeld>>(
 }
 
 /// Takes the class of the object that is pinned.
-pub(crate) fn pinned<H: Hand<Value = DiskHeld>>(
+pub(crate) fn pinned<D: Backing, H: Hand<Value = DiskHeld<D>>>(
     head: Head,
     entry: Entry,
     lent: Lent,
     end: Option<PieceEnd>,
     hand: &mut H,
     scratch: &Scratch,
-) -> (Stage, Progress)
+) -> (Stage<D>, Progress)
     requires { IsReady H.can_take H.takes H.can_give head scratch.now (stage.Pinned entry lent end)
         hand.old }
     ensures { HasAdvanced H.takes H.misses H.gives head scratch.now (stage.Pinned entry lent end)
@@ -155,7 +157,7 @@ pub(crate) fn pinned<H: Hand<Value = DiskHeld>>(
 }
 
 // The cell is back.
-fn unpinned(entry: Entry, end: Option<PieceEnd>) -> Stage
+fn unpinned<D: Backing>(entry: Entry, end: Option<PieceEnd>) -> Stage<D>
     ensures { result ≡ unpinned_by entry end }
 {
     match end {
@@ -165,7 +167,7 @@ fn unpinned(entry: Entry, end: Option<PieceEnd>) -> Stage
 }
 
 /// Unpins the object, and gives its class back.
-pub(crate) fn unpin<H: Hand<Value = DiskHeld>>(
+pub(crate) fn unpin<D: Backing, H: Hand<Value = DiskHeld<D>>>(
     head: Head,
     entry: Entry,
     lent: Lent,
@@ -173,7 +175,7 @@ pub(crate) fn unpin<H: Hand<Value = DiskHeld>>(
     pool: ClassPool,
     hand: &mut H,
     scratch: &Scratch,
-) -> (Stage, Progress)
+) -> (Stage<D>, Progress)
     requires { IsReady H.can_take H.takes H.can_give head scratch.now (stage.Unpinning entry lent
         end pool) hand.old }
     ensures { HasAdvanced H.takes H.misses H.gives head scratch.now (stage.Unpinning entry lent end

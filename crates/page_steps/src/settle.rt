@@ -16,6 +16,7 @@ ghost use Rattle.page_steps.specs.Turns.{IsReady, HasAdvanced};
 use crate::nexts::{Puts, Takes, give_by};
 use crate::stage::{DiskHeld, Due, Head, Lent, Own, PieceEnd, Progress, Scratch, Stage, Work};
 use crate::values::{account_of, pool_of, weight_in};
+use backing_dev::Backing;
 use class_pool::ClassPool;
 use lock_row::{Hand, Held, LockNo};
 use mem_account::{Account, Delta, Weight};
@@ -23,14 +24,14 @@ use slot_entry::{Entry, Kept, Stored};
 use std::marker::Brand;
 
 /// Takes the class of the old object.
-pub(crate) fn old<H: Hand<Value = DiskHeld>>(
+pub(crate) fn old<D: Backing, H: Hand<Value = DiskHeld<D>>>(
     head: Head,
     own: Own,
     object: Stored,
     next: Kept,
     hand: &mut H,
     scratch: &Scratch,
-) -> (Stage, Progress)
+) -> (Stage<D>, Progress)
     requires { IsReady H.can_take H.takes H.can_give head scratch.now (stage.Old own object next)
         hand.old }
     ensures { HasAdvanced H.takes H.misses H.gives head scratch.now (stage.Old own object next)
@@ -60,7 +61,7 @@ fn drop_object(pool: &mut ClassPool, object: Stored, lent: Option<Lent>) -> u32
 }
 
 /// Frees the old object, and gives its class.
-pub(crate) fn free<H: Hand<Value = DiskHeld>>(
+pub(crate) fn free<D: Backing, H: Hand<Value = DiskHeld<D>>>(
     head: Head,
     own: Own,
     object: Stored,
@@ -68,18 +69,17 @@ pub(crate) fn free<H: Hand<Value = DiskHeld>>(
     pool: ClassPool,
     hand: &mut H,
     scratch: &Scratch,
-) -> (Stage, Progress)
+) -> (Stage<D>, Progress)
     requires { IsReady H.can_take H.takes H.can_give head scratch.now (stage.Freeing own object
         next pool) hand.old }
     ensures { HasAdvanced H.takes H.misses H.gives head scratch.now (stage.Freeing own object next
         pool) hand.old scratch.now result.0 hand.new result.1 }
 {
-    let Own { entry, lent } = own;
-    let read = lent.is_some();
+    let Own { entry, lent, read } = own;
     let mut owner = pool;
     let frames = drop_object(&mut owner, object, lent);
     let lock = LockNo::Class(object.class);
-    give_by::<H, Brand, u32, LockNo, LockNo>(hand, lock, Held::Class(owner), &frames, &lock, &lock);
+    give_by::<D, H, Brand, u32, LockNo, LockNo>(hand, lock, Held::Class(owner), &frames, &lock, &lock);
     let before = weight_in(entry.kept());
     let mut emptied = entry;
     emptied.put(Kept::Empty);
@@ -98,14 +98,14 @@ pub(crate) fn free<H: Hand<Value = DiskHeld>>(
 }
 
 /// Takes the account.
-pub(crate) fn owe<H: Hand<Value = DiskHeld>>(
+pub(crate) fn owe<D: Backing, H: Hand<Value = DiskHeld<D>>>(
     head: Head,
     due: Due,
     frames: u32,
     ahead: Option<Weight>,
     hand: &mut H,
     scratch: &Scratch,
-) -> (Stage, Progress)
+) -> (Stage<D>, Progress)
     requires { IsReady H.can_take H.takes H.can_give head scratch.now (stage.Owing due frames
         ahead) hand.old }
     ensures { HasAdvanced H.takes H.misses H.gives head scratch.now (stage.Owing due frames ahead)
@@ -145,7 +145,7 @@ fn counted_as(ahead: Option<Weight>, kept: Kept) -> Weight
 }
 
 /// Gives frames back, counts the page, and gives the account.
-pub(crate) fn repay<H: Hand<Value = DiskHeld>>(
+pub(crate) fn repay<D: Backing, H: Hand<Value = DiskHeld<D>>>(
     head: Head,
     due: Due,
     frames: u32,
@@ -153,7 +153,7 @@ pub(crate) fn repay<H: Hand<Value = DiskHeld>>(
     account: Account,
     hand: &mut H,
     scratch: &Scratch,
-) -> (Stage, Progress)
+) -> (Stage<D>, Progress)
     requires { IsReady H.can_take H.takes H.can_give head scratch.now (stage.Giving due frames
         ahead account) hand.old }
     ensures { HasAdvanced H.takes H.misses H.gives head scratch.now (stage.Giving due frames ahead
@@ -166,7 +166,7 @@ pub(crate) fn repay<H: Hand<Value = DiskHeld>>(
     after.give_back(frames as u64);
     after.count(Delta::Kept { old: was, new: is });
     let lock = LockNo::Account;
-    give_by::<H, Brand, Weight, LockNo, LockNo>(
+    give_by::<D, H, Brand, Weight, LockNo, LockNo>(
         hand,
         lock,
         Held::Account(told(head.work, after)),
@@ -205,14 +205,14 @@ fn end_at(work: Work, at: u32) -> PieceEnd
 }
 
 /// Puts the new form, notes the piece, and gives the slot.
-pub(crate) fn put<H: Hand<Value = DiskHeld>>(
+pub(crate) fn put<D: Backing, H: Hand<Value = DiskHeld<D>>>(
     head: Head,
     due: Due,
     ahead: Option<Weight>,
     behind: Option<Weight>,
     hand: &mut H,
     scratch: &Scratch,
-) -> (Stage, Progress)
+) -> (Stage<D>, Progress)
     requires { IsReady H.can_take H.takes H.can_give head scratch.now (stage.Ready due ahead
         behind) hand.old }
     ensures { HasAdvanced H.takes H.misses H.gives head scratch.now (stage.Ready due ahead behind)

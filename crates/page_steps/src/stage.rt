@@ -10,7 +10,12 @@
 //! | `Pinning` | slot, that class | gives the class | `pin` | pins the object |
 //! | `Pinned` | slot, cell | takes that class | `pinned` | none |
 //! | `Unpinning` | slot, cell, that class | gives the class | `unpin` | unpins the object |
+//! | `Away` | slot | takes the device | `away` | none |
+//! | `Fetching` | slot, device | gives the device | `fetch` | reads the page's block, or fails |
+//! | `Failing` | slot | takes the account | `fail` | none |
+//! | `Counting` | slot, account | gives the account | `count` | counts that the device failed |
 //! | `Plain`, `Leaving` | slot | gives the slot | `leave_plain`, `leave` | notes the read |
+//! | `Missed` | slot | gives the slot | `miss` | notes a read that failed |
 //! | `Refused` | slot | gives the slot | `refuse` | none |
 //! | `Wanting` | slot, cell if pinned | takes the class of the new object | `want` | none |
 //! | `Inside` | slot, cell, new class | takes the account | `ask` | none |
@@ -18,12 +23,16 @@
 //! | `Made` | slot, cell, new class | gives the class | `made` | none |
 //! | `Old` | slot, cell if pinned | takes the class of the old object | `old` | none |
 //! | `Freeing` | slot, cell, that class | gives the class | `free` | unpins and frees the object |
+//! | `Backed` | slot | takes the blocks | `backed` | none |
+//! | `Releasing` | slot, blocks | gives the blocks | `release` | frees the page's block |
 //! | `Owing` | slot | takes the account | `owe` | none |
 //! | `Giving` | slot, account | gives the account | `repay` | repays frames, counts the page |
 //! | `Ready` | slot | gives the slot | `put` | puts the new form, and notes the piece |
 //! | `Over` | | none | | |
 
 use arrayvec::ArrayVec;
+use backing_dev::{Backing, Dev};
+use block_map::Blocks;
 use cell_arena::Cell;
 use class_pool::ClassPool;
 use lock_row::{Held, LockNo};
@@ -32,8 +41,8 @@ use size_class::ClassTable;
 use slot_entry::{Entry, Kept, Stored};
 use zr_base::{Page, Piece, Tag};
 
-/// What a lock of a disk guards.
-pub type DiskHeld = Held<Entry, ClassPool, Account, (), ()>;
+/// What a lock of a disk over the device `D` guards.
+pub type DiskHeld<D> = Held<Entry, ClassPool, Account, Blocks, Dev<D>>;
 
 /// The buffers of a call, and the classes of new objects. From a call's first event to its end it
 /// is
@@ -64,6 +73,8 @@ pub enum PieceEnd {
     AtLimit { pages: u64, need: u64, limit: u64 },
     /// It was refused for want of memory.
     NoMemory,
+    /// A read of the device failed: the device's count of faults after it.
+    Eio { fault: u64 },
     /// It was a compaction: the objects that it moved, and the frames that it freed.
     Compacted { moves: u64, frames: u64 },
 }
@@ -105,11 +116,13 @@ pub struct Lent {
     pub cell: Cell,
 }
 
-/// What a call has of its page: the entry, and the object's cell where it is pinned.
+/// What a call has of its page: the entry, the object's cell where it is pinned, and whether the page
+/// was read, from the cell or from the device.
 #[derive(Drop)]
 pub struct Own {
     pub entry: Entry,
     pub lent: Option<Lent>,
+    pub read: bool,
 }
 
 /// Where a new object goes: its class, and whether it is the page itself.
@@ -126,7 +139,7 @@ pub enum Outcome {
     Refused(PieceEnd),
 }
 
-/// What is to be put: the entry, whether its page was read from a cell, and the new form.
+/// What is to be put: the entry, whether its page was read, and the new form.
 #[derive(Drop)]
 pub struct Due {
     pub entry: Entry,
@@ -136,7 +149,7 @@ pub struct Due {
 
 /// What a call is at, with the values that it holds.
 #[derive(Drop)]
-pub enum Stage {
+pub enum Stage<D: Backing> {
     Start,
     Beyond,
     Refusing(Account),
@@ -145,11 +158,19 @@ pub enum Stage {
     /// The last field is the refusal that ends the piece, if it has one.
     Pinned(Entry, Lent, Option<PieceEnd>),
     Unpinning(Entry, Lent, Option<PieceEnd>, ClassPool),
-    /// The page has no object.
+    /// The page is in this block of the device.
+    Away(Entry, u32),
+    Fetching(Entry, u32, Dev<D>),
+    /// The second field is the device's count of faults, from the failure on.
+    Failing(Entry, u64),
+    Counting(Entry, u64, Account),
+    /// The page has no object and is in no block.
     Plain(Entry),
-    /// The page was read from its object's cell.
+    /// The page was read from its object's cell or from the device.
     Leaving(Entry),
-    /// The second field says whether the page was read from a cell.
+    /// The page couldn't be read.
+    Missed(Entry, u64),
+    /// The second field says whether the page was read.
     Refused(Entry, bool, PieceEnd),
     Wanting(Own, New),
     Inside(Own, New, ClassPool),
@@ -159,6 +180,9 @@ pub enum Stage {
     /// The last field is the form that is to be put.
     Old(Own, Stored, Kept),
     Freeing(Own, Stored, Kept, ClassPool),
+    /// The second field is the page's block.
+    Backed(Own, u32, Kept),
+    Releasing(Own, u32, Kept, Blocks),
     /// The frames that are to be given back, and what the account counts of the page where its
     /// object is gone.
     Owing(Due, u32, Option<Weight>),

@@ -5,13 +5,15 @@ ghost use Rattle.lock_row.specs.declared.names.Held.TheVariants as holds;
 ghost use Rattle.slot_entry.specs.Entries.{weight_of};
 
 use crate::stage::DiskHeld;
+use backing_dev::{Backing, Dev};
+use block_map::Blocks;
 use class_pool::ClassPool;
 use lock_row::Held;
 use mem_account::{Account, Weight};
 use slot_entry::{Entry, Kept};
 
 /// The entry of a page's slot.
-pub(crate) fn entry_of(value: DiskHeld) -> Entry
+pub(crate) fn entry_of<D: Backing>(value: DiskHeld<D>) -> Entry
     requires { (e : _) × (value ≡ holds.Slot e) }
     ensures { value ≡ holds.Slot result }
 {
@@ -22,7 +24,7 @@ pub(crate) fn entry_of(value: DiskHeld) -> Entry
 }
 
 /// The pool of a class, from what its lock guards.
-pub fn pool_of(value: DiskHeld) -> ClassPool
+pub fn pool_of<D: Backing>(value: DiskHeld<D>) -> ClassPool
     requires { (q : _) × (value ≡ holds.Class q) }
     ensures { value ≡ holds.Class result }
 {
@@ -33,12 +35,34 @@ pub fn pool_of(value: DiskHeld) -> ClassPool
 }
 
 /// The account, from what its lock guards.
-pub fn account_of(value: DiskHeld) -> Account
+pub fn account_of<D: Backing>(value: DiskHeld<D>) -> Account
     requires { (a : _) × (value ≡ holds.Account a) }
     ensures { value ≡ holds.Account result }
 {
     match value {
         Held::Account(account) => account,
+        _ => unreachable!(),
+    }
+}
+
+/// The map of blocks, from what its lock guards.
+pub(crate) fn blocks_of<D: Backing>(value: DiskHeld<D>) -> Blocks
+    requires { (x : _) × (value ≡ holds.Blocks x) }
+    ensures { value ≡ holds.Blocks result }
+{
+    match value {
+        Held::Blocks(blocks) => blocks,
+        _ => unreachable!(),
+    }
+}
+
+/// The device, from what its lock guards.
+pub(crate) fn device_of<D: Backing>(value: DiskHeld<D>) -> Dev<D>
+    requires { (d : _) × (value ≡ holds.Device d) }
+    ensures { value ≡ holds.Device result }
+{
+    match value {
+        Held::Device(device) => device,
         _ => unreachable!(),
     }
 }
@@ -57,5 +81,6 @@ pub(crate) fn weight_in(kept: Kept) -> Weight
                 Weight::Packed(object.len)
             }
         }
+        Kept::Wb(_) => Weight::Back,
     }
 }

@@ -19,6 +19,7 @@ ghost use Rattle.post_steps.specs.Compact.{IsFit, IsGoing, IsOnward, IsWork, her
 ghost use Rattle.post_steps.specs.Turns.{Allows, Advanced};
 
 use crate::sweep::{begin, move_one, owe, shrink, sweep};
+use backing_dev::Backing;
 use class_pool::ClassPool;
 use lock_row::{Compaction, Hand};
 use mem_account::Account;
@@ -55,7 +56,7 @@ impl CompactCall {
     }
 
     /// Makes the next event, or misses. The table has the classes for the disk's longest chains.
-    pub fn advance<H: Hand<Value = DiskHeld>>(
+    pub fn advance<D: Backing, H: Hand<Value = DiskHeld<D>>>(
         &mut self,
         table: &ClassTable,
         hand: &mut H,
@@ -77,7 +78,7 @@ impl CompactCall {
 }
 
 // One event, or a miss, of a compaction that isn't over.
-fn step<H: Hand<Value = DiskHeld>>(
+fn step<D: Backing, H: Hand<Value = DiskHeld<D>>>(
     at: CompactStage,
     table: &ClassTable,
     hand: &mut H,

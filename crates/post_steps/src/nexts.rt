@@ -1,12 +1,13 @@
 //! The locals that follow a compaction's events, where its hand is told them.
 
+use backing_dev::Backing;
 use lock_row::NextLocal;
 use page_steps::DiskHeld;
 
 /// A compaction takes its first class.
 pub(crate) struct Begins;
 
-impl NextLocal<DiskHeld> for Begins {
+impl<D: Backing> NextLocal<DiskHeld<D>> for Begins {
     ghost use Rattle.post_steps.specs.Compact.{beginning};
 
     ghost next = { beginning };
@@ -15,7 +16,7 @@ impl NextLocal<DiskHeld> for Begins {
 /// The frames that a move freed are given back.
 pub(crate) struct Shrinks;
 
-impl NextLocal<DiskHeld> for Shrinks {
+impl<D: Backing> NextLocal<DiskHeld<D>> for Shrinks {
     ghost use Rattle.page_steps.specs.Compactions.{shrinking};
 
     ghost next = { shrinking };

@@ -10,6 +10,7 @@ ghost use Rattle.post_steps.specs.Compact.{IsReady, HasAdvanced, moved_by};
 
 use crate::compact::CompactStage;
 use crate::nexts::{Begins, Shrinks};
+use backing_dev::Backing;
 use class_pool::{ClassPool, Moved, objects_move};
 use lock_row::{Compaction, Hand, Held, LockNo};
 use mem_account::{Account, Delta};
@@ -18,7 +19,7 @@ use size_class::ClassTable;
 use std::marker::Brand;
 
 /// Takes the first class.
-pub(crate) fn begin<H: Hand<Value = DiskHeld>>(
+pub(crate) fn begin<D: Backing, H: Hand<Value = DiskHeld<D>>>(
     table: &ClassTable,
     hand: &mut H,
 ) -> (CompactStage, Progress)
@@ -42,7 +43,7 @@ pub(crate) fn begin<H: Hand<Value = DiskHeld>>(
 }
 
 /// Takes the class that it is at.
-pub(crate) fn sweep<H: Hand<Value = DiskHeld>>(
+pub(crate) fn sweep<D: Backing, H: Hand<Value = DiskHeld<D>>>(
     x: Compaction,
     table: &ClassTable,
     hand: &mut H,
@@ -105,7 +106,7 @@ fn rested(x: Compaction, table: &ClassTable) -> (CompactStage, Progress)
 }
 
 /// Moves an object of the class, or none, and gives the class.
-pub(crate) fn move_one<H: Hand<Value = DiskHeld>>(
+pub(crate) fn move_one<D: Backing, H: Hand<Value = DiskHeld<D>>>(
     x: Compaction,
     pool: ClassPool,
     table: &ClassTable,
@@ -126,7 +127,7 @@ pub(crate) fn move_one<H: Hand<Value = DiskHeld>>(
                 moves: x.moves + 1,
                 ..x
             };
-            give_by::<H, Brand, u32, u32, LockNo>(
+            give_by::<D, H, Brand, u32, u32, LockNo>(
                 hand,
                 lock,
                 Held::Class(owner),
@@ -137,7 +138,7 @@ pub(crate) fn move_one<H: Hand<Value = DiskHeld>>(
             (moved(next, frames), Progress::Moved)
         }
         Moved::Done => {
-            give_by::<H, Brand, ClassTable, LockNo, LockNo>(
+            give_by::<D, H, Brand, ClassTable, LockNo, LockNo>(
                 hand,
                 lock,
                 Held::Class(owner),
@@ -151,7 +152,7 @@ pub(crate) fn move_one<H: Hand<Value = DiskHeld>>(
 }
 
 /// Takes the account.
-pub(crate) fn owe<H: Hand<Value = DiskHeld>>(
+pub(crate) fn owe<D: Backing, H: Hand<Value = DiskHeld<D>>>(
     x: Compaction,
     frames: u32,
     table: &ClassTable,
@@ -172,7 +173,7 @@ pub(crate) fn owe<H: Hand<Value = DiskHeld>>(
 }
 
 /// Gives the frames back and counts them, and gives the account.
-pub(crate) fn shrink<H: Hand<Value = DiskHeld>>(
+pub(crate) fn shrink<D: Backing, H: Hand<Value = DiskHeld<D>>>(
     x: Compaction,
     frames: u32,
     account: Account,

@@ -13,7 +13,7 @@ use Rattle.zr_core.specs.Rests.{RestsAs, left}
 use Rattle.zr_core.specs.States.{AreKept, IsOf, Playing, ends_shown, sectors_shown, state_of}
 
 -- a world and its phase, between two turns
-abbrev pub playing : World → Phase → List (List Op) → Playing
+abbrev pub playing : {D : Type 0} → World D → Phase D → List (List Op) → Playing D
 playing world phase actors = record {
   terms = record { size = world.pages; chain = MOST_CHAIN; clock = phase.clock };
   limit = world.limit;
@@ -24,13 +24,13 @@ playing world phase actors = record {
 }
 
 -- the lines of the ends, the sectors that were read, and the orders
-abbrev pub lines_shown : Playing → List OutLine
+abbrev pub lines_shown : {D : Type 0} → Playing D → List OutLine
 lines_shown x =
     phase_lines (ends_shown x.workers) (sectors_shown x.workers) (orders_of x.terms.size x.cells)
 
 -- The phase that began so is over, by its rule: the lines are what the machine prints of this state,
 -- and the row is at rest.
-pub record HasEndedAs (g : Begin) (x : Playing) : Type 0 where
+pub record HasEndedAs {D : Type 0} (g : Begin) (x : Playing D) : Type 0 where
   pub of : IsOf g x
   pub dones : List (List Done)
   pub kept : AreKept x.workers dones

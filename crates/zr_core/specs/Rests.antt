@@ -5,16 +5,20 @@ use Rattle.zr_base.specs.declared.op.Op.{Op}
 use Rattle.zr_base.specs.Plain.{zero_sector}
 use Rattle.class_pool.specs.Pool.{PoolState}
 use Rattle.mem_account.specs.Counters.{Counters, no_counts}
+use Rattle.block_map.specs.BlockMap.{BlockMap}
+use Rattle.backing_dev.specs.Dev.{DeviceState}
 use Rattle.plain_disk.specs.Phases.{held_after}
 use Rattle.lock_row.specs.declared.names.LockNo.{LockNo}
 use Rattle.lock_row.specs.declared.names.LockNo.TheVariants as lock
 use Rattle.lock_row.specs.declared.names.Held.TheVariants as holds
 use Rattle.slot_entry.specs.Entries.{EntryState}
 use Rattle.page_steps.specs.Steps.{DiskHeld, slot}
-use Rattle.joint_rule.specs.Begins.{Begin, found_after, Proper}
-use Rattle.joint_rule.specs.Starts.{AtRest}
+use Rattle.joint_rule.specs.Begins.{Begin, found_after, back_at, Proper}
+use Rattle.joint_rule.specs.Starts.{AtRest, AreFree}
+use Rattle.joint_rule.specs.Ends.{device_of}
 use Rattle.zr_base.specs.declared.limits.TheConstants.{MOST_PAGES}
 use Rattle.zr_core.specs.declared.limits.TheConstants.{MOST_CHAIN}
+use Rattle.zr_core.specs.declared.spare.Spare.{Spare}
 use Rattle.zr_core.specs.Machines.{order_at, without_orders}
 use Rattle.zr_core.specs.Noted.{HasAllOrders}
 
@@ -71,6 +75,56 @@ pool_of zero cells class = None
 pool_of (suc n) cells class =
     if nat_lt class 255 then pool_in (get_or cells (suc n + class) None) else None
 
+-- ---- the device and its blocks
+
+-- a device that isn't there
+abbrev pub no_device : DeviceState
+no_device = record {
+  blocks = 0;
+  contents = None;
+  faults = 0;
+  calls = None;
+  references = [];
+  reads = 0;
+  writes = 0;
+}
+
+-- a map without blocks
+abbrev pub no_blocks : BlockMap
+no_blocks = record { states = []; budget = 0; enabled = false }
+
+-- the map in a place of the row
+abbrev pub blocks_in : Option DiskHeld → BlockMap
+blocks_in None = no_blocks
+blocks_in (Some (holds.Slot e)) = no_blocks
+blocks_in (Some (holds.Class q)) = no_blocks
+blocks_in (Some (holds.Account d)) = no_blocks
+blocks_in (Some (holds.Blocks x)) = x
+blocks_in (Some (holds.Device x)) = no_blocks
+
+-- What stands beside the row before the disk's size is given: the map has free blocks alone, and no
+-- more than the device.
+pub record IsSpare {D : Type 0} (s : Spare D) : Type 0 where
+  pub free : AreFree s.blocks.states
+  pub fits : length s.blocks.states ≤ s.device.blocks
+
+-- before the disk's size is given, the device and the map stand beside the row, and then in it
+abbrev pub IsEarly : {D : Type 0} → ℕ → Option (Spare D) → Type 0
+IsEarly zero None = ⊥
+IsEarly zero (Some s) = IsSpare s
+IsEarly (suc n) None = ⊤
+IsEarly (suc n) (Some s) = ⊥
+
+-- the device of a disk
+abbrev pub device_by : {D : Type 0} → Option (Spare D) → ℕ → List (Option DiskHeld) → DeviceState
+device_by None pages cells = device_of no_device pages cells
+device_by (Some s) pages cells = s.device
+
+-- and the map of its blocks
+abbrev pub blocks_by : {D : Type 0} → Option (Spare D) → ℕ → List (Option DiskHeld) → BlockMap
+blocks_by None pages cells = blocks_in (get_or cells (pages + 256) None)
+blocks_by (Some s) pages cells = s.blocks
+
 -- ---- between two phases
 
 -- Each value is at home, and these are the disk's pages as the phases so far left them, with every
@@ -84,6 +138,7 @@ pub record RestsAs (g : Begin) (pages : ℕ) (cells : List (Option DiskHeld)) : 
   pub proper : Proper g
   pub row : AtRest g (without_orders cells)
   pub account : slice_get cells (pages + 255) ≡ Some (Some (holds.Account g.was))
+  pub device : slice_get cells (pages + 257) ≡ Some (Some (holds.Device g.device))
 
 -- Each page has its entry at home.
 pub record HasEntries (pages : ℕ) (cells : List (Option DiskHeld)) : Type 0 where
@@ -103,15 +158,17 @@ pub record IsAtRest (pages : ℕ) (noted : List ℕ) (cells : List (Option DiskH
 
 -- ---- what a phase begins with
 
--- a new disk: zeros, nothing written, and the limit
-abbrev pub new_disk : ℕ → ℕ → Begin
-new_disk pages limit = record {
+-- a new disk: zeros, nothing written, the limit, and the device
+abbrev pub new_disk : ℕ → ℕ → DeviceState → Begin
+new_disk pages limit device = record {
   given = record { size = pages; actors = []; before = λ s. zero_sector };
   blank = λ p. true;
+  back = λ p. false;
   touched = λ p. 0;
   chain = MOST_CHAIN;
   clock = 0;
   was = record no_counts { limit = limit };
+  device = device;
   tight = false;
 }
 
@@ -120,10 +177,12 @@ abbrev pub with_account : Begin → Counters → Begin
 with_account g c = record {
   given = g.given;
   blank = g.blank;
+  back = g.back;
   touched = g.touched;
   chain = g.chain;
   clock = g.clock;
   was = c;
+  device = g.device;
   tight = false;
 }
 
@@ -140,10 +199,12 @@ abbrev pub begun : Begin → List (List Op) → ℕ → Begin
 begun g actors now = record {
   given = record { size = g.given.size; actors = actors; before = g.given.before };
   blank = g.blank;
+  back = g.back;
   touched = g.touched;
   chain = g.chain;
   clock = now;
   was = g.was;
+  device = g.device;
   tight = false;
 }
 
@@ -165,9 +226,11 @@ left g row = record {
     before = λ s. held_after g.given (order_at row (s / 8)) s;
   };
   blank = λ p. (found_after g p (order_at row p)).blank;
+  back = λ p. back_at g p (order_at row p);
   touched = λ p. touched_in (get_or row p None);
   chain = g.chain;
   clock = g.clock;
   was = account_of g.was.limit g.given.size row;
+  device = device_of g.device g.given.size row;
   tight = false;
 }

@@ -11,7 +11,7 @@ use Rattle.lock_row.specs.declared.names.LockNo.{LockNo}
 use Rattle.lock_row.specs.declared.names.LockNo.TheVariants as lock
 use Rattle.lock_row.specs.declared.names.Held.TheVariants as holds
 use Rattle.lock_row.specs.declared.names.At.{At}
-use Rattle.lock_row.specs.declared.names.At.TheVariants.{Start, Refusing, Seen, Pinning, Pinned, Unpinning, Leaving, Wanting, Inside, Both, Made, Old, Freeing, Owing, Giving, Ready, Sweeping, Moving, Shrunk, Shrinking}
+use Rattle.lock_row.specs.declared.names.At.TheVariants.{Start, Refusing, Seen, Pinning, Pinned, Unpinning, Leaving, Away, Fetching, Failing, Counting, Missed, Wanting, Inside, Both, Made, Old, Freeing, Backed, Releasing, Owing, Giving, Ready, Sweeping, Moving, Shrunk, Shrinking}
 use Rattle.lock_row.specs.declared.names.Compaction.{Compaction}
 use Rattle.lock_row.specs.declared.names.Plan.TheVariants.{Finished, Take}
 use Rattle.lock_row.specs.declared.names.State.{State}
@@ -26,36 +26,36 @@ abbrev pub turns_of : List Turns → List ℕ
 turns_of schedule = flat_map (λ t. replicate t.times t.actor) schedule
 
 -- these turns lead from the state that was to one that is, whatever was over before
-abbrev pub GoesBy : List ℕ → Playing → Playing → List (List Done) → Type 0
+abbrev pub GoesBy : {D : Type 0} → List ℕ → Playing D → Playing D → List (List Done) → Type 0
 GoesBy turns x y dones = (dones' : List (List Done)) × AreKept y.workers dones'
     × Makes x.terms turns (state_of x dones) (state_of y dones')
 
 -- the schedule's turns, and then rounds until all actors are finished
-abbrev pub RunsOut : List ℕ → Playing → Playing → List (List Done) → Type 0
+abbrev pub RunsOut : {D : Type 0} → List ℕ → Playing D → Playing D → List (List Done) → Type 0
 RunsOut turns x y dones = (rounds : ℕ) × (dones' : List (List Done)) × AreKept y.workers dones'
     × Makes x.terms (turns ++ rounds_of (length x.actors) rounds) (state_of x dones)
     (state_of y dones')
     × AllFinished (state_of y dones')
 
 -- The phase goes on by these turns, and can go on.
-pub record Plays (turns : List ℕ) (x y : Playing) : Type 0 where
+pub record Plays {D : Type 0} (turns : List ℕ) (x y : Playing D) : Type 0 where
   pub same : y.terms ≡ x.terms
   pub limit : y.limit ≡ x.limit
   pub can : CanGoOn y
   pub goes : (dones : List (List Done)) → AreKept x.workers dones → GoesBy turns x y dones
 
 -- some actor isn't finished
-pub record IsBusy (actors : List (List Op)) (ws : List Worker) : Type 0 where
+pub record IsBusy {D : Type 0} (actors : List (List Op)) (ws : List (Worker D)) : Type 0 where
   pub actor : ℕ
   pub ops : List Op
-  pub worker : Worker
+  pub worker : Worker D
   pub named : slice_get actors actor ≡ Some ops
   pub there : slice_get ws actor ≡ Some worker
   pub more : worker.place.nr < length ops
 
 -- all are finished
-abbrev pub AllOver : List (List Op) → List Worker → Type 0
-AllOver actors ws = (a : ℕ) (ops : List Op) (w : Worker) → slice_get actors a ≡ Some ops
+abbrev pub AllOver : {D : Type 0} → List (List Op) → List (Worker D) → Type 0
+AllOver {D} actors ws = (a : ℕ) (ops : List Op) (w : Worker D) → slice_get actors a ≡ Some ops
     → slice_get ws a ≡ Some w → length ops ≤ w.place.nr
 
 -- the most events of a compaction in a class with so many objects: four for each, and the last two
@@ -81,12 +81,19 @@ abbrev pub stage_left : ℕ → Part → At → ℕ
 stage_left n p Start = piece_left n p
 stage_left n p Seen = 11
 stage_left n p Pinning = 10
+stage_left n p Away = 11
+stage_left n p Fetching = 10
+stage_left n p Failing = 3
+stage_left n p Counting = 2
+stage_left n p Missed = 1
 stage_left n p Wanting = 9
 stage_left n p Inside = 8
 stage_left n p Both = 7
 stage_left n p Made = 6
 stage_left n p Old = 5
 stage_left n p Freeing = 4
+stage_left n p Backed = 5
+stage_left n p Releasing = 4
 stage_left n p Owing = 3
 stage_left n p Pinned = 3
 stage_left n p Giving = 2
@@ -126,11 +133,11 @@ abbrev pub all_left : ℕ → State DiskHeld → ℕ
 all_left size w = locals_sum (left_by (size + length w.locals)) w.locals
 
 -- before the first turn no piece is over
-abbrev pub nothing_over : List Worker → List (List Done)
+abbrev pub nothing_over : {D : Type 0} → List (Worker D) → List (List Done)
 nothing_over ws = map (λ w. []) ws
 
 -- the events that workers have left, whatever is over
-abbrev pub left_of : Playing → ℕ
+abbrev pub left_of : {D : Type 0} → Playing D → ℕ
 left_of x = all_left x.terms.size (state_of x (nothing_over x.workers))
 
 -- the next turn of this actor is an event
@@ -146,7 +153,7 @@ Round t start now i = (all_left t.size now < all_left t.size start)
     ⊎ ((now ≡ start) × ((f : ℕ) → IsFree t start f → i ≤ f))
 
 -- a round has come to the actor i
-abbrev pub RoundTo : State DiskHeld → Playing → ℕ → Type 0
+abbrev pub RoundTo : {D : Type 0} → State DiskHeld → Playing D → ℕ → Type 0
 RoundTo start x i = (dones : List (List Done)) × AreKept x.workers dones
     × Makes x.terms (range_with_len 0 i) start (state_of x dones)
     × Round x.terms start (state_of x dones) i

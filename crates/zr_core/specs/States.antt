@@ -24,59 +24,60 @@ use Rattle.zr_core.specs.Noted.{HasAllPieces}
 use Rattle.zr_core.specs.Rests.{IsBare}
 
 -- the locals of workers, where these pieces of each are over
-abbrev pub heres : Terms → List (List Op) → List Worker → List (List Done) → List Here
+abbrev pub heres : {D : Type 0} → Terms → List (List Op) → List (Worker D) → List (List Done) → List Here
 heres t [] ws dones = []
 heres t (ops ∷ more) [] dones = []
 heres t (ops ∷ more) (w ∷ ws) [] = []
 heres t (ops ∷ more) (w ∷ ws) (done ∷ dones) = here t.size ops w done ∷ heres t more ws dones
 
 -- the state of a row and its workers, where these pieces of each are over
-abbrev pub state : Terms → List (List Op) → List (Option DiskHeld) → List Worker → List (List Done)
+abbrev pub state : {D : Type 0} → Terms → List (List Op) → List (Option DiskHeld) → List (Worker D) → List (List Done)
     → State DiskHeld
 state t actors cells ws dones = record { row = cells; locals = heres t actors ws dones }
 
 -- how the operations ended
-abbrev pub ends_shown : List Worker → List (List OpEnd)
-ends_shown ws = map (λ (w : Worker). map (λ (r : Reply). r.end) w.replies.items) ws
+abbrev pub ends_shown : {D : Type 0} → List (Worker D) → List (List OpEnd)
+ends_shown {D} ws = map (λ (w : Worker D). map (λ (r : Reply). r.end) w.replies.items) ws
 
 -- the sectors that are told of an operation, of those that it read, by its end
 abbrev pub told_by : OpEnd → List (List ℕ) → List (List ℕ)
 told_by ends.Ok got = got
+told_by (ends.Eio fault done) got = got
 told_by _ got = []
 
 -- the sectors that they tell
-abbrev pub sectors_shown : List Worker → List (List (List (List ℕ)))
-sectors_shown ws =
-    map (λ (w : Worker). map (λ (r : Reply). told_by r.end r.sectors.items) w.replies.items) ws
+abbrev pub sectors_shown : {D : Type 0} → List (Worker D) → List (List (List (List ℕ)))
+sectors_shown {D} ws =
+    map (λ (w : Worker D). map (λ (r : Reply). told_by r.end r.sectors.items) w.replies.items) ws
 
 -- Each worker is fit for its operations.
-pub record AreFit (t : Terms) (actors : List (List Op)) (ws : List Worker) : Type 0 where
+pub record AreFit {D : Type 0} (t : Terms) (actors : List (List Op)) (ws : List (Worker D)) : Type 0 where
   pub count : length ws ≡ length actors
-  pub each : (a : ℕ) (ops : List Op) (w : Worker) → slice_get actors a ≡ Some ops
+  pub each : (a : ℕ) (ops : List Op) (w : Worker D) → slice_get actors a ≡ Some ops
       → slice_get ws a ≡ Some w → IsFit t ops w
 
 -- The workers' replies have what these pieces have read, and how their operations ended.
-pub record AreKept (ws : List Worker) (dones : List (List Done)) : Type 0 where
+pub record AreKept {D : Type 0} (ws : List (Worker D)) (dones : List (List Done)) : Type 0 where
   pub count : length dones ≡ length ws
-  pub each : (a : ℕ) (w : Worker) (done : List Done) → slice_get ws a ≡ Some w
+  pub each : (a : ℕ) (w : Worker D) (done : List Done) → slice_get ws a ≡ Some w
       → slice_get dones a ≡ Some done → Keeps w done
 
 -- A phase between two turns: what its steps go by, the disk's limit, the pages that may have an
 -- order, the actors' operations, the row and the workers.
-pub record Playing : Type 0 where
+pub record Playing (D : Type 0) : Type 0 where
   pub terms : Terms
   pub limit : ℕ
   pub noted : List ℕ
   pub actors : List (List Op)
   pub cells : List (Option DiskHeld)
-  pub workers : List Worker
+  pub workers : List (Worker D)
 
 -- the state that it stands for, where these pieces of each actor are over
-abbrev pub state_of : Playing → List (List Done) → State DiskHeld
+abbrev pub state_of : {D : Type 0} → Playing D → List (List Done) → State DiskHeld
 state_of x dones = state x.terms x.actors x.cells x.workers dones
 
 -- The phase is one that begins so.
-pub record IsOf (g : Begin) (x : Playing) : Type 0 where
+pub record IsOf {D : Type 0} (g : Begin) (x : Playing D) : Type 0 where
   pub goes_by : terms g ≡ x.terms
   pub actors : g.given.actors ≡ x.actors
   pub some : 1 ≤ x.terms.size
@@ -85,38 +86,38 @@ pub record IsOf (g : Begin) (x : Playing) : Type 0 where
 
 -- The workers stand before their first turn: the row and they are the start of the phase that
 -- begins so.
-pub record IsPrepared (g : Begin) (x : Playing) : Type 0 where
+pub record IsPrepared {D : Type 0} (g : Begin) (x : Playing D) : Type 0 where
   pub of : IsOf g x
   pub dones : List (List Done)
   pub kept : AreKept x.workers dones
   pub start : IsStart g (state_of x dones)
 
 -- The workers stand before their first turn, in a phase that is set up on this row.
-pub record IsSetUpOn (before : List (Option DiskHeld)) (x : Playing) : Type 0 where
+pub record IsSetUpOn {D : Type 0} (before : List (Option DiskHeld)) (x : Playing D) : Type 0 where
   pub dones : List (List Done)
   pub kept : AreKept x.workers dones
   pub set_up : IsSetUp x.terms.size x.actors before (state_of x dones)
 
 -- The joint rule holds for the phase that begins so.
-pub record HasRule (g : Begin) (x : Playing) : Type 0 where
+pub record HasRule {D : Type 0} (g : Begin) (x : Playing D) : Type 0 where
   pub of : IsOf g x
   pub dones : List (List Done)
   pub kept : AreKept x.workers dones
   pub rule : Rule g (state_of x dones)
 
 -- Turns lead from this state to the one that it stands for.
-pub record IsReachedFrom (start : State DiskHeld) (x : Playing) : Type 0 where
+pub record IsReachedFrom {D : Type 0} (start : State DiskHeld) (x : Playing D) : Type 0 where
   pub dones : List (List Done)
   pub kept : AreKept x.workers dones
   pub reached : IsReached x.terms start (state_of x dones)
 
 -- the disk's size isn't given yet, and there is no actor
-abbrev pub IsEmpty : Playing → Type 0
+abbrev pub IsEmpty : {D : Type 0} → Playing D → Type 0
 IsEmpty x = IsBare x.terms.size x.cells × (x.actors ≡ [])
 
 -- Each worker is fit for its operations, no piece has events on a page that isn't noted, and the
 -- joint rule holds for some beginning; before the disk's size is given there is no actor.
-pub record CanGoOn (x : Playing) : Type 0 where
+pub record CanGoOn {D : Type 0} (x : Playing D) : Type 0 where
   pub fit : AreFit x.terms x.actors x.workers
   pub pieces : HasAllPieces x.terms.size x.noted x.actors
   pub ruled : IsEmpty x ⊎ ((g : Begin) × HasRule g x)
@@ -138,7 +139,7 @@ TurnIs t a w n turn.Finished = (l : Here) × (slice_get w.locals a ≡ Some l) �
     × (n ≡ w)
 
 -- a turn from the state that was to one that is, whatever was over before
-abbrev pub TurnsOnce : ℕ → Playing → Playing → Turn → List (List Done) → Type 0
+abbrev pub TurnsOnce : {D : Type 0} → ℕ → Playing D → Playing D → Turn → List (List Done) → Type 0
 TurnsOnce a x y r dones = (dones' : List (List Done)) × AreKept y.workers dones'
     × TurnIs x.terms a (state_of x dones) (state_of y dones') r
 
@@ -147,5 +148,5 @@ abbrev pub of_op : {A : Type 0} → List (List A) → ℕ → ℕ → Option A
 of_op all actor op = option_and_then (λ xs. slice_get xs op) (slice_get all actor)
 
 -- the operation is over: its actor is past it
-abbrev pub HasEnded : List Worker → ℕ → ℕ → Type 0
-HasEnded ws actor op = (w : Worker) × (slice_get ws actor ≡ Some w) × (op < w.place.nr)
+abbrev pub HasEnded : {D : Type 0} → List (Worker D) → ℕ → ℕ → Type 0
+HasEnded {D} ws actor op = (w : Worker D) × (slice_get ws actor ≡ Some w) × (op < w.place.nr)

@@ -20,24 +20,38 @@ use zr_base::PageIx;
 /// the blocks and the device. Before the disk's size is given it has no row, and of the account it
 /// knows the limit alone.
 #[derive(Drop)]
-pub struct World {
+pub struct World<D: Backing> {
     pub(crate) alloc: Global,
     pub(crate) pages: u32,
     pub(crate) limit: u64,
-    pub(crate) row: SimRow<DiskHeld>,
+    pub(crate) row: SimRow<DiskHeld<D>>,
     // the pages that may have an order, in rising order
     pub(crate) noted: Vec<u32>,
+    // the device and the map of its blocks, until they stand in the row
+    pub(crate) spare: Option<Spare<D>>,
+    ghost early: { IsEarly pages spare },
     ghost names: { row.names ≡ names_by pages },
     ghost small: { limit < 2 ^ 52 },
 }
 
-impl World {
-    /// A disk without pages and without a limit. It takes no memory.
-    pub fn new(alloc: Global) -> World
+impl<D: Backing> World<D> {
+    /// A disk without pages, without a limit and without a backing, over this device. It takes no
+    /// memory.
+    pub fn new(alloc: Global, dev: D) -> World<D>
         ensures pages { result.pages ≡ 0 }
         ensures limit { result.limit ≡ 0 }
         ensures cells { result.row.cells ≡ [] }
         ensures rest { IsAtRest result.pages result.noted.items result.row.cells }
+        ensures device { device_by result.spare result.pages result.row.cells ≡ record {
+          blocks = D.block_count dev;
+          contents = D.contents dev;
+          faults = D.fault_count dev;
+          calls = D.calls dev;
+          references = D.references dev;
+          reads = 0;
+          writes = 0;
+        } }
+        ensures blocks { blocks_by result.spare result.pages result.row.cells ≡ no_blocks }
     {
         World {
             alloc,
@@ -45,6 +59,10 @@ impl World {
             limit: 0,
             row: SimRow::empty(alloc),
             noted: Vec::new(alloc),
+            spare: Some(Spare {
+                device: Dev::new(dev),
+                blocks: Blocks::none(alloc),
+            }),
         }
     }
 
@@ -56,18 +74,179 @@ impl World {
         requires most { pages ≤ MOST_PAGES }
         ensures pages { OnOk result (self.new.pages ≡ pages) }
         ensures limit { self.new.limit ≡ self.old.limit }
-        ensures values { OnOk result (AreNew (new_disk pages self.old.limit) (pages + 258) self.new.row.cells) }
-        ensures new { OnOk result (RestsAs (new_disk pages self.old.limit) pages self.new.row.cells) }
+        ensures values { OnOk result (AreNew (new_disk pages self.old.limit
+            (device_by self.old.spare self.old.pages self.old.row.cells)) (pages + 258) self.new.row.cells) }
+        ensures new { OnOk result (RestsAs (new_disk pages self.old.limit
+            (device_by self.old.spare self.old.pages self.old.row.cells)) pages self.new.row.cells) }
+        ensures device { OnOk result (device_by self.new.spare self.new.pages self.new.row.cells
+            ≡ device_by self.old.spare self.old.pages self.old.row.cells) }
+        ensures blocks { OnOk result (blocks_by self.new.spare self.new.pages self.new.row.cells
+            ≡ blocks_by self.old.spare self.old.pages self.old.row.cells) }
         ensures rest { OnOk result (IsAtRest self.new.pages self.new.noted.items self.new.row.cells) }
         ensures err { OnErr result ((self.new.pages ≡ 0) × (self.new.row ≡ self.old.row)
-            × (self.new.noted.items ≡ self.old.noted.items)) }
+            × (self.new.noted.items ≡ self.old.noted.items) × (self.new.spare ≡ self.old.spare)) }
     {
         disks_begin();
-        let row = new_row(self.alloc, pages, self.limit)?;
+        let mut row = new_row(self.alloc, pages, self.limit)?;
+        let Some(spare) = self.spare.take() else {
+            unreachable!()
+        };
+        put_device(&mut row, pages, spare);
         self.row = row;
         self.pages = pages;
         self.noted.clear();
         Ok(())
+    }
+
+    /// Uses so many blocks of the device, for the disk that is to come: another backing is replaced.
+    /// The writeback limit stays. On Err nothing changed.
+    pub fn set_backing(&mut self, blocks: u32) -> Result<(), AllocError>
+        requires none { self.old.pages ≡ 0 }
+        requires some { 1 ≤ blocks }
+        requires fits { blocks ≤ (device_by self.old.spare self.old.pages self.old.row.cells).blocks }
+        ensures pages { self.new.pages ≡ self.old.pages }
+        ensures limit { self.new.limit ≡ self.old.limit }
+        ensures row { self.new.row ≡ self.old.row }
+        ensures noted { self.new.noted.items ≡ self.old.noted.items }
+        ensures device { device_by self.new.spare self.new.pages self.new.row.cells
+            ≡ device_by self.old.spare self.old.pages self.old.row.cells }
+        ensures blocks { OnOk result (blocks_by self.new.spare self.new.pages self.new.row.cells
+            ≡ record (blocks_by self.old.spare self.old.pages self.old.row.cells)
+            { states = replicate blocks BlockState.Free }) }
+        ensures err { OnErr result (self.new.spare ≡ self.old.spare) }
+    {
+        let mut map = Blocks::new(self.alloc, blocks)?;
+        let Some(spare) = &mut self.spare else {
+            unreachable!()
+        };
+        map.set_limit(spare.blocks.budget());
+        map.set_enable(spare.blocks.is_enabled());
+        spare.blocks = map;
+        Ok(())
+    }
+
+    // Gives the map of blocks another budget, or turns its limit on or off.
+    fn with_blocks(&mut self, budget: u64, on: bool)
+        requires rest { IsAtRest self.old.pages self.old.noted.items self.old.row.cells }
+        ensures pages { self.new.pages ≡ self.old.pages }
+        ensures limit { self.new.limit ≡ self.old.limit }
+        ensures noted { self.new.noted.items ≡ self.old.noted.items }
+        ensures device { device_by self.new.spare self.new.pages self.new.row.cells
+            ≡ device_by self.old.spare self.old.pages self.old.row.cells }
+        ensures blocks { blocks_by self.new.spare self.new.pages self.new.row.cells
+            ≡ record (blocks_by self.old.spare self.old.pages self.old.row.cells)
+            { budget = budget; enabled = on } }
+        ensures none { self.old.pages ≡ 0 → self.new.row ≡ self.old.row }
+        ensures cells { (x : BlockMap) → slice_get self.old.row.cells (self.old.pages + 256) ≡ Some (Some (holds.Blocks x))
+            → self.new.row.cells ≡ slice_set self.old.row.cells (self.old.pages + 256)
+            (Some (holds.Blocks (record x { budget = budget; enabled = on }))) }
+        ensures rest { IsAtRest self.new.pages self.new.noted.items self.new.row.cells }
+        ensures rests_as { (g : Begin) → RestsAs g self.old.pages self.old.row.cells
+            → RestsAs g self.new.pages self.new.row.cells }
+    {
+        phases_go_on();
+        if let Some(spare) = &mut self.spare {
+            spare.blocks.set_limit(budget);
+            spare.blocks.set_enable(on);
+            return;
+        }
+        set_blocks(&mut self.row, self.pages, budget, on);
+    }
+
+    /// Sets how many pages may be written back while the writeback limit is on. It holds with or
+    /// without a backing, also for one that is set later.
+    pub fn set_wb_limit(&mut self, units: u64)
+        requires rest { IsAtRest self.old.pages self.old.noted.items self.old.row.cells }
+        ensures pages { self.new.pages ≡ self.old.pages }
+        ensures limit { self.new.limit ≡ self.old.limit }
+        ensures noted { self.new.noted.items ≡ self.old.noted.items }
+        ensures device { device_by self.new.spare self.new.pages self.new.row.cells
+            ≡ device_by self.old.spare self.old.pages self.old.row.cells }
+        ensures blocks { blocks_by self.new.spare self.new.pages self.new.row.cells
+            ≡ record (blocks_by self.old.spare self.old.pages self.old.row.cells) { budget = units } }
+        ensures rest { IsAtRest self.new.pages self.new.noted.items self.new.row.cells }
+        ensures rests_as { (g : Begin) → RestsAs g self.old.pages self.old.row.cells
+            → RestsAs g self.new.pages self.new.row.cells }
+    {
+        let on = self.blocks().is_enabled();
+        self.with_blocks(units, on);
+    }
+
+    /// Turns the writeback limit on or off.
+    pub fn set_wb_enable(&mut self, on: bool)
+        requires rest { IsAtRest self.old.pages self.old.noted.items self.old.row.cells }
+        ensures pages { self.new.pages ≡ self.old.pages }
+        ensures limit { self.new.limit ≡ self.old.limit }
+        ensures noted { self.new.noted.items ≡ self.old.noted.items }
+        ensures device { device_by self.new.spare self.new.pages self.new.row.cells
+            ≡ device_by self.old.spare self.old.pages self.old.row.cells }
+        ensures blocks { blocks_by self.new.spare self.new.pages self.new.row.cells
+            ≡ record (blocks_by self.old.spare self.old.pages self.old.row.cells) { enabled = on } }
+        ensures rest { IsAtRest self.new.pages self.new.noted.items self.new.row.cells }
+        ensures rests_as { (g : Begin) → RestsAs g self.old.pages self.old.row.cells
+            → RestsAs g self.new.pages self.new.row.cells }
+    {
+        let budget = self.blocks().budget();
+        self.with_blocks(budget, on);
+    }
+
+    // The device, which is at home.
+    pub(crate) fn device(&self) -> &Dev<D>
+        requires rest { IsAtRest self.now.pages self.now.noted.items self.now.row.cells }
+        ensures { result.now ≡ device_by self.now.spare self.now.pages self.now.row.cells }
+    {
+        names_have_places();
+        if let Some(spare) = &self.spare {
+            return &spare.device;
+        }
+        let Some(value) = self.row.value(LockNo::Device) else {
+            unreachable!()
+        };
+        device_in(value)
+    }
+
+    // The map of blocks, which is at home.
+    fn blocks(&self) -> &Blocks
+        requires rest { IsAtRest self.now.pages self.now.noted.items self.now.row.cells }
+        ensures { result.now ≡ blocks_by self.now.spare self.now.pages self.now.row.cells }
+    {
+        names_have_places();
+        if let Some(spare) = &self.spare {
+            return &spare.blocks;
+        }
+        let Some(value) = self.row.value(LockNo::Blocks) else {
+            unreachable!()
+        };
+        blocks_in(value)
+    }
+
+    /// How many blocks the device has.
+    pub fn device_blocks(&self) -> u32
+        requires rest { IsAtRest self.now.pages self.now.noted.items self.now.row.cells }
+        ensures { result ≡ (device_by self.now.spare self.now.pages self.now.row.cells).blocks }
+    {
+        self.device().blocks()
+    }
+
+    /// Gives the device back.
+    pub fn close(self) -> D
+        requires rest { IsAtRest self.pages self.noted.items self.row.cells }
+        ensures blocks { D.block_count result ≡ (device_by self.spare self.pages self.row.cells).blocks }
+        ensures contents { D.contents result ≡ (device_by self.spare self.pages self.row.cells).contents }
+        ensures faults { D.fault_count result ≡ (device_by self.spare self.pages self.row.cells).faults }
+        ensures calls { D.calls result ≡ (device_by self.spare self.pages self.row.cells).calls }
+        ensures same { D.references result ≡ (device_by self.spare self.pages self.row.cells).references }
+    {
+        names_have_places();
+        let World { mut row, spare, .. } = self;
+        if let Some(spare) = spare {
+            return spare.device.into_inner();
+        }
+        let mut hand = row.hand(0);
+        let Some(value) = hand.try_take::<Still>(LockNo::Device) else {
+            unreachable!()
+        };
+        device_of(value).into_inner()
     }
 
     /// How many pages the disk has.

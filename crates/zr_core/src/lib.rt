@@ -6,6 +6,7 @@ mod limits;
 mod phase;
 mod prepare;
 mod row;
+mod spare;
 mod stats;
 mod world;
 
@@ -13,7 +14,9 @@ pub use actor_steps::Turn;
 pub use disk::World;
 pub use limits::MOST_CHAIN;
 pub use page_steps::DiskHeld;
+pub use backing_dev::BdStat;
 pub use phase::Phase;
+pub use spare::Spare;
 
 #[cfg(test)]
 mod tests;

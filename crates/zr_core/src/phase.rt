@@ -10,12 +10,12 @@ use zr_base::OpEnd;
 
 /// The actors of a phase, and its time.
 #[derive(Drop)]
-pub struct Phase {
+pub struct Phase<D: Backing> {
     pub(crate) clock: u64,
-    pub(crate) workers: Vec<Worker>,
+    pub(crate) workers: Vec<Worker<D>>,
 }
 
-impl Phase {
+impl<D: Backing> Phase<D> {
     // How an operation has ended so far.
     fn end_so_far(&self, actor: u32, op: u32) -> &OpEnd
         requires { IsSome (of_op (ends_shown self.now.workers.items) actor op) }
@@ -24,14 +24,15 @@ impl Phase {
         &self.workers[actor as usize].replies[op as usize].end
     }
 
-    // The sectors that are told of an operation so far: none where it was refused.
+    // The sectors that are told of an operation so far: those of its pieces that were carried out where
+    // the device failed, and none where it was refused else.
     fn sectors_so_far(&self, actor: u32, op: u32) -> &[[u8; 512]]
         requires { IsSome (of_op (sectors_shown self.now.workers.items) actor op) }
         ensures { of_op (sectors_shown self.now.workers.items) actor op ≡ Some result.now }
     {
         let reply = &self.workers[actor as usize].replies[op as usize];
         match reply.end {
-            OpEnd::Ok => &reply.sectors,
+            OpEnd::Ok | OpEnd::Eio { .. } => &reply.sectors,
             _ => &[],
         }
     }
@@ -47,8 +48,8 @@ impl Phase {
         self.end_so_far(actor, op)
     }
 
-    /// The sectors that an operation that is over has read, of 512 bytes each. One that was refused
-    /// has none.
+    /// The sectors that an operation that is over has read, of 512 bytes each: where the device
+    /// failed, those of the pieces before. One that was refused else has none.
     pub fn sectors(&self, actor: u32, op: u32) -> &[[u8; 512]]
         requires there { IsSome (of_op (sectors_shown self.now.workers.items) actor op) }
         requires over { HasEnded self.now.workers.items actor op }

@@ -27,7 +27,7 @@ pub(crate) fn noted_pages(
 }
 
 // Empties the order of a page's entry, and makes its room. On Err nothing changed.
-fn reserve(row: &mut SimRow<DiskHeld>, size: u32, page: u32, count: u32) -> Result<(), AllocError>
+fn reserve<D: Backing>(row: &mut SimRow<DiskHeld<D>>, size: u32, page: u32, count: u32) -> Result<(), AllocError>
     requires names { row.old.names ≡ names_by size }
     requires rest { HasEntries size row.old.cells }
     requires page { page < size }
@@ -49,8 +49,8 @@ fn reserve(row: &mut SimRow<DiskHeld>, size: u32, page: u32, count: u32) -> Resu
 
 // Empties the orders of these pages, and makes room for what is counted. On Err each page is as
 // before, and so is its order, or it is empty.
-fn reserve_pages(
-    row: &mut SimRow<DiskHeld>,
+fn reserve_pages<D: Backing>(
+    row: &mut SimRow<DiskHeld<D>>,
     size: u32,
     counts: &BTreeMap<u32, u32>,
     pages: &[u32],
@@ -71,8 +71,8 @@ fn reserve_pages(
 /// Empties all orders, and makes room for what is counted. `before` has the pages with an order,
 /// and `noted` those with a count. On Err each page is as before, and so is its order, or it is
 /// empty.
-pub(crate) fn reserve_all(
-    row: &mut SimRow<DiskHeld>,
+pub(crate) fn reserve_all<D: Backing>(
+    row: &mut SimRow<DiskHeld<D>>,
     size: u32,
     counts: &BTreeMap<u32, u32>,
     before: &[u32],

@@ -14,7 +14,7 @@ use page_steps::DiskHeld;
 use size_class::{CLASSES, ClassStat};
 
 // The pool that a class's lock guards.
-fn pool_in(value: &DiskHeld) -> Option<&ClassPool>
+fn pool_in<D: Backing>(value: &DiskHeld<D>) -> Option<&ClassPool>
     ensures { option_copied result ≡ pool_in (Some value.now) }
 {
     match value {
@@ -24,7 +24,7 @@ fn pool_in(value: &DiskHeld) -> Option<&ClassPool>
 }
 
 // The account that its lock guards, or another one.
-fn account_in(value: &DiskHeld, other: Account) -> Account
+fn account_in<D: Backing>(value: &DiskHeld<D>, other: Account) -> Account
     ensures { result ≡ account_in other (Some value.now) }
 {
     match value {
@@ -33,7 +33,7 @@ fn account_in(value: &DiskHeld, other: Account) -> Account
     }
 }
 
-impl World {
+impl<D: Backing> World<D> {
     // The account that is at home, or one that has the limit alone.
     pub(crate) fn account(&self) -> Account
         ensures { result ≡ account_of self.now.limit self.now.pages self.now.row.cells }
@@ -62,6 +62,23 @@ impl World {
         ensures { result ≡ io_stat_of (account_of self.now.limit self.now.pages self.now.row.cells) }
     {
         self.account().io_stat()
+    }
+
+    /// zram's `bd_stat`. Before the disk's size is given no page is on the device.
+    pub fn bd_stat(&self) -> BdStat
+        requires rest { IsAtRest self.now.pages self.now.noted.items self.now.row.cells }
+        ensures { result ≡ record {
+          count = (account_of self.now.limit self.now.pages self.now.row.cells).back;
+          reads = (device_by self.now.spare self.now.pages self.now.row.cells).reads;
+          writes = (device_by self.now.spare self.now.pages self.now.row.cells).writes;
+        } }
+    {
+        let device = self.device();
+        BdStat {
+            count: self.account().bd_count(),
+            reads: device.reads(),
+            writes: device.writes(),
+        }
     }
 
     /// The statistics of a class's pool. None comes exactly where the class has no zspage.

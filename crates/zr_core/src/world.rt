@@ -29,14 +29,18 @@ use page_steps::DiskHeld;
 use std::alloc::AllocError;
 use zr_base::{ActorOps, Turns};
 
-impl World {
+impl<D: Backing> World<D> {
     /// Sets a phase up, at this time: empties the orders, makes their room for the phase's calls, and
     /// takes the memory for what its reads will tell. On Err every order is unspecified until a call
     /// that succeeds, and all else is as before.
-    pub fn prepare(&mut self, actors: &[ActorOps], now: u64) -> Result<Phase, AllocError>
+    pub fn prepare(&mut self, actors: &[ActorOps], now: u64) -> Result<Phase<D>, AllocError>
         requires rest { IsAtRest self.old.pages self.old.noted.items self.old.row.cells }
         requires work { IsWork actors.now }
         requires none { self.old.pages ≡ 0 → actors.now ≡ [] }
+        ensures device { device_by self.new.spare self.new.pages self.new.row.cells
+            ≡ device_by self.old.spare self.old.pages self.old.row.cells }
+        ensures blocks { blocks_by self.new.spare self.new.pages self.new.row.cells
+            ≡ blocks_by self.old.spare self.old.pages self.old.row.cells }
         ensures pages { self.new.pages ≡ self.old.pages }
         ensures limit { self.new.limit ≡ self.old.limit }
         ensures clock { IfOk result (λ phase. phase.clock ≡ now) }
@@ -66,10 +70,11 @@ impl World {
     }
 
     /// One turn of an actor.
-    pub fn step(&mut self, phase: &mut Phase, actors: &[ActorOps], actor: u32) -> Turn
+    pub fn step(&mut self, phase: &mut Phase<D>, actors: &[ActorOps], actor: u32) -> Turn
         requires actor { actor < length actors.now }
         requires can { CanGoOn (playing self.old phase.old actors.now) }
         ensures same { (playing self.new phase.new actors.now).terms ≡ (playing self.old phase.old actors.now).terms }
+        ensures spare { self.new.spare ≡ self.old.spare }
         ensures limit { self.new.limit ≡ self.old.limit }
         ensures can { CanGoOn (playing self.new phase.new actors.now) }
         ensures turn { (dones : _) → AreKept phase.old.workers.items dones
@@ -95,7 +100,7 @@ impl World {
     }
 
     // Whether some actor of the phase isn't finished.
-    fn is_busy(phase: &Phase, actors: &[ActorOps]) -> bool
+    fn is_busy(phase: &Phase<D>, actors: &[ActorOps]) -> bool
         requires { vec_len phase.now.workers ≡ length actors.now }
         ensures busy { OnTrue result (IsBusy actors.now phase.now.workers.items) }
         ensures over { OnFalse result (AllOver actors.now phase.now.workers.items) }
@@ -109,7 +114,7 @@ impl World {
     }
 
     // One turn of each actor.
-    fn round(&mut self, phase: &mut Phase, actors: &[ActorOps])
+    fn round(&mut self, phase: &mut Phase<D>, actors: &[ActorOps])
         requires few { length actors.now ≤ MOST_ACTORS }
         requires can { CanGoOn (playing self.old phase.old actors.now) }
         ensures plays { Plays (range_with_len 0 (length actors.now)) (playing self.old phase.old actors.now)
@@ -120,7 +125,7 @@ impl World {
     {
         rule_keeps();
         values_fit();
-        sums_move::<DiskHeld>();
+        sums_move::<DiskHeld<D>>();
         for actor in 0..actors.len() as u32 {
             let _turn = self.step(phase, actors, actor);
         }
@@ -128,7 +133,7 @@ impl World {
 
     // So many turns of an actor. After one that changes nothing the rest change nothing either:
     // they cost nothing.
-    fn repeat(&mut self, phase: &mut Phase, actors: &[ActorOps], turns: Turns)
+    fn repeat(&mut self, phase: &mut Phase<D>, actors: &[ActorOps], turns: Turns)
         requires actor { turns.actor < length actors.now }
         requires can { CanGoOn (playing self.old phase.old actors.now) }
         ensures { Plays (replicate turns.times turns.actor) (playing self.old phase.old actors.now)
@@ -144,7 +149,7 @@ impl World {
     }
 
     // The turns of a schedule, one after the other.
-    fn play(&mut self, phase: &mut Phase, actors: &[ActorOps], schedule: &[Turns])
+    fn play(&mut self, phase: &mut Phase<D>, actors: &[ActorOps], schedule: &[Turns])
         requires actors { (k : ℕ) (t : _) → slice_get schedule.now k ≡ Some t → t.actor < length actors.now }
         requires can { CanGoOn (playing self.old phase.old actors.now) }
         ensures { Plays (turns_of schedule.now) (playing self.old phase.old actors.now)
@@ -156,7 +161,7 @@ impl World {
     }
 
     // Rounds, until all actors are finished.
-    fn finish(&mut self, phase: &mut Phase, actors: &[ActorOps])
+    fn finish(&mut self, phase: &mut Phase<D>, actors: &[ActorOps])
         requires few { length actors.now ≤ MOST_ACTORS }
         requires can { CanGoOn (playing self.old phase.old actors.now) }
         ensures plays { (rounds : ℕ) × Plays (rounds_of (length actors.now) rounds) (playing self.old phase.old actors.now)
@@ -170,11 +175,12 @@ impl World {
 
     /// The schedule's turns, and then rounds of a turn for each actor, until all actors are
     /// finished.
-    pub fn run(&mut self, phase: &mut Phase, actors: &[ActorOps], schedule: &[Turns])
+    pub fn run(&mut self, phase: &mut Phase<D>, actors: &[ActorOps], schedule: &[Turns])
         requires few { length actors.now ≤ MOST_ACTORS }
         requires actors { (k : ℕ) (t : _) → slice_get schedule.now k ≡ Some t → t.actor < length actors.now }
         requires can { CanGoOn (playing self.old phase.old actors.now) }
         ensures same { (playing self.new phase.new actors.now).terms ≡ (playing self.old phase.old actors.now).terms }
+        ensures spare { self.new.spare ≡ self.old.spare }
         ensures limit { self.new.limit ≡ self.old.limit }
         ensures can { CanGoOn (playing self.new phase.new actors.now) }
         ensures runs { (dones : _) → AreKept phase.old.workers.items dones
