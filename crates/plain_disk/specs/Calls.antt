@@ -44,7 +44,8 @@ after_all actors f (tag ∷ tags) = after_all actors (after (named actors tag) f
 abbrev pub kept_as : (List ℕ → Weight) → ℕ → Found → Weight
 kept_as form p f = if f.blank then Empty else form (page_bytes f.holds p)
 
--- whether page p is in the pool after some first calls of its order, or before them all
+-- whether page p has a form of the pool after some first calls of its order, or before them all; it may
+-- be on the device then
 abbrev pub ever_pooled : (List ℕ → Weight) → ℕ → List (List Op) → Found → List Tag → Bool
 ever_pooled form p actors f [] = is_pooled (kept_as form p f)
 ever_pooled form p actors f (tag ∷ tags) = is_pooled (kept_as form p f)

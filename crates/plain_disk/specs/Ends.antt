@@ -27,7 +27,7 @@ pub record Ground : Type 0 where
   pub faults : ℕ
 
 -- What the ends of an actor's operations are measured by at the phase's end: the number of pages
--- that are in the pool at some moment, with that of actors; and how many calls of the backing device
+-- that have a form of the pool at some moment, with that of actors; and how many calls of the backing device
 -- have failed.
 pub record Bounds : Type 0 where
   pub reach : ℕ

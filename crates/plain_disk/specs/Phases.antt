@@ -63,7 +63,7 @@ phase_ground form r = record {
   faults = r.device.faults;
 }
 
--- the pages that are in the pool before the phase or after some first calls of their orders
+-- the pages that have a form of the pool before the phase or after some first calls of their orders
 abbrev pub ever : (List ℕ → Weight) → Rest → List (List Op) → List (List Tag) → ℕ
 ever form r actors orders =
     count_by (λ p. ever_pooled form p actors (page_of r p) (nth_order orders p))
@@ -105,7 +105,7 @@ touched_by [] clock touched = touched
 touched_by (tag ∷ tags) clock touched = clock
 
 -- The greatest number of frames after a phase: it hasn't fallen, and where it rose it is within the
--- limit, and within the chains of the pages that are in the pool at some moment and of the actors.
+-- limit, and within the chains of the pages that have a form of the pool at some moment and of the actors.
 pub record IsMost (r : Rest) (reached most : ℕ) (used : ℕ → List ℕ) : Type 0 where
   pub now : frames_of r.set.chain used ≤ most
   pub before : r.most ≤ most
