@@ -105,7 +105,8 @@ touched_by [] clock touched = touched
 touched_by (tag ∷ tags) clock touched = clock
 
 -- The greatest number of frames after a phase: it hasn't fallen, and where it rose it is within the
--- limit, and within the chains of the pages that have a form of the pool at some moment and of the actors.
+-- limit, and within the chains of the pages that have a form of the pool at some moment and of the
+-- actors.
 pub record IsMost (r : Rest) (reached most : ℕ) (used : ℕ → List ℕ) : Type 0 where
   pub now : frames_of r.set.chain used ≤ most
   pub before : r.most ≤ most
