@@ -6,4 +6,5 @@ pub mod Pooled
 pub mod Given
 pub mod Backed
 pub mod Formed
+pub mod DeviceReads
 pub mod Refusals

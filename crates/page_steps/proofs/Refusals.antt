@@ -264,14 +264,14 @@ compact_step t l v m (shrinks p rest x c todo stage held give is) =
 -- the piece in work is no read
 no_read : (p : Part) (rest todo : List Part) → todo ≡ p ∷ rest → reads_first todo ≡ false
     → is_read p.op ≡ false
-no_read p rest todo e no = sym (ap reads_first e) ∙ no
+no_read p rest todo e other = sym (ap reads_first e) ∙ other
 
 noted_late : (p : Part) (rest todo : List Part) (f : Option PartEnd) (end : PartEnd)
     → todo ≡ p ∷ rest → f ≡ Some end → IsNoted todo f → IsRefusedEnd p.op end → ⊥
 noted_late p rest todo f end e is noted refused = by (subst (λ (f : Option PartEnd). IsNoted todo f) is noted) where
   fault : (end : PartEnd) → IsFault (Some end) → is_read p.op ≡ true → IsRefusedEnd p.op end → ⊥
-  fault (over.Eio n) there reads no = false≢true (sym no ∙ reads)
-  fault end there reads no = absurd there
+  fault (over.Eio n) there read other = false≢true (sym other ∙ read)
+  fault end there read other = absurd there
 
   by : IsNoted todo (Some end) → ⊥
   by (inl none) = none
@@ -291,7 +291,7 @@ late_step t l v m (unpins p rest e o q q' todo stage held kept back give is) lat
     absurd (subst (λ (a : At). IsLate a l.todo l.fail) stage late)
 late_step t l v m (fetches p rest e b d d' page todo stage held kept read page_is give is) late =
     absurd (subst (λ (a : At). IsLate a l.todo l.fail) stage late)
-late_step t l v m (misses p rest e b d d' fault todo stage held kept fails give is) late =
+late_step t l v m (misses p rest e b d d' fault todo stage held kept missed give is) late =
     absurd (subst (λ (a : At). IsLate a l.todo l.fail) stage late)
 late_step t l v m (counts p rest e c todo stage held give is) late =
     inl (subst (λ (y : Here). IsLate y.at y.todo y.fail × (y.done ≡ l.done)) (sym is)
@@ -324,7 +324,7 @@ late_step t l v m (reads p rest e f todo stage held fail notes give is) late =
     absurd (subst (λ (a : At). IsLate a l.todo l.fail) stage late)
 late_step t l v m (fails p rest e end todo stage held fail give is) late =
     absurd (subst (λ (a : At). IsLate a l.todo l.fail) stage late)
-late_step t l v m (errs p rest e f end todo stage held fail reads notes give is) late =
+late_step t l v m (errs p rest e f end todo stage held fail read notes give is) late =
     inr (
       record { part = p; end = end; got = [] },
       ap (λ (y : Here). y.done) (is ∙ ap (failing_by l) fail)
@@ -332,7 +332,7 @@ late_step t l v m (errs p rest e f end todo stage held fail reads notes give is)
       noted_late p rest l.todo l.fail end todo fail
           (subst (λ (a : At). IsLate a l.todo l.fail) stage late),
     )
-late_step t l v m (leaves p rest e end todo stage held fail no give is) late =
+late_step t l v m (leaves p rest e end todo stage held fail other give is) late =
     inr (
       record { part = p; end = end; got = [] },
       ap (λ (y : Here). y.done) (is ∙ ap (failing_by l) fail)
@@ -389,11 +389,11 @@ early_step t l v m (fetches p rest e b d d' page todo stage held kept read page_
     subst (λ (y : Here). Step l y v) (sym is)
     (pin_step l (fetching page l v) v (subst (λ (a : At). IsEarly a l.todo l.fail) stage early) refl
     refl (last_is l v _ held (d', give, read.contents)) refl)
-early_step t l v m (misses p rest e b d d' fault todo stage held kept fails give is) early =
+early_step t l v m (misses p rest e b d d' fault todo stage held kept missed give is) early =
     subst (λ (y : Here). Step l y v) (sym is) (by (reads_first l.todo) refl) where
-      by : (reads : Bool) → reads_first l.todo ≡ reads → Step l (missing fault l v) v
+      by : (b : Bool) → reads_first l.todo ≡ b → Step l (missing fault l v) v
       by true e = passes (inr (tt, e)) refl
-      by false e = stays (last_is l v _ held (d', give, fails.contents)) refl (tt, e)
+      by false e = stays (last_is l v _ held (d', give, missed.contents)) refl (tt, e)
 early_step t l v m (counts p rest e c todo stage held give is) early =
     let unread = subst (λ (a : At). IsEarly a l.todo l.fail) stage early in
     subst (λ (y : Here). Step l y v) (sym is)
@@ -439,10 +439,10 @@ early_step t l v m (fails p rest e end todo stage held fail give is) early =
       ap (λ (y : Here). y.held) so ∙ held_is l end (λ p. []) p rest l.todo todo
           ∙ sym (ap tail_of held),
     ))
-early_step t l v m (errs p rest e f end todo stage held fail reads notes give is) early =
+early_step t l v m (errs p rest e f end todo stage held fail read notes give is) early =
     let unread = subst (λ (a : At). IsEarly a l.todo l.fail) stage early in
-    absurd (false≢true (sym (no_read p rest l.todo todo unread.1) ∙ reads))
-early_step t l v m (leaves p rest e end todo stage held fail no give is) early =
+    absurd (false≢true (sym (no_read p rest l.todo todo unread.1) ∙ read))
+early_step t l v m (leaves p rest e end todo stage held fail other give is) early =
     let so = is ∙ ap (failing_by l) fail in
     ended (record { part = p; end = end; got = [] })
     (ap (λ (y : Here). y.done) so ∙ over_is l end (λ p. []) p rest l.todo todo)
