@@ -87,7 +87,6 @@ IsRefusal (piece.AtLimit pages need limit) = ⊤
 IsRefusal piece.NoMemory = ⊤
 IsRefusal end = ⊥
 
-
 -- the refusal, as the machine says it
 abbrev pub ends_of : Option PieceEnd → Option PartEnd
 ends_of None = None

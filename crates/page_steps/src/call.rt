@@ -6,12 +6,17 @@ ghost use Rattle.page_steps.specs.declared.stage.Work.TheVariants as work;
 ghost use Rattle.page_steps.specs.Calls.{Frame, IsFit, IsGoing, IsWork, has_fetched, is_failing, is_fetching, is_skipped, started, counting};
 ghost use Rattle.page_steps.specs.Turns.{Allows, IsReady, Advanced, HasAdvanced, IsOnward};
 
-use crate::enter::{beyond, refuse_request, start};
 use crate::device::{away, backed, count, fail, fetch, release};
+use crate::enter::{beyond, refuse_request, start};
 use crate::leave::{leave, leave_plain, miss, refuse};
 use crate::objects::{ask, charge, made, want};
 use crate::pins::{pin, pinned, seen, unpin};
 use crate::settle::{free, old, owe, put, repay};
+use crate::stage::Stage::{
+    Away, Backed, Beyond, Both, Counting, Failing, Fetching, Freeing, Giving, Inside, Leaving,
+    Made, Missed, Old, Over, Owing, Pinned, Pinning, Plain, Ready, Refused, Refusing, Releasing,
+    Seen, Start, Unpinning, Wanting,
+};
 use crate::stage::{DiskHeld, Head, Progress, Scratch, Stage, Work};
 use backing_dev::Backing;
 use lock_row::Hand;
@@ -178,48 +183,36 @@ fn step<D: Backing, H: Hand<Value = DiskHeld<D>>>(
         result.0 hand.new result.1 }
 {
     match at {
-        Stage::Start => start(head, hand, scratch),
-        Stage::Beyond => beyond(head, hand, scratch),
-        Stage::Refusing(account) => refuse_request(head, account, hand, scratch),
-        Stage::Seen(entry, object) => seen(head, entry, object, hand, scratch),
-        Stage::Pinning(entry, object, pool) => pin(head, entry, object, pool, hand, scratch),
-        Stage::Pinned(entry, lent, end) => pinned(head, entry, lent, end, hand, scratch),
-        Stage::Unpinning(entry, lent, end, pool) => unpin(
-            head, entry, lent, end, pool, hand, scratch,
-        ),
-        Stage::Away(entry, block) => away(head, entry, block, hand, scratch),
-        Stage::Fetching(entry, block, device) => fetch(
-            head, entry, block, device, hand, scratch,
-        ),
-        Stage::Failing(entry, fault) => fail(head, entry, fault, hand, scratch),
-        Stage::Counting(entry, fault, account) => count(
-            head, entry, fault, account, hand, scratch,
-        ),
-        Stage::Missed(entry, fault) => miss(head, entry, fault, hand, scratch),
-        Stage::Plain(entry) => leave_plain(head, entry, hand, scratch),
-        Stage::Leaving(entry) => leave(head, entry, hand, scratch),
-        Stage::Refused(entry, read, end) => refuse(head, entry, read, end, hand, scratch),
-        Stage::Wanting(own, new) => want(head, own, new, hand, scratch),
-        Stage::Inside(own, new, pool) => ask(head, own, new, pool, hand, scratch),
-        Stage::Both(own, new, pool, account) => charge(
-            head, own, new, pool, account, hand, scratch,
-        ),
-        Stage::Made(own, class, pool, outcome) => made(
-            head, own, class, pool, outcome, hand, scratch,
-        ),
-        Stage::Old(own, object, next) => old(head, own, object, next, hand, scratch),
-        Stage::Freeing(own, object, next, pool) => free(
-            head, own, object, next, pool, hand, scratch,
-        ),
-        Stage::Backed(own, block, next) => backed(head, own, block, next, hand, scratch),
-        Stage::Releasing(own, block, next, blocks) => release(
+        Start => start(head, hand, scratch),
+        Beyond => beyond(head, hand, scratch),
+        Refusing(account) => refuse_request(head, account, hand, scratch),
+        Seen(entry, object) => seen(head, entry, object, hand, scratch),
+        Pinning(entry, object, pool) => pin(head, entry, object, pool, hand, scratch),
+        Pinned(entry, lent, end) => pinned(head, entry, lent, end, hand, scratch),
+        Unpinning(entry, lent, end, pool) => unpin(head, entry, lent, end, pool, hand, scratch),
+        Away(entry, block) => away(head, entry, block, hand, scratch),
+        Fetching(entry, block, device) => fetch(head, entry, block, device, hand, scratch),
+        Failing(entry, fault) => fail(head, entry, fault, hand, scratch),
+        Counting(entry, fault, account) => count(head, entry, fault, account, hand, scratch),
+        Missed(entry, fault) => miss(head, entry, fault, hand, scratch),
+        Plain(entry) => leave_plain(head, entry, hand, scratch),
+        Leaving(entry) => leave(head, entry, hand, scratch),
+        Refused(entry, read, end) => refuse(head, entry, read, end, hand, scratch),
+        Wanting(own, new) => want(head, own, new, hand, scratch),
+        Inside(own, new, pool) => ask(head, own, new, pool, hand, scratch),
+        Both(own, new, pool, account) => charge(head, own, new, pool, account, hand, scratch),
+        Made(own, class, pool, outcome) => made(head, own, class, pool, outcome, hand, scratch),
+        Old(own, object, next) => old(head, own, object, next, hand, scratch),
+        Freeing(own, object, next, pool) => free(head, own, object, next, pool, hand, scratch),
+        Backed(own, block, next) => backed(head, own, block, next, hand, scratch),
+        Releasing(own, block, next, blocks) => release(
             head, own, block, next, blocks, hand, scratch,
         ),
-        Stage::Owing(due, frames, ahead) => owe(head, due, frames, ahead, hand, scratch),
-        Stage::Giving(due, frames, ahead, account) => repay(
+        Owing(due, frames, ahead) => owe(head, due, frames, ahead, hand, scratch),
+        Giving(due, frames, ahead, account) => repay(
             head, due, frames, ahead, account, hand, scratch,
         ),
-        Stage::Ready(due, ahead, behind) => put(head, due, ahead, behind, hand, scratch),
-        Stage::Over => unreachable!(),
+        Ready(due, ahead, behind) => put(head, due, ahead, behind, hand, scratch),
+        Over => unreachable!(),
     }
 }

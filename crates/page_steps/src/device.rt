@@ -170,10 +170,7 @@ pub(crate) fn count<D: Backing, H: Hand<Value = DiskHeld<D>>>(
     ensures { HasAdvanced H.takes H.misses H.gives head scratch.now (stage.Counting entry fault
         account) hand.old scratch.now result.0 hand.new result.1 }
 {
-    hand.give::<Counts>(
-        LockNo::Account,
-        Held::Account(failed(head.work, account)),
-    );
+    hand.give::<Counts>(LockNo::Account, Held::Account(failed(head.work, account)));
     (Stage::Missed(entry, fault), Progress::Moved)
 }
 

@@ -79,7 +79,14 @@ pub(crate) fn free<D: Backing, H: Hand<Value = DiskHeld<D>>>(
     let mut owner = pool;
     let frames = drop_object(&mut owner, object, lent);
     let lock = LockNo::Class(object.class);
-    give_by::<D, H, Brand, u32, LockNo, LockNo>(hand, lock, Held::Class(owner), &frames, &lock, &lock);
+    give_by::<D, H, Brand, u32, LockNo, LockNo>(
+        hand,
+        lock,
+        Held::Class(owner),
+        &frames,
+        &lock,
+        &lock,
+    );
     let before = weight_in(entry.kept());
     let mut emptied = entry;
     emptied.put(Kept::Empty);

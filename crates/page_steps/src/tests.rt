@@ -132,7 +132,14 @@ fn take_device(
         panic!(rt; "its page isn't on the device")
     };
     assert!(rt; *block < device.blocks());
-    take(rt, alloc, call, scratch, LockNo::Device, Held::Device(device))
+    take(
+        rt,
+        alloc,
+        call,
+        scratch,
+        LockNo::Device,
+        Held::Device(device),
+    )
 }
 
 fn take_blocks(
@@ -151,7 +158,14 @@ fn take_blocks(
     let Stage::Backed(_, 0, _) = &call.stage else {
         panic!(rt; "it frees no block")
     };
-    take(rt, alloc, call, scratch, LockNo::Blocks, Held::Blocks(blocks))
+    take(
+        rt,
+        alloc,
+        call,
+        scratch,
+        LockNo::Blocks,
+        Held::Blocks(blocks),
+    )
 }
 
 // Takes the account: to count a failure, or to count that the page has no block any more.
@@ -307,7 +321,13 @@ fn a_read_fails_and_the_next_one_reads(rt: HostRuntime) -> Result<(), Fail> {
     assert_eq!(rt; entry.order(), [tag(0)].as_slice());
     assert_eq!(rt; account.io_stat().failed_reads, 1);
     let mut call = PageCall::read(piece(8), tag(1), 6);
-    take_slot(&rt, alloc, &mut call, &mut scratch, stored_entry(alloc, true)?)?;
+    take_slot(
+        &rt,
+        alloc,
+        &mut call,
+        &mut scratch,
+        stored_entry(alloc, true)?,
+    )?;
     take_device(&rt, alloc, &mut call, &mut scratch, device)?;
     let _device = give(&rt, alloc, &mut call, &mut scratch)?;
     let (end, _entry) = give(&rt, alloc, &mut call, &mut scratch)?;
@@ -336,8 +356,20 @@ fn a_discard_frees_the_block(rt: HostRuntime) -> Result<(), Fail> {
     let alloc = rt.alloc();
     let mut scratch = scratch();
     let mut call = PageCall::discard(piece(8), tag(0), 5);
-    take_slot(&rt, alloc, &mut call, &mut scratch, stored_entry(alloc, false)?)?;
-    take_blocks(&rt, alloc, &mut call, &mut scratch, stored_blocks(&rt, alloc)?)?;
+    take_slot(
+        &rt,
+        alloc,
+        &mut call,
+        &mut scratch,
+        stored_entry(alloc, false)?,
+    )?;
+    take_blocks(
+        &rt,
+        alloc,
+        &mut call,
+        &mut scratch,
+        stored_blocks(&rt, alloc)?,
+    )?;
     let (_, Held::Blocks(blocks)) = give(&rt, alloc, &mut call, &mut scratch)? else {
         panic!(&rt; "no blocks were given")
     };
