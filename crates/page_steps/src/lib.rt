@@ -12,8 +12,6 @@ mod objects;
 mod pins;
 mod settle;
 mod stage;
-#[cfg(test)]
-mod tests;
 mod values;
 
 pub use call::PageCall;
