@@ -61,10 +61,10 @@ module _ (size now : ℕ) (tag : Tag) (op : Op) (page : ℕ) (fresh : List ℕ) 
       })
 
 -- for the operation that is the nr-th
-pub begun_for : (size now : ℕ) (tag : Tag) (page : ℕ) (fresh : List ℕ) (ops : List Op) (nr : ℕ)
-    (op : Op) → slice_get ops nr ≡ Some op → (c d : Call) → d ≡ c
+pub begun_for : {D : Type 0} (size now : ℕ) (tag : Tag) (page : ℕ) (fresh : List ℕ) (ops : List Op) (nr : ℕ)
+    (op : Op) → slice_get ops nr ≡ Some op → (c d : Call D) → d ≡ c
     → IsBegun size now tag op page fresh d → (o : Op) → slice_get ops nr ≡ Some o
     → IsBegun size now tag o page fresh c
-begun_for size now tag page fresh ops nr op at c d is begins o named =
-    subst (λ (y : Op × Call). IsBegun size now tag y.0 page fresh y.1)
+begun_for {D} size now tag page fresh ops nr op at c d is begins o named =
+    subst (λ (y : Op × Call D). IsBegun size now tag y.0 page fresh y.1)
     (λ i. ((let q : op ≡ o = (let h : Some op ≡ Some o = sym at ∙ named in cc) in q) i, is i)) begins
