@@ -25,6 +25,8 @@ pub mod Freed
 pub mod News
 pub mod Sweeps
 pub mod Alone
+pub mod Faults
+pub mod Fetches
 pub mod Turns
 pub mod Starts
 pub mod Gets
