@@ -79,10 +79,10 @@ module _ {X : Type 0} {takes : X → LockNo → Next → DiskHeld → X → Type
       subst (λ (m : Here). Turned takes misses gives x.terms (page_here x r c.stage) h m g p)
       (after_page_is x (page_here x r c.stage) s d.stage p) (turns x does)
 
-  pub compact_turn : (c d : CompactCall)
+  pub compact_turn : (D : Type 0) (c d : CompactCall)
       → CompactAdvanced takes misses gives (IsCompactWork r.table) (λ x. compact_here x c.stage) h
       (λ x. compact_here x d.stage) g p
-      → Advanced takes misses gives (call.Compact c) r h (call.Compact d) s g p
-  compact_turn c d turns x does =
+      → Advanced takes misses gives {D = D} (call.Compact c) r h (call.Compact d) s g p
+  compact_turn D c d turns x does =
       subst (λ (m : Here). Turned takes misses gives x.terms (compact_here x c.stage) h m g p)
       (after_compact_is (compact_here x c.stage) (compact_here x d.stage) p) (turns x does)

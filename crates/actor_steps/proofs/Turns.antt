@@ -69,7 +69,7 @@ module _ {D : Type 0} (t : Terms) (ops : List Op) (v : Worker D) (c : Call D)
       → local d r (x done) ≡ here t.size ops (gone_on v r d) done
   here_is r (call.Page d) done = λ i. record (local (call.Page d) r (x done)) { todo = sym todo_is i }
   here_is r (call.Compact d) done =
-      λ i. record (local (call.Compact d) r (x done)) { todo = sym todo_is i }
+      λ i. record (local {D = D} (call.Compact d) r (x done)) { todo = sym todo_is i }
 
   work : (done : List Done) → Does c v.scratch (x done)
   work done = fit.call.work op rest done at

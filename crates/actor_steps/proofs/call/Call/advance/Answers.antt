@@ -33,5 +33,5 @@ returns-in-Compact-clause-turn g c =
     subst (λ (d : Call _). Advanced g.H.Hand.takes g.H.Hand.misses g.H.Hand.gives d r c.args.hand.now
     (call.Compact c.advance-in-Compact.new.self) r c.advance-in-Compact.new.hand
     c.advance-in-Compact.result) (sym c.in-Compact.is)
-    (compact_turn r r c.advance-in-Compact.result c.in-Compact.call c.advance-in-Compact.new.self
+    (compact_turn r r c.advance-in-Compact.result g.row.D.Denot c.in-Compact.call c.advance-in-Compact.new.self
     c.advance-in-Compact.ensures.turn)
