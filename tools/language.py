@@ -94,6 +94,7 @@ class Value(NamedTuple):
 VALUES = {
     "SIZE": Value(size, lambda pages: 1 <= pages <= 262_144, "1 to 262,144 pages"),
     "LIMIT": Value(size, lambda pages: pages <= 2 ** 28, "at most 2^28 pages"),
+    "BLOCKS": Value(number, lambda blocks: 1 <= blocks <= 65_536, "1 to 65,536 blocks"),
     "NUMBER": Value(number, lambda value: value == 0, "0"),
     "START": Value(number, lambda sector: sector < 2 ** 32, "a sector below 2^32"),
     "COUNT": Value(number, lambda count: 1 <= count <= 2_048, "1 to 2,048 sectors"),
@@ -108,9 +109,11 @@ VALUES = {
 FORMS = [form.split() for form in (
     "disksize SIZE",
     "mem_limit LIMIT",
+    "backing BLOCKS",
     "mem_used_max NUMBER",
     "mm_stat",
     "io_stat",
+    "bd_stat",
     "states",
     "classes",
     "actor",
@@ -124,7 +127,7 @@ FORMS = [form.split() for form in (
     "run",
 )]
 OPERATIONS = ("write", "read", "discard", "compact")
-REPORTS = ("mm_stat", "io_stat", "states", "classes")
+REPORTS = ("mm_stat", "io_stat", "bd_stat", "states", "classes")
 
 
 def words_of(line: str) -> list[str]:
@@ -230,6 +233,11 @@ class Limit(NamedTuple):
     frames: int
 
 
+class Backing(NamedTuple):
+    """An item of a job: so many blocks of the backing device are used."""
+    blocks: int
+
+
 class LowerMax(NamedTuple):
     """An item of a job: the greatest number of frames charged is from now on what is charged now."""
 
@@ -247,7 +255,7 @@ class Phase:
     schedule: list[Turns] = field(default_factory=list)
 
 
-Item = Union[Size, Limit, LowerMax, Report, Phase]
+Item = Union[Size, Limit, Backing, LowerMax, Report, Phase]
 AFTER_SCHEDULE = "after a `schedule` come only more of it and `run`"
 
 
@@ -292,9 +300,8 @@ class Reader:
         return Phase(self.line)
 
     def says_disksize(self, values: dict[str, list[Any]], words: list[str]) -> None:
-        """`disksize SIZE`: once, outside a phase."""
+        """`disksize SIZE`: any time outside a phase. A second one is answered when the job runs."""
         self.want(self.phase is None, "order", "`disksize` stands outside a phase")
-        self.want(not self.has_disk, "order", "the disk has a size already")
         self.has_disk = True
         self.items.append(Size(values["SIZE"][0]))
 
@@ -303,13 +310,18 @@ class Reader:
         self.want(self.phase is None, "order", "`mem_limit` stands outside a phase")
         self.items.append(Limit(values["LIMIT"][0]))
 
+    def says_backing(self, values: dict[str, list[Any]], words: list[str]) -> None:
+        """`backing BLOCKS`: any time outside a phase. One after the disk's size is answered when the job runs."""
+        self.want(self.phase is None, "order", "`backing` stands outside a phase")
+        self.items.append(Backing(values["BLOCKS"][0]))
+
     def says_mem_used_max(self, values: dict[str, list[Any]], words: list[str]) -> None:
         """`mem_used_max 0`: any time outside a phase, before and after the disk's size."""
         self.want(self.phase is None, "order", "`mem_used_max` stands outside a phase")
         self.items.append(LowerMax())
 
     def says_report(self, values: dict[str, list[Any]], words: list[str]) -> None:
-        """`mm_stat`, `io_stat`, `states`, `classes`: any time outside a phase."""
+        """`mm_stat`, `io_stat`, `bd_stat`, `states`, `classes`: any time outside a phase."""
         self.want(self.phase is None, "order", f"`{words[0]}` stands outside a phase")
         self.items.append(Report(words[0]))
 

@@ -22,12 +22,13 @@ import sys
 from dataclasses import dataclass, field
 from typing import Callable, Dict, Iterable, Iterator, NamedTuple, Optional, Tuple, Type, Union
 
-from language import (MOST_BYTES, SECTORS, WORDS, Fault, Item, Limit, LowerMax, Op, Phase, Report, Size, fill_sector,
-                      read_job)
+from language import (MOST_BYTES, SECTORS, WORDS, Backing, Fault, Item, Limit, LowerMax, Op, Phase, Report, Size,
+                      fill_sector, read_job)
 from memory import (LAST_CLASS, ZERO_PAGE, Account, Form, Kept, Page, Pool, Pooled, Same, Stored, chain_of, form_of, per,
                     size_of, stands_as)
 
 REFUSED, NO_JOB = 1, 3  # statuses
+DEVICE_BLOCKS = 4_096  # of the backing device
 
 
 # ---- 1. pieces of requests
@@ -582,6 +583,8 @@ def report_of(name: str, row: Row) -> Iterator[str]:
         yield numbers(name, account_at(row).mm_stat())
     elif name == "io_stat":
         yield numbers(name, account_at(row).io_stat())
+    elif name == "bd_stat":
+        yield numbers(name, [0, 0, 0])  # nothing is written back yet
     elif name == "states":
         for lock, entry in sorted(row.items()):
             if isinstance(entry, Entry) and entry.kept is not None:
@@ -599,6 +602,16 @@ def class_line(pool: Pool) -> str:
     return numbers(f"{cells} used {used} zspages {len(pool.zspages)} groups", pool.groups())
 
 
+def refusal_of(item: Union[Size, Backing], pages: int) -> Optional[str]:
+    """Why an attribute is refused on a disk of so many pages, if it is: the disk's size is set already, so that
+    neither another size nor a backing can be; or the device has fewer blocks."""
+    if pages:
+        return f"attr {'disksize' if isinstance(item, Size) else 'backing'} busy"
+    if isinstance(item, Backing) and item.blocks > DEVICE_BLOCKS:
+        return "attr backing range"
+    return None
+
+
 def is_compacted(end: str) -> bool:
     """Whether an end is a compaction's."""
     return end.startswith("compacted ")
@@ -611,11 +624,15 @@ def is_refusal(end: str) -> bool:
 
 def results_of(items: Iterable[Item], row: Row, pages: int = 0,
                kind: Type[Machine] = Machine) -> Iterator[Union[Machine, list[str]]]:
-    """What the items of a job come to on a disk: for a phase its machine, at its start; for a report its lines. The
-    caller runs a machine before asking for the next."""
+    """What the items of a job come to on a disk: for a phase its machine, at its start; for a report its lines, and
+    for an attribute that is refused the one that says so. The caller runs a machine before asking for the next."""
     for item in items:
-        if isinstance(item, Size):
-            pages = item.pages
+        if isinstance(item, (Size, Backing)):
+            refusal = refusal_of(item, pages)
+            if refusal is not None:
+                yield [refusal]
+            elif isinstance(item, Size):
+                pages = item.pages
         elif isinstance(item, Limit):
             row[ACCOUNT] = account_at(row)._replace(limit=item.frames)
         elif isinstance(item, LowerMax):
@@ -645,6 +662,8 @@ def outcome(text: bytes) -> tuple[int, str]:
             if any(is_refusal(end) for local in result.locals for end in local.ends):
                 status = REFUSED
             result = list(lines_of(result))
+        elif any(line.startswith("attr ") for line in result):
+            status = REFUSED
         lines += result
     return status, "".join(line + "\n" for line in lines)
 

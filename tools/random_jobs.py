@@ -12,7 +12,9 @@ from typing import Callable
 EDGES = (0, 1, 7, 8, 9, 15, 16)
 COUNTS = (1, 1, 2, 3, 4, 7, 8, 8, 8, 9, 16, 16, 24)
 LIMITS = ("0", "1", "4K", "4k", "8K", "8K", "12K", "16K", "20K", "24K", "1M", "1G", "1099511627776", "0G")
-REPORTS = ("mm_stat", "io_stat", "states", "classes")
+REPORTS = ("mm_stat", "io_stat", "bd_stat", "states", "classes")
+# Blocks of the backing device that are used: up to those that it has, or more.
+BLOCKS = ("1", "2", "7", "16", "0016", "100", "4095", "4096", "4096", "4096", "4097", "65536")
 # What writes put so that pages are huge or packed in many sizes, beside the words and steps below.
 KEPT = (
     "seq 0 9e3779b97f4a7c15", "seq 0 9e3779b97f4a7c15", "seq f4240 1", "seq f4240 1000000", "seq f4240 100",
@@ -29,7 +31,7 @@ STRANGE = (
     "", "x", "-1", "+1", "1.5", "0x1", "0", "00", "007", "2048", "2049", "4294967295", "4294967296",
     "18446744073709551616", "123456789012345678901234567890", "1K", "1k", "K", "4M", "1G", "1T", "262145", "0*1", "1*0",
     "*", "0*", "*1", "0*1*1", "0*16777217", "0*16777216", "63", "64", "99999999999999999", "00000000000000001", "fill",
-    "seq", "hex", "mem_limit", "mem_used_max", "mm_stat", "classes", "1048576M", "1048577M", "FILL", "read", "write", "discard", "compact", "run", "RUN", "actor", "disksize", "schedule", "idle", "all",
+    "seq", "hex", "mem_limit", "backing", "mem_used_max", "mm_stat", "bd_stat", "classes", "4096", "65536", "65537", "1048576M", "1048577M", "FILL", "read", "write", "discard", "compact", "run", "RUN", "actor", "disksize", "schedule", "idle", "all",
     "\x0b", "\x0c", "\xa0", "\r", "\0", "\xff", "#", "run#", "a" * 60,
 )
 # Whole lines that are wrong in most places.
@@ -37,6 +39,8 @@ STRANGE_LINES = (
     "run", "actor", "disksize 8K", "disksize 0", "disksize 1G1", "schedule 0", "schedule 3", "schedule", "read 0 1",
     "write 0 1 fill 1", "write 0 1 hex 00", "write 4294967296 1 hex 00", "write 0 2049 hex 00", "discard 0 8", "idle 5",
     "mem_limit 4K", "mem_limit", "mem_limit 1T", "mem_limit 1048577M", "mem_limit 18446744073709551616", "mm_stat",
+    "backing 1", "backing 4097", "backing 0", "backing 65537", "backing 18446744073709551616", "backing 1K", "backing",
+    "backing 1 1", "bd_stat", "bd_stat 0",
     "mem_used_max 0", "mem_used_max 00", "mem_used_max 1", "mem_used_max 0K", "mem_used_max",
     "io_stat", "states", "classes", "mm_stat 1", "io_stat mm_stat", "classes all", "compact", "compact 0", "writeback idle", "read 4294967295 2048", "read 0 0", "write 0 1 seq 1", "write 0 1 fill 1 2", "run run",
 )
@@ -172,10 +176,20 @@ class Maker:
         return ["actor", "write 0 5 seq 0 9e3779b97f4a7c15"] + last + ["run"]
 
     def between(self) -> list[str]:
-        """What stands between phases: limits, mostly small ones, lowered maxima, and reports."""
+        """What stands between phases, and before the disk: limits, mostly small ones, lowered maxima, and reports."""
         lines = [f"mem_limit {self.chance.choice(LIMITS)}"] if self.one_in(3) else []
         lines += ["mem_used_max 0", "mm_stat"] if self.one_in(6) else []
         return lines + [self.chance.choice(REPORTS) for _ in range(self.chance.randrange(4) if self.one_in(2) else 0)]
+
+    def first(self, pages: int) -> list[str]:
+        """A disk of so many pages, and before it mostly some blocks of the backing device, or several times."""
+        times = self.chance.choice((0, 1, 1, 1, 2, 3))
+        return [f"backing {self.chance.choice(BLOCKS)}" for _ in range(times)] + [self.disk(pages)]
+
+    def later(self) -> list[str]:
+        """What stands between phases; once in a while a second size of the disk, or a backing after it."""
+        late = f"disksize {4 * self.pages()}K" if self.one_in(2) else f"backing {self.chance.choice(BLOCKS)}"
+        return [late] * self.one_in(16) + self.between()
 
     def read_back(self) -> list[str]:
         """A phase that reads the whole of a small disk."""
@@ -185,17 +199,17 @@ class Maker:
         """The lines of a job."""
         if self.one_in(3):
             return self.compacted()
-        lines = self.between() + [self.disk(self.pages())]
+        lines = self.between() + self.first(self.pages())
         for _ in range(self.chance.randrange(1, 4)):
-            lines += self.between() + (self.threshold() if self.one_in(12) else self.phase())
+            lines += self.later() + (self.threshold() if self.one_in(12) else self.phase())
         lines += self.read_back() if not self.one_in(3) else []
         return lines + (list(REPORTS) if not self.one_in(3) else [])
 
     def compacted(self) -> list[str]:
         """The lines of a job with compactions of pages that lie scattered, and with reports."""
-        lines = [self.disk(self.chance.randrange(6, 25))] + self.scattered() + self.between()
+        lines = self.first(self.chance.randrange(6, 25)) + self.scattered() + self.later()
         for _ in range(self.chance.randrange(2, 5)):
-            lines += (self.scattered() if self.one_in(2) else []) + self.compacting() + self.between()
+            lines += (self.scattered() if self.one_in(2) else []) + self.compacting() + self.later()
         return lines + self.read_back() + list(REPORTS)
 
     def dressed(self, line: str) -> str:

@@ -1,5 +1,5 @@
 -- The spelling of a job is read as that job, and what is read as a job is its spelling.
-use Rattle.std.proofs.Common.{◌≡◌, ℕ, suc, ◌+◌, ◌<◌, ◌≤◌, true, false, not, ◌&&◌, nat_lt, nat_le, cond, List, [], ◌∷◌, ◌++◌, length, map, Some, None, option_map, refl, sym, ap, ◌∙◌, subst, append_assoc, arith}
+use Rattle.std.proofs.Common.{◌≡◌, ℕ, suc, ◌+◌, ◌<◌, ◌≤◌, true, false, not, ◌&&◌, nat_lt, nat_le, List, [], ◌∷◌, ◌++◌, length, map, Some, None, option_map, refl, sym, ap, ◌∙◌, subst, append_assoc, arith}
 use Rattle.std.specs.List.{flat_map, list_all}
 use Rattle.std.proofs.lemmas.List.{append-nil, length_push}
 use Rattle.std.proofs.lemmas.Bool.{and_from, cond-true, leb-true, le-leb, lt-ltb}
@@ -146,10 +146,8 @@ pub spelled_read : (u : Used) (job : List Item) → u.turns ≤ MOST_TURNS → M
     → items_from u None (flat_map item_sayings job) ≡ Some job
 spelled_read u [] fits may = refl
 spelled_read u (items.Attr attr ∷ more) fits may =
-    ap (λ b. cond b None (option_map (λ later. items.Attr attr ∷ later)
-    (items_from (with_attr u attr) None (flat_map item_sayings more)))) may.0
-    ∙ ap (option_map (λ later. items.Attr attr ∷ later))
-    (spelled_read (with_attr u attr) more fits may.2)
+    ap (option_map (λ later. items.Attr attr ∷ later))
+    (spelled_read (with_attr u attr) more fits may.1)
 spelled_read u (items.Report report ∷ more) fits may =
     ap (option_map (λ later. items.Report report ∷ later)) (spelled_read u more fits may)
 spelled_read u (items.Phase text ∷ more) fits may =

@@ -16,7 +16,7 @@ use Rattle.job_text.specs.declared.line.Line.TheVariants.{Blank, Attribute, Tell
 use Rattle.job_text.specs.declared.begun.Begun.{Begun}
 use Rattle.job_text.specs.declared.reading.Reading.{Reading}
 use Rattle.job_text.specs.Lines.{Form, words_of, form_of, is_malformed, meaning, is_out_of_range, line_with, line_of}
-use Rattle.job_text.specs.Jobs.{Saying, says_turns, said_by, said_before, sayings, Used, is_second_size, with_attr, with_phase, turns_in, with_turns, has_phase_left, has_left_for, has_turns_left}
+use Rattle.job_text.specs.Jobs.{Saying, says_turns, said_by, said_before, sayings, Used, with_phase, turns_in, with_turns, has_phase_left, has_left_for, has_turns_left}
 use Rattle.job_text.specs.Faults.{Phase, said_in, cause_in, cause_of, used_with, phase_with, fault_at, first_fault_from}
 use Rattle.job_text.specs.Answers.{IsInRange}
 use Rattle.job_text.specs.Reading.{used_by, is_scheduled, phase_at, phase_of, all_actors, text_of, with_schedule, place_cause, begun_with, items_by, IsNext, items_from, items_with, items_after, fault_after}
@@ -36,10 +36,6 @@ module _ (x : Option (List Item)) where
       by : (x : Option (List Item)) → x ≡ option_map (λ later. later) x
       by None = refl
       by (Some later) = refl
-
-  placed : (at : Bool) → cond at None x ≡ unless (cond at (Some causes.Order) None) x
-  placed true = refl
-  placed false = refl
 
   limited : (left : Bool) → cond left x None ≡ unless (cond (not left) (Some causes.TooMany) None) x
   limited true = refl
@@ -140,9 +136,7 @@ pub line_step : (u : Used) (begun : Option Begun) (first : ℕ) (line : Line) (r
     (items_from (used_with u (phase_at first begun) line) (begun_with begun line) rest))
 line_step u None first Blank rest is fits = same (items_from u None rest)
 line_step u (Some begun) first Blank rest is fits = same (items_from u (Some begun) rest)
-line_step u None first (Attribute attr) rest is fits =
-    placed (option_map (λ later. items.Attr attr ∷ later)
-    (items_from (with_attr u attr) None rest)) (is_second_size u attr)
+line_step u None first (Attribute attr) rest is fits = refl
 line_step u (Some begun) first (Attribute attr) rest is fits = refl
 line_step u None first (Tell report) rest is fits = refl
 line_step u (Some begun) first (Tell report) rest is fits = refl

@@ -138,7 +138,7 @@ items_fit u [] may is = is
 items_fit u (items.Attr attr ∷ more) may is =
     with_first u (with_attr u attr) (items.Attr attr) more
     (omega arith) (omega arith) (omega arith) (omega arith) (omega arith)
-    (items_fit (with_attr u attr) more may.2 (record {
+    (items_fit (with_attr u attr) more may.1 (record {
       phases_fit = is.phases_fit;
       operations_fit = is.operations_fit;
       pieces_fit = is.pieces_fit;

@@ -12,7 +12,7 @@ use Rattle.job_text.specs.declared.limits.TheConstants.{MOST_TURNS}
 use Rattle.job_text.specs.declared.job.Item.{Item}
 use Rattle.job_text.specs.declared.job.Item.TheVariants as items
 use Rattle.job_text.specs.declared.begun.Begun.{Begun}
-use Rattle.job_text.specs.Jobs.{Saying, says_attr, says_report, says_actor, says_operation, says_turns, says_run, actor_sayings, item_sayings, Used, is_second_size, with_attr, with_phase, with_op, with_ops, with_actors, turns_in, with_turns, with_text, has_phase_left, has_left_for, has_turns_left, MayOperate, MayAct, MaySet, MayTurn, HasDisk, MayRun, MayFollow}
+use Rattle.job_text.specs.Jobs.{Saying, says_attr, says_report, says_actor, says_operation, says_turns, says_run, actor_sayings, item_sayings, Used, with_attr, with_phase, with_op, with_ops, with_actors, turns_in, with_turns, with_text, has_phase_left, has_left_for, has_turns_left, MayOperate, MayAct, MaySet, MayTurn, HasDisk, MayRun, MayFollow}
 use Rattle.job_text.specs.Reading.{is_scheduled, all_actors, text_of, fresh, with_actor, with_operation, with_schedule, items_from}
 
 -- a saying's values are in their range
@@ -277,14 +277,13 @@ unspelled before u None [] job at are e =
     subst P none (refl, tt)
 unspelled before u (Some begun) [] job at are e = cc
 unspelled before u None (says_attr attr ∷ said) job at are e =
-    let free = free_of (is_second_size u attr) _ job e in
     let v = with_attr u attr in
-    let more = mapped (λ later. items.Attr attr ∷ later) (items_from v None said) job free.1 in
+    let more = mapped (λ later. items.Attr attr ∷ later) (items_from v None said) job e in
     let rest = unspelled v v None said more.0 (refl, at.1) are.1 more.1 in
     let P : List Item → Type 0 = λ j. Spelled u None (says_attr attr ∷ said) j in
     let Q : Used → Type 0 = λ b. Spelled b None (says_attr attr ∷ said) job in
     subst Q at.0 (subst P more.2
-    (ap (λ (xs : List Saying). says_attr attr ∷ xs) rest.0, (free.0, are.0, rest.1)))
+    (ap (λ (xs : List Saying). says_attr attr ∷ xs) rest.0, (are.0, rest.1)))
 unspelled before u (Some begun) (says_attr attr ∷ said) job at are e = cc
 unspelled before u None (says_report report ∷ said) job at are e =
     let more = mapped (λ later. items.Report report ∷ later) (items_from u None said) job e in

@@ -9,7 +9,7 @@ use Rattle.job_text.specs.declared.fault.JobFault.{JobFault}
 use Rattle.job_text.specs.declared.line.Line.{Line}
 use Rattle.job_text.specs.declared.line.Line.TheVariants.{Blank, Attribute, Tell, Actor, Operation, Schedule, Run}
 use Rattle.job_text.specs.Lines.{Form, words_of, form_of, is_malformed, meaning, is_out_of_range}
-use Rattle.job_text.specs.Jobs.{Used, nothing_used, is_second_size, with_attr, with_phase, with_op, with_turns, has_phase_left, has_left_for, has_turns_left, text_lines}
+use Rattle.job_text.specs.Jobs.{Used, nothing_used, with_attr, with_phase, with_op, with_turns, has_phase_left, has_left_for, has_turns_left, text_lines}
 
 -- A phase that has begun: the line of its first `actor`, its actors so far, and whether it has a
 -- `schedule` already.
@@ -32,21 +32,21 @@ names_no_actor (Some phase) (Schedule turns) =
     not (list_all (λ t. nat_lt t.actor phase.actors) turns)
 names_no_actor phase Run = false
 
--- Attributes and reports stand outside a phase, and the disk's size is given once. Operations and
--- turns belong to a phase that has begun, and after a `schedule` come only more of it and the `run`.
-abbrev pub is_misplaced : Used → Option Phase → Line → Bool
-is_misplaced u phase Blank = false
-is_misplaced u None (Attribute attr) = is_second_size u attr
-is_misplaced u (Some phase) (Attribute attr) = true
-is_misplaced u None (Tell report) = false
-is_misplaced u (Some phase) (Tell report) = true
-is_misplaced u None Actor = false
-is_misplaced u (Some phase) Actor = phase.scheduled
-is_misplaced u None (Operation op) = true
-is_misplaced u (Some phase) (Operation op) = phase.scheduled
-is_misplaced u None (Schedule turns) = true
-is_misplaced u (Some phase) (Schedule turns) = false
-is_misplaced u phase Run = false
+-- Attributes and reports stand outside a phase. Operations and turns belong to a phase that has
+-- begun, and after a `schedule` come only more of it and the `run`.
+abbrev pub is_misplaced : Option Phase → Line → Bool
+is_misplaced phase Blank = false
+is_misplaced None (Attribute attr) = false
+is_misplaced (Some phase) (Attribute attr) = true
+is_misplaced None (Tell report) = false
+is_misplaced (Some phase) (Tell report) = true
+is_misplaced None Actor = false
+is_misplaced (Some phase) Actor = phase.scheduled
+is_misplaced None (Operation op) = true
+is_misplaced (Some phase) (Operation op) = phase.scheduled
+is_misplaced None (Schedule turns) = true
+is_misplaced (Some phase) (Schedule turns) = false
+is_misplaced phase Run = false
 
 -- an actor begins before the disk has a size
 abbrev pub lacks_disk : Used → Line → Bool
@@ -85,7 +85,7 @@ cause_in u phase (Some form) =
     if is_malformed form then Some causes.Number
     else if is_out_of_range form || names_no_actor phase (meaning form)
     then Some causes.Range
-    else if is_misplaced u phase (meaning form) then Some causes.Order
+    else if is_misplaced phase (meaning form) then Some causes.Order
     else if lacks_disk u (meaning form) then Some causes.NoDisk
     else if passes_limit u phase (meaning form) then Some causes.TooMany
     else None

@@ -7,10 +7,10 @@ use Rattle.zr_base.specs.declared.op.Op.{Op}
 use Rattle.zr_base.specs.declared.op.Op.TheVariants.{Write, Read, Discard, Compact}
 use Rattle.zr_base.specs.declared.op.Turns.{Turns}
 use Rattle.zr_base.specs.declared.limits.TheConstants.{MOST_PAGES, MOST_ACTORS, MOST_OPERATIONS}
-use Rattle.job_text.specs.declared.limits.TheConstants.{MOST_BYTES, MOST_LIMIT_PAGES, MOST_PHASES, MOST_PIECES, MOST_SECTORS_READ, MOST_TURNS}
+use Rattle.job_text.specs.declared.limits.TheConstants.{MOST_BLOCKS, MOST_BYTES, MOST_LIMIT_PAGES, MOST_PHASES, MOST_PIECES, MOST_SECTORS_READ, MOST_TURNS}
 use Rattle.job_text.specs.declared.fault.Cause.{Cause}
 use Rattle.job_text.specs.declared.job.Attr.{Attr}
-use Rattle.job_text.specs.declared.job.Attr.TheVariants.{DiskPages, LimitPages, LowerMax}
+use Rattle.job_text.specs.declared.job.Attr.TheVariants.{DiskPages, LimitPages, Backing, LowerMax}
 use Rattle.job_text.specs.declared.job.Report.{Report}
 use Rattle.job_text.specs.declared.job.Item.{Item}
 use Rattle.job_text.specs.declared.job.Item.TheVariants as items
@@ -104,6 +104,7 @@ turns_in (turns ∷ more) = turns.times + turns_in more
 abbrev pub is_disk_size : Attr → Bool
 is_disk_size (DiskPages pages) = true
 is_disk_size (LimitPages pages) = false
+is_disk_size (Backing blocks) = false
 is_disk_size LowerMax = false
 
 -- after an attribute
@@ -153,14 +154,12 @@ has_turns_left u turns = nat_le (u.turns + turns_in turns) MOST_TURNS
 
 -- ---- the order of items
 
--- the disk's size is given a second time
-abbrev pub is_second_size : Used → Attr → Bool
-is_second_size u attr = is_disk_size attr && u.disk
-
--- an attribute in its range: a disk of one page at least, any limit on memory, and neither too great
+-- an attribute in its range: a disk of one page at least, any limit on memory, one block at least of
+-- a backing device, and none too great
 abbrev pub MaySet : Attr → Type 0
 MaySet (DiskPages pages) = (1 ≤ pages) × (pages ≤ MOST_PAGES)
 MaySet (LimitPages pages) = pages ≤ MOST_LIMIT_PAGES
+MaySet (Backing blocks) = (1 ≤ blocks) × (blocks ≤ MOST_BLOCKS)
 MaySet LowerMax = ⊤
 
 -- operations after those that were counted
@@ -197,12 +196,10 @@ pub record MayRun (u : Used) (actors : List (List Op)) (schedule : List Turns) :
   pub may_turn : MayTurn (length actors) schedule
   pub turns_left : has_turns_left (with_actors (with_phase u) actors) schedule ≡ true
 
--- the items of a job after others: attributes in their range with at most one disk's size, reports,
--- and phases within the limits
+-- the items of a job after others: attributes in their range, reports, and phases within the limits
 abbrev pub MayFollow : Used → List Item → Type 0
 MayFollow u [] = ⊤
-MayFollow u (items.Attr attr ∷ more) =
-    (is_second_size u attr ≡ false) × MaySet attr × MayFollow (with_attr u attr) more
+MayFollow u (items.Attr attr ∷ more) = MaySet attr × MayFollow (with_attr u attr) more
 MayFollow u (items.Report report ∷ more) = MayFollow u more
 MayFollow u (items.Phase text ∷ more) =
     MayRun u text.actors text.schedule × MayFollow (with_text u text.actors text.schedule) more

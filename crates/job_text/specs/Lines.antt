@@ -7,11 +7,11 @@ use Rattle.zr_base.specs.declared.op.Op.TheVariants.{Write, Read, Discard, Compa
 use Rattle.zr_base.specs.declared.op.Stuff.TheVariants.{Fill, Seq, Hex}
 use Rattle.zr_base.specs.declared.op.Turns.{Turns}
 use Rattle.zr_base.specs.declared.limits.TheConstants.{MOST_PAGES, MOST_SECTORS, MOST_ACTORS}
-use Rattle.job_text.specs.declared.limits.TheConstants.{MOST_LIMIT_PAGES, MOST_TURNS}
+use Rattle.job_text.specs.declared.limits.TheConstants.{MOST_BLOCKS, MOST_LIMIT_PAGES, MOST_TURNS}
 use Rattle.job_text.specs.declared.job.Attr.{Attr}
-use Rattle.job_text.specs.declared.job.Attr.TheVariants.{DiskPages, LimitPages, LowerMax}
+use Rattle.job_text.specs.declared.job.Attr.TheVariants.{DiskPages, LimitPages, Backing, LowerMax}
 use Rattle.job_text.specs.declared.job.Report.{Report}
-use Rattle.job_text.specs.declared.job.Report.TheVariants.{MmStat, IoStat, States, Classes}
+use Rattle.job_text.specs.declared.job.Report.TheVariants.{MmStat, IoStat, BdStat, States, Classes}
 use Rattle.job_text.specs.declared.line.Line.{Line}
 use Rattle.job_text.specs.declared.line.Line.TheVariants.{Blank, Attribute, Tell, Actor, Operation, Schedule, Run}
 use Rattle.job_text.specs.declared.fault.Cause.{Cause}
@@ -46,6 +46,7 @@ pub data Form : Type 0 where
   blank_form : Form
   disk_form : (size : List ℕ) → Form
   limit_form : (size : List ℕ) → Form
+  backing_form : (number : List ℕ) → Form
   max_form : (number : List ℕ) → Form
   report_form : Report → Form
   actor_form : Form
@@ -73,6 +74,7 @@ abbrev pub report_named : List ℕ → Option Report
 report_named name =
     if bytes_eq name (codes "mm_stat") then Some MmStat
     else if bytes_eq name (codes "io_stat") then Some IoStat
+    else if bytes_eq name (codes "bd_stat") then Some BdStat
     else if bytes_eq name (codes "states") then Some States
     else if bytes_eq name (codes "classes") then Some Classes
     else None
@@ -130,6 +132,7 @@ unfoldable pub named_in : List ℕ → List (List ℕ) → Option Form
 named_in name words =
     if bytes_eq name (codes "disksize") then with_word disk_form words
     else if bytes_eq name (codes "mem_limit") then with_word limit_form words
+    else if bytes_eq name (codes "backing") then with_word backing_form words
     else if bytes_eq name (codes "mem_used_max") then with_word max_form words
     else if bytes_eq name (codes "actor") then alone actor_form words
     else if bytes_eq name (codes "write") then write_in words
@@ -158,6 +161,7 @@ unfoldable pub is_malformed : Form → Bool
 is_malformed blank_form = false
 is_malformed (disk_form size) = not (is_size size)
 is_malformed (limit_form size) = not (is_size size)
+is_malformed (backing_form number) = not (is_number number)
 is_malformed (max_form number) = not (is_number number)
 is_malformed (report_form report) = false
 is_malformed actor_form = false
@@ -178,6 +182,7 @@ unfoldable pub meaning : Form → Line
 meaning blank_form = Blank
 meaning (disk_form size) = Attribute (DiskPages (size_pages size))
 meaning (limit_form size) = Attribute (LimitPages (size_pages size))
+meaning (backing_form number) = Attribute (Backing (number_of number))
 meaning (max_form number) = Attribute LowerMax
 meaning (report_form report) = Tell report
 meaning actor_form = Actor
@@ -194,10 +199,12 @@ meaning (schedule_form turns) = Schedule (map turn_of turns)
 meaning run_form = Run
 
 -- a disk's size of one page at least and of no more than the most, a limit on memory up to the
--- greatest, or a maximum that is lowered
+-- greatest, one block at least of a backing device and no more than the most, or a maximum that is
+-- lowered
 abbrev pub may_set : Attr → Bool
 may_set (DiskPages pages) = nat_le 1 pages && nat_le pages MOST_PAGES
 may_set (LimitPages pages) = nat_le pages MOST_LIMIT_PAGES
+may_set (Backing blocks) = nat_le 1 blocks && nat_le blocks MOST_BLOCKS
 may_set LowerMax = true
 
 -- a request's sectors begin below 2 ^ 32, and are 1 to the most that a request has

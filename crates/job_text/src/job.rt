@@ -12,6 +12,8 @@ pub enum Attr {
     DiskPages(u32),
     /// How many pages of 4096 bytes of memory the disk may take, up to 2^28; 0 for no limit.
     LimitPages(u64),
+    /// How many blocks of 4096 bytes of the backing device are used, 1 to 65,536.
+    Backing(u32),
     /// The greatest memory that the disk took so far is from now on what it takes now.
     LowerMax,
 }
@@ -24,6 +26,8 @@ pub enum Report {
     MmStat,
     /// How many requests and pieces failed, and how many pages were discarded.
     IoStat,
+    /// How many pages are on the backing device, and how many were read from it and written to it.
+    BdStat,
     /// How each page that isn't empty is kept.
     States,
     /// The pool of each size class that has a zspage.

@@ -7,6 +7,9 @@ pub const MOST_BYTES: usize = 16_777_216;
 /// The greatest limit on memory, in pages of 4096 bytes: 1 TiB.
 pub const MOST_LIMIT_PAGES: u64 = 268_435_456;
 
+/// The most blocks of a backing device that a job uses; a block has 4096 bytes.
+pub const MOST_BLOCKS: u32 = 65_536;
+
 /// The most phases of a job.
 pub const MOST_PHASES: u32 = 1000;
 

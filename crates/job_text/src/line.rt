@@ -2,14 +2,14 @@
 
 ghost use Rattle.std.specs.Prelude.{◌≡◌, ℕ, List, map, IfOk, if◌then◌else◌};
 ghost use Rattle.job_text.specs.Lines.{without_return, before_comment, words_of, line_by, line_with, line_of, report_named, are_bounds, fill_sectors};
-ghost use Rattle.job_text.specs.Lines.{Form, disk_form, limit_form, max_form, report_form, actor_form, fill_form, seq_form, hex_form, read_form, discard_form, compact_form, schedule_form, run_form};
+ghost use Rattle.job_text.specs.Lines.{Form, disk_form, limit_form, backing_form, max_form, report_form, actor_form, fill_form, seq_form, hex_form, read_form, discard_form, compact_form, schedule_form, run_form};
 ghost use Rattle.job_text.specs.Lines.{alone, with_word, report_in, read_in, discard_in, fill_in, seq_in, hex_in, stuff_in, write_in, schedule_in, named_in};
 ghost use Rattle.job_text.specs.Answers.{Answers, IsInRange, hash_in};
 
 use crate::fault::{Cause, NotTaken};
 use crate::job::{Attr, Report, TurnList};
 use crate::joined::{are_hex, bytes, joined};
-use crate::limits::MOST_LIMIT_PAGES;
+use crate::limits::{MOST_BLOCKS, MOST_LIMIT_PAGES};
 use crate::number::{number, pages, word64};
 use crate::turns::{are_turns, turns};
 use std::alloc::{AllocError, Global};
@@ -103,6 +103,18 @@ fn memory_limit(size: &[u8]) -> Result<Line, Cause>
     let pages = pages(size)?;
     if pages <= MOST_LIMIT_PAGES {
         Ok(Line::Attribute(Attr::LimitPages(pages)))
+    } else {
+        Err(Cause::Range)
+    }
+}
+
+#[tactic(auto, unfolding(crate::specs::Lines::is_malformed, crate::specs::Lines::meaning))]
+fn backing(word: &[u8]) -> Result<Line, Cause>
+    ensures { result ≡ line_by (backing_form word.now) }
+{
+    let blocks = number(word)?;
+    if 1 <= blocks && blocks <= MOST_BLOCKS as u64 {
+        Ok(Line::Attribute(Attr::Backing(blocks as u32)))
     } else {
         Err(Cause::Range)
     }
@@ -249,6 +261,16 @@ fn limit_line(words: &[&[u8]]) -> Result<Line, NotTaken>
     }
 }
 
+fn backing_line(words: &[&[u8]]) -> Result<Line, NotTaken>
+    ensures { Answers (line_with (with_word backing_form (map (λ word. word.now) words.now)))
+        result }
+{
+    match words {
+        [word] => Ok(backing(word)?),
+        _ => Err(NotTaken::Faulty(Cause::Word)),
+    }
+}
+
 fn max_line(words: &[&[u8]]) -> Result<Line, NotTaken>
     ensures { Answers (line_with (with_word max_form (map (λ word. word.now) words.now))) result }
 {
@@ -265,6 +287,8 @@ fn report(name: &[u8]) -> Option<Report>
         Some(Report::MmStat)
     } else if name == b"io_stat".as_slice() {
         Some(Report::IoStat)
+    } else if name == b"bd_stat".as_slice() {
+        Some(Report::BdStat)
     } else if name == b"states".as_slice() {
         Some(Report::States)
     } else if name == b"classes".as_slice() {
@@ -380,6 +404,8 @@ fn named_line(alloc: Global, name: &[u8], words: &[&[u8]]) -> Result<Line, NotTa
         disk_line(words)
     } else if name == b"mem_limit".as_slice() {
         limit_line(words)
+    } else if name == b"backing".as_slice() {
+        backing_line(words)
     } else if name == b"mem_used_max".as_slice() {
         max_line(words)
     } else if name == b"actor".as_slice() {

@@ -38,7 +38,7 @@ fn is_disk_size(attr: Attr) -> bool
 {
     match attr {
         Attr::DiskPages(_) => true,
-        Attr::LimitPages(_) | Attr::LowerMax => false,
+        Attr::LimitPages(_) | Attr::Backing(_) | Attr::LowerMax => false,
     }
 }
 
@@ -59,7 +59,7 @@ impl Reading {
     ghost use Rattle.job_text.specs.Jobs.{MayTurn, nothing_used};
     ghost use Rattle.job_text.specs.Faults.{used_with, phase_with};
     ghost use Rattle.job_text.specs.Answers.{IsInRange};
-    ghost use Rattle.job_text.specs.Reading.{used_by, phase_of, phase_at, is_scheduled_in, place_cause, IsNotTaken, IsRefusedAt, IsNext, fault_after, begun_with, items_by};
+    ghost use Rattle.job_text.specs.Reading.{used_by, phase_of, phase_at, is_scheduled_in, outside_of, place_cause, IsNotTaken, IsRefusedAt, IsNext, fault_after, begun_with, items_by};
 
     pub(crate) fn new(alloc: Global) -> Reading
         ensures used { used_by result ≡ nothing_used }
@@ -88,16 +88,23 @@ impl Reading {
         }
     }
 
+    // Attributes and reports stand outside a phase.
+    fn outside(&self) -> Result<(), Cause>
+        ensures { result ≡ outside_of self.now.begun }
+    {
+        match &self.begun {
+            Some(_) => Err(Cause::Order),
+            None => Ok(()),
+        }
+    }
+
     fn attribute(&mut self, attr: Attr) -> Result<(), NotTaken>
         ensures fault { IfErr result (IsRefusedAt self.old (said.Attribute attr)) }
         ensures taken { OnOk result (IsNext self.old 0 (said.Attribute attr) self.new) }
     {
-        let is_size = is_disk_size(attr);
-        if self.begun.is_some() || (is_size && self.has_disk) {
-            return Err(NotTaken::Faulty(Cause::Order));
-        }
+        self.outside()?;
         push(&mut self.items, Item::Attr(attr))?;
-        self.has_disk = is_size || self.has_disk;
+        self.has_disk = is_disk_size(attr) || self.has_disk;
         Ok(())
     }
 
@@ -105,9 +112,7 @@ impl Reading {
         ensures fault { IfErr result (IsRefusedAt self.old (said.Tell report)) }
         ensures taken { OnOk result (IsNext self.old 0 (said.Tell report) self.new) }
     {
-        if self.begun.is_some() {
-            return Err(NotTaken::Faulty(Cause::Order));
-        }
+        self.outside()?;
         push(&mut self.items, Item::Report(report))?;
         Ok(())
     }

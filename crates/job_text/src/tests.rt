@@ -30,6 +30,9 @@ fn tells_jobs(rt: HostRuntime) -> Result<(), Fail> {
         "mem_limit 1073741824K\ndisksize 4K\nmem_limit 1048576m\nactor\nrun\nmem_limit 1024G",
         "mem_used_max 0\nmem_used_max 00\ndisksize 4K\nactor\nrun\nmem_used_max 0 # now",
         "mem_limit 1099511627776\nmem_limit 00\nio_stat\nio_stat\nclasses\nrun\nclasses",
+        "backing 1\nbacking 65536\ndisksize 4K\nbacking 0001\nactor\nrun\nbacking 65536 # late",
+        "bd_stat\ndisksize 4K\nbd_stat # none\nactor\nread 0 1\nrun\n\tbd_stat\nbd_stat",
+        "disksize 4K\ndisksize 4K\nrun\n\ndisksize 1G\nactor\nrun\ndisksize 4K",
     ];
     for text in table {
         assert_eq!(rt; fault_in(rt.alloc(), text)?, None, "at {text}");
@@ -38,11 +41,15 @@ fn tells_jobs(rt: HostRuntime) -> Result<(), Fail> {
 }
 
 // Texts with their first faulty line and its cause: by their words alone, then by their places.
-const FAULTY: [(&str, u32, Cause); 79] = [
+const FAULTY: [(&str, u32, Cause); 97] = [
     ("stop", 1, Cause::Word),
     ("RUN", 1, Cause::Word),
     ("run now", 1, Cause::Word),
-    ("disksize 4K\nbacking 1", 2, Cause::Word),
+    ("disksize 4K\nwriteback idle", 2, Cause::Word),
+    ("backing", 1, Cause::Word),
+    ("backing 1 1", 1, Cause::Word),
+    ("backing x #\nbacking x 1", 1, Cause::Number),
+    ("disksize 4K\nactor\nbacking", 3, Cause::Word),
     ("MM_STAT", 1, Cause::Word),
     ("mem_limit", 1, Cause::Word),
     ("mem_limit 4 K", 1, Cause::Word),
@@ -51,6 +58,8 @@ const FAULTY: [(&str, u32, Cause); 79] = [
     ("mem_used_max 0 0", 1, Cause::Word),
     ("mm_stat 0", 1, Cause::Word),
     ("io_stat io_stat", 1, Cause::Word),
+    ("bd_stat 0", 1, Cause::Word),
+    ("bd_stats", 1, Cause::Word),
     ("states all", 1, Cause::Word),
     ("disksize 4K\nactor\nclasses 71", 3, Cause::Word),
     ("write x 1 fil 0", 1, Cause::Word),
@@ -66,6 +75,9 @@ const FAULTY: [(&str, u32, Cause); 79] = [
     ("mem_limit 1KK", 1, Cause::Number),
     ("mem_limit none", 1, Cause::Number),
     ("disksize 4K\nactor\nmem_limit G", 3, Cause::Number),
+    ("backing 1K", 1, Cause::Number),
+    ("backing -1", 1, Cause::Number),
+    ("disksize 4K\nactor\nbacking +1", 3, Cause::Number),
     ("mem_used_max 0K", 1, Cause::Number),
     ("mem_used_max -0", 1, Cause::Number),
     ("write 99999999999999999999 1 fill g", 1, Cause::Number),
@@ -84,6 +96,11 @@ const FAULTY: [(&str, u32, Cause); 79] = [
     ("mem_limit 18446744073709551616", 1, Cause::Range),
     ("mem_limit 18014398509481984K", 1, Cause::Range),
     ("disksize 4K\nactor\nmem_limit 1025G", 3, Cause::Range),
+    ("backing 0", 1, Cause::Range),
+    ("backing 65536\nbacking 65537", 2, Cause::Range),
+    ("backing 4294967297", 1, Cause::Range),
+    ("backing 18446744073709551616", 1, Cause::Range),
+    ("disksize 4K\nactor\nbacking 0", 3, Cause::Range),
     ("mem_used_max 1", 1, Cause::Range),
     ("mem_used_max 18446744073709551616", 1, Cause::Range),
     ("disksize 4K\nactor\nmem_used_max 1", 3, Cause::Range),
@@ -95,7 +112,6 @@ const FAULTY: [(&str, u32, Cause); 79] = [
     ("disksize 4K\nactor\nschedule 0*16777217", 3, Cause::Range),
     ("schedule 0", 1, Cause::Range),
     ("read 0 1", 1, Cause::Order),
-    ("disksize 4K\nrun\n\ndisksize 4K", 4, Cause::Order),
     ("disksize 4K\nactor\ndisksize 4K", 3, Cause::Order),
     ("disksize 4K\nactor\nschedule 0\nread 0 1", 4, Cause::Order),
     ("disksize 4K\nactor\nschedule 0\nactor", 4, Cause::Order),
@@ -111,19 +127,24 @@ const FAULTY: [(&str, u32, Cause); 79] = [
         Cause::Order,
     ),
     ("disksize 4K\nactor\nmem_used_max 0", 3, Cause::Order),
+    ("backing 1\ndisksize 4K\nactor\nbacking 1", 4, Cause::Order),
+    ("disksize 4K\nactor\nschedule 0\nbacking 1", 4, Cause::Order),
+    ("disksize 4K\nactor\nread 0 1\nbd_stat", 4, Cause::Order),
     ("disksize 4K\nactor\nmm_stat", 3, Cause::Order),
     ("disksize 4K\nactor\nread 0 1\nio_stat", 4, Cause::Order),
     ("disksize 4K\nactor\nactor\nstates", 4, Cause::Order),
     ("disksize 4K\nactor\nschedule 0\nclasses", 4, Cause::Order),
     (
-        "states\ndisksize 4K\nmem_limit 0\ndisksize 4K",
-        4,
+        "disksize 4K\ndisksize 8K\nactor\nread 0 1\ndisksize 4K",
+        5,
         Cause::Order,
     ),
     ("actor", 1, Cause::NoDisk),
     ("run\nactor\nstop", 2, Cause::NoDisk),
     ("mem_limit 4K\nactor\nrun", 2, Cause::NoDisk),
+    ("backing 4096\nactor\nrun\ndisksize 4K", 2, Cause::NoDisk),
     ("mem_used_max 0\nactor\nrun", 2, Cause::NoDisk),
+    ("bd_stat\nactor\nrun", 2, Cause::NoDisk),
     ("classes\nactor\nrun", 2, Cause::NoDisk),
     (
         "disksize 4K\nactor\nschedule 0*16777216\nschedule 0",
@@ -265,6 +286,7 @@ fn attr_shown(alloc: Global, attr: Attr) -> Result<String, AllocError> {
     match attr {
         Attr::DiskPages(pages) => format!(in alloc; "pages {pages}; "),
         Attr::LimitPages(pages) => format!(in alloc; "limit {pages}; "),
+        Attr::Backing(blocks) => format!(in alloc; "backing {blocks}; "),
         Attr::LowerMax => format!(in alloc; "lower; "),
     }
 }
@@ -326,6 +348,10 @@ fn reads_values(rt: HostRuntime) -> Result<(), Fail> {
         (
             "mem_used_max 0\ndisksize 4K\nmm_stat\nmem_used_max 000",
             "lower; pages 1; MmStat; lower; ",
+        ),
+        (
+            "backing 1\nbacking 65536\ndisksize 4K\nbd_stat\nbacking 010\ndisksize 8K\nactor\nrun",
+            "backing 1; backing 65536; pages 1; BdStat; backing 10; pages 2; actor; run; ",
         ),
         (
             "mm_stat\ndisksize 4K\nmem_limit 5K\nio_stat\nactor\nrun\nstates\nclasses\nmm_stat",
