@@ -14,8 +14,7 @@ ChangesOnly (Some old) (Some new) b =
     (length new ≡ length old) × ((c : ℕ) → c ≢ b → slice_get new c ≡ slice_get old c)
 
 -- the device is honest: it tells its contents, a page for each block that it counts; so what is
--- read
--- is what was written
+-- read is what was written
 abbrev pub IsHonest : Option (List (List ℕ)) → ℕ → Type 0
 IsHonest contents blocks = IsSomeAnd contents (λ pages. length pages ≡ blocks)
 

@@ -1,5 +1,5 @@
 -- A device with its two counters, and what its calls do.
-use Rattle.std.specs.Prelude.{◌≡◌, ℕ, ◌+◌, ◌<◌, ◌≤◌, List, Option}
+use Rattle.std.specs.Prelude.{◌≡◌, ℕ, ◌+◌, ◌<◌, List, Option}
 use Rattle.backing_dev.specs.Calls.{at_most_end, HasOneCallMore}
 use Rattle.backing_dev.specs.Contents.{HasBlock, ChangesOnly, IsHonest}
 

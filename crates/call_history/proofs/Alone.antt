@@ -96,6 +96,7 @@ module _ (t : Ground) (b : Bounds) where
   idle_else op ends.Range other may = tt
   idle_else op (ends.AtLimit pages need limit done) other may = tt
   idle_else op (ends.NoMemory done) other may = tt
+  idle_else op (ends.Eio fault done) other may = tt
   idle_else op (ends.Compacted moves frames) other may =
       absurd (let q : true ≡ false = sym may.0 ∙ other in cc)
 

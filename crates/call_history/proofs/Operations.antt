@@ -6,15 +6,15 @@ use Rattle.zr_base.specs.declared.op.Op.{Op}
 use Rattle.zr_base.specs.declared.op.Op.TheVariants.{Write, Read, Discard, Compact}
 use Rattle.zr_base.specs.declared.op.OpEnd.{OpEnd}
 use Rattle.zr_base.specs.declared.op.OpEnd.TheVariants as ends
-use Rattle.zr_base.specs.Plain.{start_of, count_of, has_event, touches, is_among, stands_on}
+use Rattle.zr_base.specs.Plain.{start_of, count_of, has_event, touches, is_among, pieces_noted, stands_on}
 use Rattle.zr_base.specs.Pieces.{first_page, pages_of}
-use Rattle.plain_disk.specs.Ends.{Ground, Bounds, is_single, MayBeSingle, MayEnd, read_by}
+use Rattle.plain_disk.specs.Ends.{Ground, Bounds, is_single, MayBeSingle, MayEnd, sectors_before, read_by}
 use Rattle.call_history.specs.declared.part.Part.{Part}
 use Rattle.call_history.specs.declared.part.PartEnd.{PartEnd}
 use Rattle.call_history.specs.declared.part.PartEnd.TheVariants as over
 use Rattle.call_history.specs.declared.part.Done.{Done}
 use Rattle.call_history.specs.Histories.{HasSome}
-use Rattle.call_history.specs.Parts.{parts_from, parts, EndsSo, KeepsTo, is_carried, stands_so, op_end, noted_on, got_by, got_of, end_by, end_of, shown}
+use Rattle.call_history.specs.Parts.{parts_from, parts, EndsSo, KeepsTo, is_carried, is_read, stands_so, op_end, noted_on, got_by, got_of, end_by, end_of, shown}
 use Rattle.call_history.proofs.Ends.{Mine, carried, bool_same, mine_on, none_left, piece_of, noted_one, end_here, pages_noted, pages_end, wholes_noted}
 
 -- ---- sectors and pages
@@ -82,6 +82,23 @@ among_more : (first n p : ℕ) → is_among first n p ≡ is_among first (n + 0)
 among_more first n p =
     ap (λ (m : ℕ). is_among first m p) (let q : n ≡ n + 0 = omega arith in q)
 
+-- where a read of the device has failed, the read's piece stands with those that were carried out
+among_noted : (op : Op) (first n p : ℕ)
+    → is_among first (pieces_noted op n) p ≡ is_among first (n + cond (is_read op) 1 0) p
+among_noted (Write start count stuff) first n p = among_more first n p
+among_noted (Read start count) first n p = refl
+among_noted (Discard start count) first n p = among_more first n p
+among_noted Compact first n p = among_more first n p
+
+-- a request's sectors on its first so many pages, as those from its first sector on
+read_before : (start count n : ℕ) (f : ℕ → List ℕ)
+    → read_to start count (start / 8) n f
+    ≡ map f (range_with_len start (sectors_before start count n))
+read_before start count n f = λ i. map f
+    (range_with_len ((let q : max start (8 * (start / 8)) ≡ start = omega arith in q) i)
+    ((let q : min (start + count) (8 * (start / 8 + n)) - max start (8 * (start / 8))
+    ≡ min count (8 * (start / 8 + n) - start) = omega arith in q) i))
+
 clash : (x : Bool) → x ≡ true → x ≡ false → ⊥
 clash x yes_ none = let q : true ≡ false = sym yes_ ∙ none in cc
 
@@ -108,6 +125,7 @@ module _ (t : Ground) (b : Bounds) where
   whole_is p (over.AtLimit charged need limit) on so =
       absurd (clash (is_single t.size p.op) on so.0.0)
   whole_is p over.NoMemory on so = absurd (clash (is_single t.size p.op) on so.0.0)
+  whole_is p (over.Eio fault) on so = absurd (clash (is_single t.size p.op) on so.0.0)
   whole_is p (over.Whole end) on so = record { end = end; is = refl; may = so.0.1 }
 
   pub never_stands : (p : Part) (x : PartEnd) → is_single t.size p.op ≡ true → By p x
@@ -191,6 +209,7 @@ module _ (t : Ground) (b : Bounds) where
   may_end nr op (over.AtLimit charged need limit) n not so inside few =
       ((inside, few), so.0.1, so.1)
   may_end nr op over.NoMemory n not so inside few = ((inside, few), so.0.1)
+  may_end nr op (over.Eio fault) n not so inside few = ((inside, few), so.0.1, so.1)
   may_end nr op (over.Whole end) n not so inside few =
       absurd (clash (is_single t.size op) so.0.0 inside)
 
@@ -202,6 +221,7 @@ module _ (t : Ground) (b : Bounds) where
   stands_end nr op (over.AtLimit charged need limit) n p not so inside =
       among_more (first_page op) n p
   stands_end nr op over.NoMemory n p not so inside = among_more (first_page op) n p
+  stands_end nr op (over.Eio fault) n p not so inside = among_noted op (first_page op) n p
   stands_end nr op (over.Whole end) n p not so inside =
       absurd (clash (is_single t.size op) so.0.0 inside)
 
@@ -256,6 +276,7 @@ module _ (t : Ground) (b : Bounds) where
   discard_ends nr start count inside q (over.AtLimit charged need limit) so =
       absurd so.0.1.wants
   discard_ends nr start count inside q over.NoMemory so = absurd so.0.1
+  discard_ends nr start count inside q (over.Eio fault) so = absurd so.0.1
   discard_ends nr start count inside q (over.Whole end) so =
       absurd (clash (is_single t.size (Discard start count)) so.0.0 inside)
 
@@ -286,6 +307,7 @@ module _ (t : Ground) (b : Bounds) where
   read_notes nr start count a (over.AtLimit charged need limit) so inside =
       absurd so.0.1.wants
   read_notes nr start count a over.NoMemory so inside = absurd so.0.1
+  read_notes nr start count a (over.Eio fault) so inside = refl
   read_notes nr start count a (over.Whole end) so inside =
       absurd (clash (is_single t.size (Read start count)) so.0.0 inside)
 
@@ -352,7 +374,9 @@ module _ (t : Ground) (b : Bounds) where
             let k = mine_several nr op front off m in
             let got = pieces_got R nr start count (start / 8) (pages_of op) front off
             (omega arith) k all in
-            ⊎_elim (λ h. whole got h.0 h.2) (λ h. refused off h.last h.not h.so)
+            ⊎_elim (λ h. whole got h.0 h.2)
+            (λ h. refused off got h.last h.not h.so
+            (h.end_is ∙ ap (op_end h.last) (zero-add (carried front))))
             (pages_end By nr op (start / 8) (pages_of op) 0 front (λ q. refl) k)
       ] where
         op : Op
@@ -369,11 +393,18 @@ module _ (t : Ground) (b : Bounds) where
             ((let q : min (start + count) (8 * (start / 8 + carried front)) - max start
             (8 * (start / 8)) ≡ count = omega arith in q) i))))
 
-        -- no piece of a read is refused
-        refused : is_single t.size op ≡ false → (x : PartEnd) → is_carried x ≡ false
+        -- a piece of a read is refused only where the device has failed
+        refused : is_single t.size op ≡ false
+            → got_of nr front ≡ read_to start count (start / 8) (carried front) (R nr)
+            → (x : PartEnd) → is_carried x ≡ false
             → By (piece_of nr op (start / 8 + carried front)) x
+            → end_by nr 0 front ≡ op_end x (carried front)
             → shown op (end_by nr 0 front) (got_of nr front) ≡ read_by op (end_by nr 0 front) (R nr)
-        refused inside over.Carried not so = absurd (cc)
-        refused inside (over.AtLimit charged need limit) not so = absurd so.0.1.wants
-        refused inside over.NoMemory not so = absurd so.0.1
-        refused inside (over.Whole end) not so = absurd (clash (is_single t.size op) so.0.0 inside)
+        refused inside got over.Carried not so e = absurd (cc)
+        refused inside got (over.AtLimit charged need limit) not so e = absurd so.0.1.wants
+        refused inside got over.NoMemory not so e = absurd so.0.1
+        refused inside got (over.Eio fault) not so e =
+            subst (λ (end : OpEnd). shown op end (got_of nr front) ≡ read_by op end (R nr)) (sym e)
+            (got ∙ read_before start count (carried front) (R nr))
+        refused inside got (over.Whole end) not so e =
+            absurd (clash (is_single t.size op) so.0.0 inside)

@@ -12,10 +12,11 @@ use Rattle.zr_base.specs.Plain.{count_of, start_of, is_beyond, is_compaction, ha
 use Rattle.zr_base.specs.Pieces.{first_page, pages_of}
 use Rattle.mem_account.specs.declared.weight.Weight.{Weight}
 use Rattle.mem_account.specs.Counters.{Counters, at_most_end}
-use Rattle.plain_disk.specs.Ends.{Ground, Bounds, is_single, MayEndAll, MayEndEach, due_from, ends_sum, failed_write, compacted, beyond}
+use Rattle.plain_disk.specs.Ends.{Ground, Bounds, is_single, MayEndAll, MayEndEach, due_from, ends_sum, failed_read, failed_write, starved, tells_fault, compacted, beyond}
 use Rattle.plain_disk.specs.Output.{phase_lines}
+use Rattle.plain_disk.specs.Calls.{calls_sum, may_fetch}
 use Rattle.plain_disk.specs.Rests.{SoFar, Rest, stats}
-use Rattle.plain_disk.specs.Phases.{Given, held_after, nth_order, sector_read, due, begun, phase_ground, bounds, Leaves, IsPhase}
+use Rattle.plain_disk.specs.Phases.{Given, held_after, nth_order, sector_read, due, begun, phase_sum, phase_ground, bounds, LeavesDevice, Leaves, IsPhase}
 use Rattle.call_history.specs.declared.part.Part.{Part}
 use Rattle.call_history.specs.declared.part.PartEnd.{PartEnd}
 use Rattle.call_history.specs.declared.part.Done.{Done}
@@ -30,7 +31,7 @@ use Rattle.call_history.proofs.Operations.{By, Reads, never_stands, pages_some}
 use Rattle.call_history.proofs.Actors.{stood, actor_noted, actor_ends, actor_reads, stood_rises, stood_once}
 use Rattle.plain_disk.specs.Compactions.{are_tight, AreIdle, moves_after, IsAlone}
 use Rattle.call_history.proofs.Alone.{tell}
-use Rattle.call_history.proofs.Sums.{IsSteady, failed_write-is, compacted-is, beyond-is, all_sum}
+use Rattle.call_history.proofs.Sums.{IsSteady, failed_read-is, failed_write-is, starved-is, tells_fault-is, compacted-is, beyond-is, all_sum}
 
 -- ---- lists
 
@@ -146,241 +147,251 @@ stats_are form r actors dones orders c m told = λ i. record {
 -- ---- the phase
 
 module _ (form : List ℕ → Weight) (r : Rest) (actors : List (List Op)) (dones : List (List Done))
-    (orders : List (List Tag)) (some : HasSomeEach actors)
-    (agree : Agree (phase_ground form r) (bounds form r actors orders) (begun r actors) dones orders)
-  where
-    abbrev g : Given
-    g = begun r actors
+    (orders : List (List Tag)) (m : Rest) (some : HasSomeEach actors)
+    (agree : Agree (phase_ground form r) (bounds form r actors orders m.device.faults)
+    (begun r actors) dones orders) where
+  abbrev g : Given
+  g = begun r actors
 
-    abbrev t : Ground
-    t = phase_ground form r
+  abbrev t : Ground
+  t = phase_ground form r
 
-    abbrev b : ℕ → Bounds
-    b = bounds form r actors orders
+  abbrev b : ℕ → Bounds
+  b = bounds form r actors orders m.device.faults
 
-    record Actor (a : ℕ) : Type 0 where
-      ops : List Op
-      done : List Done
-      named : slice_get actors a ≡ Some ops
-      there : slice_get dones a ≡ Some done
-      has_some : SomeEach ops
-      follows : Follows (By t (b a)) (program t.size 0 ops) done []
+  record Actor (a : ℕ) : Type 0 where
+    ops : List Op
+    done : List Done
+    named : slice_get actors a ≡ Some ops
+    there : slice_get dones a ≡ Some done
+    has_some : SomeEach ops
+    follows : Follows (By t (b a)) (program t.size 0 ops) done []
 
-    history_is : (a : ℕ) (done : List Done) → slice_get dones a ≡ Some done → history dones a ≡ done
-    history_is a done e = get_or_from_slice_get dones a done [] e
+  history_is : (a : ℕ) (done : List Done) → slice_get dones a ≡ Some done → history dones a ≡ done
+  history_is a done e = get_or_from_slice_get dones a done [] e
 
-    follows_by : (a : ℕ) (ops : List Op) (done : List Done) → slice_get actors a ≡ Some ops
-        → slice_get dones a ≡ Some done → Follows (By t (b a)) (program t.size 0 ops) done []
-    follows_by a ops done named there =
-        follows_with (EndsSo t) (KeepsTo t (b a)) (program t.size 0 ops) done []
-        (agree.follows a ops done named there)
-        (all_from (λ (d : Done). KeepsTo t (b a) d.end) done (λ i d at. agree.keeps a i d
-        (ap (λ (ds : List Done). slice_get ds i) (history_is a done there) ∙ at)))
+  follows_by : (a : ℕ) (ops : List Op) (done : List Done) → slice_get actors a ≡ Some ops
+      → slice_get dones a ≡ Some done → Follows (By t (b a)) (program t.size 0 ops) done []
+  follows_by a ops done named there =
+      follows_with (EndsSo t) (KeepsTo t (b a)) (program t.size 0 ops) done []
+      (agree.follows a ops done named there)
+      (all_from (λ (d : Done). KeepsTo t (b a) d.end) done (λ i d at. agree.keeps a i d
+      (ap (λ (ds : List Done). slice_get ds i) (history_is a done there) ∙ at)))
 
-    actor : (a : ℕ) → a < length dones → Actor a
-    actor a lt =
-        let o = there_is actors a (let q = agree.count in omega arith) in
-        let d = there_is dones a lt in
-        record {
-          ops = o.0;
-          done = d.0;
-          named = o.1;
-          there = d.1;
-          has_some = some a o.0 o.1;
-          follows = follows_by a o.0 d.0 o.1 d.1;
-        }
-
-    -- the operations of an actor in an order
-    ops_are : (p : ℕ) → p < g.size → (a : ℕ) (x : Actor a)
-        → ops_of a (nth_order orders p) ≡ stood p 0 x.ops (ends_from 0 x.ops x.done)
-    ops_are p lt a x = agree.turns p a lt ∙ ap (noted_on p) (history_is a x.done x.there)
-        ∙ actor_noted t (b a) p 0 x.ops x.done x.has_some x.follows
-
-    ops_none : (p : ℕ) → p < g.size → (a : ℕ) → length dones ≤ a → ops_of a (nth_order orders p) ≡ []
-    ops_none p lt a le = agree.turns p a lt ∙ ap (noted_on p) (default_there dones a [] le)
-
-    rising : (p : ℕ) → p < g.size → (a : ℕ) → Rising (ops_of a (nth_order orders p))
-    rising p lt a = elim (cases_lt a (length dones)) [
-      | inl below ↦ let x = actor a below in
-          subst Rising (sym (ops_are p lt a x))
-          (stood_rises p 0 x.ops (ends_from 0 x.ops x.done))
-      | inr above ↦ subst Rising (sym (ops_none p lt a above)) tt
-    ]
-
-    rises : (p : ℕ) → p < g.size → Rises (nth_order orders p)
-    rises p lt = rises_is (nth_order orders p) (λ a. rising p lt a)
-
-    abbrev ends_now : List (List OpEnd)
-    ends_now = ends_each actors dones
-
-    once : (p : ℕ) → p < g.size → (a k : ℕ)
-        → let tag : Tag = record { actor = a; op = k } in
-        count_by (same_tag tag) (nth_order orders p) ≡ cond (is_noted g.actors ends_now p tag) 1 0
-    once p lt a k = count_is a k (nth_order orders p) ∙ elim (cases_lt a (length dones)) [
-      | inl below ↦
-          let x = actor a below in
-          ap (λ (xs : List ℕ). count_by (λ n. eqb k n) xs) (ops_are p lt a x)
-          ∙ stood_once p 0 k k x.ops (ends_from 0 x.ops x.done) (zero-add k)
-          ∙ sym (λ i. cond
-          (stands_named (option_and_then (λ (ops : List Op). slice_get ops k) (x.named i))
-          (option_and_then (λ (es : List OpEnd). slice_get es k)
-          (ends_at actors dones a x.ops x.done x.named x.there i)) p) 1 0)
-      | inr above ↦
-          ap (λ (xs : List ℕ). count_by (λ n. eqb k n) xs) (ops_none p lt a above)
-          ∙ sym (ap (λ (o : Option (List Op)). cond
-          (stands_named (option_and_then (λ (ops : List Op). slice_get ops k) o)
-          (option_and_then (λ (es : List OpEnd). slice_get es k) (slice_get ends_now a)) p) 1 0)
-          (none_there actors a (let q = agree.count in omega arith)))
-    ]
-
-    is_order : (p : ℕ) → p < g.size → IsOrder g.actors ends_now p (nth_order orders p)
-    is_order p lt = record { once = λ tag. once p lt tag.actor tag.op; rises = rises p lt }
-
-    -- what each piece has read
-    abbrev R : ℕ → ℕ → ℕ → List ℕ
-    R a = sector_read g orders a
-
-    one_reads : (a : ℕ) (x : Actor a) (i : ℕ) (d : Done) → slice_get x.done i ≡ Some d → Reads (R a) d
-    one_reads a x i d at on =
-        let so = all_get (λ (d : Done). By t (b a) d.part d.end) x.done i d
-        (every_so (By t (b a)) (program t.size 0 x.ops) x.done [] x.follows) at in
-        let on_disk = all_get (λ (d : Done). OnDisk g.size d.part) x.done i d
-        (every_done (By t (b a)) (OnDisk g.size) (program t.size 0 x.ops) x.done [] x.follows
-        (program_on t.size 0 x.ops x.has_some)) at in
-        let below : d.part.page < g.size = ⊎_elim
-        (λ out. absurd (let q : stands_so d.part.op d.end ≡ false =
-        never_stands t (b a) d.part d.end out so in
-        let z : true ≡ false = sym on ∙ q in cc)) (λ h. h) on_disk in
-        let told = agree.reads a i d
-        (ap (λ (ds : List Done). slice_get ds i) (history_is a x.done x.there)
-        ∙ at) below on in
-        let order = nth_order orders d.part.page in
-        let before : order_before (tag_by a d.part) order ≡ take told.0 order =
-        before_is order (tag_by a d.part) told.0 (rises d.part.page below) told.1 in
-        told.2 ∙ ap (λ (xs : List (List ℕ)). cond (is_carried d.end) xs [])
-        (same_got d.part.op d.part.page (held_after g (take told.0 order)) (R a d.part.nr)
-        (λ k lt. ap (λ (ts : List Tag). held_after g ts (8 * d.part.page + k)) (sym before
-        ∙ ap (λ (p : ℕ). order_before (tag_by a d.part) (nth_order orders p))
-        (let q : d.part.page ≡ (8 * d.part.page + k) / 8 = omega arith in q))))
-
-    actor_told : (a : ℕ) (x : Actor a)
-        → told_from 0 x.ops x.done ≡ due_from 0 x.ops (ends_from 0 x.ops x.done) (R a)
-    actor_told a x =
-        actor_reads t (b a) (R a) 0 x.ops x.done x.has_some x.follows
-        (all_from (Reads (R a)) x.done (one_reads a x))
-
-    both : (a : ℕ) (ops : List Op) (done : List Done) → slice_get actors a ≡ Some ops
-        → slice_get dones a ≡ Some done
-        → (told_from 0 ops done ≡ due_from 0 ops (ends_from 0 ops done) (R a))
-        × MayEndAll t (b a) ops (ends_from 0 ops done)
-    both a ops done named there =
-        let follows = follows_by a ops done named there in
-        let has_some = some a ops named in (
-          actor_told a
-              (record {
-                ops = ops;
-                done = done;
-                named = named;
-                there = there;
-                has_some =
-                    has_some;
-                follows = follows;
-              }),
-          actor_ends t (b a) 0 ops done has_some follows,
-        )
-
-    all_told : (a : ℕ) (actors : List (List Op)) (ds : List (List Done))
-        → ((i : ℕ) (ops : List Op) (done : List Done) → slice_get actors i ≡ Some ops
-        → slice_get ds i ≡ Some done
-        → told_from 0 ops done ≡ due_from 0 ops (ends_from 0 ops done) (R (a + i)))
-        → told_each actors ds ≡ due g orders a actors (ends_each actors ds)
-    all_told a [] ds f = refl
-    all_told a (ops ∷ more) [] f = refl
-    all_told a (ops ∷ more) (done ∷ ds) f = λ i. (f 0 ops done refl refl
-        ∙ ap (λ (b : ℕ). due_from 0 ops (ends_from 0 ops done) (R b))
-        (let q : a + 0 ≡ a = omega arith in q)) i
-        ∷ all_told (a + 1) more ds (λ j os d e e'. f (suc j) os d e e'
-        ∙ ap (λ (b : ℕ). due_from 0 os (ends_from 0 os d) (R b))
-        (let q : a + suc j ≡ a + 1 + j = omega arith in q)) i
-
-    all_may : (a : ℕ) (actors : List (List Op)) (ds : List (List Done)) → length ds ≡ length actors
-        → ((i : ℕ) (ops : List Op) (done : List Done) → slice_get actors i ≡ Some ops
-        → slice_get ds i ≡ Some done
-        → MayEndAll t (b (a + i)) ops (ends_from 0 ops done))
-        → MayEndEach t b a actors (ends_each actors ds)
-    all_may a [] ds e f = tt
-    all_may a (ops ∷ more) [] e f =
-        absurd (let q : 0 ≡ suc (length more) = e in let none : ⊥ = omega arith in none)
-    all_may a (ops ∷ more) (done ∷ ds) e f = (
-      subst (λ (k : ℕ). MayEndAll t (b k) ops (ends_from 0 ops done))
-          (let q : a + 0 ≡ a = omega arith in q) (f 0 ops done refl refl),
-      all_may (a + 1) more ds (omega arith) (λ i os d x y.
-          subst (λ (k : ℕ). MayEndAll t (b k) os (ends_from 0 os d))
-          (let q : a + suc i ≡ a + 1 + i = omega arith in q) (f (suc i) os d x y)),
-    )
-
-    -- a count that is made by pieces is one by ends
-    counted : (w : Op → OpEnd → ℕ) → IsSteady w → (old now : ℕ)
-        → now ≡ at_most_end (old + dones_sum w dones)
-        → now ≡ at_most_end (old + ends_sum w actors ends_now)
-    counted w is old now e = e ∙ ap (λ (n : ℕ). at_most_end (old + n))
-        (all_sum (EndsSo t) w is t.size actors dones agree.count agree.follows)
-
-    module _ (c : Counters) (m : Rest) (told : Tallies form r actors dones orders c m) where
-      leaves : Leaves form r actors ends_now orders m
-      leaves = record {
-        pages = told.pages;
-        so_far = told.so_far ∙ (λ i. record {
-          huge = told.huge_since i;
-          compacted =
-              counted compacted compacted-is r.so_far.compacted c.compacted told.compacted i;
-          failed_reads = told.failed_reads i;
-          failed_writes = counted failed_write failed_write-is r.so_far.failed_writes
-              c.failed_writes told.failed_writes i;
-          beyond = counted beyond beyond-is r.so_far.beyond c.invalid_io told.invalid_io i;
-          freed = told.notify_free i;
-        });
+  actor : (a : ℕ) → a < length dones → Actor a
+  actor a lt =
+      let o = there_is actors a (let q = agree.count in omega arith) in
+      let d = there_is dones a lt in
+      record {
+        ops = o.0;
+        done = d.0;
+        named = o.1;
+        there = d.1;
+        has_some = some a o.0 o.1;
+        follows = follows_by a o.0 d.0 o.1 d.1;
       }
 
-      -- where there is one actor, its operations say what its pieces do
-      alone : (ops : List Op) (es : List OpEnd) → actors ≡ ops ∷ [] → ends_now ≡ es ∷ []
-          → IsAlone form r ops es m
-      alone ops es one ends = by_histories dones refl where
-        by_histories : (ds : List (List Done)) → dones ≡ ds → IsAlone form r ops es m
-        by_histories [] is = absurd (let n = agree.count in
-            let q : 0 ≡ 1 = sym (ap length is) ∙ n ∙ ap length one in omega arith)
-        by_histories (done ∷ d ∷ ds) is = absurd (let n = agree.count in
-            let q : suc (suc (length ds)) ≡ 1 = sym (ap length is) ∙ n ∙ ap length one in
-            omega arith)
-        by_histories (done ∷ []) is =
-            let over = told.alone done is in
-            let named : slice_get actors 0 ≡ Some ops = ap (λ xs. slice_get xs 0) one in
-            let there : slice_get dones 0 ≡ Some done = ap (λ xs. slice_get xs 0) is in
-            let tight = are_tight r.set.chain r.used in
-            let x = tell t (b 0) 0 ops done tight 0 (some 0 ops named)
-            (follows_by 0 ops done named there) in
-            let is_es : ends_from 0 ops done ≡ es =
-            (let q : ends_from 0 ops done ∷ [] ≡ es ∷ [] =
-            sym (λ i. ends_each (one i) (is i)) ∙ ends in cc) in record {
-              idle = subst (AreIdle tight ops) is_es (x.idle over.idle);
-              least = λ e. over.least (x.least e);
-              few = let le = x.few in let most = over.few in
-                  let same = ap (moves_after 0 ops) is_es in omega arith;
-            }
+  -- the operations of an actor in an order
+  ops_are : (p : ℕ) → p < g.size → (a : ℕ) (x : Actor a)
+      → ops_of a (nth_order orders p) ≡ stood p 0 x.ops (ends_from 0 x.ops x.done)
+  ops_are p lt a x = agree.turns p a lt ∙ ap (noted_on p) (history_is a x.done x.there)
+      ∙ actor_noted t (b a) p 0 x.ops x.done x.has_some x.follows
 
-      pub is_phase : IsPhase form r actors
-          (phase_lines ends_now (told_each actors dones) orders) m
-      is_phase = record {
-        ends = ends_now;
-        orders = orders;
-        may = all_may 0 actors dones agree.count (λ i ops done e e'.
-            subst (λ (k : ℕ). MayEndAll t (b k) ops (ends_from 0 ops done)) (sym (zero-add i))
-            (both i ops done e e').1);
-        every_page = agree.every_page;
-        each = is_order;
-        lines_are = ap (λ (gots : List (List (List (List ℕ)))). phase_lines ends_now gots orders)
-            (all_told 0 actors dones (λ i ops done e e'. (both i ops done e e').0
-            ∙ ap (λ (b : ℕ). due_from 0 ops (ends_from 0 ops done) (R b)) (sym (zero-add i))));
-        leaves = leaves;
-        alone = alone;
-      }
+  ops_none : (p : ℕ) → p < g.size → (a : ℕ) → length dones ≤ a → ops_of a (nth_order orders p) ≡ []
+  ops_none p lt a le = agree.turns p a lt ∙ ap (noted_on p) (default_there dones a [] le)
+
+  rising : (p : ℕ) → p < g.size → (a : ℕ) → Rising (ops_of a (nth_order orders p))
+  rising p lt a = elim (cases_lt a (length dones)) [
+    | inl below ↦ let x = actor a below in
+        subst Rising (sym (ops_are p lt a x))
+        (stood_rises p 0 x.ops (ends_from 0 x.ops x.done))
+    | inr above ↦ subst Rising (sym (ops_none p lt a above)) tt
+  ]
+
+  rises : (p : ℕ) → p < g.size → Rises (nth_order orders p)
+  rises p lt = rises_is (nth_order orders p) (λ a. rising p lt a)
+
+  abbrev ends_now : List (List OpEnd)
+  ends_now = ends_each actors dones
+
+  once : (p : ℕ) → p < g.size → (a k : ℕ)
+      → let tag : Tag = record { actor = a; op = k } in
+      count_by (same_tag tag) (nth_order orders p) ≡ cond (is_noted g.actors ends_now p tag) 1 0
+  once p lt a k = count_is a k (nth_order orders p) ∙ elim (cases_lt a (length dones)) [
+    | inl below ↦
+        let x = actor a below in
+        ap (λ (xs : List ℕ). count_by (λ n. eqb k n) xs) (ops_are p lt a x)
+        ∙ stood_once p 0 k k x.ops (ends_from 0 x.ops x.done) (zero-add k)
+        ∙ sym (λ i. cond
+        (stands_named (option_and_then (λ (ops : List Op). slice_get ops k) (x.named i))
+        (option_and_then (λ (es : List OpEnd). slice_get es k)
+        (ends_at actors dones a x.ops x.done x.named x.there i)) p) 1 0)
+    | inr above ↦
+        ap (λ (xs : List ℕ). count_by (λ n. eqb k n) xs) (ops_none p lt a above)
+        ∙ sym (ap (λ (o : Option (List Op)). cond
+        (stands_named (option_and_then (λ (ops : List Op). slice_get ops k) o)
+        (option_and_then (λ (es : List OpEnd). slice_get es k) (slice_get ends_now a)) p) 1 0)
+        (none_there actors a (let q = agree.count in omega arith)))
+  ]
+
+  is_order : (p : ℕ) → p < g.size → IsOrder g.actors ends_now p (nth_order orders p)
+  is_order p lt = record { once = λ tag. once p lt tag.actor tag.op; rises = rises p lt }
+
+  -- what each piece has read
+  abbrev R : ℕ → ℕ → ℕ → List ℕ
+  R a = sector_read g orders a
+
+  one_reads : (a : ℕ) (x : Actor a) (i : ℕ) (d : Done) → slice_get x.done i ≡ Some d → Reads (R a) d
+  one_reads a x i d at on =
+      let so = all_get (λ (d : Done). By t (b a) d.part d.end) x.done i d
+      (every_so (By t (b a)) (program t.size 0 x.ops) x.done [] x.follows) at in
+      let on_disk = all_get (λ (d : Done). OnDisk g.size d.part) x.done i d
+      (every_done (By t (b a)) (OnDisk g.size) (program t.size 0 x.ops) x.done [] x.follows
+      (program_on t.size 0 x.ops x.has_some)) at in
+      let below : d.part.page < g.size = ⊎_elim
+      (λ out. absurd (let q : stands_so d.part.op d.end ≡ false =
+      never_stands t (b a) d.part d.end out so in
+      let z : true ≡ false = sym on ∙ q in cc)) (λ h. h) on_disk in
+      let told = agree.reads a i d
+      (ap (λ (ds : List Done). slice_get ds i) (history_is a x.done x.there)
+      ∙ at) below on in
+      let order = nth_order orders d.part.page in
+      let before : order_before (tag_by a d.part) order ≡ take told.0 order =
+      before_is order (tag_by a d.part) told.0 (rises d.part.page below) told.1 in
+      told.2 ∙ ap (λ (xs : List (List ℕ)). cond (is_carried d.end) xs [])
+      (same_got d.part.op d.part.page (held_after g (take told.0 order)) (R a d.part.nr)
+      (λ k lt. ap (λ (ts : List Tag). held_after g ts (8 * d.part.page + k)) (sym before
+      ∙ ap (λ (p : ℕ). order_before (tag_by a d.part) (nth_order orders p))
+      (let q : d.part.page ≡ (8 * d.part.page + k) / 8 = omega arith in q))))
+
+  actor_told : (a : ℕ) (x : Actor a)
+      → told_from 0 x.ops x.done ≡ due_from 0 x.ops (ends_from 0 x.ops x.done) (R a)
+  actor_told a x =
+      actor_reads t (b a) (R a) 0 x.ops x.done x.has_some x.follows
+      (all_from (Reads (R a)) x.done (one_reads a x))
+
+  both : (a : ℕ) (ops : List Op) (done : List Done) → slice_get actors a ≡ Some ops
+      → slice_get dones a ≡ Some done
+      → (told_from 0 ops done ≡ due_from 0 ops (ends_from 0 ops done) (R a))
+      × MayEndAll t (b a) ops (ends_from 0 ops done)
+  both a ops done named there =
+      let follows = follows_by a ops done named there in
+      let has_some = some a ops named in (
+        actor_told a
+            (record {
+              ops = ops;
+              done = done;
+              named = named;
+              there = there;
+              has_some =
+                  has_some;
+              follows = follows;
+            }),
+        actor_ends t (b a) 0 ops done has_some follows,
+      )
+
+  all_told : (a : ℕ) (actors : List (List Op)) (ds : List (List Done))
+      → ((i : ℕ) (ops : List Op) (done : List Done) → slice_get actors i ≡ Some ops
+      → slice_get ds i ≡ Some done
+      → told_from 0 ops done ≡ due_from 0 ops (ends_from 0 ops done) (R (a + i)))
+      → told_each actors ds ≡ due g orders a actors (ends_each actors ds)
+  all_told a [] ds f = refl
+  all_told a (ops ∷ more) [] f = refl
+  all_told a (ops ∷ more) (done ∷ ds) f = λ i. (f 0 ops done refl refl
+      ∙ ap (λ (b : ℕ). due_from 0 ops (ends_from 0 ops done) (R b))
+      (let q : a + 0 ≡ a = omega arith in q)) i
+      ∷ all_told (a + 1) more ds (λ j os d e e'. f (suc j) os d e e'
+      ∙ ap (λ (b : ℕ). due_from 0 os (ends_from 0 os d) (R b))
+      (let q : a + suc j ≡ a + 1 + j = omega arith in q)) i
+
+  all_may : (a : ℕ) (actors : List (List Op)) (ds : List (List Done)) → length ds ≡ length actors
+      → ((i : ℕ) (ops : List Op) (done : List Done) → slice_get actors i ≡ Some ops
+      → slice_get ds i ≡ Some done
+      → MayEndAll t (b (a + i)) ops (ends_from 0 ops done))
+      → MayEndEach t b a actors (ends_each actors ds)
+  all_may a [] ds e f = tt
+  all_may a (ops ∷ more) [] e f =
+      absurd (let q : 0 ≡ suc (length more) = e in let none : ⊥ = omega arith in none)
+  all_may a (ops ∷ more) (done ∷ ds) e f = (
+    subst (λ (k : ℕ). MayEndAll t (b k) ops (ends_from 0 ops done))
+        (let q : a + 0 ≡ a = omega arith in q) (f 0 ops done refl refl),
+    all_may (a + 1) more ds (omega arith) (λ i os d x y.
+        subst (λ (k : ℕ). MayEndAll t (b k) os (ends_from 0 os d))
+        (let q : a + suc i ≡ a + 1 + i = omega arith in q) (f (suc i) os d x y)),
+  )
+
+  -- a sum over pieces is one over ends
+  ends_are : (w : Op → OpEnd → ℕ) → IsSteady w → dones_sum w dones ≡ ends_sum w actors ends_now
+  ends_are w is = all_sum (EndsSo t) w is t.size actors dones agree.count agree.follows
+
+  -- a count that is made by pieces is one by ends
+  counted : (w : Op → OpEnd → ℕ) → IsSteady w → (old now : ℕ)
+      → now ≡ at_most_end (old + dones_sum w dones)
+      → now ≡ at_most_end (old + ends_sum w actors ends_now)
+  counted w is old now e = e ∙ ap (λ (n : ℕ). at_most_end (old + n)) (ends_are w is)
+
+  module _ (c : Counters) (told : Tallies form r actors dones orders c m) where
+    leaves : Leaves form r actors ends_now orders m
+    leaves = record {
+      pages = told.pages;
+      so_far = told.so_far ∙ (λ i. record {
+        huge = told.huge_since i;
+        compacted =
+            counted compacted compacted-is r.so_far.compacted c.compacted told.compacted i;
+        failed_reads = counted failed_read failed_read-is r.so_far.failed_reads
+            c.failed_reads told.failed_reads i;
+        failed_writes = counted failed_write failed_write-is r.so_far.failed_writes
+            c.failed_writes told.failed_writes i;
+        beyond = counted beyond beyond-is r.so_far.beyond c.invalid_io told.invalid_io i;
+        freed = told.notify_free i;
+      });
+      device = subst (λ (n : ℕ). LeavesDevice r.device m.device
+          (phase_sum (λ p. calls_sum may_fetch actors) r orders + n))
+          (ends_are starved starved-is) told.device;
+    }
+
+    -- where there is one actor, its operations say what its pieces do
+    alone : (ops : List Op) (es : List OpEnd) → actors ≡ ops ∷ [] → ends_now ≡ es ∷ []
+        → IsAlone form r ops es m
+    alone ops es one ends = by_histories dones refl where
+      by_histories : (ds : List (List Done)) → dones ≡ ds → IsAlone form r ops es m
+      by_histories [] is = absurd (let n = agree.count in
+          let q : 0 ≡ 1 = sym (ap length is) ∙ n ∙ ap length one in omega arith)
+      by_histories (done ∷ d ∷ ds) is = absurd (let n = agree.count in
+          let q : suc (suc (length ds)) ≡ 1 = sym (ap length is) ∙ n ∙ ap length one in
+          omega arith)
+      by_histories (done ∷ []) is =
+          let over = told.alone done is in
+          let named : slice_get actors 0 ≡ Some ops = ap (λ xs. slice_get xs 0) one in
+          let there : slice_get dones 0 ≡ Some done = ap (λ xs. slice_get xs 0) is in
+          let tight = are_tight r.set.chain r.used in
+          let x = tell t (b 0) 0 ops done tight 0 (some 0 ops named)
+          (follows_by 0 ops done named there) in
+          let is_es : ends_from 0 ops done ≡ es =
+          (let q : ends_from 0 ops done ∷ [] ≡ es ∷ [] =
+          sym (λ i. ends_each (one i) (is i)) ∙ ends in cc) in record {
+            idle = subst (AreIdle tight ops) is_es (x.idle over.idle);
+            least = λ e. over.least (x.least e);
+            few = let le = x.few in let most = over.few in
+                let same = ap (moves_after 0 ops) is_es in omega arith;
+          }
+
+    pub is_phase : IsPhase form r actors
+        (phase_lines ends_now (told_each actors dones) orders) m
+    is_phase = record {
+      ends = ends_now;
+      orders = orders;
+      may = all_may 0 actors dones agree.count (λ i ops done e e'.
+          subst (λ (k : ℕ). MayEndAll t (b k) ops (ends_from 0 ops done)) (sym (zero-add i))
+          (both i ops done e e').1);
+      faults_differ = λ f.
+          subst (λ (n : ℕ). n ≤ 1) (ends_are (tells_fault f) (tells_fault-is f))
+          (agree.faults_differ f);
+      every_page = agree.every_page;
+      each = is_order;
+      lines_are = ap (λ (gots : List (List (List (List ℕ)))). phase_lines ends_now gots orders)
+          (all_told 0 actors dones (λ i ops done e e'. (both i ops done e e').0
+          ∙ ap (λ (b : ℕ). due_from 0 ops (ends_from 0 ops done) (R b)) (sym (zero-add i))));
+      leaves = leaves;
+      alone = alone;
+    }

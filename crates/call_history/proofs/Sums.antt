@@ -3,10 +3,10 @@ use Rattle.std.proofs.Common.{◌≡◌, ℕ, suc, ◌+◌, Bool, true, false, c
 use Rattle.std.specs.List.{AllByRecursion}
 use Rattle.std.proofs.lemmas.Bool.{eq-eqb}
 use Rattle.zr_base.specs.declared.op.Op.{Op}
-use Rattle.zr_base.specs.declared.op.Op.TheVariants.{Write}
+use Rattle.zr_base.specs.declared.op.Op.TheVariants.{Write, Read}
 use Rattle.zr_base.specs.declared.op.OpEnd.{OpEnd}
 use Rattle.zr_base.specs.declared.op.OpEnd.TheVariants as ends
-use Rattle.plain_disk.specs.Ends.{ops_sum, ends_sum, failed_write, compacted, beyond}
+use Rattle.plain_disk.specs.Ends.{ops_sum, ends_sum, failed_read, failed_write, starved, tells_fault, compacted, beyond}
 use Rattle.call_history.specs.declared.part.Part.{Part}
 use Rattle.call_history.specs.declared.part.PartEnd.{PartEnd}
 use Rattle.call_history.specs.declared.part.PartEnd.TheVariants as over
@@ -36,6 +36,39 @@ failed_write-steady _ x n = refl
 
 pub failed_write-is : IsSteady failed_write
 failed_write-is = record { whole = failed_write-whole; steady = failed_write-steady }
+
+failed_read-whole : (op : Op) → failed_read op ends.Ok ≡ 0
+failed_read-whole (Read start count) = refl
+failed_read-whole _ = refl
+
+failed_read-steady : (op : Op) (x : PartEnd) (n : ℕ)
+    → failed_read op (op_end x n) ≡ failed_read op (op_end x 0)
+failed_read-steady (Read start count) over.Carried n = refl
+failed_read-steady (Read start count) _ n = refl
+failed_read-steady _ x n = refl
+
+pub failed_read-is : IsSteady failed_read
+failed_read-is = record { whole = failed_read-whole; steady = failed_read-steady }
+
+starved-whole : (op : Op) → starved op ends.Ok ≡ 0
+starved-whole (Write start count stuff) = refl
+starved-whole _ = refl
+
+starved-steady : (op : Op) (x : PartEnd) (n : ℕ) → starved op (op_end x n) ≡ starved op (op_end x 0)
+starved-steady (Write start count stuff) over.Carried n = refl
+starved-steady (Write start count stuff) _ n = refl
+starved-steady _ x n = refl
+
+pub starved-is : IsSteady starved
+starved-is = record { whole = starved-whole; steady = starved-steady }
+
+tells_fault-steady : (f : ℕ) (op : Op) (x : PartEnd) (n : ℕ)
+    → tells_fault f op (op_end x n) ≡ tells_fault f op (op_end x 0)
+tells_fault-steady f op over.Carried n = refl
+tells_fault-steady f op _ n = refl
+
+pub tells_fault-is : (f : ℕ) → IsSteady (tells_fault f)
+tells_fault-is f = record { whole = λ op. refl; steady = tells_fault-steady f }
 
 beyond-steady : (op : Op) (x : PartEnd) (n : ℕ) → beyond op (op_end x n) ≡ beyond op (op_end x 0)
 beyond-steady op over.Carried n = refl

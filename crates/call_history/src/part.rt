@@ -12,7 +12,8 @@ pub struct Part {
     pub page: u32,
 }
 
-/// How a piece ended. An end other than `Carried` ends its operation too.
+/// How a piece ended. An end other than `Carried` ends its operation too; where it is `Eio`, a read's
+/// piece stands in the order of its page.
 #[derive(Clone, Copy, PartialEq, Eq)]
 pub enum PartEnd {
     /// It was carried out.

@@ -189,7 +189,7 @@ fn are_bytes(bytes: &[u8])
     let _count = bytes.len();
 }
 
-/// Sets the page for which a form without an object stands.
+/// Sets the page for which a form without an object or a block stands.
 pub fn expand(kept: Kept, page: &mut Page)
     requires { IsPlain kept }
     ensures { page.new ≡ plain_page kept }
