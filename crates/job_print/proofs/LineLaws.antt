@@ -13,14 +13,17 @@ use Rattle.zr_base.specs.declared.op.Tag.{Tag}
 use Rattle.zr_base.specs.declared.op.OpEnd.{OpEnd}
 use Rattle.mem_account.specs.declared.account.MmStat.{MmStat}
 use Rattle.mem_account.specs.declared.account.IoStat.{IoStat}
+use Rattle.backing_dev.specs.declared.stat.BdStat.{BdStat}
 use Rattle.size_class.specs.declared.stat.ClassStat.{ClassStat}
 use Rattle.job_text.specs.declared.fault.Cause.{Cause}
 use Rattle.job_text.specs.declared.fault.JobFault.{JobFault}
+use Rattle.job_print.specs.declared.line.Refusal.{Refusal}
+use Rattle.job_print.specs.declared.line.Refusal.TheVariants as refusals
 use Rattle.job_print.specs.declared.line.OutLine.{OutLine}
 use Rattle.job_print.specs.declared.line.OutLine.TheVariants as lines
-use Rattle.job_print.specs.Texts.{hex_digit, hex_byte, word_digits, spaced, tag_word, end_words, memory_numbers, calls_numbers, cell_words, use_words, cause_word, name_of, words_of, is_filled}
+use Rattle.job_print.specs.Texts.{hex_digit, hex_byte, word_digits, spaced, tag_word, end_words, memory_numbers, calls_numbers, device_numbers, cell_words, use_words, cause_word, refusal_words, name_of, words_of, is_filled}
 use Rattle.job_print.specs.Proper.{IsProperTag, IsProperStat, AreLong, AreShort, IsProper}
-use Rattle.job_print.specs.Reading.{all_in, number_in, short_in, below, bytes_in, word_in, other_sector, tag_in, end_in, letters_in, cause_in, op_in, fill_in, hex_in, order_in, memory_of, memory_in, calls_of, calls_in, state_in, stat_by, class_number_in, numbered_class, are_names, class_in, fault_in, usage_in, named_in, line_by, line_in}
+use Rattle.job_print.specs.Reading.{all_in, number_in, short_in, below, bytes_in, word_in, other_sector, tag_in, end_in, letters_in, cause_in, op_in, fill_in, hex_in, order_in, memory_of, memory_in, calls_of, calls_in, device_of, device_in, refusal_in, refused_in, state_in, stat_by, class_number_in, numbered_class, are_names, class_in, fault_in, usage_in, named_in, line_by, line_in}
 use Rattle.job_print.proofs.Filled.{fill_test, other_test}
 use Rattle.job_print.proofs.Digits.{some_when, bytes-hex, bytes_some, word-digits, word_some}
 use Rattle.job_print.proofs.Numbers.{none_when, number-decimal, number_some, short-decimal, short_some, below_some}
@@ -223,6 +226,43 @@ calls_some words line e =
     let p = long_some 4 words ns size one in
     subst (IsRead (codes "io_stat") words) (WordLaws.some_is (lines.Io (calls_of ns)) line last)
     (record { named = refl; worded = p.0; proper = p.1 }))
+
+device-line : (stat : BdStat) → AreLong (device_numbers stat)
+    → device_in (map decimal (device_numbers stat)) ≡ Some (lines.Bd stat)
+unfolding device_in
+device-line stat is = ap (option_map (λ ns. lines.Bd (device_of ns)))
+    (WordLaws.all_in-map number_in decimal (λ n. n < 2 ^ 64) number-decimal (device_numbers stat) is)
+
+device_some : (words : List (List ℕ)) (line : OutLine) → device_in words ≡ Some line
+    → IsRead (codes "bd_stat") words line
+unfolding device_in name_of words_of
+device_some words line e =
+    let parts = some_when (length words == 3) _ line e in
+    let size : length words ≡ 3 = eqb-true (length words) 3 parts.0 in
+    option_and_then_some (λ ns. Some (lines.Bd (device_of ns))) (all_in number_in words) line parts.1
+    (λ ns one last.
+    let p = long_some 3 words ns size one in
+    subst (IsRead (codes "bd_stat") words) (WordLaws.some_is (lines.Bd (device_of ns)) line last)
+    (record { named = refl; worded = p.0; proper = p.1 }))
+
+-- ---- refusals
+
+refused-line : (refusal : Refusal)
+    → refused_in (refusal_words refusal) ≡ Some (lines.Refused refusal)
+unfolding refused_in refusal_in
+refused-line refusals.DisksizeBusy = refl
+refused-line refusals.BackingBusy = refl
+refused-line refusals.BackingRange = refl
+
+refused_some : (words : List (List ℕ)) (line : OutLine) → refused_in words ≡ Some line
+    → IsRead (codes "attr") words line
+unfolding refused_in name_of words_of
+refused_some (attr ∷ why ∷ []) line e =
+    option_and_then_some (λ r. Some (lines.Refused r)) (refusal_in attr why) line e
+    (λ r one last.
+    subst (IsRead (codes "attr") (attr ∷ why ∷ [])) (WordLaws.some_is (lines.Refused r) line last)
+    (record { named = refl; worded = WordLaws.refusal_some attr why r one; proper = tt }))
+refused_some words line e = cc
 
 -- ---- state
 
@@ -458,11 +498,15 @@ named_some name words line e =
     (λ is told. named_as name (codes "mm_stat") words line is (memory_some words line told))
     (λ e. WordLaws.chosen (bytes_eq name (codes "io_stat")) _ _ line e
     (λ is told. named_as name (codes "io_stat") words line is (calls_some words line told))
+    (λ e. WordLaws.chosen (bytes_eq name (codes "bd_stat")) _ _ line e
+    (λ is told. named_as name (codes "bd_stat") words line is (device_some words line told))
+    (λ e. WordLaws.chosen (bytes_eq name (codes "attr")) _ _ line e
+    (λ is told. named_as name (codes "attr") words line is (refused_some words line told))
     (λ e. WordLaws.chosen (bytes_eq name (codes "job")) _ _ line e
     (λ is told. named_as name (codes "job") words line is (fault_some words line told))
     (λ e. WordLaws.chosen (bytes_eq name (codes "usage:")) _ _ line e
     (λ is told. named_as name (codes "usage:") words line is (usage_some words line told))
-    (λ none. cc))))))))))
+    (λ none. cc))))))))))))
 
 named-line : (line : OutLine) → IsProper line → named_in (name_of line) (words_of line) ≡ Some line
 unfolding named_in name_of words_of
@@ -472,6 +516,8 @@ named-line (lines.Hex bytes) is = hex-line bytes is
 named-line (lines.Order page tags) is = order-line page tags is
 named-line (lines.Mm stat) is = memory-line stat is
 named-line (lines.Io stat) is = calls-line stat is
+named-line (lines.Bd stat) is = device-line stat is
+named-line (lines.Refused refusal) is = refused-line refusal
 named-line (lines.State page letters touched) is = state-line page letters touched is
 named-line (lines.Class stat) is = class-line stat is
 named-line (lines.Job fault) is = fault-line fault is
@@ -509,6 +555,8 @@ name_word (lines.Hex bytes) = refl
 name_word (lines.Order page tags) = refl
 name_word (lines.Mm stat) = refl
 name_word (lines.Io stat) = refl
+name_word (lines.Bd stat) = refl
+name_word (lines.Refused refusal) = refl
 name_word (lines.State page letters touched) = refl
 name_word (lines.Class stat) = refl
 name_word (lines.Job fault) = refl
@@ -529,6 +577,9 @@ words_words (lines.Mm stat) is =
     WordLaws.all_words number_in decimal (λ n. n < 2 ^ 64) WordLaws.long_word (memory_numbers stat) is
 words_words (lines.Io stat) is =
     WordLaws.all_words number_in decimal (λ n. n < 2 ^ 64) WordLaws.long_word (calls_numbers stat) is
+words_words (lines.Bd stat) is =
+    WordLaws.all_words number_in decimal (λ n. n < 2 ^ 64) WordLaws.long_word (device_numbers stat) is
+words_words (lines.Refused refusal) is = WordLaws.refusal_is_words refusal
 words_words (lines.State page letters touched) is =
     ap (λ b. b && (is_word letters && (is_word (decimal touched) && true))) (WordLaws.short_word page is.0)
     ∙ ap (λ b. b && (is_word (decimal touched) && true)) (WordLaws.letters_word letters is.1)

@@ -14,9 +14,11 @@ use Rattle.zr_base.specs.declared.op.OpEnd.{OpEnd}
 use Rattle.zr_base.specs.declared.op.OpEnd.TheVariants as ends
 use Rattle.job_text.specs.declared.fault.Cause.{Cause}
 use Rattle.job_text.specs.declared.fault.Cause.TheVariants as causes
-use Rattle.job_print.specs.Texts.{tag_word, end_words, cause_word}
+use Rattle.job_print.specs.declared.line.Refusal.{Refusal}
+use Rattle.job_print.specs.declared.line.Refusal.TheVariants as refusals
+use Rattle.job_print.specs.Texts.{tag_word, end_words, cause_word, refusal_words}
 use Rattle.job_print.specs.Proper.{IsProperTag, IsProperEnd, AreLong, IsLetter, AreLetters}
-use Rattle.job_print.specs.Reading.{all_in, number_in, short_in, tag_at, tag_in, limit_end_in, memory_end_in, compacted_in, triple_end_in, plain_end_in, end_in, is_letter, letters_in, cause_in}
+use Rattle.job_print.specs.Reading.{all_in, number_in, short_in, tag_at, tag_in, limit_end_in, memory_end_in, eio_in, fault_end_in, compacted_in, triple_end_in, plain_end_in, end_in, is_letter, letters_in, cause_in, refusal_in}
 use Rattle.job_print.proofs.Numbers.{number-decimal, number_some, short-decimal, short_some, decimal_digits}
 use Rattle.job_print.proofs.Marks.{is_word, position-marked, position_marks, digits_word, digits_lack}
 
@@ -129,7 +131,7 @@ tag_is_word tag is =
 -- ---- ends
 
 pub end-words : (end : OpEnd) → IsProperEnd end → end_in (end_words end) ≡ Some end
-unfolding end_in plain_end_in memory_end_in triple_end_in limit_end_in
+unfolding end_in plain_end_in memory_end_in fault_end_in triple_end_in limit_end_in
 end-words ends.Ok is = refl
 end-words ends.Range is = refl
 end-words (ends.AtLimit pages need limit done) is =
@@ -140,6 +142,11 @@ end-words (ends.AtLimit pages need limit done) is =
     ∙ ap (λ (o : Option ℕ). option_and_then (λ d. Some (ends.AtLimit pages need limit d)) o)
     (short-decimal done is.3)
 end-words (ends.NoMemory done) is = ap (option_map ends.NoMemory) (short-decimal done is)
+end-words (ends.Eio fault done) is =
+    ap (λ (o : Option ℕ). option_and_then (λ f. option_and_then
+    (λ d. Some (ends.Eio f d)) (short_in (decimal done))) o) (number-decimal fault is.0)
+    ∙ ap (λ (o : Option ℕ). option_and_then (λ d. Some (ends.Eio fault d)) o)
+    (short-decimal done is.1)
 end-words (ends.Compacted moves frames) is =
     ap (λ (o : Option ℕ). option_and_then (λ m. option_and_then
     (λ f. Some (ends.Compacted m f)) (number_in (decimal frames))) o) (number-decimal moves is.0)
@@ -180,6 +187,34 @@ memory_some word name done end e =
           ∙ ap (λ w. word ∷ w ∷ decimal d ∷ []) (sym b) ∙ ap (λ w. word ∷ name ∷ w ∷ []) p.0,
       p.1,
     )))
+    (λ none. cc)
+
+eio_some : (word fault name done : List ℕ) (end : OpEnd) → word ≡ codes "eio" → name ≡ codes "done"
+    → eio_in fault done ≡ Some end
+    → IsEnd end (word ∷ fault ∷ name ∷ done ∷ [])
+eio_some word fault name done end is named e =
+    option_and_then_some (λ f. option_and_then (λ d. Some (ends.Eio f d)) (short_in done))
+    (number_in fault) end e
+    (λ f one rest.
+    option_and_then_some (λ d. Some (ends.Eio f d)) (short_in done) end rest
+    (λ d two last.
+    let p = number_some fault f one in
+    let q = short_some done d two in
+    let P : OpEnd → Type 0 = λ x. IsEnd x (word ∷ fault ∷ name ∷ done ∷ []) in
+    let a = p.0 in
+    let b = q.0 in
+    let all : end_words (ends.Eio f d) ≡ word ∷ fault ∷ name ∷ done ∷ [] = cc in
+    subst P (some_is (ends.Eio f d) end last) (all, (p.1, q.1))))
+
+fault_some : (word fault name done : List ℕ) (end : OpEnd)
+    → fault_end_in word fault name done ≡ Some end
+    → IsEnd end (word ∷ fault ∷ name ∷ done ∷ [])
+unfolding fault_end_in
+fault_some word fault name done end e =
+    chosen (bytes_eq word (codes "eio") && bytes_eq name (codes "done")) _ _ end e
+    (λ is told. let parts = and_parts _ _ is in
+    eio_some word fault name done end (same_bytes word (codes "eio") parts.0)
+    (same_bytes name (codes "done") parts.1) told)
     (λ none. cc)
 
 compacted_some : (word moves frames : List ℕ) (end : OpEnd) → word ≡ codes "compacted"
@@ -248,6 +283,7 @@ pub end_some : (words : List (List ℕ)) (end : OpEnd) → end_in words ≡ Some
 unfolding end_in
 end_some (word ∷ []) end e = plain_some word end e
 end_some (word ∷ second ∷ third ∷ []) end e = triple_some word second third end e
+end_some (word ∷ fault ∷ name ∷ done ∷ []) end e = fault_some word fault name done end e
 end_some (word ∷ pages ∷ need ∷ limit ∷ name ∷ done ∷ []) end e =
     limit_some word pages need limit name done end e
 end_some words end e = cc
@@ -262,6 +298,9 @@ end_is_words (ends.AtLimit pages need limit done) is =
     ∙ ap (λ b. b && (is_word (decimal done) && true)) (long_word limit is.2)
     ∙ ap (λ b. b && true) (short_word done is.3)
 end_is_words (ends.NoMemory done) is = ap (λ b. b && true) (short_word done is)
+end_is_words (ends.Eio fault done) is =
+    ap (λ b. b && (is_word (decimal done) && true)) (long_word fault is.0)
+    ∙ ap (λ b. b && true) (short_word done is.1)
 end_is_words (ends.Compacted moves frames) is =
     ap (λ b. b && (is_word (decimal frames) && true)) (long_word moves is.0)
     ∙ ap (λ b. b && true) (long_word frames is.1)
@@ -373,3 +412,34 @@ cause_some word cause e =
     (λ e. chosen (bytes_eq word (codes "order")) _ _ cause e
     (λ is told. caused word causes.Order cause (same_bytes word (codes "order") is) told)
     (λ none. cc))))))
+
+-- ---- refusals
+
+pub refusal_is_words : (refusal : Refusal) → list_all is_word (refusal_words refusal) ≡ true
+refusal_is_words refusals.DisksizeBusy = refl
+refusal_is_words refusals.BackingBusy = refl
+refusal_is_words refusals.BackingRange = refl
+
+refused : (attr why a w : List ℕ) (told refusal : Refusal) → refusal_words told ≡ a ∷ w ∷ []
+    → (bytes_eq attr a && bytes_eq why w) ≡ true → Some told ≡ Some refusal
+    → refusal_words refusal ≡ attr ∷ why ∷ []
+refused attr why a w told refusal words is e =
+    let parts = and_parts (bytes_eq attr a) (bytes_eq why w) is in
+    ap refusal_words (sym (some_is told refusal e)) ∙ words
+    ∙ ap (λ x. x ∷ w ∷ []) (sym (same_bytes attr a parts.0))
+    ∙ ap (λ x. attr ∷ x ∷ []) (sym (same_bytes why w parts.1))
+
+pub refusal_some : (attr why : List ℕ) (refusal : Refusal) → refusal_in attr why ≡ Some refusal
+    → refusal_words refusal ≡ attr ∷ why ∷ []
+unfolding refusal_in
+refusal_some attr why refusal e =
+    chosen (bytes_eq attr (codes "disksize") && bytes_eq why (codes "busy")) _ _ refusal e
+    (λ is told. refused attr why (codes "disksize") (codes "busy") refusals.DisksizeBusy refusal
+    refl is told)
+    (λ e. chosen (bytes_eq attr (codes "backing") && bytes_eq why (codes "busy")) _ _ refusal e
+    (λ is told. refused attr why (codes "backing") (codes "busy") refusals.BackingBusy refusal
+    refl is told)
+    (λ e. chosen (bytes_eq attr (codes "backing") && bytes_eq why (codes "range")) _ _ refusal e
+    (λ is told. refused attr why (codes "backing") (codes "range") refusals.BackingRange refusal
+    refl is told)
+    (λ none. cc)))

@@ -7,7 +7,7 @@ use Rattle.zr_base.specs.declared.op.OpEnd.TheVariants as ends
 use Rattle.size_class.specs.declared.stat.ClassStat.{ClassStat}
 use Rattle.job_print.specs.declared.line.OutLine.{OutLine}
 use Rattle.job_print.specs.declared.line.OutLine.TheVariants as lines
-use Rattle.job_print.specs.Texts.{memory_numbers, calls_numbers, IsFilled}
+use Rattle.job_print.specs.Texts.{memory_numbers, calls_numbers, device_numbers, IsFilled}
 
 -- the numbers are those of 8 bytes
 abbrev pub AreLong : List ℕ → Type 0
@@ -24,6 +24,7 @@ IsProperEnd ends.Range = Unit {0}
 IsProperEnd (ends.AtLimit pages need limit done) =
     (pages < 2 ^ 64) × (need < 2 ^ 64) × (limit < 2 ^ 64) × (done < 2 ^ 32)
 IsProperEnd (ends.NoMemory done) = done < 2 ^ 32
+IsProperEnd (ends.Eio fault done) = (fault < 2 ^ 64) × (done < 2 ^ 32)
 IsProperEnd (ends.Compacted moves frames) = (moves < 2 ^ 64) × (frames < 2 ^ 64)
 
 -- the numbers of a tag are of their types
@@ -57,6 +58,8 @@ IsProper (lines.Order page tags) =
     (page < 2 ^ 32) × (1 ≤ length tags) × AllByRecursion IsProperTag tags
 IsProper (lines.Mm stat) = AreLong (memory_numbers stat)
 IsProper (lines.Io stat) = AreLong (calls_numbers stat)
+IsProper (lines.Bd stat) = AreLong (device_numbers stat)
+IsProper (lines.Refused refusal) = Unit {0}
 IsProper (lines.State page letters touched) =
     (page < 2 ^ 32) × AreLetters letters × (touched < 2 ^ 64)
 IsProper (lines.Class stat) = IsProperStat stat

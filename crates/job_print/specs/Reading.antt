@@ -9,9 +9,12 @@ use Rattle.zr_base.specs.declared.op.OpEnd.{OpEnd}
 use Rattle.zr_base.specs.declared.op.OpEnd.TheVariants as ends
 use Rattle.mem_account.specs.declared.account.MmStat.{MmStat}
 use Rattle.mem_account.specs.declared.account.IoStat.{IoStat}
+use Rattle.backing_dev.specs.declared.stat.BdStat.{BdStat}
 use Rattle.size_class.specs.declared.stat.ClassStat.{ClassStat}
 use Rattle.job_text.specs.declared.fault.Cause.{Cause}
 use Rattle.job_text.specs.declared.fault.Cause.TheVariants as causes
+use Rattle.job_print.specs.declared.line.Refusal.{Refusal}
+use Rattle.job_print.specs.declared.line.Refusal.TheVariants as refusals
 use Rattle.job_print.specs.declared.line.OutLine.{OutLine}
 use Rattle.job_print.specs.declared.line.OutLine.TheVariants as lines
 use Rattle.job_print.specs.Texts.{is_filled}
@@ -145,6 +148,18 @@ memory_end_in word name done =
     if bytes_eq word (codes "nomem") && bytes_eq name (codes "done")
     then option_map ends.NoMemory (short_in done) else None
 
+-- the end of an operation that the device failed, by the words of its numbers
+abbrev pub eio_in : List ℕ → List ℕ → Option OpEnd
+eio_in fault done = do
+  f ← number_in fault
+  d ← short_in done
+  Some (ends.Eio f d)
+
+-- the end of an operation that the device failed, if the words say so
+unfoldable pub fault_end_in : List ℕ → List ℕ → List ℕ → List ℕ → Option OpEnd
+fault_end_in word fault name done =
+    if bytes_eq word (codes "eio") && bytes_eq name (codes "done") then eio_in fault done else None
+
 -- the end of a compaction, by the words of its numbers
 abbrev pub compacted_in : List ℕ → List ℕ → Option OpEnd
 compacted_in moves frames = do
@@ -162,6 +177,7 @@ triple_end_in word second third =
 unfoldable pub end_in : List (List ℕ) → Option OpEnd
 end_in (word ∷ []) = plain_end_in word
 end_in (word ∷ second ∷ third ∷ []) = triple_end_in word second third
+end_in (word ∷ fault ∷ name ∷ done ∷ []) = fault_end_in word fault name done
 end_in (word ∷ pages ∷ need ∷ limit ∷ name ∷ done ∷ []) =
     limit_end_in word (pages ∷ need ∷ limit ∷ []) name done
 end_in words = None
@@ -186,6 +202,17 @@ cause_in word =
     else if bytes_eq word (codes "nodisk") then Some causes.NoDisk
     else if bytes_eq word (codes "toomany") then Some causes.TooMany
     else if bytes_eq word (codes "order") then Some causes.Order
+    else None
+
+-- why an attribute was refused, by its name and the word after it
+unfoldable pub refusal_in : List ℕ → List ℕ → Option Refusal
+refusal_in attr why =
+    if bytes_eq attr (codes "disksize") && bytes_eq why (codes "busy")
+    then Some refusals.DisksizeBusy
+    else if bytes_eq attr (codes "backing") && bytes_eq why (codes "busy")
+    then Some refusals.BackingBusy
+    else if bytes_eq attr (codes "backing") && bytes_eq why (codes "range")
+    then Some refusals.BackingRange
     else None
 
 -- ---- lines
@@ -251,6 +278,25 @@ unfoldable pub calls_in : List (List ℕ) → Option OutLine
 calls_in words =
     if length words == 4
     then option_map (λ ns. lines.Io (calls_of ns)) (all_in number_in words) else None
+
+-- the statistics of the backing device, by their numbers
+abbrev pub device_of : List ℕ → BdStat
+device_of ns = record {
+  count = get_or ns 0 0;
+  reads = get_or ns 1 0;
+  writes = get_or ns 2 0;
+}
+
+-- the words after `bd_stat`
+unfoldable pub device_in : List (List ℕ) → Option OutLine
+device_in words =
+    if length words == 3
+    then option_map (λ ns. lines.Bd (device_of ns)) (all_in number_in words) else None
+
+-- the words after `attr`
+unfoldable pub refused_in : List (List ℕ) → Option OutLine
+refused_in (attr ∷ why ∷ []) = option_map lines.Refused (refusal_in attr why)
+refused_in words = None
 
 -- the words after `state`
 unfoldable pub state_in : List (List ℕ) → Option OutLine
@@ -324,6 +370,8 @@ named_in name words =
     else if bytes_eq name (codes "class") then class_in words
     else if bytes_eq name (codes "mm_stat") then memory_in words
     else if bytes_eq name (codes "io_stat") then calls_in words
+    else if bytes_eq name (codes "bd_stat") then device_in words
+    else if bytes_eq name (codes "attr") then refused_in words
     else if bytes_eq name (codes "job") then fault_in words
     else if bytes_eq name (codes "usage:") then usage_in words
     else None

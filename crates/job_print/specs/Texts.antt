@@ -9,15 +9,18 @@ use Rattle.zr_base.specs.declared.op.OpEnd.{OpEnd}
 use Rattle.zr_base.specs.declared.op.OpEnd.TheVariants as ends
 use Rattle.mem_account.specs.declared.account.MmStat.{MmStat}
 use Rattle.mem_account.specs.declared.account.IoStat.{IoStat}
+use Rattle.backing_dev.specs.declared.stat.BdStat.{BdStat}
 use Rattle.mem_account.specs.declared.weight.Weight.{Weight}
 use Rattle.mem_account.specs.declared.weight.Weight.TheVariants as weights
 use Rattle.size_class.specs.declared.stat.ClassStat.{ClassStat}
 use Rattle.size_class.specs.Classes.{class_size, chain_of, per_of}
 use Rattle.size_class.specs.Groups.{group_of}
-use Rattle.plain_disk.specs.Output.{OutLine as PlainLine, ClassLine, ended, sector, ordered, memory, calls, state, class_of}
+use Rattle.plain_disk.specs.Output.{OutLine as PlainLine, ClassLine, AttrRefusal, disksize_busy, backing_busy, backing_range, ended, sector, ordered, memory, calls, device_calls, refused, state, class_of}
 use Rattle.job_text.specs.declared.fault.Cause.{Cause}
 use Rattle.job_text.specs.declared.fault.Cause.TheVariants as causes
 use Rattle.job_text.specs.declared.fault.JobFault.{JobFault}
+use Rattle.job_print.specs.declared.line.Refusal.{Refusal}
+use Rattle.job_print.specs.declared.line.Refusal.TheVariants as refusals
 use Rattle.job_print.specs.declared.line.OutLine.{OutLine}
 use Rattle.job_print.specs.declared.line.OutLine.TheVariants as lines
 
@@ -46,6 +49,7 @@ end_words ends.Range = codes "range" ∷ []
 end_words (ends.AtLimit pages need limit done) =
     codes "limit" ∷ decimal pages ∷ decimal need ∷ decimal limit ∷ codes "done" ∷ decimal done ∷ []
 end_words (ends.NoMemory done) = codes "nomem" ∷ codes "done" ∷ decimal done ∷ []
+end_words (ends.Eio fault done) = codes "eio" ∷ decimal fault ∷ codes "done" ∷ decimal done ∷ []
 end_words (ends.Compacted moves frames) = codes "compacted" ∷ decimal moves ∷ decimal frames ∷ []
 
 -- the nine numbers of `mm_stat`, in zram's order
@@ -56,6 +60,10 @@ memory_numbers m =
 -- the four numbers of `io_stat`, in zram's order
 abbrev pub calls_numbers : IoStat → List ℕ
 calls_numbers c = c.failed_reads ∷ c.failed_writes ∷ c.invalid_io ∷ c.notify_free ∷ []
+
+-- the three numbers of `bd_stat`, in zram's order
+abbrev pub device_numbers : BdStat → List ℕ
+device_numbers d = d.count ∷ d.reads ∷ d.writes ∷ []
 
 -- the words of a class, its cells and its chains
 abbrev pub cell_words : ClassStat → List (List ℕ)
@@ -78,6 +86,12 @@ cause_word causes.NoDisk = codes "nodisk"
 cause_word causes.TooMany = codes "toomany"
 cause_word causes.Order = codes "order"
 
+-- the words of a refusal: the attribute, and why it was refused
+abbrev pub refusal_words : Refusal → List (List ℕ)
+refusal_words refusals.DisksizeBusy = codes "disksize" ∷ codes "busy" ∷ []
+refusal_words refusals.BackingBusy = codes "backing" ∷ codes "busy" ∷ []
+refusal_words refusals.BackingRange = codes "backing" ∷ codes "range" ∷ []
+
 -- ---- lines
 
 -- the first word of a line
@@ -88,6 +102,8 @@ name_of (lines.Hex bytes) = codes "hex"
 name_of (lines.Order page tags) = codes "order"
 name_of (lines.Mm stat) = codes "mm_stat"
 name_of (lines.Io stat) = codes "io_stat"
+name_of (lines.Bd stat) = codes "bd_stat"
+name_of (lines.Refused refusal) = codes "attr"
 name_of (lines.State page letters touched) = codes "state"
 name_of (lines.Class stat) = codes "class"
 name_of (lines.Job fault) = codes "job"
@@ -101,6 +117,8 @@ words_of (lines.Hex bytes) = flat_map hex_byte bytes ∷ []
 words_of (lines.Order page tags) = decimal page ∷ map tag_word tags
 words_of (lines.Mm stat) = map decimal (memory_numbers stat)
 words_of (lines.Io stat) = map decimal (calls_numbers stat)
+words_of (lines.Bd stat) = map decimal (device_numbers stat)
+words_of (lines.Refused refusal) = refusal_words refusal
 words_of (lines.State page letters touched) = decimal page ∷ letters ∷ decimal touched ∷ []
 words_of (lines.Class stat) = cell_words stat ++ use_words stat
 words_of (lines.Job fault) = decimal fault.line ∷ cause_word fault.cause ∷ []
@@ -162,6 +180,18 @@ stat_of c = record {
   groups = map (in_group (per_of c.chain c.class) c.used) (range_with_len 1 11);
 }
 
+-- what is printed of a refusal
+abbrev pub refusal_of : AttrRefusal → Refusal
+refusal_of disksize_busy = refusals.DisksizeBusy
+refusal_of backing_busy = refusals.BackingBusy
+refusal_of backing_range = refusals.BackingRange
+
+-- the refusal of which that is printed
+abbrev pub why_of : Refusal → AttrRefusal
+why_of refusals.DisksizeBusy = disksize_busy
+why_of refusals.BackingBusy = backing_busy
+why_of refusals.BackingRange = backing_range
+
 -- what is printed of a line
 abbrev pub shown : PlainLine → OutLine
 shown (ended tag end) = lines.Op tag.actor tag.op end
@@ -169,6 +199,8 @@ shown (sector bytes) = sector_line bytes
 shown (ordered page tags) = lines.Order page tags
 shown (memory stat) = lines.Mm stat
 shown (calls stat) = lines.Io stat
+shown (device_calls stat) = lines.Bd stat
+shown (refused why) = lines.Refused (refusal_of why)
 shown (state s) = lines.State s.page (letters_of s.kept) s.touched
 shown (class_of c) = lines.Class (stat_of c)
 

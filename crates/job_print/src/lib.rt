@@ -11,9 +11,10 @@ mod text;
 mod words;
 
 pub use laws::equal_words_fill;
-pub use line::{OutLine, OutText, TagList};
+pub use line::{OutLine, OutText, Refusal, TagList};
 pub use put::{
-    put_calls, put_class, put_fault, put_memory, put_op, put_order, put_state, put_usage,
+    put_calls, put_class, put_device, put_fault, put_memory, put_op, put_order, put_refused,
+    put_state, put_usage,
 };
 pub use reader::{OutFault, read_output};
 pub use text::print;

@@ -1,5 +1,6 @@
 //! A line of an output.
 
+use backing_dev::BdStat;
 use job_text::JobFault;
 use mem_account::{IoStat, MmStat};
 use size_class::ClassStat;
@@ -7,6 +8,17 @@ use zr_base::{Bytes, List, OpEnd, Tag};
 
 /// The calls of an order, the first first.
 pub type TagList = List<Tag>;
+
+/// Why an attribute was refused.
+#[derive(Clone, Copy, PartialEq, Eq, Debug)]
+pub enum Refusal {
+    /// The disk's size is set already.
+    DisksizeBusy,
+    /// It is set, so that no backing can be.
+    BackingBusy,
+    /// The device has fewer blocks.
+    BackingRange,
+}
 
 /// A line of an output.
 #[derive(Drop)]
@@ -30,6 +42,10 @@ pub enum OutLine {
     Mm(MmStat),
     /// Those of what failed, was refused or was discarded.
     Io(IoStat),
+    /// Those of the backing device.
+    Bd(BdStat),
+    /// An attribute was refused.
+    Refused(Refusal),
     /// A page that isn't empty: the letters `s`, `w`, `h` and `i`, each replaced by `.` where it
     /// doesn't hold, and when the page was touched, in seconds.
     State {

@@ -2,12 +2,13 @@
 
 ghost use Rattle.std.specs.Prelude.{◌≡◌, ◌==◌, [], ◌∷◌, length, map, IfOk};
 ghost use Rattle.std.specs.List.{slice_split};
-ghost use Rattle.job_print.specs.Reading.{op_in, word_in, fill_in, sector_in, class_number_in, hex_in, order_in, memory_in, calls_in, state_in, are_names, numbered_class, class_in, fault_in, usage_in, named_in, line_in};
+ghost use Rattle.job_print.specs.Reading.{op_in, word_in, fill_in, sector_in, class_number_in, hex_in, order_in, memory_in, calls_in, device_in, refused_in, state_in, are_names, numbered_class, class_in, fault_in, usage_in, named_in, line_in};
 
 use crate::line::OutLine;
 use crate::number::{number, numbers, short, shorts};
 use crate::put::is_filled;
-use crate::words::{bytes, cause, end, letters, push, tags};
+use crate::words::{bytes, cause, end, letters, push, refusal, tags};
+use backing_dev::BdStat;
 use job_text::JobFault;
 use mem_account::{IoStat, MmStat};
 use size_class::ClassStat;
@@ -146,6 +147,34 @@ fn calls_line(words: &[&[u8]]) -> Option<OutLine>
         invalid_io: ns[2],
         notify_free: ns[3],
     }))
+}
+
+#[tactic(auto, unfolding(crate::specs::Reading::device_in))]
+fn device_line(words: &[&[u8]]) -> Option<OutLine>
+    ensures { result ≡ device_in (map (λ word. word.now) words.now) }
+{
+    if words.len() != 3 {
+        return None;
+    }
+    let mut ns = [0; 3];
+    if !numbers(words, &mut ns) {
+        return None;
+    }
+    Some(OutLine::Bd(BdStat {
+        count: ns[0],
+        reads: ns[1],
+        writes: ns[2],
+    }))
+}
+
+#[tactic(auto, unfolding(crate::specs::Reading::refused_in))]
+fn refused_line(words: &[&[u8]]) -> Option<OutLine>
+    ensures { result ≡ refused_in (map (λ word. word.now) words.now) }
+{
+    match words {
+        [attr, why] => Some(OutLine::Refused(refusal(attr, why)?)),
+        _ => None,
+    }
 }
 
 #[tactic(auto, unfolding(crate::specs::Reading::state_in))]
@@ -288,6 +317,10 @@ fn named_line(alloc: Global, name: &[u8], words: &[&[u8]]) -> Result<Option<OutL
         Ok(memory_line(words))
     } else if name == b"io_stat".as_slice() {
         Ok(calls_line(words))
+    } else if name == b"bd_stat".as_slice() {
+        Ok(device_line(words))
+    } else if name == b"attr".as_slice() {
+        Ok(refused_line(words))
     } else if name == b"job".as_slice() {
         Ok(fault_line(words))
     } else if name == b"usage:".as_slice() {

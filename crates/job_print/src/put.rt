@@ -3,11 +3,13 @@
 ghost use Rattle.std.specs.Prelude.{◌≡◌, ℕ, ◌*◌, ◌≤◌, ◌++◌, [], ◌∷◌, length, map, OnOk};
 ghost use Rattle.std.specs.List.{flat_map};
 ghost use Rattle.std.specs.Fmt.{decimal};
-ghost use Rattle.plain_disk.specs.Output.{sector, ClassLine, StateLine, memory, calls, state, class_of, op_lines, order_line};
-ghost use Rattle.job_print.specs.Texts.{hex_digit, hex_byte, word_digits, tag_word, end_words, cell_words, use_words, cause_word, letters_of, spaced, out_line, is_filled, sector_line, shown, line_text, text, fault_text, usage_text, IsSummary};
+ghost use Rattle.plain_disk.specs.Output.{sector, ClassLine, StateLine, memory, calls, device_calls, refused, state, class_of, op_lines, order_line};
+ghost use Rattle.job_print.specs.Texts.{hex_digit, hex_byte, word_digits, tag_word, end_words, cell_words, use_words, cause_word, refusal_words, why_of, letters_of, spaced, out_line, is_filled, sector_line, shown, line_text, text, fault_text, usage_text, IsSummary};
 ghost use Rattle.job_print.specs.declared.line.OutLine.TheVariants as lines;
 
+use crate::line::Refusal;
 use crate::number::put_number;
+use backing_dev::BdStat;
 use job_text::{Cause, JobFault};
 use mem_account::{IoStat, MmStat, Weight};
 use size_class::ClassStat;
@@ -72,6 +74,14 @@ fn put_numbers(out: &mut Vec<u8>, numbers: &[u64]) -> Result<(), AllocError>
     Ok(())
 }
 
+// A number after its name.
+fn put_named(out: &mut Vec<u8>, name: &[u8], n: u32) -> Result<(), AllocError>
+    ensures { OnOk result (out.new.items ≡ out.old.items ++ spaced (name.now ∷ decimal n ∷ [])) }
+{
+    put_word(out, name)?;
+    put_next(out, u64::from(n))
+}
+
 // The words of an operation's end, each after a space.
 fn put_end(out: &mut Vec<u8>, end: OpEnd) -> Result<(), AllocError>
     ensures { OnOk result (out.new.items ≡ out.old.items ++ spaced (end_words end)) }
@@ -87,13 +97,16 @@ fn put_end(out: &mut Vec<u8>, end: OpEnd) -> Result<(), AllocError>
         } => {
             put_word(out, b"limit")?;
             put_numbers(out, &[pages, need, limit])?;
-            put_word(out, b"done")?;
-            put_next(out, u64::from(done))
+            put_named(out, b"done", done)
         }
         OpEnd::NoMemory { done } => {
             put_word(out, b"nomem")?;
-            put_word(out, b"done")?;
-            put_next(out, u64::from(done))
+            put_named(out, b"done", done)
+        }
+        OpEnd::Eio { fault, done } => {
+            put_word(out, b"eio")?;
+            put_next(out, fault)?;
+            put_named(out, b"done", done)
         }
         OpEnd::Compacted { moves, frames } => {
             put_word(out, b"compacted")?;
@@ -260,6 +273,48 @@ pub fn put_calls(out: &mut Vec<u8>, stat: &IoStat) -> Result<(), AllocError>
     Ok(())
 }
 
+/// The line of the statistics of the backing device.
+#[tactic(auto, unfolding(crate::specs::Texts::name_of, crate::specs::Texts::words_of))]
+pub fn put_device(out: &mut Vec<u8>, stat: &BdStat) -> Result<(), AllocError>
+    ensures { OnOk result (out.new.items ≡ out.old.items ++ line_text (device_calls stat.now)) }
+{
+    out.extend_from_slice(b"bd_stat")?;
+    put_numbers(out, &[stat.count, stat.reads, stat.writes])?;
+    out.push(b'\n')?;
+    Ok(())
+}
+
+fn refusal_text(refusal: Refusal) -> &'static [u8]
+    ensures { result.now ≡ spaced (refusal_words refusal) }
+{
+    match refusal {
+        Refusal::DisksizeBusy => b" disksize busy",
+        Refusal::BackingBusy => b" backing busy",
+        Refusal::BackingRange => b" backing range",
+    }
+}
+
+// The line of an attribute that was refused so.
+#[tactic(auto, unfolding(crate::specs::Texts::name_of, crate::specs::Texts::words_of))]
+fn put_refusal(out: &mut Vec<u8>, refusal: Refusal) -> Result<(), AllocError>
+    ensures { OnOk result (out.new.items ≡ out.old.items ++ out_line (lines.Refused refusal)) }
+{
+    out.extend_from_slice(b"attr")?;
+    out.extend_from_slice(refusal_text(refusal))?;
+    out.push(b'\n')?;
+    Ok(())
+}
+
+/// The line of an attribute that was refused.
+pub fn put_refused(out: &mut Vec<u8>, refusal: Refusal) -> Result<(), AllocError>
+    ensures refusal { OnOk result (out.new.items ≡ out.old.items
+        ++ out_line (lines.Refused refusal)) }
+    ensures line { OnOk result (out.new.items ≡ out.old.items
+        ++ line_text (refused (why_of refusal))) }
+{
+    put_refusal(out, refusal)
+}
+
 fn letters(kept: Weight) -> [u8; 4]
     ensures { result ≡ letters_of kept }
 {
@@ -306,14 +361,6 @@ fn put_groups(out: &mut Vec<u8>, groups: &[u32; 11]) -> Result<(), AllocError>
         put_next(out, u64::from(*n))?;
     }
     Ok(())
-}
-
-// A number after its name.
-fn put_named(out: &mut Vec<u8>, name: &[u8], n: u32) -> Result<(), AllocError>
-    ensures { OnOk result (out.new.items ≡ out.old.items ++ spaced (name.now ∷ decimal n ∷ [])) }
-{
-    put_word(out, name)?;
-    put_next(out, u64::from(n))
 }
 
 // A class, its cells and its chains.

@@ -4,7 +4,11 @@ ghost use Rattle.std.specs.Prelude.{◌<◌, ◌^◌, length};
 ghost use Rattle.std.specs.List.{AllByRecursion};
 ghost use Rattle.job_print.specs.Proper.{IsProper};
 
-use crate::{OutFault, OutLine, print, put_class, put_op, put_order, put_state, read_output};
+use crate::{
+    OutFault, OutLine, Refusal, print, put_class, put_device, put_op, put_order, put_refused,
+    put_state, read_output,
+};
+use backing_dev::BdStat;
 use mem_account::Weight;
 use size_class::ClassStat;
 use std::alloc::{AllocError, Global};
@@ -48,10 +52,14 @@ fn prints_what_it_read(rt: HostRuntime) -> Result<(), Fail> {
         "job 4294967295 word\njob 1 number\njob 2 range\njob 3 nodisk\njob 10 order\n",
         "op 0 0 ok\nop 63 999999 range\n",
         "op 0 1 limit 2 1 2 done 0\nop 4294967295 0 nomem done 4294967295\n",
+        "op 0 0 eio 1 done 0\nop 0 1 eio 18446744073709551615 done 4294967295\n",
+        "op 0 0 eio 12 done 1\nfill 00000000000000aa\norder 0 0:0\n",
         "op 1 2 compacted 0 0\nop 0 0 compacted 18446744073709551615 10\n",
         "fill 00000000000000aa\nfill 0123456789abcdef\n",
         "order 0 0:0 1:0\norder 262143 4294967295:4294967295\n",
         "mm_stat 4096 74 12288 0 18446744073709551615 0 0 0 1\nio_stat 0 10 100 99\n",
+        "attr disksize busy\nattr backing range\nattr backing busy\nbd_stat 0 0 0\n",
+        "bd_stat 3 18446744073709551615 10\nmm_stat 0 0 0 0 0 0 0 0 0\n",
         "state 0 s... 0\nstate 1 .w.. 5\nstate 2 ..hi 18446744073709551615\nstate 3 .... 7\n",
         "class 71 1168 pages 2 per 7 used 1 zspages 1 groups 0 1 0 0 0 0 0 0 0 0 0\n",
     ];
@@ -63,10 +71,9 @@ fn prints_what_it_read(rt: HostRuntime) -> Result<(), Fail> {
 }
 
 #[test]
-fn tells_the_first_faulty_line(rt: HostRuntime) -> Result<(), Fail> {
+fn tells_the_first_faulty_end(rt: HostRuntime) -> Result<(), Fail> {
     let table = [
         ("op 0 0 ok", 1),
-        ("\n", 1),
         ("op 00 0 ok\n", 1),
         ("op 0 0  ok\n", 1),
         ("op 0 0 ok \n", 1),
@@ -74,10 +81,29 @@ fn tells_the_first_faulty_line(rt: HostRuntime) -> Result<(), Fail> {
         ("op 4294967296 0 ok\n", 1),
         ("op 0 0 ok\nop 0 1 nomem done\n", 2),
         ("op 0 0 ok\n\nop 0 1 ok\n", 2),
+        ("op 0 0 eio 1\n", 1),
+        ("op 0 0 eio done 0\n", 1),
+        ("op 0 0 eio 1 done\n", 1),
+        ("op 0 0 eio 01 done 0\n", 1),
+        ("op 0 0 eio 1 lost 0\n", 1),
+        ("op 0 0 eio 18446744073709551616 done 0\n", 1),
+        ("op 0 0 eio 1 done 0\nop 0 1 eio 1 done 4294967296\n", 2),
         ("op 0 0 compacted 01 0\n", 1),
         ("op 0 0 compacted 0 18446744073709551616\n", 1),
         ("op 0 0 compacted 1\n", 1),
         ("op 0 0 compacted 1 2\nop 0 1 compacted 1 2 3\n", 2),
+    ];
+    for (text, number) in table {
+        let back = read_back(rt.alloc(), text.as_bytes())?;
+        assert!(rt; matches!(back, Err(n) if n == number), "at {text}");
+    }
+    Ok(())
+}
+
+#[test]
+fn tells_the_first_faulty_line(rt: HostRuntime) -> Result<(), Fail> {
+    let table = [
+        ("\n", 1),
         ("fill AA00000000000000\n", 1),
         ("fill 0\n", 1),
         ("hex 00\n", 1),
@@ -86,6 +112,14 @@ fn tells_the_first_faulty_line(rt: HostRuntime) -> Result<(), Fail> {
         ("order 0 0\n", 1),
         ("mm_stat 0 0 0 0 0 0 0 0\n", 1),
         ("io_stat 0 0 0 18446744073709551616\n", 1),
+        ("bd_stat 0 0\n", 1),
+        ("bd_stat 0 0 0 0\n", 1),
+        ("bd_stat 0 18446744073709551616 0\n", 1),
+        ("attr backing busy\nattr disksize range\n", 2),
+        ("attr disksize\n", 1),
+        ("attr backing busy 1\n", 1),
+        ("attr mem_limit busy\n", 1),
+        ("attr  backing range\n", 1),
         ("state 0 .s.. 0\n", 1),
         (
             "class 256 32 pages 1 per 1 used 0 zspages 0 groups 0 0 0 0 0 0 0 0 0 0 0\n",
@@ -133,6 +167,16 @@ fn prints_parts(rt: HostRuntime) -> Result<(), Fail> {
     put_state(&mut out, 1, Weight::Same, 0)?;
     put_state(&mut out, 2, Weight::Packed(120), 0)?;
     put_state(&mut out, 3, Weight::Huge, 12)?;
+    put_state(&mut out, 4, Weight::Back, 0)?;
+    let device = BdStat {
+        count: 1,
+        reads: 0,
+        writes: 12,
+    };
+    put_device(&mut out, &device)?;
+    put_refused(&mut out, Refusal::DisksizeBusy)?;
+    put_refused(&mut out, Refusal::BackingBusy)?;
+    put_refused(&mut out, Refusal::BackingRange)?;
     let stat = ClassStat {
         class: 254,
         size: 4096,
@@ -144,6 +188,8 @@ fn prints_parts(rt: HostRuntime) -> Result<(), Fail> {
     };
     put_class(&mut out, &stat)?;
     let text = b"state 1 s... 0\nstate 2 .... 0\nstate 3 ..h. 12\n\
+        state 4 .w.. 0\nbd_stat 1 0 12\n\
+        attr disksize busy\nattr backing busy\nattr backing range\n\
         class 254 4096 pages 1 per 1 used 3 zspages 3 groups 0 0 0 0 0 0 0 0 0 0 3\n";
     assert!(rt; out.as_slice() == text.as_slice());
     Ok(())

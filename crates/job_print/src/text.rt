@@ -6,8 +6,8 @@ ghost use Rattle.job_print.specs.Proper.{IsProper};
 
 use crate::line::OutLine;
 use crate::put::{
-    put_bytes, put_calls, put_class, put_ended, put_fault, put_fill, put_letters, put_memory,
-    put_ordered, put_usage,
+    put_bytes, put_calls, put_class, put_device, put_ended, put_fault, put_fill, put_letters,
+    put_memory, put_ordered, put_refused, put_usage,
 };
 use std::alloc::AllocError;
 
@@ -22,6 +22,8 @@ fn put_line(out: &mut Vec<u8>, line: &OutLine) -> Result<(), AllocError>
         OutLine::Order { page, tags } => put_ordered(out, *page, tags.as_slice()),
         OutLine::Mm(stat) => put_memory(out, stat),
         OutLine::Io(stat) => put_calls(out, stat),
+        OutLine::Bd(stat) => put_device(out, stat),
+        OutLine::Refused(refusal) => put_refused(out, *refusal),
         OutLine::State {
             page,
             letters,

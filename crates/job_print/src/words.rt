@@ -1,9 +1,9 @@
 //! The words of a line, read back.
 
 ghost use Rattle.std.specs.Prelude.{◌≡◌, ◌+◌, ◌*◌, ◌++◌, [], ◌∷◌, ◌==◌, length, map, position, Some, None, OnOk, IfOk, if◌then◌else◌};
-ghost use Rattle.job_print.specs.Reading.{digit_in, byte_in, bytes_in, tag_in, all_in, limit_in, limit_end_in, memory_end_in, compacted_in, triple_end_in, plain_end_in, end_in, letters_in, is_letter, cause_in};
+ghost use Rattle.job_print.specs.Reading.{digit_in, byte_in, bytes_in, tag_in, all_in, limit_in, limit_end_in, memory_end_in, eio_in, fault_end_in, compacted_in, triple_end_in, plain_end_in, end_in, letters_in, is_letter, cause_in, refusal_in};
 
-use crate::line::TagList;
+use crate::line::{Refusal, TagList};
 use crate::number::{number, numbers, short};
 use job_text::Cause;
 use std::alloc::{AllocError, Global};
@@ -122,6 +122,25 @@ fn memory_end(word: &[u8], name: &[u8], done: &[u8]) -> Option<OpEnd>
     }
 }
 
+fn eio(fault: &[u8], done: &[u8]) -> Option<OpEnd>
+    ensures { result ≡ eio_in fault.now done.now }
+{
+    let fault = number(fault)?;
+    let done = short(done)?;
+    Some(OpEnd::Eio { fault, done })
+}
+
+#[tactic(auto, unfolding(crate::specs::Reading::fault_end_in))]
+fn fault_end(word: &[u8], fault: &[u8], name: &[u8], done: &[u8]) -> Option<OpEnd>
+    ensures { result ≡ fault_end_in word.now fault.now name.now done.now }
+{
+    if word == b"eio".as_slice() && name == b"done".as_slice() {
+        eio(fault, done)
+    } else {
+        None
+    }
+}
+
 fn compacted(moves: &[u8], frames: &[u8]) -> Option<OpEnd>
     ensures { result ≡ compacted_in moves.now frames.now }
 {
@@ -162,6 +181,7 @@ pub(crate) fn end(words: &[&[u8]]) -> Option<OpEnd>
     match words {
         [word] => plain_end(word),
         [word, second, third] => triple_end(word, second, third),
+        [word, fault, name, done] => fault_end(word, fault, name, done),
         [word, pages, need, limit, name, done] => {
             limit_end(word, &[*pages, *need, *limit], name, done)
         }
@@ -207,6 +227,22 @@ pub(crate) fn cause(word: &[u8]) -> Option<Cause>
         Some(Cause::TooMany)
     } else if word == b"order".as_slice() {
         Some(Cause::Order)
+    } else {
+        None
+    }
+}
+
+/// Why an attribute was refused.
+#[tactic(auto, unfolding(crate::specs::Reading::refusal_in))]
+pub(crate) fn refusal(attr: &[u8], why: &[u8]) -> Option<Refusal>
+    ensures { result ≡ refusal_in attr.now why.now }
+{
+    if attr == b"disksize".as_slice() && why == b"busy".as_slice() {
+        Some(Refusal::DisksizeBusy)
+    } else if attr == b"backing".as_slice() && why == b"busy".as_slice() {
+        Some(Refusal::BackingBusy)
+    } else if attr == b"backing".as_slice() && why == b"range".as_slice() {
+        Some(Refusal::BackingRange)
     } else {
         None
     }
