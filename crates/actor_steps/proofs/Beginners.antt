@@ -81,7 +81,7 @@ new_fits size pl k (Read start count) r n = (
   λ beyond. n.none,
 )
 
-pub is_new_worker : (size chain actor : ℕ) (ops : List Op) (w : Worker) → AreRequests ops
+pub is_new_worker : {D : Type 0} (size chain actor : ℕ) (ops : List Op) (w : Worker D) → AreRequests ops
     → length ops < 2 ^ 32 → w.actor ≡ actor → w.call ≡ None → w.carried ≡ 0
     → w.scratch.table ≡ chain → chain ≤ 16 → IsPlace ops w.place → IsSettled size ops w.place
     → todo_at size ops w.place ≡ program size 0 ops
@@ -117,13 +117,13 @@ is_new_worker size chain actor ops w requests few who at carried table most plac
           let op = there_is ops k (let q = slice_get_within w.replies.items k r f in
           let n = new.count in omega arith) in (op.0, new.each k op.0 r op.1 f)
 
-pub worker_more : (size chain : ℕ) (actors : List (List Op)) (i actor : ℕ) (ops : List Op)
-    (ws ws' : List Worker) (w : Worker) → actor ≡ i → slice_get actors i ≡ Some ops
+pub worker_more : {D : Type 0} (size chain : ℕ) (actors : List (List Op)) (i actor : ℕ) (ops : List Op)
+    (ws ws' : List (Worker D)) (w : Worker D) → actor ≡ i → slice_get actors i ≡ Some ops
     → i ≤ length actors → ws' ≡ ws ++ w ∷ [] → AreNewWorkers size chain (take i actors) ws
     → IsNewWorker size chain actor ops w
     → AreNewWorkers size chain (take (i + 1) actors) ws'
-worker_more size chain actors i actor ops ws ws' w same at le more old new =
-    subst (λ (c : List (List Op) × List Worker). AreNewWorkers size chain c.0 c.1)
+worker_more {D} size chain actors i actor ops ws ws' w same at le more old new =
+    subst (λ (c : List (List Op) × List (Worker D)). AreNewWorkers size chain c.0 c.1)
     (λ j. (
       (sym
           (ap (λ (n : ℕ). take n actors) (let q : i + 1 ≡ suc i = omega arith in q)

@@ -14,8 +14,8 @@ use Rattle.actor_steps.specs.declared.call.Call.TheVariants as call
 use Rattle.actor_steps.specs.Workers.{IsBegun}
 use Rattle.actor_steps.proofs.Places.{request_beyond}
 
-module _ (size now : ℕ) (tag : Tag) (op : Op) (page : ℕ) (fresh : List ℕ) where
-  pub begun_count : is_beyond size op ≡ true → IsBegun size now tag op page fresh (call.Page counting)
+module _ {D : Type 0} (size now : ℕ) (tag : Tag) (op : Op) (page : ℕ) (fresh : List ℕ) where
+  pub begun_count : is_beyond size op ≡ true → IsBegun {D = D} size now tag op page fresh (call.Page counting)
   begun_count on = record {
     going = tt;
     fit = λ r few. refl;
@@ -31,7 +31,7 @@ module _ (size now : ℕ) (tag : Tag) (op : Op) (page : ℕ) (fresh : List ℕ) 
   pub begun_as : (w : Work) (p : Piece) → is_compaction op ≡ false → is_beyond size op ≡ false
       → is_count w ≡ false
       → p.page.0 ≡ page → p.first + p.count ≤ 8 → Asks w p fresh op
-      → IsBegun size now tag op page fresh (call.Page (started w p tag now))
+      → IsBegun {D = D} size now tag op page fresh (call.Page (started w p tag now))
   begun_as w p request off piece at within asks = record {
     going = tt;
     fit = λ r few. (piece, within);
@@ -50,9 +50,9 @@ module _ (size now : ℕ) (tag : Tag) (op : Op) (page : ℕ) (fresh : List ℕ) 
   }
 
   pub begun_compact : (c : CompactCall) → c.stage ≡ stage.Start → is_compaction op ≡ true
-      → IsBegun size now tag op page fresh (call.Compact c)
+      → IsBegun {D = D} size now tag op page fresh (call.Compact c)
   begun_compact c start on =
-      subst (λ (s : CompactStage). IsBegun size now tag op page fresh
+      subst (λ (s : CompactStage). IsBegun {D = D} size now tag op page fresh
       (call.Compact (record { stage = s }))) (sym start) (record {
         going = tt;
         fit = λ r few. few;
@@ -61,10 +61,10 @@ module _ (size now : ℕ) (tag : Tag) (op : Op) (page : ℕ) (fresh : List ℕ) 
       })
 
 -- for the operation that is the nr-th
-pub begun_for : (size now : ℕ) (tag : Tag) (page : ℕ) (fresh : List ℕ) (ops : List Op) (nr : ℕ)
-    (op : Op) → slice_get ops nr ≡ Some op → (c d : Call) → d ≡ c
+pub begun_for : {D : Type 0} (size now : ℕ) (tag : Tag) (page : ℕ) (fresh : List ℕ) (ops : List Op) (nr : ℕ)
+    (op : Op) → slice_get ops nr ≡ Some op → (c d : Call D) → d ≡ c
     → IsBegun size now tag op page fresh d → (o : Op) → slice_get ops nr ≡ Some o
     → IsBegun size now tag o page fresh c
-begun_for size now tag page fresh ops nr op at c d is begins o named =
-    subst (λ (y : Op × Call). IsBegun size now tag y.0 page fresh y.1)
+begun_for {D} size now tag page fresh ops nr op at c d is begins o named =
+    subst (λ (y : Op × Call D). IsBegun size now tag y.0 page fresh y.1)
     (λ i. ((let q : op ≡ o = (let h : Some op ≡ Some o = sym at ∙ named in cc) in q) i, is i)) begins

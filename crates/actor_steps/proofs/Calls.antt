@@ -26,8 +26,8 @@ use Rattle.actor_steps.specs.Calls.{Does, local, next_event, IsFit, IsGoing, is_
 -- ---- plans
 
 -- what a page's call does next is what its actor's plan says
-abbrev pub PagePlans : Type 0
-PagePlans = (c : Head) (r : Scratch) (s : Stage) (x : Frame) → IsPageFit c r s → IsPageGoing s
+abbrev pub PagePlans : Type 0 → Type 0
+PagePlans D = (c : Head) (r : Scratch) (s : Stage D) (x : Frame) → IsPageFit c r s → IsPageGoing s
     → IsPageWork c r x → plan x.terms (page_here x r s) ≡ page_event c s
 
 -- and so for a compaction
@@ -35,13 +35,13 @@ abbrev pub CompactPlans : Type 0
 CompactPlans = (chain : ℕ) (s : CompactStage) (x : Frame) → IsCompactGoing s → IsCompactWork chain x
     → plan x.terms (compact_here x s) ≡ compact_event s
 
-pub plan_is : PagePlans → CompactPlans → (c : Call) (r : Scratch) (x : Frame) → IsFit c r
+pub plan_is : {D : Type 0} → PagePlans D → CompactPlans → (c : Call D) (r : Scratch) (x : Frame) → IsFit c r
     → IsGoing c → Does c r x → plan x.terms (local c r x) ≡ next_event c
 plan_is pages compacts (call.Page c) r x fit on does = pages c.head r c.stage x fit on does
 plan_is pages compacts (call.Compact c) r x fit on does = compacts r.table c.stage x on does
 
 -- an operation is over in one piece exactly where its call counts it, or compacts
-pub alone_is : (c : Call) (r : Scratch) (x : Frame) → Does c r x
+pub alone_is : {D : Type 0} (c : Call D) (r : Scratch) (x : Frame) → Does c r x
     → is_single x.terms.size x.part.op ≡ is_alone c
 alone_is (call.Page c) r x does =
     ap (λ b. b || is_beyond x.terms.size x.part.op) does.request ∙ does.beyond
@@ -49,7 +49,7 @@ alone_is (call.Compact c) r x does = ap (λ b. b || is_beyond x.terms.size x.par
 
 -- ---- turns
 
-after_page_is : (x : Frame) (l : Here) (r : Scratch) (s : Stage) (p : Progress)
+after_page_is : {D : Type 0} (x : Frame) (l : Here) (r : Scratch) (s : Stage D) (p : Progress)
     → after_page x l r s p ≡ after l (page_here x r s) (λ end. got_of end r.page) p
 after_page_is x l r s progress.Moved = refl
 after_page_is x l r s (progress.Waits k) = refl
@@ -62,9 +62,9 @@ after_compact_is l m (progress.Waits k) = refl
 after_compact_is l m (progress.Done end) = refl
 
 -- what the hand allows a page's call, as the page's crate says it
-pub page_allows : {X : Type 0} {can_take : X → LockNo → Next → Type 0}
+pub page_allows : {D X : Type 0} {can_take : X → LockNo → Next → Type 0}
     {takes : X → LockNo → Next → DiskHeld → X → Type 0}
-    {can_give : X → LockNo → Next → DiskHeld → Type 0} {h : X} (c : PageCall) (r : Scratch)
+    {can_give : X → LockNo → Next → DiskHeld → Type 0} {h : X} (c : PageCall D) (r : Scratch)
     → Allows can_take takes can_give (Does (call.Page c) r) (local (call.Page c) r)
     (next_event (call.Page c)) h
     → PageAllows can_take takes can_give c.head r c.stage h
@@ -73,16 +73,16 @@ page_allows c r a = record { take = a.take; fits = a.fits; give = a.give }
 module _ {X : Type 0} {takes : X → LockNo → Next → DiskHeld → X → Type 0}
     {misses : X → LockNo → X → Type 0} {gives : X → LockNo → Next → DiskHeld → X → Type 0} {h g : X}
     (r s : Scratch) (p : Progress) where
-  pub page_turn : (c d : PageCall) → PageAdvanced takes misses gives c.head r c.stage h s d.stage g p
+  pub page_turn : {D : Type 0} (c d : PageCall D) → PageAdvanced takes misses gives c.head r c.stage h s d.stage g p
       → Advanced takes misses gives (call.Page c) r h (call.Page d) s g p
   page_turn c d turns x does =
       subst (λ (m : Here). Turned takes misses gives x.terms (page_here x r c.stage) h m g p)
       (after_page_is x (page_here x r c.stage) s d.stage p) (turns x does)
 
-  pub compact_turn : (c d : CompactCall)
+  pub compact_turn : (D : Type 0) (c d : CompactCall)
       → CompactAdvanced takes misses gives (IsCompactWork r.table) (λ x. compact_here x c.stage) h
       (λ x. compact_here x d.stage) g p
-      → Advanced takes misses gives (call.Compact c) r h (call.Compact d) s g p
-  compact_turn c d turns x does =
+      → Advanced takes misses gives {D = D} (call.Compact c) r h (call.Compact d) s g p
+  compact_turn D c d turns x does =
       subst (λ (m : Here). Turned takes misses gives x.terms (compact_here x c.stage) h m g p)
       (after_compact_is (compact_here x c.stage) (compact_here x d.stage) p) (turns x does)

@@ -53,6 +53,7 @@ module _ (nr : ℕ) where
   step_is over.Carried n = refl
   step_is (over.AtLimit charged need limit) n = refl
   step_is over.NoMemory n = refl
+  step_is (over.Eio fault) n = refl
   step_is (over.Whole end) n = refl
 
   -- the last piece of an operation whose pieces were carried out tells its end

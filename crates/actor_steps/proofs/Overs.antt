@@ -49,6 +49,7 @@ got_plain piece.Skipped page p none = refl
 got_plain piece.Range page p none = refl
 got_plain (piece.AtLimit pages need limit) page p none = refl
 got_plain piece.NoMemory page p none = refl
+got_plain (piece.Eio fault) page p none = refl
 got_plain (piece.Compacted moves frames) page p none = refl
 
 -- nor does one of an operation that is over in one piece
@@ -61,10 +62,11 @@ got_none piece.Skipped page p none = refl
 got_none piece.Range page p none = refl
 got_none (piece.AtLimit pages need limit) page p none = refl
 got_none piece.NoMemory page p none = refl
+got_none (piece.Eio fault) page p none = refl
 got_none (piece.Compacted moves frames) page p none = refl
 
 -- what a call says of it
-got_is : (c : Call) (r : Scratch) (end : PieceEnd) (p : Part) → EndsAs (is_alone c) end
+got_is : {D : Type 0} (c : Call D) (r : Scratch) (end : PieceEnd) (p : Part) → EndsAs (is_alone c) end
     → got_in c r end p ≡ got_of_piece end r.page p
 got_is (call.Page c) r end p e = refl
 got_is (call.Compact c) r end p e = sym (got_none end r.page p (e refl))
@@ -93,6 +95,7 @@ has_room size pl op r k piece.Skipped single e f le = tt
 has_room size pl op r k piece.Range single e f le = tt
 has_room size pl op r k (piece.AtLimit pages need limit) single e f le = tt
 has_room size pl op r k piece.NoMemory single e f le = tt
+has_room size pl op r k (piece.Eio fault) single e f le = tt
 has_room size pl op r k (piece.Compacted moves frames) single e f le = tt
 
 -- a later place asks for no more room
@@ -162,7 +165,7 @@ more_at {nr} {n} {end} {got} {old} {new} m k r e = dite (ℕ_discrete k nr)
 -- ---- the worker
 
 -- the last turn of a call that does an operation in one piece reads nothing
-pub ends_as : (t : Terms) (ops : List Op) (v : Worker) (c : Call)
+pub ends_as : {D : Type 0} (t : Terms) (ops : List Op) (v : Worker D) (c : Call D)
     (fit : IsFit t ops (with_call v (Some c))) (op : Op) (at : slice_get ops v.place.nr ≡ Some op)
     {X : Type 0} (takes : X → LockNo → Next → DiskHeld → X → Type 0)
     (misses : X → LockNo → X → Type 0) (gives : X → LockNo → Next → DiskHeld → X → Type 0)
@@ -177,7 +180,7 @@ ends_as t ops v c fit op at takes misses gives h g r end turns =
     fit.call.fit fit.call.going (turns (x t ops v c fit op at []) does)
 
 -- the worker whose call is over, before its piece is finished
-abbrev pub ended : Worker → Scratch → Worker
+abbrev pub ended : {D : Type 0} → Worker D → Scratch → Worker D
 ended v r = record {
   actor = v.actor;
   place = v.place;
@@ -187,7 +190,7 @@ ended v r = record {
   replies = v.replies;
 }
 
-module _ (t : Terms) (ops : List Op) (v : Worker) (c : Call)
+module _ {D : Type 0} (t : Terms) (ops : List Op) (v : Worker D) (c : Call D)
     (fit : IsFit t ops (with_call v (Some c))) (op : Op)
     (at : slice_get ops v.place.nr ≡ Some op) (more : v.place.nr < length ops) (r : Scratch)
     (end : PieceEnd) (is_end : EndsAs (is_alone c) end) where
@@ -208,8 +211,8 @@ module _ (t : Terms) (ops : List Op) (v : Worker) (c : Call)
         is_end (fit.reads v.place.nr o y named there) y.sectors.ok.1;
   }
 
-  module _ (empty : v.call ≡ None) (w' : Worker) (fin : Finishes t.size ops end (ended v r) w') where
-    no_call : (let o : Option Call = None in o) ≡ w'.call
+  module _ (empty : v.call ≡ None) (w' : Worker D) (fin : Finishes t.size ops end (ended v r) w') where
+    no_call : (let o : Option (Call D) = None in o) ≡ w'.call
     no_call = sym (fin.call ∙ empty)
 
     abbrev nr : ℕ
@@ -340,7 +343,7 @@ module _ (t : Terms) (ops : List Op) (v : Worker) (c : Call)
       over got = piece_over (here t.size ops v done) (part_at v.place op) (ending end) got
           (todo_at t.size ops (behind v.place))
 
-      ends_so : (b : Call)
+      ends_so : (b : Call D)
           → ending_by (local b v.scratch y) (ending end) (got_in b r end) (local b v.scratch y).todo
           ≡ over (got_in b r end (part_at v.place op))
       ends_so (call.Page b) = refl

@@ -22,7 +22,7 @@ use Rattle.page_steps.specs.declared.stage.Progress.{Progress}
 use Rattle.page_steps.specs.declared.stage.Progress.TheVariants as progress
 use Rattle.page_steps.specs.Steps.{Terms, DiskHeld, Here, start_plan}
 use Rattle.page_steps.specs.Nexts.{Next, ending_by}
-use Rattle.page_steps.specs.Givings.{Works, refuses, pins, unpins, charges, limits, starves, stows, quits, frees, repays, puts, reads, fails, compacts}
+use Rattle.page_steps.specs.Givings.{Works, refuses, pins, unpins, fetches, misses, counts, charges, limits, starves, stows, quits, frees, releases, repays, puts, reads, fails, errs, leaves, compacts}
 use Rattle.page_steps.specs.Compactions.{moves, rests, shrinks, resting_by, compaction_at}
 use Rattle.page_steps.specs.Calls.{Frame, here, is_count, IsWork, IsFit, IsGoing, end_of, got_of}
 use Rattle.page_steps.specs.Turns.{Turned, waited, took_it, gave_it}
@@ -72,6 +72,7 @@ whole_end piece.Skipped whole e = tt
 whole_end piece.Range whole e = tt
 whole_end (piece.AtLimit pages need limit) whole e = tt
 whole_end piece.NoMemory whole e = tt
+whole_end (piece.Eio fault) whole e = tt
 whole_end (piece.Compacted n frames) whole e = tt
 
 no : {A : Type 0} (b : Bool) → b ≡ true → b ≡ false → A
@@ -79,10 +80,10 @@ no b on off = absurd (let q : true ≡ false = sym on ∙ off in cc)
 
 module _ (c : Head) (r : Scratch) (x : Frame) (first : x.done ≡ []) (end : PieceEnd) (page : List ℕ) where
   -- the giving of the account
-  refused : (a : _) (v : DiskHeld) (m : Here) → Works x.terms (here x r (stage.Refusing a)) v m
-      → m ≡ ending_by (here x r (stage.Refusing a)) (end_of end) (got_of end page)
-      (here x r (stage.Refusing a)).todo → ReadsNothing end
-  refused a v m (refuses p rest k e₁ e₂ e₃ e₄ is) same =
+  refused : (D : Type 0) (a : _) (v : DiskHeld) (m : Here) → Works x.terms (here {D = D} x r (stage.Refusing a)) v m
+      → m ≡ ending_by (here {D = D} x r (stage.Refusing a)) (end_of end) (got_of end page)
+      (here {D = D} x r (stage.Refusing a)).todo → ReadsNothing end
+  refused D a v m (refuses p rest k e₁ e₂ e₃ e₄ is) same =
       whole_end end ends.Range (ap (λ (ds : List Done). first_end (ds ++ record {
         part = x.part;
         end = end_of end;
@@ -94,32 +95,38 @@ module _ (c : Head) (r : Scratch) (x : Frame) (first : x.done ≡ []) (end : Pie
         end = over.Whole ends.Range;
         got = [];
       } ∷ [])) first)
-  refused a v m (pins p rest e o q q' cell e₁ e₂ e₃ e₄ e₅ e₆ is) same = absurd (subst IsRefusing e₂ tt)
-  refused a v m (unpins p rest e o q q' e₁ e₂ e₃ e₄ e₅ e₆ is) same = absurd (subst IsRefusing e₂ tt)
-  refused a v m (charges p rest e k q q' class handle need bytes huge e₁ e₂ e₃ e₄ e₅ e₆ e₇ e₈ is) same = absurd (subst IsRefusing e₂ tt)
-  refused a v m (limits p rest e k q class need e₁ e₂ e₃ e₄ e₅ e₆ is) same = absurd (subst IsRefusing e₂ tt)
-  refused a v m (starves p rest e k q class e₁ e₂ e₃ e₄ e₅ e₆ is) same = absurd (subst IsRefusing e₂ tt)
-  refused a v m (stows p rest e q class e₁ e₂ e₃ e₄ e₅ is) same = absurd (subst IsRefusing e₂ tt)
-  refused a v m (quits p rest e q class last e₁ e₂ e₃ e₄ e₅ is) same = absurd (subst IsRefusing e₂ tt)
-  refused a v m (frees p rest e o q q' frames e₁ e₂ e₃ e₄ e₅ e₆ is) same = absurd (subst IsRefusing e₂ tt)
-  refused a v m (repays p rest e k e₁ e₂ e₃ e₄ is) same = absurd (subst IsRefusing e₂ tt)
-  refused a v m (puts p rest e f e₁ e₂ e₃ e₄ e₅ is) same = absurd (subst IsRefusing e₂ tt)
-  refused a v m (reads p rest e f e₁ e₂ e₃ e₄ e₅ e₆ is) same = absurd (subst IsRefusing e₂ tt)
-  refused a v m (fails p rest e last e₁ e₂ e₃ e₄ e₅ is) same = absurd (subst IsRefusing e₂ tt)
-  refused a v m (compacts (moves p rest y q q' budget frames e₁ e₂ e₃ e₄ e₅ e₆ is)) same = absurd (subst IsRefusing e₂ tt)
-  refused a v m (compacts (rests p rest y q e₁ e₂ e₃ e₄ e₅ is)) same = absurd (subst IsRefusing e₂ tt)
-  refused a v m (compacts (shrinks p rest y k e₁ e₂ e₃ e₄ is)) same = absurd (subst IsRefusing e₂ tt)
+  refused D a v m (pins p rest e o q q' cell e₁ e₂ e₃ e₄ e₅ e₆ is) same = absurd (subst IsRefusing e₂ tt)
+  refused D a v m (unpins p rest e o q q' e₁ e₂ e₃ e₄ e₅ e₆ is) same = absurd (subst IsRefusing e₂ tt)
+  refused D a v m (fetches p rest e b d d' page e₁ e₂ e₃ e₄ e₅ e₆ e₇ is) same = absurd (subst IsRefusing e₂ tt)
+  refused D a v m (misses p rest e b d d' fault e₁ e₂ e₃ e₄ e₅ e₆ is) same = absurd (subst IsRefusing e₂ tt)
+  refused D a v m (counts p rest e k e₁ e₂ e₃ e₄ is) same = absurd (subst IsRefusing e₂ tt)
+  refused D a v m (charges p rest e k q q' class handle need bytes huge e₁ e₂ e₃ e₄ e₅ e₆ e₇ e₈ is) same = absurd (subst IsRefusing e₂ tt)
+  refused D a v m (limits p rest e k q class need e₁ e₂ e₃ e₄ e₅ e₆ is) same = absurd (subst IsRefusing e₂ tt)
+  refused D a v m (starves p rest e k q class e₁ e₂ e₃ e₄ e₅ e₆ is) same = absurd (subst IsRefusing e₂ tt)
+  refused D a v m (stows p rest e q class e₁ e₂ e₃ e₄ e₅ is) same = absurd (subst IsRefusing e₂ tt)
+  refused D a v m (quits p rest e q class last e₁ e₂ e₃ e₄ e₅ is) same = absurd (subst IsRefusing e₂ tt)
+  refused D a v m (frees p rest e o q q' frames e₁ e₂ e₃ e₄ e₅ e₆ is) same = absurd (subst IsRefusing e₂ tt)
+  refused D a v m (releases p rest e b y e₁ e₂ e₃ e₄ e₅ is) same = absurd (subst IsRefusing e₂ tt)
+  refused D a v m (repays p rest e k e₁ e₂ e₃ e₄ is) same = absurd (subst IsRefusing e₂ tt)
+  refused D a v m (puts p rest e f e₁ e₂ e₃ e₄ e₅ is) same = absurd (subst IsRefusing e₂ tt)
+  refused D a v m (reads p rest e f e₁ e₂ e₃ e₄ e₅ e₆ is) same = absurd (subst IsRefusing e₂ tt)
+  refused D a v m (fails p rest e last e₁ e₂ e₃ e₄ e₅ is) same = absurd (subst IsRefusing e₂ tt)
+  refused D a v m (errs p rest e f last e₁ e₂ e₃ e₄ e₅ e₆ e₇ is) same = absurd (subst IsRefusing e₂ tt)
+  refused D a v m (leaves p rest e last e₁ e₂ e₃ e₄ e₅ e₆ is) same = absurd (subst IsRefusing e₂ tt)
+  refused D a v m (compacts (moves p rest y q q' budget frames e₁ e₂ e₃ e₄ e₅ e₆ is)) same = absurd (subst IsRefusing e₂ tt)
+  refused D a v m (compacts (rests p rest y q e₁ e₂ e₃ e₄ e₅ is)) same = absurd (subst IsRefusing e₂ tt)
+  refused D a v m (compacts (shrinks p rest y k e₁ e₂ e₃ e₄ is)) same = absurd (subst IsRefusing e₂ tt)
 
-  module _ (on : is_count c.work ≡ true) (w : IsWork c r x) {X : Type 0}
+  module _ {D : Type 0} (on : is_count c.work ≡ true) (w : IsWork c r x) {X : Type 0}
       (takes : X → LockNo → Next → DiskHeld → X → Type 0) (misses : X → LockNo → X → Type 0)
       (gives : X → LockNo → Next → DiskHeld → X → Type 0) (h g : X) where
     -- the last turn of a call
-    abbrev pub Last : Stage → Type 0
+    abbrev pub Last : Stage D → Type 0
     Last s = Turned takes misses gives x.terms (here x r s) h
         (ending_by (here x r s) (end_of end) (got_of end page) (here x r s).todo) g
         (progress.Done end)
 
-    pub reads_nothing : (s : Stage) → IsGoing s → IsFit c r s → Last s → ReadsNothing end
+    pub reads_nothing : (s : Stage D) → IsGoing s → IsFit c r s → Last s → ReadsNothing end
     reads_nothing stage.Beyond going fit (waited k e miss same none) = absurd none
     reads_nothing stage.Beyond going fit (took_it k f v e take is same none) = absurd (subst IsDone none tt)
     reads_nothing stage.Beyond going fit (gave_it k f v e give is works moved) =
@@ -127,7 +134,7 @@ module _ (c : Head) (r : Scratch) (x : Frame) (first : x.done ≡ []) (end : Pie
     reads_nothing (stage.Refusing a) going fit (waited k e miss same none) = absurd none
     reads_nothing (stage.Refusing a) going fit (took_it k f v e take is same none) = absurd (subst IsDone none tt)
     reads_nothing (stage.Refusing a) going fit (gave_it k f v e give is works moved) =
-        refused a v _ works refl
+        refused D a v _ works refl
     reads_nothing stage.Start going fit last = no (is_count c.work) on fit.0
     reads_nothing (stage.Seen e o) going fit last = no (is_count c.work) on fit.piece
     reads_nothing (stage.Pinning e o q) going fit last = no (is_count c.work) on fit.0.piece
@@ -136,12 +143,19 @@ module _ (c : Head) (r : Scratch) (x : Frame) (first : x.done ≡ []) (end : Pie
     reads_nothing (stage.Plain e) going fit last = no (is_count c.work) on fit.0
     reads_nothing (stage.Leaving e) going fit last = no (is_count c.work) on fit.0
     reads_nothing (stage.Refused e read k) going fit last = no (is_count c.work) on fit.0
+    reads_nothing (stage.Missed e fault) going fit last = no (is_count c.work) on fit.0
+    reads_nothing (stage.Away e b) going fit last = no (is_count c.work) on fit.piece
+    reads_nothing (stage.Fetching e b d) going fit last = no (is_count c.work) on fit.0.piece
+    reads_nothing (stage.Failing e fault) going fit last = no (is_count c.work) on fit.0
+    reads_nothing (stage.Counting e fault a) going fit last = no (is_count c.work) on fit.0
     reads_nothing (stage.Wanting own new) going fit last = no (is_count c.work) on fit.0.piece
     reads_nothing (stage.Inside own new q) going fit last = no (is_count c.work) on fit.0.piece
     reads_nothing (stage.Both own new q a) going fit last = no (is_count c.work) on fit.0.piece
     reads_nothing (stage.Made own class q y) going fit last = no (is_count c.work) on fit.0.piece
     reads_nothing (stage.Old own o next) going fit last = no (is_count c.work) on fit.0.piece
     reads_nothing (stage.Freeing own o next q) going fit last = no (is_count c.work) on fit.0.piece
+    reads_nothing (stage.Backed own b next) going fit last = no (is_count c.work) on fit.0.piece
+    reads_nothing (stage.Releasing own b next y) going fit last = no (is_count c.work) on fit.0.piece
     reads_nothing (stage.Owing due frames ahead) going fit last = no (is_count c.work) on fit.piece
     reads_nothing (stage.Giving due frames ahead a) going fit last = no (is_count c.work) on fit.0.piece
     reads_nothing (stage.Ready due ahead behind) going fit last = no (is_count c.work) on fit.piece
@@ -203,6 +217,9 @@ module _ (l : Here) (none : l.done ≡ []) (end : PieceEnd) where
   compacted t v m on (refuses p rest k e₁ e₂ e₃ e₄ is) so = absurd (subst IsCompacting e₂ on)
   compacted t v m on (pins p rest e o q q' cell e₁ e₂ e₃ e₄ e₅ e₆ is) so = absurd (subst IsCompacting e₂ on)
   compacted t v m on (unpins p rest e o q q' e₁ e₂ e₃ e₄ e₅ e₆ is) so = absurd (subst IsCompacting e₂ on)
+  compacted t v m on (fetches p rest e b d d' page e₁ e₂ e₃ e₄ e₅ e₆ e₇ is) so = absurd (subst IsCompacting e₂ on)
+  compacted t v m on (misses p rest e b d d' fault e₁ e₂ e₃ e₄ e₅ e₆ is) so = absurd (subst IsCompacting e₂ on)
+  compacted t v m on (counts p rest e k e₁ e₂ e₃ e₄ is) so = absurd (subst IsCompacting e₂ on)
   compacted t v m on (charges p rest e k q q' class handle need bytes huge e₁ e₂ e₃ e₄ e₅ e₆ e₇ e₈ is) so =
       absurd (subst IsCompacting e₂ on)
   compacted t v m on (limits p rest e k q class need e₁ e₂ e₃ e₄ e₅ e₆ is) so = absurd (subst IsCompacting e₂ on)
@@ -210,10 +227,13 @@ module _ (l : Here) (none : l.done ≡ []) (end : PieceEnd) where
   compacted t v m on (stows p rest e q class e₁ e₂ e₃ e₄ e₅ is) so = absurd (subst IsCompacting e₂ on)
   compacted t v m on (quits p rest e q class last e₁ e₂ e₃ e₄ e₅ is) so = absurd (subst IsCompacting e₂ on)
   compacted t v m on (frees p rest e o q q' frames e₁ e₂ e₃ e₄ e₅ e₆ is) so = absurd (subst IsCompacting e₂ on)
+  compacted t v m on (releases p rest e b y e₁ e₂ e₃ e₄ e₅ is) so = absurd (subst IsCompacting e₂ on)
   compacted t v m on (repays p rest e k e₁ e₂ e₃ e₄ is) so = absurd (subst IsCompacting e₂ on)
   compacted t v m on (puts p rest e f e₁ e₂ e₃ e₄ e₅ is) so = absurd (subst IsCompacting e₂ on)
   compacted t v m on (reads p rest e f e₁ e₂ e₃ e₄ e₅ e₆ is) so = absurd (subst IsCompacting e₂ on)
   compacted t v m on (fails p rest e last e₁ e₂ e₃ e₄ e₅ is) so = absurd (subst IsCompacting e₂ on)
+  compacted t v m on (errs p rest e f last e₁ e₂ e₃ e₄ e₅ e₆ e₇ is) so = absurd (subst IsCompacting e₂ on)
+  compacted t v m on (leaves p rest e last e₁ e₂ e₃ e₄ e₅ e₆ is) so = absurd (subst IsCompacting e₂ on)
 
 module _ {X : Type 0} (takes : X → LockNo → Next → DiskHeld → X → Type 0)
     (misses : X → LockNo → X → Type 0) (gives : X → LockNo → Next → DiskHeld → X → Type 0) (h g : X)
@@ -229,7 +249,7 @@ module _ {X : Type 0} (takes : X → LockNo → Next → DiskHeld → X → Type
       (first_is (compact_here x s) (end_of end) got x.part x.rest refl first)
 
   -- the last turn of a call that does an operation in one piece
-  pub ends_alone : (c : Call) (r s : Scratch) → Does c r x → IsCallFit c r → IsCallGoing c
+  pub ends_alone : {D : Type 0} (c : Call D) (r s : Scratch) → Does c r x → IsCallFit c r → IsCallGoing c
       → Turned takes misses gives x.terms (local c r x) h
       (ending_by (local c r x) (end_of end) (got_by c s end) (local c r x).todo) g (progress.Done end)
       → EndsAs (is_alone c) end

@@ -28,7 +28,7 @@ use Rattle.actor_steps.proofs.Places.{todo_next, no_todo}
 use Rattle.actor_steps.proofs.Calls.{PagePlans, CompactPlans, plan_is}
 
 -- the worker after a turn in which its call goes on
-abbrev pub gone_on : Worker → Scratch → Call → Worker
+abbrev pub gone_on : {D : Type 0} → Worker D → Scratch → Call D → Worker D
 gone_on v r c = record {
   actor = v.actor;
   place = v.place;
@@ -39,9 +39,9 @@ gone_on v r c = record {
 }
 
 -- nothing is left
-module _ {X : Type 0} (takes : X → LockNo → Next → DiskHeld → X → Type 0)
+module _ {D : Type 0} {X : Type 0} (takes : X → LockNo → Next → DiskHeld → X → Type 0)
     (misses : X → LockNo → X → Type 0) (gives : X → LockNo → Next → DiskHeld → X → Type 0)
-    (t : Terms) (ops : List Op) (w : Worker) (h : X) where
+    (t : Terms) (ops : List Op) (w : Worker D) (h : X) where
   pub at_end : (done : List Done) → length ops ≤ w.place.nr → Keeps w done
       → Advanced takes misses gives t ops w h w h turn.Finished done
   at_end done le keeps = (
@@ -52,7 +52,7 @@ module _ {X : Type 0} (takes : X → LockNo → Next → DiskHeld → X → Type
         (no_todo t.size w.place.nr ops w.place.page w.place.left le)) refl refl refl,
   )
 
-module _ (t : Terms) (ops : List Op) (v : Worker) (c : Call)
+module _ {D : Type 0} (t : Terms) (ops : List Op) (v : Worker D) (c : Call D)
     (fit : IsFit t ops (with_call v (Some c))) (op : Op)
     (at : slice_get ops v.place.nr ≡ Some op) where
   abbrev pub rest : List Part
@@ -65,23 +65,23 @@ module _ (t : Terms) (ops : List Op) (v : Worker) (c : Call)
   todo_is = todo_next t.size ops v.place op at fit.settled
 
   -- the call's local is the worker's
-  pub here_is : (r : Scratch) (d : Call) (done : List Done)
+  pub here_is : (r : Scratch) (d : Call D) (done : List Done)
       → local d r (x done) ≡ here t.size ops (gone_on v r d) done
   here_is r (call.Page d) done = λ i. record (local (call.Page d) r (x done)) { todo = sym todo_is i }
   here_is r (call.Compact d) done =
-      λ i. record (local (call.Compact d) r (x done)) { todo = sym todo_is i }
+      λ i. record (local {D = D} (call.Compact d) r (x done)) { todo = sym todo_is i }
 
   work : (done : List Done) → Does c v.scratch (x done)
   work done = fit.call.work op rest done at
 
-  abbrev w : Worker
+  abbrev w : Worker D
   w = with_call v (Some c)
 
   -- what the hand allows the worker, it allows its call
   module _ {X : Type 0} (can_take : X → LockNo → Next → Type 0)
       (takes : X → LockNo → Next → DiskHeld → X → Type 0)
       (can_give : X → LockNo → Next → DiskHeld → Type 0) (h : X)
-      (pages : PagePlans) (compacts : CompactPlans)
+      (pages : PagePlans D) (compacts : CompactPlans)
       (allows : Allows can_take takes can_give t ops w h) where
     next_is : (p : Plan) → call_event c ≡ p → next_event t ops w ≡ p
     next_is p e = sym (ap (plan t) (here_is v.scratch c []))
@@ -112,7 +112,7 @@ module _ (t : Terms) (ops : List Op) (v : Worker) (c : Call)
   -- a turn after which the call goes on
   module _ {X : Type 0} (takes : X → LockNo → Next → DiskHeld → X → Type 0)
       (misses : X → LockNo → X → Type 0) (gives : X → LockNo → Next → DiskHeld → X → Type 0)
-      (h g : X) (r : Scratch) (d : Call) (p : Progress)
+      (h g : X) (r : Scratch) (d : Call D) (p : Progress)
       (turns : (y : Frame) → Does c v.scratch y
       → CallTurned takes misses gives y.terms (local c v.scratch y) h (local d r y) g p) where
     pub goes_on : (done : List Done) → Keeps v done
@@ -132,7 +132,7 @@ module _ (t : Terms) (ops : List Op) (v : Worker) (c : Call)
           refl,
     )
 
-  pub still_fit : (r : Scratch) (d : Call) → IsGoing d → IsCallFit d r
+  pub still_fit : (r : Scratch) (d : Call D) → IsGoing d → IsCallFit d r
       → ((y : Frame) → Does c v.scratch y → Does d r y) → r.table ≡ v.scratch.table
       → IsFit t ops (gone_on v r d)
   still_fit r d going fits works table = record {
@@ -154,7 +154,7 @@ module _ (t : Terms) (ops : List Op) (v : Worker) (c : Call)
 
 -- ---- workers with one local
 
-module _ (t : Terms) (ops : List Op) (w w' : Worker)
+module _ {D : Type 0} (t : Terms) (ops : List Op) (w w' : Worker D)
     (same : (done : List Done) → here t.size ops w done ≡ here t.size ops w' done) where
   -- what the hand allows one of them, it allows the other
   pub allows_too : {X : Type 0} (can_take : X → LockNo → Next → Type 0)
@@ -175,7 +175,7 @@ module _ (t : Terms) (ops : List Op) (w w' : Worker)
   -- and a turn of one is that of the other
   pub advanced_too : {X : Type 0} (takes : X → LockNo → Next → DiskHeld → X → Type 0)
       (misses : X → LockNo → X → Type 0) (gives : X → LockNo → Next → DiskHeld → X → Type 0)
-      (h : X) (n : Worker) (g : X) (p : Turn) (done : List Done)
+      (h : X) (n : Worker D) (g : X) (p : Turn) (done : List Done)
       → Advanced takes misses gives t ops w' h n g p done
       → Advanced takes misses gives t ops w h n g p done
   advanced_too takes misses gives h n g p done turns = (
@@ -187,13 +187,13 @@ module _ (t : Terms) (ops : List Op) (w w' : Worker)
 
 -- ---- a call in its place
 
-module _ (t : Terms) (ops : List Op) (w : Worker) (c : Call) (is : w.call ≡ Some c) where
+module _ {D : Type 0} (t : Terms) (ops : List Op) (w : Worker D) (c : Call D) (is : w.call ≡ Some c) where
   same_worker : with_call w (Some c) ≡ w
   same_worker = ap (with_call w) (sym is)
 
   same_here : (done : List Done)
       → here t.size ops w done ≡ here t.size ops (with_call w (Some c)) done
-  same_here done = ap (λ (v : Worker). here t.size ops v done) (sym same_worker)
+  same_here done = ap (λ (v : Worker D). here t.size ops v done) (sym same_worker)
 
   -- the worker with its own call is fit
   pub fit_with : IsFit t ops w → IsFit t ops (with_call w (Some c))
@@ -211,25 +211,25 @@ module _ (t : Terms) (ops : List Op) (w : Worker) (c : Call) (is : w.call ≡ So
   -- and makes the same turns
   pub advanced_with : {X : Type 0} (takes : X → LockNo → Next → DiskHeld → X → Type 0)
       (misses : X → LockNo → X → Type 0) (gives : X → LockNo → Next → DiskHeld → X → Type 0)
-      (h : X) (n : Worker) (g : X) (p : Turn) (done : List Done)
+      (h : X) (n : Worker D) (g : X) (p : Turn) (done : List Done)
       → Advanced takes misses gives t ops (with_call w (Some c)) h n g p done
       → Advanced takes misses gives t ops w h n g p done
   advanced_with takes misses gives h n g p done turns =
       advanced_too t ops w (with_call w (Some c)) same_here takes misses gives h n g p done turns
 
 -- a worker whose call's place is filled has one
-pub is_begun : (o : Option Call) → is_some o ≡ true → o ≢ None
-is_begun o on none = let q : true ≡ false = sym on ∙ ap (λ (x : Option Call). is_some x) none in cc
+pub is_begun : {D : Type 0} (o : Option (Call D)) → is_some o ≡ true → o ≢ None
+is_begun {D} o on none = let q : true ≡ false = sym on ∙ ap (λ (x : Option (Call D)). is_some x) none in cc
 
 -- or else none
-pub is_empty : (o : Option Call) → is_some o ≡ false → None ≡ o
+pub is_empty : {D : Type 0} (o : Option (Call D)) → is_some o ≡ false → None ≡ o
 is_empty None off = refl
 is_empty (Some c) off = absurd (let q : true ≡ false = off in cc)
 
 -- ---- a piece that begins
 
 -- the worker with the page that a write makes
-abbrev pub with_fresh : Worker → List ℕ → Worker
+abbrev pub with_fresh : {D : Type 0} → Worker D → List ℕ → Worker D
 with_fresh v fresh = record {
   actor = v.actor;
   place = v.place;
@@ -244,11 +244,11 @@ with_fresh v fresh = record {
   replies = v.replies;
 }
 
-module _ (t : Terms) (ops : List Op) (v : Worker) (empty : None ≡ v.call) (fit : IsFit t ops v)
-    (op : Op) (at : slice_get ops v.place.nr ≡ Some op) (fresh : List ℕ) (c : Call)
+module _ {D : Type 0} (t : Terms) (ops : List Op) (v : Worker D) (empty : None ≡ v.call) (fit : IsFit t ops v)
+    (op : Op) (at : slice_get ops v.place.nr ≡ Some op) (fresh : List ℕ) (c : Call D)
     (begins : IsBegun t.size t.clock (record { actor = v.actor; op = v.place.nr }) op v.place.page
     fresh c) where
-  abbrev now : Worker
+  abbrev now : Worker D
   now = with_call (with_fresh v fresh) (Some c)
 
   pub begun_fit : IsFit t ops now

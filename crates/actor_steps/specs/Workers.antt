@@ -187,7 +187,7 @@ pub record IsBegun {D : Type 0} (size now : ℕ) (tag : Tag) (op : Op) (page : �
     : Type 0 where
   pub going : IsGoing c
   pub fit : (r : Scratch) → r.table ≤ 16 → IsCallFit c r
-  pub start : (x : Frame) (r : Scratch) → local c r x ≡ page_here x r stage.Start
+  pub start : (x : Frame) (r : Scratch) → local c r x ≡ page_here {D = D} x r stage.Start
   pub work : (x : Frame) (r : Scratch) → x.terms.size ≡ size → x.terms.clock ≡ now
       → r.table ≡ x.terms.chain → x.part.op ≡ op → x.part.page ≡ page → tag ≡ tag_by x.actor x.part
       → r.fresh ≡ fresh → Does c r x

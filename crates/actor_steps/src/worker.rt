@@ -134,7 +134,7 @@ impl<D: Backing> Worker<D> {
             → Advanced H.takes H.misses H.gives (terms_of size now self.old) ops.now
             self.old hand.old self.new hand.new result done }
     {
-        calls_are_events();
+        calls_are_events::<D>();
         compactions_are_events();
         histories_go_on();
         match &mut self.call {

@@ -3,9 +3,9 @@ use Rattle.std.proofs.Common.{◌≡◌, ◌+◌, ◌*◌, ◌∷◌, ◌∙◌,
 use Rattle.call_history.specs.Parts.{op_end}
 use Rattle.call_history.specs.declared.part.Part.{Part}
 use Rattle.call_history.specs.declared.part.PartEnd.{PartEnd}
-use Rattle.call_history.specs.declared.part.PartEnd.TheVariants.{AtLimit, Carried, NoMemory, Whole}
+use Rattle.call_history.specs.declared.part.PartEnd.TheVariants.{AtLimit, Carried, Eio, NoMemory, Whole}
 use Rattle.class_pool.specs.Pool.{PoolState, used_cells}
-use Rattle.joint_rule.proofs.Calm.{AreSame, IsPlain, goes_on, is_over, one_left, only_take, plain_pinned, plain_quit, plain_settle}
+use Rattle.joint_rule.proofs.Calm.{AreSame, IsPlain, goes_on, is_over, one_left, only_take, plain_fetched, plain_pinned, plain_quit, plain_settle}
 use Rattle.joint_rule.proofs.Events.{Event}
 use Rattle.joint_rule.proofs.Facts.{Known}
 use Rattle.joint_rule.proofs.Gifts.{stage}
@@ -16,11 +16,11 @@ use Rattle.joint_rule.proofs.Zspages.{used_sum}
 use Rattle.joint_rule.specs.Alone.{Alone, IsOnly, is_read}
 use Rattle.joint_rule.specs.Begins.{Begin, terms}
 use Rattle.joint_rule.specs.Joint.{Joint}
-use Rattle.joint_rule.specs.Stages.{Changes, FailBy, IsWrite}
+use Rattle.joint_rule.specs.Stages.{Changes, FailBy, IsFault, IsWrite}
 use Rattle.joint_rule.specs.Weights.{cell_weight, each_one, loose_pools, stored, used_each}
 use Rattle.lock_row.specs.Totals.{held_sum}
 use Rattle.lock_row.specs.declared.names.At.{At}
-use Rattle.lock_row.specs.declared.names.At.TheVariants.{Both, Freeing, Giving, Leaving, Made, Moving, Owing, Pinning, Ready, Refusing, Shrinking, Unpinning}
+use Rattle.lock_row.specs.declared.names.At.TheVariants.{Both, Counting, Failing, Fetching, Freeing, Giving, Leaving, Made, Missed, Moving, Owing, Pinning, Ready, Refusing, Releasing, Shrinking, Unpinning}
 use Rattle.lock_row.specs.declared.names.LockNo.{LockNo}
 use Rattle.lock_row.specs.declared.names.Plan.TheVariants.{Give, Take}
 use Rattle.lock_row.specs.declared.names.State.{State}
@@ -67,10 +67,18 @@ refused_idle : (g : Begin) (p : Part) (op : Op) (x : PartEnd) → FailBy g p op 
 refused_idle g p op Carried f = tt
 refused_idle g p op (AtLimit c n l) f = tt
 refused_idle g p op NoMemory f = tt
+refused_idle g p op (Eio fault) f = tt
 refused_idle g p (Write start count stuff) (Whole end) f = absurd f
 refused_idle g p (Read start count) (Whole end) f = absurd f
 refused_idle g p (Discard start count) (Whole end) f = absurd f
 refused_idle g p Compact (Whole end) f = absurd f
+
+fault_idle : (g : Begin) (p : Part) (x : PartEnd) → IsFault g p (Some x) → IsIdle (op_end x 0)
+fault_idle g p Carried f = absurd f
+fault_idle g p (AtLimit c n l) f = absurd f
+fault_idle g p NoMemory f = absurd f
+fault_idle g p (Eio fault) f = tt
+fault_idle g p (Whole end) f = absurd f
 
 -- another use of a cell changes no weight
 pool_same : (q q' : PoolState) → q'.per ≡ q.per → used_each q'.zspages ≡ used_each q.zspages
@@ -208,6 +216,37 @@ module _ (g : Begin) (ok : Known g) (w : State DiskHeld) (j : Joint g w) (a : �
         (refused_idle g p p.op x (subst (FailBy g p p.op) bad st.fails))
         (λ read. weigh_same _ _ _ held v_is (ap (λ (i : Here). i.held) m_is) (omega arith)
         (omega arith))
+    alone_event (event.fetches p rest e b d d' page todo at held is reads is_page v_is m_is) =
+        on_so p rest todo Fetching at (refl, λ op. refl) _ (plain_fetched p.op _ e.kept) _ m_is refl
+        refl refl
+        (λ read. weigh_same _ _ _ held v_is (ap (λ (i : Here). i.held) m_is) (omega arith)
+        (omega arith))
+    alone_event (event.misses p rest e b d d' fault todo at held is failed v_is m_is) =
+        on_so p rest todo Fetching at (refl, λ op. refl) Failing (refl, λ op. refl) _ m_is refl refl
+        refl
+        (λ read. weigh_same _ _ _ held v_is (ap (λ (i : Here). i.held) m_is) (omega arith)
+        (omega arith))
+    alone_event (event.counts p rest e c todo at held v_is m_is) =
+        on_so p rest todo Counting at (refl, λ op. refl) Missed (refl, λ op. refl) _ m_is refl refl
+        refl
+        (λ read. weigh_same _ _ _ held v_is (ap (λ (i : Here). i.held) m_is) (omega arith)
+        (omega arith))
+    alone_event (event.errs p rest e f x todo at held bad reads notes v_is m_is) =
+        let st = stage g ok w j a l who p rest todo _ Missed held at in
+        is_over g ok w a l who o k v m there p rest todo Missed at (refl, λ op. refl) x [] m_is
+        (on_page n p.op st.begun) (fault_idle g p x (subst (IsFault g p) bad st.fails))
+        (λ read. weigh_same _ _ _ held v_is (ap (λ (i : Here). i.held) m_is) (omega arith)
+        (omega arith))
+    alone_event (event.leaves p rest e x todo at held bad other v_is m_is) =
+        let st = stage g ok w j a l who p rest todo _ Missed held at in
+        is_over g ok w a l who o k v m there p rest todo Missed at (refl, λ op. refl) x [] m_is
+        (on_page n p.op st.begun) (fault_idle g p x (subst (IsFault g p) bad st.fails))
+        (λ read. weigh_same _ _ _ held v_is (ap (λ (i : Here). i.held) m_is) (omega arith)
+        (omega arith))
+    alone_event (event.releases p rest e b x todo at held is v_is m_is) =
+        let st = stage g ok w j a l who p rest todo _ Releasing held at in
+        on_so p rest todo Releasing at (refl, λ op. refl) Owing (refl, λ op. refl) _ m_is refl refl
+        refl (λ read. absurd (no_change p.op st.kind.0 read))
     alone_event (event.moves p rest x q q' u u' budget frames todo at held sh some d v_is m_is) =
         let e = given_lock g ok w j a l who k v m what (lock.Class x.class)
         (event_is g ok w j a l who k v m what p rest _ (Moving x) todo held at) in

@@ -5,7 +5,7 @@ use Rattle.class_pool.specs.Pool.{PoolState, used_cells}
 use Rattle.joint_rule.proofs.Events.{BackBy}
 use Rattle.joint_rule.proofs.Pools.{Alike, Allocates, GivesUp, Shifts, Swaps, fits_swap}
 use Rattle.joint_rule.specs.Joint.{PoolFits}
-use Rattle.joint_rule.specs.Stages.{Bears, IsForm, NoneOf}
+use Rattle.joint_rule.specs.Stages.{Bears, IsForm, NoneOf, is_wb}
 use Rattle.joint_rule.specs.Weights.{Backs, Count, FailedReads, FailedWrites, Fixed, Huges, Limit, OutOfRange, PackedBytes, Packs, PinWeigh, Refusal, Sames, Weigh, cell_weight, claim_by, counter, fixed_count, measure, object_weight, out_weight, pin_in, refusal_count}
 use Rattle.lock_row.specs.Totals.{by_option}
 use Rattle.lock_row.specs.declared.names.Object.{Object}
@@ -13,7 +13,7 @@ use Rattle.lock_row.specs.declared.names.Pin.{Pin}
 use Rattle.mem_account.specs.Counters.{Counters, charged, counted, with_one, without_one}
 use Rattle.mem_account.specs.declared.weight.Weight.{Weight}
 use Rattle.page_steps.specs.Compactions.{repaid}
-use Rattle.page_steps.specs.Givings.{kept_by, settled, tells}
+use Rattle.page_steps.specs.Givings.{fails_by, kept_by, settled, tells}
 use Rattle.slot_entry.specs.Entries.{weight_of}
 use Rattle.slot_entry.specs.Forms.{Blank, PageForm, Pooled, Word, bytes_in, form_weight}
 use Rattle.zr_base.specs.declared.op.Op.{Op}
@@ -294,10 +294,10 @@ module _ (op : Op) (n : ℕ) (old new : Weight) (c : Counters) where
 
   pub settled_fixed : (q : Fixed) → fixed_count q (settled op n old new c) ≡ fixed_count q c
   settled_fixed Limit = ap (λ (x : ℕ × ℕ × ℕ × ℕ × ℕ × ℕ). x.1) settled_rest
-  settled_fixed FailedReads = ap (λ (x : ℕ × ℕ × ℕ × ℕ × ℕ × ℕ). x.3) settled_rest
 
   pub settled_refusals : (q : Refusal) → refusal_count q (settled op n old new c)
       ≡ refusal_count q c
+  settled_refusals FailedReads = ap (λ (x : ℕ × ℕ × ℕ × ℕ × ℕ × ℕ). x.3) settled_rest
   settled_refusals FailedWrites = ap (λ (x : ℕ × ℕ × ℕ × ℕ × ℕ × ℕ). x.4) settled_rest
   settled_refusals OutOfRange = ap (λ (x : ℕ × ℕ × ℕ × ℕ × ℕ × ℕ). x.5) settled_rest
 
@@ -311,6 +311,38 @@ failed_count Packs c = refl
 failed_count PackedBytes c = refl
 failed_count Huges c = refl
 failed_count Backs c = refl
+
+read_failed_count : (q : Count) (c : Counters) → counter q (counted c delta.FailedRead)
+    ≡ counter q c
+read_failed_count Sames c = refl
+read_failed_count Packs c = refl
+read_failed_count PackedBytes c = refl
+read_failed_count Huges c = refl
+read_failed_count Backs c = refl
+
+-- a failure of the device is counted, and nothing else
+pub fails_count : (op : Op) (q : Count) (c : Counters) → counter q (fails_by op c) ≡ counter q c
+fails_count (Write start count stuff) q c = failed_count q c
+fails_count (Read start count) q c = read_failed_count q c
+fails_count (Discard start count) q c = failed_count q c
+fails_count Compact q c = failed_count q c
+
+fails_rest : (op : Op) (c : Counters) → ((fails_by op c).pages ≡ c.pages)
+    × ((fails_by op c).most ≡ c.most) × ((fails_by op c).limit ≡ c.limit)
+fails_rest (Write start count stuff) c = (refl, refl, refl)
+fails_rest (Read start count) c = (refl, refl, refl)
+fails_rest (Discard start count) c = (refl, refl, refl)
+fails_rest Compact c = (refl, refl, refl)
+
+pub fails_pages : (op : Op) (c : Counters) → (fails_by op c).pages ≡ c.pages
+fails_pages op c = (fails_rest op c).0
+
+pub fails_most : (op : Op) (c : Counters) → (fails_by op c).most ≡ c.most
+fails_most op c = (fails_rest op c).1
+
+pub fails_fixed : (op : Op) (q : Fixed) (c : Counters)
+    → fixed_count q (fails_by op c) ≡ fixed_count q c
+fails_fixed op Limit c = (fails_rest op c).2
 
 pub invalid_count : (q : Count) (c : Counters) → counter q (counted c delta.InvalidIo) ≡ counter q c
 invalid_count Sames c = refl
@@ -340,22 +372,18 @@ shrunk_count Backs c n = refl
 pub shrunk_fixed : (q : Fixed) (c : Counters) (n : ℕ)
     → fixed_count q (shrunk n c) ≡ fixed_count q c
 shrunk_fixed Limit c n = refl
-shrunk_fixed FailedReads c n = refl
 
 pub failed_fixed : (q : Fixed) (c : Counters) → fixed_count q (counted c delta.FailedWrite)
     ≡ fixed_count q c
 failed_fixed Limit c = refl
-failed_fixed FailedReads c = refl
 
 pub invalid_fixed : (q : Fixed) (c : Counters) → fixed_count q (counted c delta.InvalidIo)
     ≡ fixed_count q c
 invalid_fixed Limit c = refl
-invalid_fixed FailedReads c = refl
 
 pub charged_fixed : (q : Fixed) (c : Counters) (need : ℕ)
     → fixed_count q (charged c need) ≡ fixed_count q c
 charged_fixed Limit c need = refl
-charged_fixed FailedReads c need = refl
 
 -- ---- forms
 
@@ -381,6 +409,13 @@ module _ (chain : ℕ) where
   put_weight q (Word w) x b = refl
   put_weight q (Pooled y z) None b = absurd b
   put_weight q (Pooled y z) (Some o) b = refl
+
+-- the new form isn't on the device
+pub put_plain : (h : PageForm) (x : Option Object) → is_wb (kept_by h x) ≡ false
+put_plain Blank x = refl
+put_plain (Word w) x = refl
+put_plain (Pooled y z) None = refl
+put_plain (Pooled y z) (Some o) = refl
 
 pub none_fresh : (f : Weigh) (x : Option Object) → NoneOf x → by_option (object_weight f) x ≡ 0
 none_fresh f None e = refl

@@ -19,7 +19,7 @@ use Rattle.joint_rule.specs.Stages.{OweAt, StageBy}
 use Rattle.joint_rule.specs.Weights.{Limit, cell_weight, chains, claims, each_one, ever_at, fixed, fixed_count, fresh_claim, leaning, mosts, none, one, owing, pages, some_of, stored}
 use Rattle.lock_row.specs.Totals.{held_sum, locals_sum, mass, row_sum, total}
 use Rattle.lock_row.specs.declared.names.At.{At}
-use Rattle.lock_row.specs.declared.names.At.TheVariants.{Both, Freeing, Giving, Inside, Leaving, Made, Old, Owing, Pinned, Pinning, Ready, Refusing, Seen, Start, Unpinning, Wanting, Sweeping, Moving, Shrunk, Shrinking}
+use Rattle.lock_row.specs.declared.names.At.TheVariants.{Away, Backed, Both, Counting, Failing, Fetching, Freeing, Giving, Inside, Leaving, Made, Missed, Old, Owing, Pinned, Pinning, Ready, Refusing, Releasing, Seen, Start, Unpinning, Wanting, Sweeping, Moving, Shrunk, Shrinking}
 use Rattle.lock_row.specs.declared.names.LockNo.{LockNo}
 use Rattle.lock_row.specs.declared.names.Object.{Object}
 use Rattle.lock_row.specs.declared.names.Pin.{Pin}
@@ -128,12 +128,19 @@ module _ (g : Begin) (ok : Known g) where
   owed_at Pinned n o = owed_none n o
   owed_at Unpinning n o = owed_none n o
   owed_at Leaving n o = owed_none n o
+  owed_at Away n o = owed_none n o
+  owed_at Fetching n o = owed_none n o
+  owed_at Failing n o = owed_none n o
+  owed_at Counting n o = owed_none n o
+  owed_at Missed n o = owed_none n o
   owed_at Wanting n o = owed_none n o
   owed_at Inside n o = owed_none n o
   owed_at Both n o = owed_none n o
   owed_at Made n o = owed_none n o
   owed_at Old n o = owed_none n o
   owed_at Freeing n o = owed_none n o
+  owed_at Backed n o = owed_none n o
+  owed_at Releasing n o = owed_none n o
   owed_at Ready n o = owed_none n o
   owed_at (Sweeping x) n o = owed_none n o
   owed_at (Moving x) n o = owed_none n o

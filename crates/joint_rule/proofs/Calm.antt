@@ -13,14 +13,14 @@ use Rattle.joint_rule.specs.Begins.{Begin, terms}
 use Rattle.joint_rule.specs.Weights.{each_one, loose_pools, none, stored}
 use Rattle.lock_row.specs.Totals.{mass, total}
 use Rattle.lock_row.specs.declared.names.At.{At}
-use Rattle.lock_row.specs.declared.names.At.TheVariants.{Both, Freeing, Giving, Inside, Leaving, Made, Moving, Old, Owing, Pinned, Pinning, Ready, Refusing, Seen, Shrinking, Shrunk, Start, Sweeping, Unpinning, Wanting}
+use Rattle.lock_row.specs.declared.names.At.TheVariants.{Away, Backed, Both, Counting, Failing, Fetching, Freeing, Giving, Inside, Leaving, Made, Missed, Moving, Old, Owing, Pinned, Pinning, Ready, Refusing, Releasing, Seen, Shrinking, Shrunk, Start, Sweeping, Unpinning, Wanting}
 use Rattle.lock_row.specs.declared.names.Compaction.{Compaction}
 use Rattle.lock_row.specs.declared.names.LockNo.{LockNo}
 use Rattle.lock_row.specs.declared.names.Pin.{Pin}
 use Rattle.lock_row.specs.declared.names.Plan.TheVariants.{Take}
 use Rattle.lock_row.specs.declared.names.State.{State}
 use Rattle.page_steps.specs.Pages.{next_form}
-use Rattle.page_steps.specs.Steps.{DiskHeld, Here, after_take, begun_at, discard_at, entered_at, entry_in, entry_or, first_class, lock_of, made_at, part_at, piece_over, pinned_at, plan, quit_at, seen_at, settle_at, spot, taken_at, took, write_at}
+use Rattle.page_steps.specs.Steps.{DiskHeld, Here, after_take, begun_at, discard_at, entered_at, entry_in, entry_or, fetched_at, first_class, lock_of, made_at, part_at, piece_over, pinned_at, plan, quit_at, seen_at, settle_at, spot, taken_at, took, write_at}
 use Rattle.plain_disk.specs.Compactions.{IsIdle, moves_by, tight_by}
 use Rattle.slot_entry.specs.Forms.{Blank, PageForm, Pooled, Word}
 use Rattle.slot_entry.specs.declared.kept.Kept.{Kept}
@@ -42,6 +42,7 @@ pub plain_settle : (k : Kept) → IsPlain (settle_at k)
 plain_settle kept.Empty = (refl, λ op. refl)
 plain_settle (kept.Same w) = (refl, λ op. refl)
 plain_settle (kept.Obj o) = (refl, λ op. refl)
+plain_settle (kept.Wb b) = (refl, λ op. refl)
 
 plain_made : (f : PageForm) (k : Kept) → IsPlain (made_at f k)
 plain_made Blank k = plain_settle k
@@ -52,11 +53,13 @@ plain_seen : (k : Kept) → IsPlain (seen_at k)
 plain_seen kept.Empty = (refl, λ op. refl)
 plain_seen (kept.Same w) = (refl, λ op. refl)
 plain_seen (kept.Obj o) = (refl, λ op. refl)
+plain_seen (kept.Wb b) = (refl, λ op. refl)
 
 plain_part : (f : PageForm) (k : Kept) → IsPlain (part_at f k)
 plain_part f kept.Empty = plain_made f kept.Empty
 plain_part f (kept.Same w) = plain_made f (kept.Same w)
 plain_part f (kept.Obj o) = (refl, λ op. refl)
+plain_part f (kept.Wb b) = (refl, λ op. refl)
 
 plain_write : (b : Bool) (f : PageForm) (k : Kept) → IsPlain (write_at b f k)
 plain_write true f k = plain_made f k
@@ -66,6 +69,7 @@ plain_discard : (k : Kept) → IsPlain (discard_at k)
 plain_discard kept.Empty = (refl, λ op. refl)
 plain_discard (kept.Same w) = (refl, λ op. refl)
 plain_discard (kept.Obj o) = (refl, λ op. refl)
+plain_discard (kept.Wb b) = (refl, λ op. refl)
 
 pub plain_entered : (op : Op) (page : ℕ) (f : PageForm) (k : Kept) → IsPlain (entered_at op page f k)
 plain_entered (Write start count stuff) page f k = plain_write (has_whole start count page) f k
@@ -78,6 +82,12 @@ plain_pinned (Write start count stuff) f k = plain_made f k
 plain_pinned (Read start count) f k = (refl, λ op. refl)
 plain_pinned (Discard start count) f k = (refl, λ op. refl)
 plain_pinned Compact f k = (refl, λ op. refl)
+
+pub plain_fetched : (op : Op) (f : PageForm) (k : Kept) → IsPlain (fetched_at op f k)
+plain_fetched (Write start count stuff) f k = plain_made f k
+plain_fetched (Read start count) f k = (refl, λ op. refl)
+plain_fetched (Discard start count) f k = (refl, λ op. refl)
+plain_fetched Compact f k = (refl, λ op. refl)
 
 pub plain_quit : (x : Option Pin) → IsPlain (quit_at x)
 plain_quit None = (refl, λ op. refl)
@@ -101,12 +111,19 @@ same_after size Pinning p f k x e = inl e
 same_after size Pinned p f k x e = inl e
 same_after size Unpinning p f k x e = inl e
 same_after size Leaving p f k x e = inl e
+same_after size Away p f k x e = inl e
+same_after size Fetching p f k x e = inl e
+same_after size Failing p f k x e = inl e
+same_after size Counting p f k x e = inl e
+same_after size Missed p f k x e = inl e
 same_after size Wanting p f k x e = inl e
 same_after size Inside p f k x e = inl e
 same_after size Both p f k x e = inl e
 same_after size Made p f k x e = inl e
 same_after size Old p f k x e = inl e
 same_after size Freeing p f k x e = inl e
+same_after size Backed p f k x e = inl e
+same_after size Releasing p f k x e = inl e
 same_after size Owing p f k x e = inl e
 same_after size Giving p f k x e = inl e
 same_after size Ready p f k x e = inl e
@@ -130,12 +147,19 @@ calm_after size Pinning p f k e = e
 calm_after size Pinned p f k e = e
 calm_after size Unpinning p f k e = e
 calm_after size Leaving p f k e = e
+calm_after size Away p f k e = e
+calm_after size Fetching p f k e = e
+calm_after size Failing p f k e = e
+calm_after size Counting p f k e = e
+calm_after size Missed p f k e = e
 calm_after size Wanting p f k e = e
 calm_after size Inside p f k e = e
 calm_after size Both p f k e = e
 calm_after size Made p f k e = e
 calm_after size Old p f k e = e
 calm_after size Freeing p f k e = e
+calm_after size Backed p f k e = e
+calm_after size Releasing p f k e = e
 calm_after size Owing p f k e = e
 calm_after size Giving p f k e = e
 calm_after size Ready p f k e = e

@@ -79,6 +79,7 @@ module _ (m : ℕ) where
       → claim_by strange k b ≡ 0
   strange_none f kept.Empty b i = refl
   strange_none f (kept.Same w) b i = refl
+  strange_none f (kept.Wb x) b i = refl
   strange_none Blank (kept.Obj o) b i = absurd i
   strange_none (Word w) (kept.Obj o) b i = absurd i
   strange_none (Pooled bytes huge) (kept.Obj o) b i =

@@ -4,6 +4,7 @@ use Rattle.call_history.specs.declared.part.Part.{Part}
 use Rattle.call_history.specs.declared.part.PartEnd.TheVariants.{Whole}
 use Rattle.class_pool.specs.Pool.{PoolState}
 use Rattle.joint_rule.proofs.Balances.{none_fresh, shift_outs, shift_stored, shrunk, shrunk_count, shrunk_fixed}
+use Rattle.joint_rule.proofs.Blocks.{apart}
 use Rattle.joint_rule.proofs.Classes.{stands_low}
 use Rattle.joint_rule.proofs.Facts.{Known}
 use Rattle.joint_rule.proofs.Gifts.{Gift, all, goes_on, is_over, none_pin, some_one, stage}
@@ -75,6 +76,8 @@ module _ (g : Begin) (ok : Known g) (w : State DiskHeld) (j : Joint g w) (a : 鈩
         pins = st.pins;
         owes = refl;
         stands = tt;
+        backs = tt;
+        partly = tt;
         right = st.right;
         counts = st.counts;
         blank = tt;
@@ -88,6 +91,8 @@ module _ (g : Begin) (ok : Known g) (w : State DiskHeld) (j : Joint g w) (a : 鈩
         pins = st.pins;
         owes = le;
         stands = tt;
+        backs = tt;
+        partly = tt;
         right = st.right;
         counts = st.counts;
         blank = tt;
@@ -107,6 +112,7 @@ module _ (g : Begin) (ok : Known g) (w : State DiskHeld) (j : Joint g w) (a : 鈩
             fits_shift g.chain q sound.1 q' u u' frames sh,
           );
           stands = tt;
+          backs = tt;
         };
         fits = goes_on g ok w j a l who p rest todo (moved_at frames (with_move x budget)) [] l.fresh
             l.pin frames l.ahead l.behind l.page l.fail (moved_locks frames _ _) tt
@@ -116,6 +122,8 @@ module _ (g : Begin) (ok : Known g) (w : State DiskHeld) (j : Joint g w) (a : 鈩
         owners = 位 f. let r = ap (held_sum (spot n) (claims g f)) held in
             let t = ap (held_sum (spot n) (stored f)) held in
             let s = shift_stored q q' u u' frames sh f in omega arith;
+        storage = apart g l _ _ _ (位 f z y. let r = ap (held_sum (spot n) f) held in
+            let s = z (n + x.class) q in let t = z (n + x.class) q' in omega arith);
         pins = 位 f. let r = ap (held_sum (spot n) (outs f)) held in
             let t = ap (held_sum (spot n) nothing) held in
             let s = shift_outs q q' u u' frames sh f in omega arith;
@@ -136,7 +144,7 @@ module _ (g : Begin) (ok : Known g) (w : State DiskHeld) (j : Joint g w) (a : 鈩
         (on l (Sweeping (with_next g.chain x)) [] l.fresh l.pin l.owed l.ahead l.behind l.page
         l.fail)
     give_sweeps = record {
-      home = record { sound = sound; stands = tt };
+      home = record { sound = sound; stands = tt; backs = tt };
       fits = goes_on g ok w j a l who p rest todo (Sweeping (with_next g.chain x)) [] l.fresh l.pin
           l.owed l.ahead l.behind l.page l.fail refl tt
           (record {
@@ -145,6 +153,8 @@ module _ (g : Begin) (ok : Known g) (w : State DiskHeld) (j : Joint g w) (a : 鈩
             pins = st.pins;
             owes = st.owes;
             stands = tt;
+            backs = tt;
+            partly = tt;
             right = st.right;
             counts = st.counts;
             blank = tt;
@@ -159,6 +169,8 @@ module _ (g : Begin) (ok : Known g) (w : State DiskHeld) (j : Joint g w) (a : 鈩
       alone = 位 i. let r = ap (held_sum (spot n) (at_place i)) held in omega arith;
       owners = 位 f. let r = ap (held_sum (spot n) (claims g f)) held in
           let t = ap (held_sum (spot n) (stored f)) held in omega arith;
+      storage = apart g l _ _ _ (位 f z y. let r = ap (held_sum (spot n) f) held in
+          let s = z (n + x.class) q in omega arith);
       pins = 位 f. let r = ap (held_sum (spot n) (outs f)) held in
           let t = ap (held_sum (spot n) nothing) held in omega arith;
       frames = let r = ap (held_sum (spot n) pages) held in
@@ -180,13 +192,15 @@ module _ (g : Begin) (ok : Known g) (w : State DiskHeld) (j : Joint g w) (a : 鈩
     pub give_closes : Gift g a l (lock.Class x.class) (holds.Class q)
         (piece_over l p (Whole (ends.Compacted x.moves x.frames)) [] rest)
     give_closes = record {
-      home = record { sound = sound; stands = tt };
+      home = record { sound = sound; stands = tt; backs = tt };
       fits = is_over g ok w j a l who p rest todo (Whole (ends.Compacted x.moves x.frames)) []
           (compaction_single n p.op st.begun, may_end);
       alone = 位 i. let r = ap (held_sum (spot n) (at_place i)) held in omega arith;
       owners = 位 f. let r = ap (held_sum (spot n) (claims g f)) held in
           let t = ap (held_sum (spot n) (stored f)) held in
           let y = none_fresh f l.fresh st.made in omega arith;
+      storage = apart g l _ _ _ (位 f z y. let r = ap (held_sum (spot n) f) held in
+          let s = z (n + x.class) q in omega arith);
       pins = 位 f. let r = ap (held_sum (spot n) (outs f)) held in
           let t = ap (held_sum (spot n) nothing) held in let y = none_pin f l.pin st.pins in
           omega arith;
@@ -217,7 +231,7 @@ module _ (g : Begin) (ok : Known g) (w : State DiskHeld) (j : Joint g w) (a : 鈩
     pub give_shrinks : Gift g a l lock.Account (holds.Account (shrunk l.owed c))
         (on l (Sweeping (with_frames x l.owed)) [] l.fresh l.pin 0 l.ahead l.behind l.page l.fail)
     give_shrinks = record {
-      home = record { sound = refl; stands = tt };
+      home = record { sound = refl; stands = tt; backs = tt };
       fits = goes_on g ok w j a l who p rest todo (Sweeping (with_frames x l.owed)) [] l.fresh l.pin
           0 l.ahead l.behind l.page l.fail refl tt
           (record {
@@ -226,6 +240,8 @@ module _ (g : Begin) (ok : Known g) (w : State DiskHeld) (j : Joint g w) (a : 鈩
             pins = ss.pins;
             owes = refl;
             stands = tt;
+            backs = tt;
+            partly = tt;
             right = ss.right;
             counts = ss.counts;
             blank = tt;
@@ -240,6 +256,8 @@ module _ (g : Begin) (ok : Known g) (w : State DiskHeld) (j : Joint g w) (a : 鈩
       alone = 位 i. let r = ap (held_sum (spot n) (at_place i)) held in omega arith;
       owners = 位 f. let r = ap (held_sum (spot n) (claims g f)) held in
           let t = ap (held_sum (spot n) (stored f)) held in omega arith;
+      storage = apart g l _ _ _ (位 f z y. let r = ap (held_sum (spot n) f) held in
+          let s = y (n + 255) c in let t = y (n + 255) (shrunk l.owed c) in omega arith);
       pins = 位 f. let r = ap (held_sum (spot n) (outs f)) held in
           let t = ap (held_sum (spot n) nothing) held in omega arith;
       frames = let r = ap (held_sum (spot n) pages) held in

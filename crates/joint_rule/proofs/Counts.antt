@@ -3,7 +3,7 @@ use Rattle.std.proofs.Common.{◌≡◌, ◌+◌, ◌≤◌, ◌∷◌, ◌∙�
 use Rattle.call_history.specs.Parts.{done_sum, left_by, piece_gives}
 use Rattle.call_history.specs.declared.part.Part.{Part}
 use Rattle.call_history.specs.declared.part.PartEnd.{PartEnd}
-use Rattle.call_history.specs.declared.part.PartEnd.TheVariants.{AtLimit, Carried, NoMemory, Whole}
+use Rattle.call_history.specs.declared.part.PartEnd.TheVariants.{AtLimit, Carried, Eio, NoMemory, Whole}
 use Rattle.joint_rule.proofs.Balances.{settled_refusals, shrunk}
 use Rattle.joint_rule.proofs.Events.{Event}
 use Rattle.joint_rule.proofs.Facts.{Known}
@@ -13,25 +13,35 @@ use Rattle.joint_rule.proofs.Sums.{gone}
 use Rattle.joint_rule.specs.Begins.{Begin, terms}
 use Rattle.joint_rule.specs.Joint.{Joint}
 use Rattle.joint_rule.specs.Rule.{CountsRefusals}
-use Rattle.joint_rule.specs.Stages.{IsWrite, NoneOf}
-use Rattle.joint_rule.specs.Weights.{FailedWrites, OutOfRange, Refusal, none, on_account, refusal_count, refusal_counter, refusal_of, refusals, refused_by, same}
+use Rattle.joint_rule.specs.Stages.{FailAt, IsFault, IsWrite, Looks, NoneOf, StageBy}
+use Rattle.joint_rule.specs.Weights.{FailedReads, FailedWrites, OutOfRange, Refusal, fails_so, none, on_account, refusal_count, refusal_counter, refusal_of, refusals, refused_by}
 use Rattle.lock_row.specs.Totals.{by_option, held_sum, locals_sum, mass, total}
-use Rattle.lock_row.specs.declared.names.At.TheVariants.{Both, Made, Moving, Ready, Refusing}
+use Rattle.lock_row.specs.declared.names.At.{At}
+use Rattle.lock_row.specs.declared.names.At.TheVariants.{Both, Counting, Failing, Fetching, Freeing, Giving, Leaving, Made, Missed, Moving, Pinning, Ready, Refusing, Releasing, Shrinking, Start, Unpinning}
+use Rattle.lock_row.specs.declared.names.Compaction.{Compaction}
 use Rattle.lock_row.specs.declared.names.LockNo.{LockNo}
+use Rattle.lock_row.specs.declared.names.Object.{Object}
+use Rattle.lock_row.specs.declared.names.Pin.{Pin}
 use Rattle.lock_row.specs.declared.names.Plan.TheVariants.{Take}
 use Rattle.lock_row.specs.declared.names.State.{State}
-use Rattle.mem_account.specs.Counters.{Counters, at_most_end, charged}
-use Rattle.page_steps.specs.Givings.{old_weight}
+use Rattle.mem_account.specs.Counters.{Counters, at_most_end, charged, counted}
+use Rattle.mem_account.specs.declared.weight.Weight.{Weight}
+use Rattle.page_steps.specs.Compactions.{moved_at, with_move}
+use Rattle.page_steps.specs.Givings.{fails_by, old_weight}
 use Rattle.page_steps.specs.Pages.{next_form}
-use Rattle.page_steps.specs.Steps.{DiskHeld, Here, lock_of, on, piece_over, plan, slot, spot, took}
-use Rattle.plain_disk.specs.Calls.{after}
-use Rattle.plain_disk.specs.Ends.{failed_write}
-use Rattle.slot_entry.specs.Forms.{form_weight}
+use Rattle.page_steps.specs.Steps.{DiskHeld, Here, after_take, begun_at, entry_in, entry_or, fetched_at, lock_of, made_at, on, piece_over, pinned_at, plan, quit_at, settle_at, slot, spot, taken_at, took}
+use Rattle.slot_entry.specs.Forms.{Blank, PageForm, Pooled, Word, form_weight}
+use Rattle.slot_entry.specs.declared.kept.Kept.{Kept}
+use Rattle.std.specs.Prelude.{⊤}
+use Rattle.zr_base.specs.Plain.{is_beyond, is_compaction}
 use Rattle.zr_base.specs.declared.op.Op.{Op}
 use Rattle.zr_base.specs.declared.op.Op.TheVariants.{Compact, Discard, Read, Write}
+use Rattle.zr_base.specs.declared.op.OpEnd.{OpEnd}
 use Rattle.joint_rule.proofs.Events as event
 use Rattle.lock_row.specs.declared.names.LockNo.TheVariants as lock
 use Rattle.lock_row.specs.declared.names.Held.TheVariants as holds
+use Rattle.mem_account.specs.declared.weight.Delta.TheVariants as delta
+use Rattle.slot_entry.specs.declared.kept.Kept.TheVariants as kept
 use Rattle.zr_base.specs.declared.op.OpEnd.TheVariants as ends
 
 -- ---- counters that rise
@@ -93,51 +103,153 @@ module _ (g : Begin) (ok : Known g) (w : State DiskHeld) (j : Joint g w) (a : �
 
 -- ---- refusals
 
-refused_none : (q : Refusal) (ps : List Part) → refused_by q ps None ≡ 0
-refused_none q [] = refl
-refused_none q (p ∷ ps) = refl
+-- a stage tells of a refusal, but of one that the device brought not before it is counted
+abbrev Speaks : At → Type 0
+Speaks Failing = ⊥
+Speaks Counting = ⊥
+Speaks at = ⊤
 
--- a refused write is one, and no other end is
-write_gives : (op : Op) → IsWrite op → (c n l : ℕ) → piece_gives failed_write op (AtLimit c n l) ≡ 1
-write_gives (Write start count stuff) i c n l = refl
-write_gives (Read start count) i c n l = absurd i
-write_gives (Discard start count) i c n l = absurd i
-write_gives Compact i c n l = absurd i
+pub fails_none : (f : Op → OpEnd → ℕ) (ps : List Part) → fails_so f ps None ≡ 0
+fails_none f [] = refl
+fails_none f (p ∷ ps) = refl
 
-memory_gives : (op : Op) → IsWrite op → piece_gives failed_write op NoMemory ≡ 1
-memory_gives (Write start count stuff) i = refl
-memory_gives (Read start count) i = absurd i
-memory_gives (Discard start count) i = absurd i
-memory_gives Compact i = absurd i
+pub refused_none : (q : Refusal) (at : At) (ps : List Part) → refused_by q at ps None ≡ 0
+refused_none q Failing ps = refl
+refused_none q Counting ps = refl
+refused_none q at ps = fails_none (refusal_of q) ps
 
-range_gives : (op : Op) → piece_gives failed_write op (Whole ends.Range) ≡ 0
-range_gives (Write start count stuff) = refl
-range_gives (Read start count) = refl
-range_gives (Discard start count) = refl
-range_gives Compact = refl
+refused_no : (q : Refusal) (at : At) (ps : List Part) (x : Option PartEnd) → NoneOf x
+    → refused_by q at ps x ≡ 0
+refused_no q at ps None i = refused_none q at ps
+refused_no q at ps (Some x) i = absurd i
+
+refused_is : (q : Refusal) (at : At) (ps : List Part) (x : Option PartEnd) → Speaks at
+    → refused_by q at ps x ≡ fails_so (refusal_of q) ps x
+refused_is q Failing ps x s = absurd s
+refused_is q Counting ps x s = absurd s
+refused_is q at ps x s = refl
+
+speaks_settle : (k : Kept) → Speaks (settle_at k)
+speaks_settle kept.Empty = tt
+speaks_settle (kept.Same w) = tt
+speaks_settle (kept.Obj o) = tt
+speaks_settle (kept.Wb b) = tt
+
+speaks_made : (f : PageForm) (k : Kept) → Speaks (made_at f k)
+speaks_made Blank k = speaks_settle k
+speaks_made (Word w) k = speaks_settle k
+speaks_made (Pooled bytes huge) k = tt
+
+speaks_pinned : (op : Op) (f : PageForm) (k : Kept) → Speaks (pinned_at op f k)
+speaks_pinned (Write start count stuff) f k = speaks_made f k
+speaks_pinned (Read start count) f k = tt
+speaks_pinned (Discard start count) f k = tt
+speaks_pinned Compact f k = tt
+
+speaks_fetched : (op : Op) (f : PageForm) (k : Kept) → Speaks (fetched_at op f k)
+speaks_fetched (Write start count stuff) f k = speaks_made f k
+speaks_fetched (Read start count) f k = tt
+speaks_fetched (Discard start count) f k = tt
+speaks_fetched Compact f k = tt
+
+speaks_quit : (x : Option Pin) → Speaks (quit_at x)
+speaks_quit None = tt
+speaks_quit (Some x) = tt
+
+speaks_moved : (n : ℕ) (x : Compaction) → Speaks (moved_at n x)
+speaks_moved zero x = tt
+speaks_moved (suc n) x = tt
+
+-- a taking tells nothing
+refused_after : (g : Begin) (q : Refusal) (at : At) (p : Part) (ps : List Part) (f : PageForm)
+    (k : Kept) (x : Option PartEnd) → FailAt g p at p.op x
+    → refused_by q (after_take g.given.size at p f k) (p ∷ ps) x ≡ refused_by q at (p ∷ ps) x
+refused_after g q Start p ps f k x i =
+    refused_no q (begun_at (is_compaction p.op) (is_beyond g.given.size p.op) p f k) (p ∷ ps) x i
+    ∙ sym (refused_no q Start (p ∷ ps) x i)
+refused_after g q at p ps f k x i = refl
+
+refused_taken : (g : Begin) (q : Refusal) (l : Here) (v : DiskHeld) (ps : List Part)
+    → StageBy g ps (entry_in l.held) l.at l.fresh l.pin l.owed l.ahead l.behind l.page l.fail
+    → refused_by q (taken_at g.given.size ps l.at l.page (entry_or v (entry_in l.held)).kept) ps
+    l.fail ≡ refused_by q l.at ps l.fail
+refused_taken g q l v [] s = refl
+refused_taken g q l v (p ∷ ps) s = refused_after g q l.at p ps _ _ l.fail s.fails
+
+-- a write that is refused is counted
+abbrev IsDenial : PartEnd → Type 0
+IsDenial (AtLimit c n l) = ⊤
+IsDenial NoMemory = ⊤
+IsDenial x = ⊥
+
+-- What an end gives is 0 or 1, and the counter rises by that.
+abbrev Rises : Refusal → Op → PartEnd → Counters → Counters → Type 0
+Rises q op x c d = (piece_gives (refusal_of q) op x ≤ 1)
+    × (refusal_count q d ≡ raised (piece_gives (refusal_of q) op x) (refusal_count q c))
+
+denial_rises : (q : Refusal) (op : Op) (x : PartEnd) (c : Counters) → IsWrite op → IsDenial x
+    → Rises q op x c (counted c delta.FailedWrite)
+denial_rises FailedReads (Write start count stuff) (AtLimit y n l) c i d = (omega arith, refl)
+denial_rises FailedWrites (Write start count stuff) (AtLimit y n l) c i d = (omega arith, refl)
+denial_rises OutOfRange (Write start count stuff) (AtLimit y n l) c i d = (omega arith, refl)
+denial_rises FailedReads (Write start count stuff) NoMemory c i d = (omega arith, refl)
+denial_rises FailedWrites (Write start count stuff) NoMemory c i d = (omega arith, refl)
+denial_rises OutOfRange (Write start count stuff) NoMemory c i d = (omega arith, refl)
+denial_rises q (Write start count stuff) x c i d = absurd d
+denial_rises q op x c i d = absurd i
+
+fault_rises : (q : Refusal) (op : Op) (fault : ℕ) (c : Counters) → Looks op
+    → Rises q op (Eio fault) c (fails_by op c)
+fault_rises FailedReads (Write start count stuff) fault c i = (omega arith, refl)
+fault_rises FailedWrites (Write start count stuff) fault c i = (omega arith, refl)
+fault_rises OutOfRange (Write start count stuff) fault c i = (omega arith, refl)
+fault_rises FailedReads (Read start count) fault c i = (omega arith, refl)
+fault_rises FailedWrites (Read start count) fault c i = (omega arith, refl)
+fault_rises OutOfRange (Read start count) fault c i = (omega arith, refl)
+fault_rises q op fault c i = absurd i
+
+range_rises : (q : Refusal) (op : Op) (c : Counters)
+    → Rises q op (Whole ends.Range) c (counted c delta.InvalidIo)
+range_rises FailedReads (Read start count) c = (omega arith, refl)
+range_rises FailedReads op c = (omega arith, refl)
+range_rises FailedWrites (Write start count stuff) c = (omega arith, refl)
+range_rises FailedWrites op c = (omega arith, refl)
+range_rises OutOfRange op c = (omega arith, refl)
 
 -- a compaction is no refusal
 compacted_gives : (q : Refusal) (op : Op) (moves frames : ℕ)
     → piece_gives (refusal_of q) op (Whole (ends.Compacted moves frames)) ≡ 0
+compacted_gives FailedReads (Read start count) moves frames = refl
+compacted_gives FailedReads op moves frames = refl
 compacted_gives FailedWrites (Write start count stuff) moves frames = refl
-compacted_gives FailedWrites (Read start count) moves frames = refl
-compacted_gives FailedWrites (Discard start count) moves frames = refl
-compacted_gives FailedWrites Compact moves frames = refl
+compacted_gives FailedWrites op moves frames = refl
 compacted_gives OutOfRange op moves frames = refl
 
 shrunk_refusals : (q : Refusal) (c : Counters) (n : ℕ)
     → refusal_count q (shrunk n c) ≡ refusal_count q c
+shrunk_refusals FailedReads c n = refl
 shrunk_refusals FailedWrites c n = refl
 shrunk_refusals OutOfRange c n = refl
 
 charged_refusals : (q : Refusal) (c : Counters) (need : ℕ)
     → refusal_count q (charged c need) ≡ refusal_count q c
+charged_refusals FailedReads c need = refl
 charged_refusals FailedWrites c need = refl
 charged_refusals OutOfRange c need = refl
 
 none_fail : (x : Option PartEnd) → NoneOf x → x ≡ None
 none_fail None i = refl
 none_fail (Some x) i = absurd i
+
+-- which count of faults a failure of the device tells
+pub fault_of : (g : Begin) (p : Part) (x : Option PartEnd) → IsFault g p x
+    → (fault : ℕ) × (x ≡ Some (Eio fault))
+fault_of g p None i = absurd i
+fault_of g p (Some Carried) i = absurd i
+fault_of g p (Some (AtLimit c n l)) i = absurd i
+fault_of g p (Some NoMemory) i = absurd i
+fault_of g p (Some (Eio fault)) i = (fault, refl)
+fault_of g p (Some (Whole end)) i = absurd i
 
 module _ (g : Begin) (ok : Known g) (w : State DiskHeld) (j : Joint g w) (a : ℕ) (l : Here)
     (who : slice_get w.locals a ≡ Some l) (k : LockNo) (v : DiskHeld) (m : Here) where
@@ -155,11 +267,36 @@ module _ (g : Begin) (ok : Known g) (w : State DiskHeld) (j : Joint g w) (a : �
   same_refuses q v₀ m₀ e f t =
       subst (λ (x : DiskHeld × Here). Refuses q x.0 x.1) (λ i. (sym e i, sym f i)) t
 
-  stays_so : (q : Refusal) (v : DiskHeld) (m : Here) → refusals q m ≡ refusals q l
-      → mass (spot n) (refusal_counter q) none m + refusal_counter q (spot n k) v
+  still_so : (q : Refusal) (u : DiskHeld) (m' : Here) → refusals q m' ≡ refusals q l
+      → mass (spot n) (refusal_counter q) none m' + refusal_counter q (spot n k) u
       ≡ mass (spot n) (refusal_counter q) none l
-      → Refuses q v m
-  stays_so q v m told same = record { more = 0; told = (omega arith); rises = still same refl }
+      → Refuses q u m'
+  still_so q u m' told same = record { more = 0; told = (omega arith); rises = still same refl }
+
+  -- the piece goes on
+  stays_so : (q : Refusal) {u : DiskHeld} {held : List (LockNo × DiskHeld)} {fresh : Option Object}
+      {pin : Option Pin} {owed : ℕ} {more less : Option Weight} {page : Option (List ℕ)} (x y : At)
+      → l.at ≡ x → Speaks x → Speaks y
+      → mass (spot n) (refusal_counter q) none (on l y held fresh pin owed more less page l.fail)
+      + refusal_counter q (spot n k) u ≡ mass (spot n) (refusal_counter q) none l
+      → Refuses q u (on l y held fresh pin owed more less page l.fail)
+  stays_so q x y at sx sy same = still_so q _ _ (ap (λ (i : ℕ). done_sum (refusal_of q) l.done + i)
+      (refused_is q y l.todo l.fail sy ∙ sym (refused_is q x l.todo l.fail sx)
+      ∙ sym (ap (λ (s : At). refused_by q s l.todo l.fail) at))) same
+
+  -- the account's counter rises by what an end gives
+  rises_so : (q : Refusal) (u : DiskHeld) (m' : Here) (op : Op) (x : PartEnd) (c : Counters)
+      (rest : List (LockNo × DiskHeld)) (d : Counters) → Rises q op x c d
+      → l.held ≡ (lock.Account, holds.Account c) ∷ rest
+      → held_sum (spot n) (refusal_counter q) rest ≡ 0
+      → mass (spot n) (refusal_counter q) none m' ≡ 0 → u ≡ holds.Account d
+      → refusals q m' ≡ refusals q l + piece_gives (refusal_of q) op x → Refuses q u m'
+  rises_so q u m' op x c rest d up held none_there after is told = record {
+    more = piece_gives (refusal_of q) op x;
+    told = told;
+    rises = raises g (refusal_count q) l k u m' (piece_gives (refusal_of q) op x) c rest held
+        none_there after up.0 (ap (refusal_counter q (spot n k)) is ∙ up.1);
+  }
 
   -- the piece is over
   over_told : (q : Refusal) (p : Part) (end : PartEnd) (got : List (List ℕ)) (rest : List Part)
@@ -171,144 +308,150 @@ module _ (g : Begin) (ok : Known g) (w : State DiskHeld) (j : Joint g w) (a : �
         end = end;
         got = got;
       } ∷ []) in
-      let z = refused_none q (left_by end p.nr rest) in omega arith
+      let z = refused_none q Start (left_by end p.nr rest) in omega arith
 
   -- what it tells of its piece now
-  now_told : (q : Refusal) (p : Part) (rest : List Part) (x : Option PartEnd) → l.todo ≡ p ∷ rest
-      → l.fail ≡ x
+  now_told : (q : Refusal) (p : Part) (rest : List Part) (x : Option PartEnd) (at : At)
+      → l.todo ≡ p ∷ rest → l.at ≡ at → Speaks at → l.fail ≡ x
       → refusals q l ≡ done_sum (refusal_of q) l.done + by_option
       (piece_gives (refusal_of q) p.op) x
-  now_told q p rest x todo fail =
-      λ i. done_sum (refusal_of q) l.done + refused_by q (todo i) (fail i)
+  now_told q p rest x at todo at_is speaks fail =
+      (λ i. done_sum (refusal_of q) l.done + refused_by q (at_is i) (todo i) (fail i))
+      ∙ ap (λ (i : ℕ). done_sum (refusal_of q) l.done + i) (refused_is q at (p ∷ rest) x speaks)
+
+  none_told : (q : Refusal) → NoneOf l.fail → refusals q l ≡ done_sum (refusal_of q) l.done
+  none_told q well = let r = refused_no q l.at l.todo l.fail well in omega arith
 
   -- a piece that was carried out, and one whose refusal was told before
-  quiet_over : (q : Refusal) (p : Part) (rest : List Part) (got : List (List ℕ)) → l.todo ≡ p ∷ rest
-      → l.fail ≡ None → refusals q (piece_over l p Carried got rest) ≡ refusals q l
-  quiet_over q p rest got todo well = over_told q p Carried got rest
-      ∙ sym (now_told q p rest None todo well)
+  quiet_over : (q : Refusal) (p : Part) (rest : List Part) (got : List (List ℕ)) → NoneOf l.fail
+      → refusals q (piece_over l p Carried got rest) ≡ refusals q l
+  quiet_over q p rest got well =
+      let r = over_told q p Carried got rest in let s = none_told q well in omega arith
 
-  failed_over : (q : Refusal) (p : Part) (rest : List Part) (x : PartEnd) → l.todo ≡ p ∷ rest
-      → l.fail ≡ Some x → refusals q (piece_over l p x [] rest) ≡ refusals q l
-  failed_over q p rest x todo bad = over_told q p x [] rest
-      ∙ sym (now_told q p rest (Some x) todo bad)
+  failed_over : (q : Refusal) (p : Part) (rest : List Part) (x : PartEnd) (at : At)
+      → l.todo ≡ p ∷ rest → l.at ≡ at → Speaks at → l.fail ≡ Some x
+      → refusals q (piece_over l p x [] rest) ≡ refusals q l
+  failed_over q p rest x at todo at_is speaks bad = over_told q p x [] rest
+      ∙ sym (now_told q p rest (Some x) at todo at_is speaks bad)
 
   -- a refusal that is counted
   denied : (q : Refusal) (p : Part) (rest : List Part) (x : PartEnd)
       (held : List (LockNo × DiskHeld))
-      → l.todo ≡ p ∷ rest → l.fail ≡ None
+      → l.todo ≡ p ∷ rest → NoneOf l.fail
       → refusals q (on l Made held l.fresh l.pin l.owed l.ahead l.behind l.page (Some x))
       ≡ refusals q l + piece_gives (refusal_of q) p.op x
   denied q p rest x held todo well =
-      let r = now_told q p rest None todo well in
-      let s : refused_by q l.todo (Some x) ≡ piece_gives (refusal_of q) p.op x =
-      ap (λ (ps : List Part). refused_by q ps (Some x)) todo in omega arith
+      let r = none_told q well in
+      let s : fails_so (refusal_of q) l.todo (Some x) ≡ piece_gives (refusal_of q) p.op x =
+      ap (λ (ps : List Part). fails_so (refusal_of q) ps (Some x)) todo in omega arith
+
+  -- and one of the device
+  counted_now : (q : Refusal) (p : Part) (rest : List Part) (fault : ℕ)
+      (held : List (LockNo × DiskHeld)) → l.todo ≡ p ∷ rest → l.at ≡ Counting
+      → l.fail ≡ Some (Eio fault)
+      → refusals q (on l Missed held l.fresh l.pin l.owed l.ahead l.behind l.page l.fail)
+      ≡ refusals q l + piece_gives (refusal_of q) p.op (Eio fault)
+  counted_now q p rest fault held todo at fail =
+      let r : refused_by q l.at l.todo l.fail ≡ 0 =
+      ap (λ (s : At). refused_by q s l.todo l.fail) at in
+      let s : fails_so (refusal_of q) l.todo l.fail ≡ piece_gives (refusal_of q) p.op (Eio fault) =
+      (λ i. fails_so (refusal_of q) (todo i) (fail i)) in omega arith
 
   pub refuses_of : (q : Refusal) → Event g l v m → Refuses q v m
   refuses_of q (event.pins p rest e o x x' u u' cell todo at held is sw named_u free outside is_cell
       in_cell lk v_is m_is) = same_refuses q _ _ v_is m_is
-      (stays_so q _ _ refl (let r = ap (held_sum (spot n) (refusal_counter q)) held in omega arith))
+      (stays_so q Pinning _ at tt (speaks_pinned p.op _ e.kept)
+      (let r = ap (held_sum (spot n) (refusal_counter q)) held in omega arith))
   refuses_of q (event.unpins p rest e o x x' u u' todo at held is sw named_u outside free lk v_is
-      m_is) = same_refuses q _ _ v_is m_is (stays_so q _ _ refl
+      m_is) = same_refuses q _ _ v_is m_is (stays_so q Unpinning _ at tt tt
       (let r = ap (held_sum (spot n) (refusal_counter q)) held in omega arith))
   refuses_of q (event.charges p rest e c x x' cl h need bytes huge todo at held is_form is_class
       within al v_is m_is) = same_refuses q _ _ v_is m_is
-      (stays_so q _ _ refl (let r = ap (held_sum (spot n) (refusal_counter q)) held in
+      (stays_so q Both _ at tt tt (let r = ap (held_sum (spot n) (refusal_counter q)) held in
       let s = charged_refusals q c need in omega arith))
   refuses_of q (event.stows p rest e x cl todo at held well v_is m_is) =
-      same_refuses q _ _ v_is m_is (stays_so q _ _ refl
+      same_refuses q _ _ v_is m_is (stays_so q Made _ at tt (speaks_settle e.kept)
       (let r = ap (held_sum (spot n) (refusal_counter q)) held in omega arith))
   refuses_of q (event.quits p rest e x cl y todo at held bad v_is m_is) =
-      same_refuses q _ _ v_is m_is (stays_so q _ _ refl
+      same_refuses q _ _ v_is m_is (stays_so q Made _ at tt (speaks_quit l.pin)
       (let r = ap (held_sum (spot n) (refusal_counter q)) held in omega arith))
   refuses_of q (event.frees p rest e o x x' frames todo at held is fp v_is m_is) =
-      same_refuses q _ _ v_is m_is (stays_so q _ _ refl
+      same_refuses q _ _ v_is m_is (stays_so q Freeing _ at tt tt
       (let r = ap (held_sum (spot n) (refusal_counter q)) held in omega arith))
   refuses_of q (event.repays p rest e c todo at held v_is m_is) =
-      same_refuses q _ _ v_is m_is (stays_so q _ _ refl
+      same_refuses q _ _ v_is m_is (stays_so q Giving _ at tt tt
       (let r = ap (held_sum (spot n) (refusal_counter q)) held in
       let s = settled_refusals p.op l.owed (old_weight l.ahead e.kept)
       (form_weight (next_form p l.page e.kept)) c q in omega arith))
   refuses_of q (event.puts p rest e f todo at held notes v_is m_is) =
       let st = stage g ok w j a l who p rest todo _ Ready held at in
-      same_refuses q _ _ v_is m_is (stays_so q _ _ (quiet_over q p rest [] todo
-      (none_fail l.fail st.fails)) (let r = ap (held_sum (spot n) (refusal_counter q)) held in
-      omega arith))
+      same_refuses q _ _ v_is m_is (still_so q _ _ (quiet_over q p rest [] st.fails)
+      (let r = ap (held_sum (spot n) (refusal_counter q)) held in omega arith))
   refuses_of q (event.reads p rest e f todo at held well notes v_is m_is) =
-      same_refuses q _ _ v_is m_is (stays_so q _ _ (quiet_over q p rest _ todo well)
+      same_refuses q _ _ v_is m_is (still_so q _ _
+      (quiet_over q p rest _ (subst NoneOf (sym well) tt))
       (let r = ap (held_sum (spot n) (refusal_counter q)) held in omega arith))
   refuses_of q (event.fails p rest e x todo at held bad v_is m_is) =
-      same_refuses q _ _ v_is m_is (stays_so q _ _ (failed_over q p rest x todo bad)
+      same_refuses q _ _ v_is m_is (still_so q _ _ (failed_over q p rest x Leaving todo at tt bad)
+      (let r = ap (held_sum (spot n) (refusal_counter q)) held in omega arith))
+  refuses_of q (event.fetches p rest e b d d' page todo at held is read is_page v_is m_is) =
+      same_refuses q _ _ v_is m_is (stays_so q Fetching _ at tt (speaks_fetched p.op _ e.kept)
+      (let r = ap (held_sum (spot n) (refusal_counter q)) held in omega arith))
+  refuses_of q (event.misses p rest e b d d' fault todo at held is failed v_is m_is) =
+      let st = stage g ok w j a l who p rest todo _ Fetching held at in
+      same_refuses q _ _ v_is m_is (still_so q _ _
+      (let r = none_told q st.fails in omega arith)
+      (let r = ap (held_sum (spot n) (refusal_counter q)) held in omega arith))
+  refuses_of q (event.counts p rest e c todo at held v_is m_is) =
+      let st = stage g ok w j a l who p rest todo _ Counting held at in
+      let x = fault_of g p l.fail st.fails in
+      same_refuses q _ _ v_is m_is (rises_so q _ _ p.op (Eio x.0) c _ _
+      (fault_rises q p.op x.0 c st.kind.0) held refl refl refl
+      (counted_now q p rest x.0 ((slot p.page, holds.Slot e) ∷ []) todo at x.1))
+  refuses_of q (event.errs p rest e f x todo at held bad read notes v_is m_is) =
+      same_refuses q _ _ v_is m_is (still_so q _ _ (failed_over q p rest x Missed todo at tt bad)
+      (let r = ap (held_sum (spot n) (refusal_counter q)) held in omega arith))
+  refuses_of q (event.leaves p rest e x todo at held bad other v_is m_is) =
+      same_refuses q _ _ v_is m_is (still_so q _ _ (failed_over q p rest x Missed todo at tt bad)
+      (let r = ap (held_sum (spot n) (refusal_counter q)) held in omega arith))
+  refuses_of q (event.releases p rest e b x todo at held is v_is m_is) =
+      same_refuses q _ _ v_is m_is (stays_so q Releasing _ at tt tt
       (let r = ap (held_sum (spot n) (refusal_counter q)) held in omega arith))
   refuses_of q (event.moves p rest y x x' u u' budget frames todo at held sh some one v_is m_is) =
-      same_refuses q _ _ v_is m_is (stays_so q _ _ refl
+      same_refuses q _ _ v_is m_is (stays_so q (Moving y) _ at tt
+      (speaks_moved frames (with_move y budget))
       (let r = ap (held_sum (spot n) (refusal_counter q)) held in omega arith))
   refuses_of q (event.sweeps p rest y x todo at held stuck other v_is m_is) =
-      same_refuses q _ _ v_is m_is (stays_so q _ _ refl
+      same_refuses q _ _ v_is m_is (stays_so q (Moving y) _ at tt tt
       (let r = ap (held_sum (spot n) (refusal_counter q)) held in omega arith))
   refuses_of q (event.closes p rest y x todo at held stuck last v_is m_is) =
       let st = stage g ok w j a l who p rest todo _ (Moving y) held at in
-      same_refuses q _ _ v_is m_is (stays_so q _ _
-      (over_told q p (Whole (ends.Compacted y.moves y.frames)) [] rest
-      ∙ ap (λ (i : ℕ). done_sum (refusal_of q) l.done + i)
-      (compacted_gives q p.op y.moves y.frames)
-      ∙ sym (now_told q p rest None todo (none_fail l.fail st.fails)))
+      same_refuses q _ _ v_is m_is (still_so q _ _
+      (let s = over_told q p (Whole (ends.Compacted y.moves y.frames)) [] rest in
+      let z = compacted_gives q p.op y.moves y.frames in let t = none_told q st.fails in omega arith)
       (let r = ap (held_sum (spot n) (refusal_counter q)) held in omega arith))
   refuses_of q (event.shrinks p rest y c todo at held v_is m_is) =
-      same_refuses q _ _ v_is m_is (stays_so q _ _ refl
+      same_refuses q _ _ v_is m_is (stays_so q (Shrinking y) _ at tt tt
       (let r = ap (held_sum (spot n) (refusal_counter q)) held in
       let s = shrunk_refusals q c l.owed in omega arith))
-  refuses_of FailedWrites (event.refuses p rest c todo at held v_is m_is) =
+  refuses_of q (event.refuses p rest c todo at held v_is m_is) =
       let st = stage g ok w j a l who p rest todo _ Refusing held at in
-      same_refuses FailedWrites _ _ v_is m_is (stays_so FailedWrites _ _
-      (over_told FailedWrites p (Whole ends.Range) [] rest
-      ∙ ap (λ (y : ℕ). done_sum failed_write l.done + y) (range_gives p.op)
-      ∙ sym (now_told FailedWrites p rest None todo (none_fail l.fail st.fails)))
-      (let r = ap (held_sum (spot n) (refusal_counter FailedWrites)) held in omega arith))
-  refuses_of OutOfRange (event.refuses p rest c todo at held v_is m_is) =
-      let st = stage g ok w j a l who p rest todo _ Refusing held at in
-      same_refuses OutOfRange _ _ v_is m_is (record {
-        more = 1;
-        told = (let x = over_told OutOfRange p (Whole ends.Range) [] rest in
-            let y = now_told OutOfRange p rest None todo (none_fail l.fail st.fails) in
-            omega arith);
-        rises = by c _ held refl refl refl;
-      })
-  refuses_of FailedWrites (event.limits p rest e c x cl need todo at held is_need past v_is m_is) =
+      same_refuses q _ _ v_is m_is (rises_so q _ _ p.op (Whole ends.Range) c _ _
+      (range_rises q p.op c) held refl refl refl
+      (let x = over_told q p (Whole ends.Range) [] rest in
+      let y = none_told q st.fails in omega arith))
+  refuses_of q (event.limits p rest e c x cl need todo at held is_need past v_is m_is) =
       let st = stage g ok w j a l who p rest todo _ Both held at in
-      same_refuses FailedWrites _ _ v_is m_is (record {
-        more = 1;
-        told = denied FailedWrites p rest (AtLimit c.pages need c.limit)
-            ((lock.Class cl, holds.Class x) ∷ (slot p.page, holds.Slot e) ∷ []) todo
-            (none_fail l.fail st.fails) ∙ ap (λ (y : ℕ). refusals FailedWrites l + y)
-            (write_gives p.op st.kind.0 c.pages need c.limit);
-        rises = by c _ held refl refl refl;
-      })
-  refuses_of OutOfRange (event.limits p rest e c x cl need todo at held is_need past v_is m_is) =
+      same_refuses q _ _ v_is m_is (rises_so q _ _ p.op (AtLimit c.pages need c.limit) c _ _
+      (denial_rises q p.op (AtLimit c.pages need c.limit) c st.kind.0 tt) held refl refl refl
+      (denied q p rest (AtLimit c.pages need c.limit)
+      ((lock.Class cl, holds.Class x) ∷ (slot p.page, holds.Slot e) ∷ []) todo st.fails))
+  refuses_of q (event.starves p rest e c x cl todo at held v_is m_is) =
       let st = stage g ok w j a l who p rest todo _ Both held at in
-      same_refuses OutOfRange _ _ v_is m_is (stays_so OutOfRange _ _
-      (denied OutOfRange p rest (AtLimit c.pages need c.limit)
-      ((lock.Class cl, holds.Class x) ∷ (slot p.page, holds.Slot e) ∷ []) todo
-      (none_fail l.fail st.fails) ∙ omega arith) (let r =
-      ap (held_sum (spot n) (refusal_counter OutOfRange)) held in omega arith))
-  refuses_of FailedWrites (event.starves p rest e c x cl todo at held v_is m_is) =
-      let st = stage g ok w j a l who p rest todo _ Both held at in
-      same_refuses FailedWrites _ _ v_is m_is (record {
-        more = 1;
-        told = denied FailedWrites p rest NoMemory ((lock.Class cl, holds.Class x) ∷ (
-          slot p.page,
-          holds.Slot e,
-        ) ∷ []) todo (none_fail l.fail st.fails)
-            ∙ ap (λ (y : ℕ). refusals FailedWrites l + y) (memory_gives p.op st.kind.0);
-        rises = by c _ held refl refl refl;
-      })
-  refuses_of OutOfRange (event.starves p rest e c x cl todo at held v_is m_is) =
-      let st = stage g ok w j a l who p rest todo _ Both held at in
-      same_refuses OutOfRange _ _ v_is m_is (stays_so OutOfRange _ _
-      (denied OutOfRange p rest NoMemory ((lock.Class cl, holds.Class x) ∷ (
-        slot p.page,
-        holds.Slot e,
-      ) ∷ []) todo (none_fail l.fail st.fails) ∙ omega arith)
-      (let r = ap (held_sum (spot n) (refusal_counter OutOfRange)) held in omega arith))
+      same_refuses q _ _ v_is m_is (rises_so q _ _ p.op NoMemory c _ _
+      (denial_rises q p.op NoMemory c st.kind.0 tt) held refl refl refl
+      (denied q p rest NoMemory ((lock.Class cl, holds.Class x) ∷ (slot p.page, holds.Slot e) ∷ [])
+      todo st.fails))
 
   pub refusals_give : (q : Refusal) → slice_get w.row (spot n k) ≡ Some None → Refuses q v m
       → CountsRefusals g q w → CountsRefusals g q (gone n w a l who k (Some v) m)
@@ -329,5 +472,6 @@ module _ (g : Begin) (ok : Known g) (w : State DiskHeld) (j : Joint g w) (a : �
       (ap (λ p. (lock_of p, v) ∷ l.held) what) refl ∙ t
       ∙ ap (λ (i : ℕ). at_most_end (refusal_count q g.was + i)) (
       let r = ok.facts.moves (refusals q) w.locals a l (took (terms g) l v) who in
+      let s = refused_taken g q l v l.todo (j.each.in_local a l who).stage in
       let z : locals_sum (refusals q) w.locals ≡ locals_sum (refusals q)
       (slice_set w.locals a (took (terms g) l v)) = omega arith in z)

@@ -1,5 +1,7 @@
 -- What a finished phase tells: its histories agree with its orders, and the account with the rest.
 use Rattle.std.proofs.Common.{◌≡◌, ◌+◌, ◌*◌, ◌-◌, ◌/◌, ◌≤◌, ◌<◌, ◌∷◌, ◌++◌, ◌∙◌, ℕ, zero, suc, Bool, true, false, cond, eqb, List, [], length, sum_by, Option, Some, None, slice_get, refl, sym, ap, subst, arith, inl, inr, zero-add}
+use Rattle.backing_dev.specs.Dev.{DeviceState}
+use Rattle.block_map.specs.BlockMap.{BlockMap}
 use Rattle.call_history.specs.Alone.{IsAloneOver}
 use Rattle.call_history.specs.Histories.{Agree, history}
 use Rattle.call_history.specs.Parts.{EndsSo, Follows, KeepsTo, done_sum, dones_sum, noted_on, ops_of, program, stands_so}
@@ -7,6 +9,7 @@ use Rattle.call_history.specs.Shows.{IsTold}
 use Rattle.call_history.specs.Tallies.{Tallies}
 use Rattle.call_history.specs.declared.part.Done.{Done}
 use Rattle.call_history.specs.declared.part.Part.{Part}
+use Rattle.call_history.specs.declared.part.PartEnd.{PartEnd}
 use Rattle.class_pool.specs.Pool.{PoolState, used_cells}
 use Rattle.joint_rule.proofs.Facts.{Known}
 use Rattle.joint_rule.proofs.Gets.{count_locals}
@@ -14,31 +17,31 @@ use Rattle.joint_rule.proofs.Pages.{holds_after, kept_is}
 use Rattle.joint_rule.proofs.Pools.{some_cell, sum_zero}
 use Rattle.joint_rule.proofs.Ranges.{range_by, range_lone, range_map, range_sum, row_part, weight_at}
 use Rattle.joint_rule.proofs.Rests.{at_rest, left, over}
-use Rattle.joint_rule.proofs.Starts.{account_at, account_sum}
+use Rattle.joint_rule.proofs.Starts.{account_at, account_sum, device_at, device_sum}
 use Rattle.joint_rule.proofs.Sums.{row_le, total_split}
 use Rattle.joint_rule.proofs.Takes.{IsEntry, IsPoolOf, class_kind, entry_kind}
 use Rattle.joint_rule.proofs.Zspages.{each_used, free_most, tight_least, used_length, used_sum}
 use Rattle.joint_rule.specs.Alone.{is_calm}
-use Rattle.joint_rule.specs.Begins.{Begin, ever, form_at, found_after, ground_of, image}
-use Rattle.joint_rule.specs.Ends.{AllFinished, account_in, account_of, begin_at, histories, order_in, orders_of, rest_after, used_in, value_at}
+use Rattle.joint_rule.specs.Begins.{Begin, back_at, ever, form_at, found_after, ground_of, image}
+use Rattle.joint_rule.specs.Ends.{AllFinished, account_in, account_of, begin_at, device_in, histories, order_in, orders_of, rest_after, used_in, value_at}
 use Rattle.joint_rule.specs.Weights.{used_each}
-use Rattle.joint_rule.specs.Joint.{AtHome}
+use Rattle.joint_rule.specs.Joint.{AtHome, KeepsDevice}
 use Rattle.joint_rule.specs.Rule.{OfOrder, Rule, ShowsOrder, done_by, dones, reach_at}
-use Rattle.joint_rule.specs.Stages.{IsForm}
+use Rattle.joint_rule.specs.Stages.{IsForm, is_wb}
 use Rattle.joint_rule.specs.Starts.{AtRest}
-use Rattle.joint_rule.specs.Weights.{Backs, Count, FailedReads, FailedWrites, Fixed, FreedPages, HugeWrites, Huges, Limit, News, OutOfRange, PackedBytes, Packs, Refusal, Sames, Weigh, cell_weight, claim_by, compactions, counter, each_one, ever_at, fixed, fixed_count, freed_at, freed_by, loose_pools, measure, mosts, news_count, news_counter, news_of, none, noted, on_account, on_entry, on_pool, one, order_news, pages, refusal_count, refusal_counter, refusal_of, refusals, refused_by, stored, told_ahead, told_at}
+use Rattle.joint_rule.specs.Weights.{Backs, Count, FailedReads, FailedWrites, Fixed, FreedPages, HugeWrites, Huges, Limit, News, OutOfRange, PackedBytes, Packs, Refusal, Sames, Weigh, cell_weight, claim_by, compactions, counter, device_faults, device_reads, each_one, ever_at, fails_so, faults_told, fetched_now, fetches_noted, fetches_told, fixed, fixed_count, freed_at, freed_by, loose_pools, measure, mosts, news_count, news_counter, news_of, none, noted, on_account, on_device, on_entry, on_pool, one, order_news, pages, refusal_count, refusal_counter, refusal_of, refusals, refused_by, stored, told_ahead, told_at}
 use Rattle.lock_row.specs.Totals.{by_option, locals_sum, row_sum, total}
 use Rattle.lock_row.specs.declared.names.At.{At}
-use Rattle.lock_row.specs.declared.names.At.TheVariants.{Both, Freeing, Giving, Inside, Leaving, Made, Old, Owing, Pinned, Pinning, Ready, Refusing, Seen, Start, Unpinning, Wanting, Sweeping, Moving, Shrunk, Shrinking}
+use Rattle.lock_row.specs.declared.names.At.TheVariants.{Counting, Failing, Ready}
 use Rattle.lock_row.specs.declared.names.State.{State}
 use Rattle.mem_account.specs.Counters.{Counters, at_most_end}
 use Rattle.mem_account.specs.declared.weight.Weight.{Weight}
 use Rattle.page_steps.specs.Steps.{DiskHeld, Here, spot}
-use Rattle.plain_disk.specs.Calls.{after_all, calls_sum, ever_pooled, kept_as}
+use Rattle.plain_disk.specs.Calls.{after_all, calls_sum, ever_pooled, kept_as, may_fetch}
 use Rattle.plain_disk.specs.Compactions.{IsLeast, pooled_pages, with_free}
-use Rattle.plain_disk.specs.Ends.{compacted}
+use Rattle.plain_disk.specs.Ends.{compacted, starved, tells_fault}
 use Rattle.plain_disk.specs.Forms.{is_pooled, of_class}
-use Rattle.plain_disk.specs.Phases.{IsMost, begun, bounds, held_after, nth_order, phase_sum, reach}
+use Rattle.plain_disk.specs.Phases.{IsMost, LeavesDevice, begun, bounds, held_after, nth_order, phase_sum, reach}
 use Rattle.plain_disk.specs.Rests.{AreUsed, Rest, frames_of, kept_at, kept_pages, page_of}
 use Rattle.size_class.specs.Classes.{chain_of, per_of, stands_of}
 use Rattle.slot_entry.specs.Entries.{EntryState, weight_of}
@@ -89,18 +92,28 @@ locals_same f h (l ∷ ls) e = let r = locals_same f h ls (λ a. e (suc a)) in l
 
 -- ---- kept forms
 
+-- a page on the device has the weight of one there, and another that of its form
+kept_weight : (k : Kept) (b : Bool) (w : Weight) → is_wb k ≡ b
+    → (is_wb k ≡ false → weight_of k ≡ w) → weight_of k ≡ cond b weight.Back w
+kept_weight kept.Empty b w e f = f refl ∙ ap (λ (x : Bool). cond x weight.Back w) e
+kept_weight (kept.Same v) b w e f = f refl ∙ ap (λ (x : Bool). cond x weight.Back w) e
+kept_weight (kept.Obj o) b w e f = f refl ∙ ap (λ (x : Bool). cond x weight.Back w) e
+kept_weight (kept.Wb i) b w e f = ap (λ (x : Bool). cond x weight.Back w) e
+
 module _ (chain : ℕ) where
-  form_weight_is : (f : PageForm) (k : Kept) → IsForm chain f k → weight_of k ≡ form_weight f
-  form_weight_is Blank kept.Empty i = refl
-  form_weight_is Blank (kept.Same w) i = absurd i
-  form_weight_is Blank (kept.Obj o) i = absurd i
-  form_weight_is (Word v) kept.Empty i = absurd i
-  form_weight_is (Word v) (kept.Same w) i = refl
-  form_weight_is (Word v) (kept.Obj o) i = absurd i
-  form_weight_is (Pooled bytes huge) kept.Empty i = absurd i
-  form_weight_is (Pooled bytes huge) (kept.Same w) i = absurd i
-  form_weight_is (Pooled bytes huge) (kept.Obj o) i = λ j.
+  form_weight_is : (f : PageForm) (k : Kept) → IsForm chain f k → is_wb k ≡ false
+      → weight_of k ≡ form_weight f
+  form_weight_is Blank kept.Empty i n = refl
+  form_weight_is Blank (kept.Same w) i n = absurd i
+  form_weight_is Blank (kept.Obj o) i n = absurd i
+  form_weight_is (Word v) kept.Empty i n = absurd i
+  form_weight_is (Word v) (kept.Same w) i n = refl
+  form_weight_is (Word v) (kept.Obj o) i n = absurd i
+  form_weight_is (Pooled bytes huge) kept.Empty i n = absurd i
+  form_weight_is (Pooled bytes huge) (kept.Same w) i n = absurd i
+  form_weight_is (Pooled bytes huge) (kept.Obj o) i n = λ j.
       cond (i.2 j) weight.Huge (weight.Packed (i.1 j))
+  form_weight_is f (kept.Wb b) i n = absurd (cc)
 
   -- 1 for an object of class k
   abbrev pub of_kind : ℕ → Weigh
@@ -115,17 +128,15 @@ module _ (chain : ℕ) where
       (let q : length bytes - 9 ≡ length bytes + 8 - 17 = omega arith in q)
 
   claim_class : (k : ℕ) (f : PageForm) (x : Kept) (b : List ℕ) → IsForm chain f x
-      → claim_by (of_kind k) x b ≡ of_class chain k (form_weight f)
-  claim_class k Blank kept.Empty b i = refl
-  claim_class k Blank (kept.Same w) b i = absurd i
+      → claim_by (of_kind k) x b ≡ of_class chain k (weight_of x)
+  claim_class k f kept.Empty b i = refl
+  claim_class k f (kept.Same w) b i = refl
+  claim_class k f (kept.Wb n) b i = refl
   claim_class k Blank (kept.Obj o) b i = absurd i
-  claim_class k (Word v) kept.Empty b i = absurd i
-  claim_class k (Word v) (kept.Same w) b i = refl
   claim_class k (Word v) (kept.Obj o) b i = absurd i
-  claim_class k (Pooled bytes huge) kept.Empty b i = absurd i
-  claim_class k (Pooled bytes huge) (kept.Same w) b i = absurd i
   claim_class k (Pooled bytes huge) (kept.Obj o) b i = ap
       (λ (c : ℕ). cond {A = ℕ} (eqb c k) 1 0) i.0 ∙ of_pooled k bytes huge
+      ∙ sym (ap (of_class chain k) (form_weight_is (Pooled bytes huge) (kept.Obj o) i refl))
 
 -- 1 for a page in the pool
 abbrev pooled_one : Weight → ℕ
@@ -135,6 +146,7 @@ claim_one : (k : Kept) (b : List ℕ) → claim_by each_one k b ≡ pooled_one (
 claim_one kept.Empty b = refl
 claim_one (kept.Same w) b = refl
 claim_one (kept.Obj o) b = elim (cases_Bool o.huge) [ inl on ↦ rw on refl | inr off ↦ rw off refl ]
+claim_one (kept.Wb n) b = refl
 
 bytes_same : (f h : ℕ → List ℕ) (a n : ℕ) → ((s : ℕ) → a ≤ s → s < a + n → f s ≡ h s)
     → flat_map f (range_with_len a n) ≡ flat_map h (range_with_len a n)
@@ -218,6 +230,20 @@ module _ (r : Rest) (actors : List (List Op)) (ok : Known (begin_at r actors)) (
   unfolding account
   account_weighs f = account_sum g row rest.size rest.whole rest.home f ∙ ap f (sym account_is)
 
+  device : (d : DeviceState) × (slice_get row (size + 257) ≡ Some (Some (holds.Device d)))
+  device = device_at g row rest.size rest.whole rest.home
+
+  device_value : value_at row (size + 257) ≡ Some (holds.Device device.0)
+  device_value = get_or_from_slice_get row (size + 257) (Some (holds.Device device.0)) None device.1
+
+  device_is : m.device ≡ device.0
+  device_is = ap (device_in r.device) device_value
+
+  -- and the device's
+  device_weighs : (f : DeviceState → ℕ) → row_sum (on_device f) row ≡ f m.device
+  unfolding device
+  device_weighs f = device_sum g row rest.size rest.whole rest.home f ∙ ap f (sym device_is)
+
   left_over : (f : ℕ → DiskHeld → ℕ) (h : Here → ℕ) → ((a : ℕ) (l : Here)
       → slice_get w.locals a ≡ Some l → h l ≡ 0) → total (spot size) f h w ≡ row_sum f row
   left_over f h z = left g w rule fin f h z
@@ -240,8 +266,8 @@ module _ (r : Rest) (actors : List (List Op)) (ok : Known (begin_at r actors)) (
   -- ---- sums over entries and over pools
 
   others : (i : ℕ) → i < 3 → (f : ℕ → DiskHeld → ℕ) → ((x : Counters) (k : ℕ)
-      → f k (holds.Account x) ≡ 0) → ((x : Unit {0}) (k : ℕ) → f k (holds.Blocks x) ≡ 0)
-      → ((x : Unit {0}) (k : ℕ) → f k (holds.Device x) ≡ 0)
+      → f k (holds.Account x) ≡ 0) → ((x : BlockMap) (k : ℕ) → f k (holds.Blocks x) ≡ 0)
+      → ((x : DeviceState) (k : ℕ) → f k (holds.Device x) ≡ 0)
       → ((k : ℕ) (e : EntryState) → size ≤ k → AtHome g k (holds.Slot e) → f k (holds.Slot e) ≡ 0)
       → ((k : ℕ) (p : PoolState) → size + 255 ≤ k → AtHome g k (holds.Class p)
       → f k (holds.Class p) ≡ 0)
@@ -308,14 +334,16 @@ module _ (r : Rest) (actors : List (List Op)) (ok : Known (begin_at r actors)) (
       (let q : p ≡ s / 8 = omega arith in q)))
 
   form_weighs : (p : ℕ) (lt : p < size) → form_weight (form_at g p (entries p lt).0.order)
-      ≡ kept_at page_weight m p
+      ≡ kept_as page_weight p (page_of m p)
   form_weighs p lt = sym (kept_is g p (entries p lt).0.order)
       ∙ ap (λ (order : List Tag). kept_as page_weight p (found_after g p order))
       (sym (order_is p lt)) ∙ kept_same p
 
   weight_is : (p : ℕ) (lt : p < size) → weight_of (entries p lt).0.kept ≡ kept_at page_weight m p
-  weight_is p lt = form_weight_is g.chain (form_at g p (entries p lt).0.order) (entries p lt).0.kept
-      (entries p lt).2.stands ∙ form_weighs p lt
+  weight_is p lt = kept_weight (entries p lt).0.kept (m.back p) (kept_as page_weight p (page_of m p))
+      ((entries p lt).2.backs ∙ sym (ap (back_at g p) (order_is p lt)))
+      (λ off. form_weight_is g.chain (form_at g p (entries p lt).0.order) (entries p lt).0.kept
+      (entries p lt).2.stands off ∙ form_weighs p lt)
 
   -- a sum over entries by how they keep their pages is the sum over the rest's pages
   kept_sum : (f : Weight → ℕ) → row_sum (on_entry (λ p k order. f (weight_of k))) row
@@ -332,6 +360,12 @@ module _ (r : Rest) (actors : List (List Op)) (ok : Known (begin_at r actors)) (
       ∙ sym (range_by (λ p. calls_sum (news_of q p) actors (page_of r p) (nth_order orders p)) 0
       size)
 
+  fetches_are : row_sum (fetches_noted g) row ≡ phase_sum (λ p. calls_sum may_fetch actors) r orders
+  fetches_are = slots_sum (λ p k order. calls_sum may_fetch actors (page_of r p) order)
+      (λ p. calls_sum may_fetch actors (page_of r p) (nth_order orders p))
+      (λ p lt. ap (calls_sum may_fetch actors (page_of r p)) (sym (order_is p lt)))
+      ∙ sym (range_by (λ p. calls_sum may_fetch actors (page_of r p) (nth_order orders p)) 0 size)
+
   -- ---- bounds
 
   reach_is : (reach_at g w).reach ≡ reach page_weight r actors orders
@@ -345,8 +379,11 @@ module _ (r : Rest) (actors : List (List Op)) (ok : Known (begin_at r actors)) (
       (nth_order orders p)) 1 0) 0 size in
       let d = count_locals w.locals in let h = rule.joint.actors in omega arith
 
-  pub agree : Agree (ground_of g) (bounds page_weight r actors orders) (begun r actors)
-      (histories w.locals) orders
+  faults_are : (reach_at g w).faults ≡ m.device.faults
+  faults_are = left_over device_faults none (λ a l e. refl) ∙ device_weighs (λ d. d.faults)
+
+  pub agree : Agree (ground_of g) (bounds page_weight r actors orders m.device.faults)
+      (begun r actors) (histories w.locals) orders
   agree = record {
     count = length-map w.locals (λ (l : Here). l.done) ∙ rule.joint.actors;
     follows = λ a ops done named_ops is.
@@ -365,8 +402,13 @@ module _ (r : Rest) (actors : List (List Op)) (ok : Known (begin_at r actors)) (
         (sym (history_at w.locals a)) ∙ at)
         (and_from (eqb d.part.page d.part.page) (stands_so d.part.op d.end)
         (eq-eqb d.part.page d.part.page refl) stands));
-    keeps = λ a i d at. subst (λ (n : ℕ). KeepsTo (ground_of g) (record { reach = n }) d.end)
-        reach_is
+    faults_differ = λ f. let x = dones_are (tells_fault f) w.locals in
+        let y = locals_same (faults_told f) (λ l. done_sum (tells_fault f) l.done) w.locals
+        (λ a l e. let z = ap (λ (ps : List Part). fails_so (tells_fault f) ps l.fail)
+        (over g w rule fin a l e) in omega arith) in
+        let z = rule.faults f in omega arith;
+    keeps = λ a i d at. subst (λ (n : ℕ × ℕ). KeepsTo (ground_of g)
+        (record { reach = n.0; faults = n.1 }) d.end) (λ i. (reach_is i, faults_are i))
         (kept_limits a (slice_get w.locals a) refl i d (ap (λ (ds : List Done). slice_get ds i)
         (sym (history_at w.locals a)) ∙ at));
   } where
@@ -425,7 +467,7 @@ module _ (r : Rest) (actors : List (List Op)) (ok : Known (begin_at r actors)) (
         (λ p. of_class r.set.chain k (kept_at page_weight m p))
         (λ p lt'. claim_class g.chain k (form_at g p (entries p lt').0.order)
         (entries p lt').0.kept (image g p (entries p lt').0.order) (entries p lt').2.stands
-        ∙ ap (of_class r.set.chain k) (form_weighs p lt'))
+        ∙ ap (of_class r.set.chain k) (weight_is p lt'))
         ∙ sym (range_map (of_class r.set.chain k) (kept_at page_weight m) 0 size);
   }
 
@@ -449,9 +491,13 @@ module _ (r : Rest) (actors : List (List Op)) (ok : Known (begin_at r actors)) (
       ∙ sym (left_over (refusal_counter q) none (λ a l e. refl)) ∙ rule.refusals q
       ∙ ap (λ (n : ℕ). at_most_end (refusal_count q g.was + n)) (
       locals_same (refusals q) (λ l. done_sum (refusal_of q) l.done) w.locals
-      (λ a l e. let z = ap (λ (ps : List Part). refused_by q ps l.fail)
-      (over g w rule fin a l e) in omega arith)
-      ∙ sym (dones_are (refusal_of q) w.locals))
+      (λ a l e. let z = ap (λ (ps : List Part). refused_by q l.at ps l.fail)
+      (over g w rule fin a l e) in let y = refused_end q l.at l.fail in omega arith)
+      ∙ sym (dones_are (refusal_of q) w.locals)) where
+        refused_end : (q : Refusal) (at : At) (x : Option PartEnd) → refused_by q at [] x ≡ 0
+        refused_end q Failing x = refl
+        refused_end q Counting x = refl
+        refused_end q at x = refl
 
   freed_is : c.compacted ≡ at_most_end
       (g.was.compacted + dones_sum compacted (histories w.locals))
@@ -472,29 +518,41 @@ module _ (r : Rest) (actors : List (List Op)) (ok : Known (begin_at r actors)) (
       ∙ calls_are q) where
         told_end : (q : News) (at : At) (x : Option Weight) → told_at q at [] x ≡ 0
         told_end q Ready x = refl
-        told_end q Start x = refl
-        told_end q Refusing x = refl
-        told_end q Seen x = refl
-        told_end q Pinning x = refl
-        told_end q Pinned x = refl
-        told_end q Unpinning x = refl
-        told_end q Leaving x = refl
-        told_end q Wanting x = refl
-        told_end q Inside x = refl
-        told_end q Both x = refl
-        told_end q Made x = refl
-        told_end q Old x = refl
-        told_end q Freeing x = refl
-        told_end q Owing x = refl
-        told_end q Giving x = refl
-        told_end q (Sweeping y) x = refl
-        told_end q (Moving y) x = refl
-        told_end q (Shrunk y) x = refl
-        told_end q (Shrinking y) x = refl
+        told_end q at x = refl
 
         told_over : (q : News) (l : Here) → l.todo ≡ [] → told_ahead q l ≡ 0
         told_over q l e = ap (λ (ps : List Part). told_at q l.at ps l.ahead) e
             ∙ told_end q l.at l.ahead
+
+  -- ---- the device
+
+  starved_are : locals_sum fetches_told w.locals ≡ dones_sum starved (histories w.locals)
+  starved_are = locals_same fetches_told (λ l. done_sum starved l.done) w.locals
+      (λ a l e. let z = ap (λ (ps : List Part). fetched_now ps l.at) (over g w rule fin a l e) in
+      omega arith)
+      ∙ sym (dones_are starved w.locals)
+
+  keeps_device : KeepsDevice r.device m.device
+  keeps_device = subst (KeepsDevice r.device) (sym device_is)
+      (rest.home (size + 257) (holds.Device device.0) device.1).sound.1
+
+  leaves_device : LeavesDevice r.device m.device
+      (phase_sum (λ p. calls_sum may_fetch actors) r orders + dones_sum starved (histories w.locals))
+  leaves_device = let k = keeps_device in record {
+    same = k.same;
+    blocks = k.blocks;
+    honest = k.honest;
+    faults = k.faults;
+    reads = k.reads;
+    few = (let x = left_over device_reads none (λ a l e. refl) in
+        let y = device_weighs (λ d. d.reads) in let z = rule.fetches in
+        let s = total_split size (fetches_noted g) fetches_told w in
+        let t = left_over (fetches_noted g) none (λ a l e. refl) in let u = fetches_are in
+        let v = starved_are in omega arith);
+    writes = k.writes;
+  }
+
+  -- ---- the account's maximum
 
   most_weighs : total (spot size) mosts none w ≡ c.most
   most_weighs = left_over mosts none (λ a l e. refl) ∙ account_weighs (λ x. x.most)
@@ -574,6 +632,7 @@ module _ (r : Rest) (actors : List (List Op)) (ok : Known (begin_at r actors)) (
       size = refl;
       holds = λ s lt. refl;
       blank = λ p lt. refl;
+      back = λ p lt. refl;
       touched = λ p lt. refl;
       used = used_right;
       most = most_is;
@@ -592,9 +651,10 @@ module _ (r : Rest) (actors : List (List Op)) (ok : Known (begin_at r actors)) (
     most = refl;
     huge_since = news_are HugeWrites;
     compacted = freed_is;
-    failed_reads = fixed_is FailedReads;
+    failed_reads = refusals_are FailedReads;
     failed_writes = refusals_are FailedWrites;
     invalid_io = refusals_are OutOfRange;
     notify_free = news_are FreedPages;
+    device = leaves_device;
     alone = alone_is;
   }

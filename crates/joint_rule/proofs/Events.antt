@@ -337,20 +337,20 @@ module _ (g : Begin) (ok : Known g) (l : Here) (sound : HeldAll g.given.size (So
   event_of (work.fails p rest e x todo at held bad v_is m_is) =
       fails p rest e x todo at held bad v_is
       (m_is ∙ ap (failing_by l) bad ∙ ap (ending_by l x (λ q. [])) todo)
-  event_of (work.fetches p rest e b d d' page todo at held is reads is_page v_is m_is) =
-      fetches p rest e b d d' page todo at held is reads is_page v_is
+  event_of (work.fetches p rest e b d d' page todo at held is read is_page v_is m_is) =
+      fetches p rest e b d d' page todo at held is read is_page v_is
       (m_is ∙ (λ i. on l (fetch_at (todo i) page (entry_in (held i)).kept) (tail_of (held i)) l.fresh
       l.pin l.owed l.ahead l.behind (Some page) l.fail))
-  event_of (work.misses p rest e b d d' fault todo at held is fails v_is m_is) =
-      misses p rest e b d d' fault todo at held is fails v_is
+  event_of (work.misses p rest e b d d' fault todo at held is failed v_is m_is) =
+      misses p rest e b d d' fault todo at held is failed v_is
       (m_is ∙ (λ i. on l Failing (tail_of (held i)) l.fresh l.pin l.owed l.ahead l.behind l.page
       (Some (Eio fault))))
   event_of (work.counts p rest e c todo at held v_is m_is) =
       counts p rest e c todo at held v_is
       (m_is ∙ (λ i. on l Missed (tail_of (held i)) l.fresh l.pin l.owed l.ahead l.behind l.page
       l.fail))
-  event_of (work.errs p rest e f x todo at held bad reads notes v_is m_is) =
-      errs p rest e f x todo at held bad reads notes v_is
+  event_of (work.errs p rest e f x todo at held bad a_read notes v_is m_is) =
+      errs p rest e f x todo at held bad a_read notes v_is
       (m_is ∙ ap (failing_by l) bad ∙ ap (ending_by l x (λ q. [])) todo)
   event_of (work.leaves p rest e x todo at held bad other v_is m_is) =
       leaves p rest e x todo at held bad other v_is

@@ -1,11 +1,15 @@
 -- What an actor takes fits it.
 use Rattle.std.proofs.Common.{◌≡◌, ◌+◌, ◌*◌, ◌-◌, ◌/◌, ◌≤◌, ◌<◌, ◌∷◌, ◌++◌, ◌∙◌, ℕ, zero, suc, Bool, true, false, cond, eqb, List, [], map, length, sum_by, Option, Some, None, get_or, slice_get, refl, sym, ap, subst, arith, inl, inr}
+use Rattle.backing_dev.specs.Dev.{DeviceState}
+use Rattle.block_map.specs.BlockMap.{BlockMap}
+use Rattle.block_map.specs.declared.state.BlockState.TheVariants.{Owned}
 use Rattle.call_history.specs.Parts.{EndsSo, Follows, program}
 use Rattle.call_history.specs.Shows.{tag_by}
 use Rattle.call_history.specs.declared.part.Part.{Part}
 use Rattle.call_history.specs.declared.part.PartEnd.{PartEnd}
 use Rattle.class_pool.specs.Pool.{IsAtHome, IsLent, PoolState, objects, used_cells}
 use Rattle.joint_rule.proofs.Balances.{counted_count, same_repaid}
+use Rattle.joint_rule.proofs.Blocks.{block_there, owned_is}
 use Rattle.joint_rule.proofs.Bounds.{bounded, scaled, times_both, times_le, total_scaled}
 use Rattle.joint_rule.proofs.Classes.{stands_high}
 use Rattle.joint_rule.proofs.Facts.{Known}
@@ -18,7 +22,7 @@ use Rattle.joint_rule.proofs.Pools.{bit, chain_low, ones, same_pin_is}
 use Rattle.joint_rule.proofs.Rests.{no_held}
 use Rattle.joint_rule.proofs.Stages.{OnDisk, old_low, on_disk, write_changes}
 use Rattle.joint_rule.proofs.Sums.{get_here, gone, locals_le, locals_mono, row_le, total_mono, total_split}
-use Rattle.joint_rule.proofs.Takes.{IsAccount, IsEntry, IsPoolOf, account_kind, class_kind, entry_kind}
+use Rattle.joint_rule.proofs.Takes.{IsAccount, IsDevice, IsEntry, IsMap, IsPoolOf, account_kind, class_kind, device_kind, entry_kind, map_kind}
 use Rattle.joint_rule.proofs.Tells.{once}
 use Rattle.joint_rule.specs.Begins.{Begin, content, form_at, form_by, ground_of, piece_on, pieces_on, terms}
 use Rattle.joint_rule.specs.Joint.{AtHome, IsActor, Joint, PoolFits, Sound}
@@ -27,7 +31,7 @@ use Rattle.joint_rule.specs.Stages.{Changes, CountAt, GoneBy, IsForm, IsPinned, 
 use Rattle.joint_rule.specs.Weights.{Backs, Count, HeldAll, Huges, PackedBytes, Packs, Sames, ahead, behind, cell_weight, counter, counters, each_one, ever_at, measure, none, one, out_weight, pages, pin_in, same_pin, shown, stored}
 use Rattle.lock_row.specs.Totals.{by_option, held_sum, locals_sum, mass, total}
 use Rattle.lock_row.specs.declared.names.At.{At}
-use Rattle.lock_row.specs.declared.names.At.TheVariants.{Both, Freeing, Giving, Inside, Leaving, Made, Old, Owing, Pinned, Pinning, Ready, Refusing, Seen, Start, Unpinning, Wanting, Sweeping, Moving, Shrunk, Shrinking}
+use Rattle.lock_row.specs.declared.names.At.TheVariants.{Away, Backed, Failing, Giving, Inside, Moving, Old, Owing, Pinned, Ready, Seen, Shrunk, Start, Sweeping, Wanting}
 use Rattle.lock_row.specs.declared.names.Compaction.{Compaction}
 use Rattle.lock_row.specs.declared.names.LockNo.{LockNo}
 use Rattle.lock_row.specs.declared.names.Object.{Object}
@@ -37,7 +41,7 @@ use Rattle.lock_row.specs.declared.names.State.{State}
 use Rattle.mem_account.specs.Counters.{Counters, IsCounted, counted}
 use Rattle.mem_account.specs.declared.weight.Weight.{Weight}
 use Rattle.page_steps.specs.Compactions.{repaid}
-use Rattle.page_steps.specs.Fits.{AsAccount, AsPool, AsSlot, CanCharge, CanPay, CanPin, CanStore, FitsAt, FitsBy, FreeFits, HasPlace, IsKept, PinFits, PinnedFits, StageFits, StartFits, StoreFits, SweepFits, cell_of}
+use Rattle.page_steps.specs.Fits.{AsAccount, AsBlocks, AsDevice, AsPool, AsSlot, CanCharge, CanPay, CanPin, CanStore, FetchFits, FitsAt, FitsBy, FreeFits, HasPlace, IsKept, PinFits, PinnedFits, ReleaseFits, StageFits, StartFits, StoreFits, SweepFits, cell_of}
 use Rattle.page_steps.specs.Givings.{old_weight}
 use Rattle.page_steps.specs.Pages.{new_class, next_form, page_in}
 use Rattle.page_steps.specs.Steps.{DiskHeld, Here, class_by, entry_in, lock_of, on, plan, plan_at, plan_by, slot, spot, start_plan, took}
@@ -86,6 +90,22 @@ as_pool P (holds.Class p) i f = f p refl
 as_pool P (holds.Account c) i f = absurd i
 as_pool P (holds.Blocks x) i f = absurd i
 as_pool P (holds.Device x) i f = absurd i
+
+as_map : (P : BlockMap → Type 0) (v : DiskHeld) → IsMap v
+    → ((x : BlockMap) → v ≡ holds.Blocks x → P x) → AsBlocks P v
+as_map P (holds.Slot e) i f = absurd i
+as_map P (holds.Class p) i f = absurd i
+as_map P (holds.Account c) i f = absurd i
+as_map P (holds.Blocks x) i f = f x refl
+as_map P (holds.Device d) i f = absurd i
+
+as_device : (P : DeviceState → Type 0) (v : DiskHeld) → IsDevice v
+    → ((d : DeviceState) → v ≡ holds.Device d → P d) → AsDevice P v
+as_device P (holds.Slot e) i f = absurd i
+as_device P (holds.Class p) i f = absurd i
+as_device P (holds.Account c) i f = absurd i
+as_device P (holds.Blocks x) i f = absurd i
+as_device P (holds.Device d) i f = f d refl
 
 is_slot : (v : DiskHeld) → IsEntry v → (e : EntryState) × (v ≡ holds.Slot e)
 is_slot (holds.Slot e) i = (e, refl)
@@ -190,23 +210,7 @@ module _ (g : Begin) where
   ahead_at q Giving x y f k c = ahead_gone q x k c.0
   ahead_at q Ready x y f k c = let r = c.ahead q in let s =
       measure_small q (form_weight f) c.small in omega arith
-  ahead_at q Start x y f k c = ahead_none q x c.0
-  ahead_at q Refusing x y f k c = ahead_none q x c.0
-  ahead_at q Seen x y f k c = ahead_none q x c.0
-  ahead_at q Pinning x y f k c = ahead_none q x c.0
-  ahead_at q Pinned x y f k c = ahead_none q x c.0
-  ahead_at q Unpinning x y f k c = ahead_none q x c.0
-  ahead_at q Leaving x y f k c = ahead_none q x c.0
-  ahead_at q Wanting x y f k c = ahead_none q x c.0
-  ahead_at q Inside x y f k c = ahead_none q x c.0
-  ahead_at q Both x y f k c = ahead_none q x c.0
-  ahead_at q Made x y f k c = ahead_none q x c.0
-  ahead_at q Old x y f k c = ahead_none q x c.0
-  ahead_at q Freeing x y f k c = ahead_none q x c.0
-  ahead_at q (Sweeping z) x y f k c = ahead_none q x c.0
-  ahead_at q (Moving z) x y f k c = ahead_none q x c.0
-  ahead_at q (Shrunk z) x y f k c = ahead_none q x c.0
-  ahead_at q (Shrinking z) x y f k c = ahead_none q x c.0
+  ahead_at q at x y f k c = ahead_none q x c.0
 
   ahead_by : (q : Count) (ps : List Part) (e : EntryState) (at : At) (fresh : Option Object)
       (pin : Option Pin) (owed : ℕ) (x y : Option Weight) (page : Option (List ℕ))
@@ -327,12 +331,14 @@ module _ (g : Begin) (ok : Known g) (w : State DiskHeld) (r : Rule g w) (a : ℕ
         (λ q v_is. chain_low g.chain q (subst (λ (x : LockNo × DiskHeld). Sound g (spot n x.0) x.1)
         (λ i. (k_is i, v_is i)) home.sound).1 ok.proper.least)
 
+    any_account : k ≡ lock.Account → AsAccount (λ c. ⊤) v
+    any_account k_is = as_account (λ c. ⊤) v (account_kind g v
+        (subst (λ (i : LockNo). Sound g (spot n i) v) k_is home.sound)) (λ c e. tt)
+
     start_by : (a b : Bool) → is_compaction p.op ≡ a → is_beyond n p.op ≡ b
         → start_plan a b p ≡ Take k → StartFits g.chain a b v
     start_by true b a e what_is = sweep_fits 0 (omega arith) (taken_lock (lock.Class 0) what_is)
-    start_by false true a b what_is = as_account (λ c. ⊤) v (account_kind g v
-        (subst (λ (i : LockNo). Sound g (spot n i) v) (taken_lock lock.Account what_is) home.sound))
-        (λ c e. tt)
+    start_by false true a b what_is = any_account (taken_lock lock.Account what_is)
     start_by false false a b what_is = slot_fits (or_from _ _ a b)
         (taken_lock (slot p.page) what_is)
 
@@ -457,6 +463,7 @@ module _ (g : Begin) (ok : Known g) (w : State DiskHeld) (r : Rule g w) (a : ℕ
             → PinFits x v
         pin_fits free k_is kept.Empty is = tt
         pin_fits free k_is (kept.Same i) is = tt
+        pin_fits free k_is (kept.Wb b) is = tt
         pin_fits free k_is (kept.Obj o) is =
             let k_o = k_is ∙ ap (λ (x : Kept). lock.Class (class_by x)) is in
             as_pool (CanPin o) v (pool_kind (class_by e.kept) class_low k_is)
@@ -474,6 +481,7 @@ module _ (g : Begin) (ok : Known g) (w : State DiskHeld) (r : Rule g w) (a : ℕ
                   → IsLent q x.handle (cell_of x)
               by_kept kept.Empty is of q v_is = absurd of
               by_kept (kept.Same i) is of q v_is = absurd of
+              by_kept (kept.Wb b) is of q v_is = absurd of
               by_kept (kept.Obj o) is of q v_is = is_lent o is form (k_is
                   ∙ ap (λ (z : Kept). lock.Class (class_by z)) is) q v_is x e_pin
                   (subst (λ (z : Kept). Names z x) (sym is) of)
@@ -487,6 +495,7 @@ module _ (g : Begin) (ok : Known g) (w : State DiskHeld) (r : Rule g w) (a : ℕ
             → MayPin e.kept y → (x : Kept) → e.kept ≡ x → FreeFits x y v
         free_fits k_is y e_pin i kept.Empty is = tt
         free_fits k_is y e_pin i (kept.Same z) is = tt
+        free_fits k_is y e_pin i (kept.Wb b) is = tt
         free_fits k_is None e_pin i (kept.Obj o) is = as_pool (λ q. IsAtHome q o.handle.0) v
             (pool_kind (class_by e.kept) class_low k_is)
             (λ q v_is. is_home o is form (k_is ∙ ap (λ (x : Kept). lock.Class (class_by x)) is) q
@@ -552,7 +561,27 @@ module _ (g : Begin) (ok : Known g) (w : State DiskHeld) (r : Rule g w) (a : ℕ
               fits = (let z = s.1.size in omega arith);
               chain_fits = chain_low g.chain q s.1 ok.proper.least;
             })
-        -- ---- the account
+      -- ---- the device and the blocks
+
+      fetch_fits : k ≡ lock.Device → (x : Kept) → e.kept ≡ x → FetchFits x v
+      fetch_fits k_is kept.Empty is = tt
+      fetch_fits k_is (kept.Same w) is = tt
+      fetch_fits k_is (kept.Obj o) is = tt
+      fetch_fits k_is (kept.Wb b) is = as_device (λ d. b < d.blocks) v
+          (device_kind g v (subst (λ (i : LockNo). Sound g (spot n i) v) k_is home.sound))
+          (λ d v_is. block_there g after joint a m who_after b p.page e is d
+          (held_after_it ∙ (λ i. (k_is i, v_is i) ∷ held i)))
+
+      release_fits : k ≡ lock.Blocks → (x : Kept) → e.kept ≡ x → ReleaseFits x v
+      release_fits k_is kept.Empty is = tt
+      release_fits k_is (kept.Same w) is = tt
+      release_fits k_is (kept.Obj o) is = tt
+      release_fits k_is (kept.Wb b) is = as_map (λ x. slice_get x.states b ≡ Some Owned) v
+          (map_kind g v (subst (λ (i : LockNo). Sound g (spot n i) v) k_is home.sound))
+          (λ x v_is. owned_is g after joint a m who_after b p.page e is x
+          (held_after_it ∙ (λ i. (k_is i, v_is i) ∷ held i)))
+
+      -- ---- the account
 
       module _ (k_is : k ≡ lock.Account) where
         account_is : IsAccount v
@@ -652,17 +681,20 @@ module _ (g : Begin) (ok : Known g) (w : State DiskHeld) (r : Rule g w) (a : ℕ
         (sym (held Owing i off (λ c d. refl)))
         (pay_fits Owing i off (λ c d. refl) (taken_lock lock.Account
         (next_plan Owing i off (λ c d. refl))) s.kind.0 s.counts.0 s.counts.1 s.right)
-    fits_at Refusing i = tt
-    fits_at Pinning i = tt
-    fits_at Unpinning i = tt
-    fits_at Leaving i = tt
-    fits_at Both i = tt
-    fits_at Made i = tt
-    fits_at Freeing i = tt
-    fits_at Giving i = tt
-    fits_at Ready i = tt
-    fits_at (Moving x) i = tt
-    fits_at (Shrinking x) i = tt
+    fits_at Away i =
+        let off = (here Away i).begun in
+        subst (λ (xs : List (LockNo × DiskHeld)). FitsAs Away (entry_in xs))
+        (sym (held Away i off (λ c d. refl)))
+        (fetch_fits Away i off (λ c d. refl) (taken_lock lock.Device
+        (next_plan Away i off (λ c d. refl))) _ refl)
+    fits_at Failing i = any_account (taken_lock lock.Account (plan_is Failing l.held i refl))
+    fits_at Backed i =
+        let off = (here Backed i).begun in
+        subst (λ (xs : List (LockNo × DiskHeld)). FitsAs Backed (entry_in xs))
+        (sym (held Backed i off (λ c d. refl)))
+        (release_fits Backed i off (λ c d. refl) (taken_lock lock.Blocks
+        (next_plan Backed i off (λ c d. refl))) _ refl)
+    fits_at at i = tt
 
   fits_todo : (ps : List Part) → l.todo ≡ ps → FitsBy (terms g) l ps v
   fits_todo [] todo = tt

@@ -1,4 +1,5 @@
--- Takings go from slots to classes to the account, so some actor can always move.
+-- Takings go from slots to classes, and last to the account, the blocks or the device, so some actor
+-- can always move.
 use Rattle.std.proofs.Common.{◌≡◌, ◌+◌, ◌≤◌, ◌<◌, ◌∷◌, ◌∙◌, ℕ, zero, suc, Bool, true, false, List, [], map, length, Option, Some, None, slice_get, refl, sym, ap, subst, arith, ⊎_elim}
 use Rattle.call_history.specs.Parts.{EndsSo, Follows, program}
 use Rattle.call_history.specs.declared.part.Part.{Part}
@@ -17,7 +18,7 @@ use Rattle.joint_rule.specs.Stages.{Stage, locks_at, locks_by}
 use Rattle.joint_rule.specs.Weights.{HeldAll, at_place, none, same}
 use Rattle.lock_row.specs.Totals.{held_sum, locals_sum, mass, row_sum}
 use Rattle.lock_row.specs.declared.names.At.{At}
-use Rattle.lock_row.specs.declared.names.At.TheVariants.{Both, Freeing, Giving, Inside, Leaving, Made, Old, Owing, Pinned, Pinning, Ready, Refusing, Seen, Start, Unpinning, Wanting, Sweeping, Moving, Shrunk, Shrinking}
+use Rattle.lock_row.specs.declared.names.At.TheVariants.{Away, Backed, Both, Counting, Failing, Fetching, Freeing, Giving, Inside, Leaving, Made, Missed, Old, Owing, Pinned, Pinning, Ready, Refusing, Releasing, Seen, Start, Unpinning, Wanting, Sweeping, Moving, Shrunk, Shrinking}
 use Rattle.lock_row.specs.declared.names.LockNo.{LockNo}
 use Rattle.lock_row.specs.declared.names.Plan.{Plan}
 use Rattle.lock_row.specs.declared.names.Plan.TheVariants.{Finished, Give, Take}
@@ -51,7 +52,7 @@ sound_low g j (holds.Slot e) s = let z = s.page in omega arith
 sound_low g j (holds.Class p) s = let z = s.0 in let c = s.1.class in omega arith
 sound_low g j (holds.Account c) s = omega arith
 sound_low g j (holds.Blocks x) s = omega arith
-sound_low g j (holds.Device x) s = omega arith
+sound_low g j (holds.Device x) s = let z = s.0 in omega arith
 
 -- a place that is out
 none_home : (k : ℕ) (row : List (Option DiskHeld)) → slice_get row k ≡ Some None
@@ -114,6 +115,23 @@ gives_last size Leaving p c d k e = (
   (let q : slot p.page ≡ k = cc in
       ap (λ (x : LockNo). x ∷ []) q),
 )
+gives_last size Away p c d k e = absurd (cc)
+gives_last size Fetching p c d k e = (
+  slot p.page ∷ [],
+  (let q : lock.Device ≡ k = cc in
+      ap (λ (x : LockNo). x ∷ slot p.page ∷ []) q),
+)
+gives_last size Failing p c d k e = absurd (cc)
+gives_last size Counting p c d k e = (
+  slot p.page ∷ [],
+  (let q : lock.Account ≡ k = cc in
+      ap (λ (x : LockNo). x ∷ slot p.page ∷ []) q),
+)
+gives_last size Missed p c d k e = (
+  [],
+  (let q : slot p.page ≡ k = cc in
+      ap (λ (x : LockNo). x ∷ []) q),
+)
 gives_last size Wanting p c d k e = absurd (cc)
 gives_last size Inside p c d k e = absurd (cc)
 gives_last size Both p c d k e = (
@@ -129,6 +147,12 @@ gives_last size Old p c d k e = absurd (cc)
 gives_last size Freeing p c d k e = (
   slot p.page ∷ [],
   (let q : lock.Class c ≡ k = cc in
+      ap (λ (x : LockNo). x ∷ slot p.page ∷ []) q),
+)
+gives_last size Backed p c d k e = absurd (cc)
+gives_last size Releasing p c d k e = (
+  slot p.page ∷ [],
+  (let q : lock.Blocks ≡ k = cc in
       ap (λ (x : LockNo). x ∷ slot p.page ∷ []) q),
 )
 gives_last size Owing p c d k e = absurd (cc)
@@ -158,10 +182,11 @@ module _ (size : ℕ) (p : Part) (c d : ℕ) (k : LockNo) where
             let r = same_one j p.page (omega arith) in omega arith),
       )
 
-  above_account : (at : At) → lock.Account ≡ k → p.page < size
-      → locks_at at p c d ≡ slot p.page ∷ [] → IsAbove at
-  above_account at e lt is =
-      let q : size + 255 ≡ spot size k = ap (spot size) e in (
+  -- the account, the blocks and the device
+  above_last : (at : At) (m : LockNo) → m ≡ k → size + 255 ≤ spot size m → spot size m < size + 258
+      → p.page < size → locks_at at p c d ≡ slot p.page ∷ [] → IsAbove at
+  above_last at m e high low lt is =
+      let q : spot size m ≡ spot size k = ap (spot size) e in (
         omega arith,
         (λ j le. let s = ap (places_sum size j) is in
             let r = same_one j p.page (omega arith) in omega arith),
@@ -245,8 +270,18 @@ module _ (g : Begin) (ok : Known g) (w : State DiskHeld) (j : Joint g w) where
           (let q : lock.Account ≡ k = cc in q) (disk s.begun).0 (form_low g.chain _)
       above k Old is e = let s = here Old is in above_class n p c d k Old c
           (let q : lock.Class c ≡ k = cc in q) (old_low g.chain _ _ s.stands) (disk s.begun).0 refl
-      above k Owing is e = let s = here Owing is in above_account n p c d k Owing
-          (let q : lock.Account ≡ k = cc in q) (disk s.begun).0 refl
+      above k Owing is e = let s = here Owing is in above_last n p c d k Owing lock.Account
+          (let q : lock.Account ≡ k = cc in q) (omega arith) (omega arith) (disk s.begun).0 refl
+      above k Away is e = let s = here Away is in above_last n p c d k Away lock.Device
+          (let q : lock.Device ≡ k = cc in q) (omega arith) (omega arith) (disk s.begun).0 refl
+      above k Failing is e = let s = here Failing is in above_last n p c d k Failing lock.Account
+          (let q : lock.Account ≡ k = cc in q) (omega arith) (omega arith) (disk s.begun).0 refl
+      above k Backed is e = let s = here Backed is in above_last n p c d k Backed lock.Blocks
+          (let q : lock.Blocks ≡ k = cc in q) (omega arith) (omega arith) (disk s.begun).0 refl
+      above k Fetching is e = absurd (cc)
+      above k Counting is e = absurd (cc)
+      above k Missed is e = absurd (cc)
+      above k Releasing is e = absurd (cc)
       above k Refusing is e = absurd (cc)
       above k Pinning is e = absurd (cc)
       above k Unpinning is e = absurd (cc)
@@ -285,6 +320,13 @@ module _ (g : Begin) (ok : Known g) (w : State DiskHeld) (j : Joint g w) where
       take_lock k Old is e = subst (IsLock n) (let q : lock.Class c ≡ k = cc in q)
           (old_low g.chain _ _ (here Old is).stands)
       take_lock k Owing is e = subst (IsLock n) (let q : lock.Account ≡ k = cc in q) tt
+      take_lock k Away is e = subst (IsLock n) (let q : lock.Device ≡ k = cc in q) tt
+      take_lock k Failing is e = subst (IsLock n) (let q : lock.Account ≡ k = cc in q) tt
+      take_lock k Backed is e = subst (IsLock n) (let q : lock.Blocks ≡ k = cc in q) tt
+      take_lock k Fetching is e = absurd (cc)
+      take_lock k Counting is e = absurd (cc)
+      take_lock k Missed is e = absurd (cc)
+      take_lock k Releasing is e = absurd (cc)
       take_lock k Refusing is e = absurd (cc)
       take_lock k Pinning is e = absurd (cc)
       take_lock k Unpinning is e = absurd (cc)
@@ -318,6 +360,14 @@ module _ (g : Begin) (ok : Known g) (w : State DiskHeld) (j : Joint g w) where
       give_lock k Giving is e = subst (IsLock n) (let q : lock.Account ≡ k = cc in q) tt
       give_lock k Ready is e = subst (IsLock n) (let q : slot p.page ≡ k = cc in q)
           (disk (here Ready is).begun).0
+      give_lock k Fetching is e = subst (IsLock n) (let q : lock.Device ≡ k = cc in q) tt
+      give_lock k Counting is e = subst (IsLock n) (let q : lock.Account ≡ k = cc in q) tt
+      give_lock k Missed is e = subst (IsLock n) (let q : slot p.page ≡ k = cc in q)
+          (disk (here Missed is).begun).0
+      give_lock k Releasing is e = subst (IsLock n) (let q : lock.Blocks ≡ k = cc in q) tt
+      give_lock k Away is e = absurd (cc)
+      give_lock k Failing is e = absurd (cc)
+      give_lock k Backed is e = absurd (cc)
       give_lock k Seen is e = absurd (cc)
       give_lock k Pinned is e = absurd (cc)
       give_lock k Wanting is e = absurd (cc)

@@ -4,9 +4,9 @@ use Rattle.std.proofs.Common.{◌≡◌, ◌+◌, ◌∷◌, ◌∙◌, ℕ, zer
 use Rattle.call_history.specs.Parts.{done_sum, left_by, piece_gives}
 use Rattle.call_history.specs.declared.part.Part.{Part}
 use Rattle.call_history.specs.declared.part.PartEnd.{PartEnd}
-use Rattle.call_history.specs.declared.part.PartEnd.TheVariants.{AtLimit, Carried, NoMemory, Whole}
+use Rattle.call_history.specs.declared.part.PartEnd.TheVariants.{AtLimit, Carried, Eio, NoMemory, Whole}
 use Rattle.joint_rule.proofs.Balances.{settled_compacted}
-use Rattle.joint_rule.proofs.Calm.{plain_entered, plain_pinned, plain_quit, plain_settle}
+use Rattle.joint_rule.proofs.Calm.{plain_entered, plain_fetched, plain_pinned, plain_quit, plain_settle}
 use Rattle.joint_rule.proofs.Counts.{Raises, by, rises_total, still}
 use Rattle.joint_rule.proofs.Events.{Event}
 use Rattle.joint_rule.proofs.Facts.{Known}
@@ -16,21 +16,21 @@ use Rattle.joint_rule.specs.Alone.{compacting_at}
 use Rattle.joint_rule.specs.Begins.{Begin, terms}
 use Rattle.joint_rule.specs.Joint.{Joint}
 use Rattle.joint_rule.specs.Rule.{CountsFreed}
-use Rattle.joint_rule.specs.Stages.{FailBy}
+use Rattle.joint_rule.specs.Stages.{FailBy, IsFault}
 use Rattle.joint_rule.specs.Weights.{compactions, freed_at, freed_by, none}
 use Rattle.lock_row.specs.Totals.{held_sum, locals_sum, mass}
 use Rattle.lock_row.specs.declared.names.At.{At}
-use Rattle.lock_row.specs.declared.names.At.TheVariants.{Both, Freeing, Giving, Inside, Leaving, Made, Moving, Old, Owing, Pinned, Pinning, Ready, Refusing, Seen, Shrinking, Shrunk, Start, Sweeping, Unpinning, Wanting}
+use Rattle.lock_row.specs.declared.names.At.TheVariants.{Both, Counting, Fetching, Freeing, Giving, Leaving, Made, Missed, Moving, Pinning, Ready, Refusing, Releasing, Shrinking, Shrunk, Start, Sweeping, Unpinning}
 use Rattle.lock_row.specs.declared.names.Compaction.{Compaction}
 use Rattle.lock_row.specs.declared.names.LockNo.{LockNo}
 use Rattle.lock_row.specs.declared.names.Object.{Object}
 use Rattle.lock_row.specs.declared.names.Pin.{Pin}
 use Rattle.lock_row.specs.declared.names.Plan.TheVariants.{Take}
 use Rattle.lock_row.specs.declared.names.State.{State}
-use Rattle.mem_account.specs.Counters.{at_most_end}
+use Rattle.mem_account.specs.Counters.{Counters, at_most_end}
 use Rattle.mem_account.specs.declared.weight.Weight.{Weight}
 use Rattle.page_steps.specs.Compactions.{compaction_at, moved_at, with_frames, with_move}
-use Rattle.page_steps.specs.Givings.{old_weight}
+use Rattle.page_steps.specs.Givings.{fails_by, old_weight}
 use Rattle.page_steps.specs.Pages.{next_form}
 use Rattle.page_steps.specs.Steps.{DiskHeld, Here, after_take, begun_at, entry_in, entry_or, lock_of, on, piece_over, plan, spot, taken_at, took}
 use Rattle.plain_disk.specs.Ends.{compacted}
@@ -50,26 +50,11 @@ freed at = (compaction_at at).frames
 
 -- a stage of no compaction has freed nothing
 freed_none : (at : At) → compacting_at at ≡ None → freed at ≡ 0
-freed_none Start e = refl
-freed_none Refusing e = refl
-freed_none Seen e = refl
-freed_none Pinning e = refl
-freed_none Pinned e = refl
-freed_none Unpinning e = refl
-freed_none Leaving e = refl
-freed_none Wanting e = refl
-freed_none Inside e = refl
-freed_none Both e = refl
-freed_none Made e = refl
-freed_none Old e = refl
-freed_none Freeing e = refl
-freed_none Owing e = refl
-freed_none Giving e = refl
-freed_none Ready e = refl
 freed_none (Sweeping x) e = absurd (cc)
 freed_none (Moving x) e = absurd (cc)
 freed_none (Shrunk x) e = absurd (cc)
 freed_none (Shrinking x) e = absurd (cc)
+freed_none at e = refl
 
 freed_moved : (m : ℕ) (x : Compaction) → freed (moved_at m x) ≡ x.frames
 freed_moved zero x = refl
@@ -84,25 +69,7 @@ freed_begun false false p f k = freed_none _ (plain_entered p.op p.page f k).0
 freed_after : (size : ℕ) (at : At) (p : Part) (f : PageForm) (k : Kept)
     → freed (after_take size at p f k) ≡ freed at
 freed_after size Start p f k = freed_begun (is_compaction p.op) (is_beyond size p.op) p f k
-freed_after size Refusing p f k = refl
-freed_after size Seen p f k = refl
-freed_after size Pinning p f k = refl
-freed_after size Pinned p f k = refl
-freed_after size Unpinning p f k = refl
-freed_after size Leaving p f k = refl
-freed_after size Wanting p f k = refl
-freed_after size Inside p f k = refl
-freed_after size Both p f k = refl
-freed_after size Made p f k = refl
-freed_after size Old p f k = refl
-freed_after size Freeing p f k = refl
-freed_after size Owing p f k = refl
-freed_after size Giving p f k = refl
-freed_after size Ready p f k = refl
-freed_after size (Sweeping x) p f k = refl
-freed_after size (Moving x) p f k = refl
-freed_after size (Shrunk x) p f k = refl
-freed_after size (Shrinking x) p f k = refl
+freed_after size at p f k = refl
 
 freed_taken : (size : ℕ) (ps : List Part) (at : At) (page : Option (List ℕ)) (k : Kept)
     → freed_at ps (taken_at size ps at page k) ≡ freed_at ps at
@@ -124,9 +91,24 @@ refusal_frees g p (Write start count stuff) Carried f = absurd f
 refusal_frees g p (Write start count stuff) (Whole end) f = absurd f
 refusal_frees g p (Write start count stuff) (AtLimit c n l) f = refl
 refusal_frees g p (Write start count stuff) NoMemory f = refl
+refusal_frees g p (Write start count stuff) (Eio fault) f = absurd f
 refusal_frees g p (Read start count) x f = absurd f
 refusal_frees g p (Discard start count) x f = absurd f
 refusal_frees g p Compact x f = absurd f
+
+fault_frees : (g : Begin) (p : Part) (op : Op) (x : PartEnd) → IsFault g p (Some x)
+    → piece_gives compacted op x ≡ 0
+fault_frees g p op Carried f = absurd f
+fault_frees g p op (AtLimit c n l) f = absurd f
+fault_frees g p op NoMemory f = absurd f
+fault_frees g p op (Eio fault) f = refl
+fault_frees g p op (Whole end) f = absurd f
+
+fault_compacted : (op : Op) (c : Counters) → (fails_by op c).compacted ≡ c.compacted
+fault_compacted (Write start count stuff) c = refl
+fault_compacted (Read start count) c = refl
+fault_compacted (Discard start count) c = refl
+fault_compacted Compact c = refl
 
 -- ---- givings
 
@@ -227,6 +209,30 @@ module _ (g : Begin) (ok : Known g) (w : State DiskHeld) (j : Joint g w) (a : �
       let st = stage g ok w j a l who p rest todo _ Leaving held at in
       same_frees _ _ v_is m_is (ends_so p rest x [] todo Leaving at refl
       (refusal_frees g p p.op x (subst (FailBy g p p.op) bad st.fails))
+      (let r = ap (held_sum (spot n) compactions) held in omega arith))
+  frees_of (event.fetches p rest e b d d' page todo at held is read is_page v_is m_is) =
+      same_frees _ _ v_is m_is (stays_so Fetching _ at
+      (freed_none _ (plain_fetched p.op _ e.kept).0)
+      (let r = ap (held_sum (spot n) compactions) held in omega arith))
+  frees_of (event.misses p rest e b d d' fault todo at held is failed v_is m_is) =
+      same_frees _ _ v_is m_is (stays_so Fetching _ at refl
+      (let r = ap (held_sum (spot n) compactions) held in omega arith))
+  frees_of (event.counts p rest e c todo at held v_is m_is) =
+      same_frees _ _ v_is m_is (stays_so Counting _ at refl
+      (let r = ap (held_sum (spot n) compactions) held in let s = fault_compacted p.op c in
+      omega arith))
+  frees_of (event.errs p rest e f x todo at held bad read notes v_is m_is) =
+      let st = stage g ok w j a l who p rest todo _ Missed held at in
+      same_frees _ _ v_is m_is (ends_so p rest x [] todo Missed at refl
+      (fault_frees g p p.op x (subst (IsFault g p) bad st.fails))
+      (let r = ap (held_sum (spot n) compactions) held in omega arith))
+  frees_of (event.leaves p rest e x todo at held bad other v_is m_is) =
+      let st = stage g ok w j a l who p rest todo _ Missed held at in
+      same_frees _ _ v_is m_is (ends_so p rest x [] todo Missed at refl
+      (fault_frees g p p.op x (subst (IsFault g p) bad st.fails))
+      (let r = ap (held_sum (spot n) compactions) held in omega arith))
+  frees_of (event.releases p rest e b x todo at held is v_is m_is) =
+      same_frees _ _ v_is m_is (stays_so Releasing _ at refl
       (let r = ap (held_sum (spot n) compactions) held in omega arith))
   frees_of (event.moves p rest x y y' u u' budget frames todo at held sh some one v_is m_is) =
       same_frees _ _ v_is m_is (stays_so (Moving x) _ at (freed_moved frames (with_move x budget))

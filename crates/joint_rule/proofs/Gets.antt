@@ -13,7 +13,7 @@ use Rattle.joint_rule.specs.Stages.{IsPinned, MayPin, Names, NoneOf, PinAt, Stag
 use Rattle.joint_rule.specs.Weights.{PinWeigh, at_place, cell_weight, claim_by, claims, each_one, fresh_claim, none, nothing, object_weight, one, out_weight, outs, pinned, same, stored}
 use Rattle.lock_row.specs.Totals.{by_option, held_sum, locals_sum, mass, row_sum, total}
 use Rattle.lock_row.specs.declared.names.At.{At}
-use Rattle.lock_row.specs.declared.names.At.TheVariants.{Both, Freeing, Giving, Inside, Leaving, Made, Old, Owing, Pinned, Pinning, Ready, Refusing, Seen, Start, Unpinning, Wanting, Sweeping, Moving, Shrunk, Shrinking}
+use Rattle.lock_row.specs.declared.names.At.TheVariants.{Both, Freeing, Inside, Made, Old, Pinned, Unpinning, Wanting}
 use Rattle.lock_row.specs.declared.names.LockNo.{LockNo}
 use Rattle.lock_row.specs.declared.names.Object.{Object}
 use Rattle.lock_row.specs.declared.names.Pin.{Pin}
@@ -55,6 +55,7 @@ names_claim c h (kept.Same w) b x i = absurd i
 names_claim c h (kept.Obj o) b x i = let e : cell_at c h x
     ≡ pick (same c o.class) (same h o.handle.0) 0 = (λ j.
     pick (same c (i.0 j)) (same h (i.1 j)) 0) in omega arith
+names_claim c h (kept.Wb x) b y i = absurd i
 
 none_pins : (f : PinWeigh) (x : Option Pin) → NoneOf x → by_option f x ≡ 0
 none_pins f None e = refl
@@ -72,32 +73,22 @@ may_claim c h k b (Some x) i = names_claim c h k b x i
 
 pin_at : (c h : ℕ) (at : At) (k : Kept) (b : List ℕ) (x : Option Pin) → PinAt at k x
     → by_option (cell_at c h) x ≤ claim_by (name_at c h) k b
-pin_at c h Start k b x i = let r = none_pins (cell_at c h) x i in omega arith
-pin_at c h Refusing k b x i = let r = none_pins (cell_at c h) x i in omega arith
-pin_at c h Seen k b x i = let r = none_pins (cell_at c h) x i in omega arith
-pin_at c h Pinning k b x i = let r = none_pins (cell_at c h) x i in omega arith
 pin_at c h Pinned k b x i = is_claim c h k b x i
 pin_at c h Unpinning k b x i = is_claim c h k b x i
-pin_at c h Leaving k b x i = let r = none_pins (cell_at c h) x i in omega arith
 pin_at c h Wanting k b x i = may_claim c h k b x i
 pin_at c h Inside k b x i = may_claim c h k b x i
 pin_at c h Both k b x i = may_claim c h k b x i
 pin_at c h Made k b x i = may_claim c h k b x i
 pin_at c h Old k b x i = may_claim c h k b x i
 pin_at c h Freeing k b x i = may_claim c h k b x i
-pin_at c h Owing k b x i = let r = none_pins (cell_at c h) x i in omega arith
-pin_at c h Giving k b x i = let r = none_pins (cell_at c h) x i in omega arith
-pin_at c h Ready k b x i = let r = none_pins (cell_at c h) x i in omega arith
-pin_at c h (Sweeping y) k b x i = let r = none_pins (cell_at c h) x i in omega arith
-pin_at c h (Moving y) k b x i = let r = none_pins (cell_at c h) x i in omega arith
-pin_at c h (Shrunk y) k b x i = let r = none_pins (cell_at c h) x i in omega arith
-pin_at c h (Shrinking y) k b x i = let r = none_pins (cell_at c h) x i in omega arith
+pin_at c h at k b x i = let r = none_pins (cell_at c h) x i in omega arith
 
 any_bytes : (c h : ℕ) (k : Kept) (b d : List ℕ) → claim_by (name_at c h) k b
     ≡ claim_by (name_at c h) k d
 any_bytes c h kept.Empty b d = refl
 any_bytes c h (kept.Same w) b d = refl
 any_bytes c h (kept.Obj o) b d = refl
+any_bytes c h (kept.Wb x) b d = refl
 
 module _ (g : Begin) (c h : ℕ) where
   entry_claim : (j n : ℕ) (v : DiskHeld) (e : EntryState) → claim_by (name_at c h) e.kept [] ≤ n
@@ -299,6 +290,7 @@ claim_one : (k : Kept) (b : List ℕ) → claim_by each_one k b ≤ 1
 claim_one kept.Empty b = omega arith
 claim_one (kept.Same w) b = omega arith
 claim_one (kept.Obj o) b = omega arith
+claim_one (kept.Wb x) b = omega arith
 
 claim_low : (g : Begin) (j : ℕ) (v : DiskHeld) → Sound g j v
     → claims g each_one j v ≤ low_at g.given.size j v

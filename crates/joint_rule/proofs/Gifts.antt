@@ -4,17 +4,18 @@ use Rattle.call_history.specs.Parts.{EndsSo, Follows, left_by, program}
 use Rattle.call_history.specs.Shows.{got_from, tag_by}
 use Rattle.call_history.specs.declared.part.Part.{Part}
 use Rattle.call_history.specs.declared.part.PartEnd.{PartEnd}
-use Rattle.call_history.specs.declared.part.PartEnd.TheVariants.{AtLimit, Carried, NoMemory, Whole}
-use Rattle.joint_rule.proofs.Balances.{invalid_count, invalid_fixed, none_fresh, put_claim, put_form, put_weight}
+use Rattle.call_history.specs.declared.part.PartEnd.TheVariants.{AtLimit, Carried, Eio, NoMemory, Whole}
+use Rattle.joint_rule.proofs.Balances.{invalid_count, invalid_fixed, none_fresh, put_claim, put_form, put_plain, put_weight}
+use Rattle.joint_rule.proofs.Blocks.{Balanced, Storage, apart, entry_back, no_block, no_lies}
 use Rattle.joint_rule.proofs.Facts.{Known}
 use Rattle.joint_rule.proofs.Lookups.{none_weight, nothing_shown, sound}
-use Rattle.joint_rule.proofs.Pages.{ever_up, form_next, form_read, form_small}
+use Rattle.joint_rule.proofs.Pages.{back_change, back_read, content_read, ever_up, form_next, form_read, form_small}
 use Rattle.joint_rule.proofs.Stages.{on_disk}
-use Rattle.joint_rule.specs.Begins.{AreCarried, Begin, HasEvent, content, ever, form_at, ground_of, image}
+use Rattle.joint_rule.specs.Begins.{AreCarried, Begin, HasEvent, back_at, content, ever, form_at, ground_of, image}
 use Rattle.joint_rule.specs.Joint.{AtHome, EntryFits, IsActor, Joint, Sound}
 use Rattle.joint_rule.specs.Rule.{owed}
-use Rattle.joint_rule.specs.Stages.{Changes, FailBy, GoneBy, IsForm, IsRight, IsSmall, Looks, NoObj, NoneOf, Stage, StageBy, locks_at, locks_by}
-use Rattle.joint_rule.specs.Weights.{Count, Fixed, HeldAll, Limit, PackedBytes, PinWeigh, Weigh, ahead, at_place, behind, chains, claim_by, claims, counters, each_one, ever_at, fixed, fresh_claim, measure, mosts, none, nothing, object_weight, one, outs, owing, pages, pinned, shown, some_of, stored}
+use Rattle.joint_rule.specs.Stages.{Changes, FailBy, GoneBy, IsForm, IsRight, IsSmall, Looks, NoObj, NoneOf, Stage, StageBy, is_wb, locks_at, locks_by}
+use Rattle.joint_rule.specs.Weights.{Count, Fixed, HeldAll, Limit, PackedBytes, PinWeigh, Weigh, ahead, at_place, behind, block_by, chains, claim_by, claims, counters, each_one, ever_at, fixed, fresh_claim, lies_by, measure, mosts, none, nothing, object_weight, one, outs, owing, pages, pinned, shown, some_of, stored}
 use Rattle.lock_row.specs.Totals.{by_option, held_sum, mass}
 use Rattle.lock_row.specs.declared.names.At.{At}
 use Rattle.lock_row.specs.declared.names.At.TheVariants.{Leaving, Ready, Refusing, Start}
@@ -44,13 +45,6 @@ use Rattle.mem_account.specs.declared.weight.Delta.TheVariants as delta
 use Rattle.zr_base.specs.declared.op.OpEnd.TheVariants as ends
 
 module _ (g : Begin) where
-  -- the weights of one side change as those of the other
-  abbrev pub Balanced : Here → LockNo → DiskHeld → Here → (ℕ → DiskHeld → ℕ) → (Here → ℕ)
-      → (ℕ → DiskHeld → ℕ) → (Here → ℕ) → Type 0
-  Balanced l k v m f h f' h' = mass (spot g.given.size) f h m + f (spot g.given.size k) v + mass
-      (spot g.given.size) f' h' l ≡ mass (spot g.given.size) f' h' m + f' (spot g.given.size k) v
-      + mass (spot g.given.size) f h l
-
   -- the account is charged
   pub record IsCharge (l : Here) (v : DiskHeld) (m : Here) : Type 0 where
     pub c : Counters
@@ -70,10 +64,11 @@ module _ (g : Begin) where
     pub fits : IsActor g a m
     pub alone : (i : ℕ) → mass (spot g.given.size) (at_place i) none m + at_place i
         (spot g.given.size k) v ≡ mass (spot g.given.size) (at_place i) none l
-    pub owners : (f : Weigh) → Balanced l k v m (claims g f) (fresh_claim f) (stored f) none
-    pub pins : (f : PinWeigh) → Balanced l k v m (outs f) none nothing (pinned f)
-    pub frames : Balanced l k v m pages none chains owing
-    pub counts : (q : Count) → Balanced l k v m (counters q) (behind q) (shown q) (ahead q)
+    pub owners : (f : Weigh) → Balanced g l k v m (claims g f) (fresh_claim f) (stored f) none
+    pub storage : Storage g l k v m
+    pub pins : (f : PinWeigh) → Balanced g l k v m (outs f) none nothing (pinned f)
+    pub frames : Balanced g l k v m pages none chains owing
+    pub counts : (q : Count) → Balanced g l k v m (counters q) (behind q) (shown q) (ahead q)
     pub stays : (q : Fixed) → mass (spot g.given.size) (fixed q) none m + fixed q
         (spot g.given.size k) v ≡ mass (spot g.given.size) (fixed q) none l
     pub rises : mass (spot g.given.size) (ever_at g) one l
@@ -105,6 +100,7 @@ ends_badly : (g : Begin) (p : Part) (op : Op) (x : PartEnd) → FailBy g p op (S
     → EndsSo (ground_of g) p x
 ends_badly g p (Write start count stuff) Carried f = absurd f
 ends_badly g p (Write start count stuff) (Whole end) f = absurd f
+ends_badly g p (Write start count stuff) (Eio fault) f = absurd f
 ends_badly g p (Write start count stuff) (AtLimit c n l) f = f
 ends_badly g p (Write start count stuff) NoMemory f = f
 ends_badly g p (Read start count) x f = absurd f
@@ -118,6 +114,7 @@ old_is k None b i = omega arith
 old_is kept.Empty (Some x) b i = let z = nothing_shown i in omega arith
 old_is (kept.Same v) (Some x) b i = absurd b.0
 old_is (kept.Obj o) (Some x) b i = absurd b.0
+old_is (kept.Wb y) (Some x) b i = absurd b.0
 
 pub start_locks : (ps : List Part) (c d : ℕ) → (let ks : List LockNo = [] in ks)
     ≡ locks_by ps Start c d
@@ -141,6 +138,8 @@ start_stage g (p ∷ ps) e = record {
   pins = tt;
   owes = refl;
   stands = tt;
+  backs = tt;
+  partly = tt;
   right = tt;
   counts = (tt, tt);
   blank = tt;
@@ -243,12 +242,14 @@ module _ (g : Begin) (ok : Known g) (w : State DiskHeld) (j : Joint g w) (a : �
       (piece_over l p (Whole ends.Range) [] rest)
   give_refuses c at held =
       let q = stage _ Refusing held at in record {
-        home = record { sound = refl; stands = tt };
+        home = record { sound = refl; stands = tt; backs = tt };
         fits = is_over (Whole ends.Range) [] (beyond_single n p.op q.begun, q.begun);
         alone = λ i. let r = ap (held_sum (spot n) (at_place i)) held in omega arith;
         owners = λ f. let r = ap (held_sum (spot n) (claims g f)) held in
             let x = ap (held_sum (spot n) (stored f)) held in let y = none_fresh f l.fresh q.made in
             omega arith;
+        storage = apart g l _ _ _ (λ f z y. let r = ap (held_sum (spot n) f) held in
+            let s = y (n + 255) c in let t = y (n + 255) (counted c delta.InvalidIo) in omega arith);
         pins = λ f. let r = ap (held_sum (spot n) (outs f)) held in
             let x = ap (held_sum (spot n) nothing) held in let y = none_pin f l.pin q.pins in
             omega arith;
@@ -317,6 +318,20 @@ module _ (g : Begin) (ok : Known g) (w : State DiskHeld) (j : Joint g w) (a : �
       gone_claim h kept.Empty b d = refl
       gone_claim h (kept.Same v) b d = refl
       gone_claim h (kept.Obj o) b d = absurd d
+      gone_claim h (kept.Wb x) b d = absurd d
+
+      gone_plain : (k : Kept) → NoObj k → is_wb k ≡ false
+      gone_plain kept.Empty d = refl
+      gone_plain (kept.Same v) d = refl
+      gone_plain (kept.Obj o) d = absurd d
+      gone_plain (kept.Wb x) d = absurd d
+
+      now_plain : is_wb f.kept ≡ false
+      now_plain = ap is_wb notes.kept ∙ put_plain form l.fresh
+
+      put_backs : is_wb f.kept ≡ back_at g p.page f.order
+      put_backs = now_plain ∙ sym (ap (back_at g p.page) notes.order
+          ∙ back_change g p e.order (tag_by l.actor p) is_named sr.kind.0)
 
       now_claim : (h : Weigh) → claim_by h f.kept (image g p.page f.order) ≡ fresh_claim h l
       now_claim h = (λ i. claim_by h (notes.kept i) (bytes_in (form_now i)))
@@ -336,12 +351,17 @@ module _ (g : Begin) (ok : Known g) (w : State DiskHeld) (j : Joint g w) (a : �
           sound = noted_fits e f (kept_by form l.fresh) sr.begun
               (all _ Ready held at).0 notes put_small;
           stands = put_stands;
+          backs = put_backs;
         };
         fits = is_over Carried [] sr.begun;
         alone = λ i. let r = ap (held_sum (spot n) (at_place i)) held in omega arith;
         owners = λ h. let r = ap (held_sum (spot n) (claims g h)) held in
             let x = ap (held_sum (spot n) (stored h)) held in let y = now_claim h in
             let z = gone_claim h e.kept (image g p.page e.order) sr.kind.1 in omega arith;
+        storage = entry_back g l _ p.page e f held refl
+            (λ h. no_block h f.kept now_plain ∙ sym (no_block h e.kept (gone_plain e.kept sr.kind.1)))
+            (λ b bytes. let y = no_lies b bytes f.kept (content g p.page f.order) now_plain in
+            omega arith);
         pins = λ h. let r = ap (held_sum (spot n) (outs h)) held in
             let x = ap (held_sum (spot n) nothing) held in let y = none_pin h l.pin sr.pins in
             omega arith;
@@ -360,66 +380,127 @@ module _ (g : Begin) (ok : Known g) (w : State DiskHeld) (j : Joint g w) (a : �
         );
       }
 
-    module _ (at : l.at ≡ Leaving) where
-      sl : Stage g p e Leaving l.fresh l.pin l.owed l.ahead l.behind l.page l.fail
-      sl = stage _ Leaving held at
+    -- nothing but the slot is in work, whose page is kept as it has to be
+    pub record IsBare : Type 0 where
+      pub made : NoneOf l.fresh
+      pub pins : NoneOf l.pin
+      pub owes : l.owed ≡ 0
+      pub stands : IsForm g.chain (form_at g p.page e.order) e.kept
+      pub backs : is_wb e.kept ≡ back_at g p.page e.order
+      pub more : NoneOf l.ahead
+      pub less : NoneOf l.behind
+      pub fits : EntryFits g p.page e
+      pub begun : is_single n p.op ≡ false
 
+    -- the entry goes back, and has the page as before
+    pub record IsSame (v : EntryState) : Type 0 where
+      pub kept : v.kept ≡ e.kept
+      pub form : form_at g p.page v.order ≡ form_at g p.page e.order
+      pub content : content g p.page v.order ≡ content g p.page e.order
+      pub back : back_at g p.page v.order ≡ back_at g p.page e.order
+      pub up : ever g p.page e.order ≤ ever g p.page v.order
+
+    module _ (bare : IsBare) where
       give_back : (end : PartEnd) (got : List (List ℕ)) → EndsSo (ground_of g) p end
-          → (v : EntryState) → EntryFits g p.page v → v.kept ≡ e.kept
-          → form_at g p.page v.order ≡ form_at g p.page e.order
-          → ever g p.page e.order ≤ ever g p.page v.order
+          → (v : EntryState) → EntryFits g p.page v → IsSame v
           → Gift g a l (slot p.page) (holds.Slot v) (piece_over l p end got rest)
-      give_back end got so v fits_v same_kept same_form up = record {
+      give_back end got so v fits_v same = record {
         home = record {
           sound = fits_v;
           stands = subst (λ (x : PageForm × Kept).
-              IsForm g.chain x.0 x.1) (λ i. (sym same_form i, sym same_kept i)) sl.stands;
+              IsForm g.chain x.0 x.1) (λ i. (sym same.form i, sym same.kept i)) bare.stands;
+          backs = ap is_wb same.kept ∙ bare.backs ∙ sym same.back;
         };
         fits = is_over end got so;
         alone = λ i. let r = ap (held_sum (spot n) (at_place i)) held in omega arith;
         owners = λ h. let r = ap (held_sum (spot n) (claims g h)) held in
             let x = ap (held_sum (spot n) (stored h)) held in
-            let y = none_fresh h l.fresh sl.made in let z : claim_by h v.kept
+            let y = none_fresh h l.fresh bare.made in let z : claim_by h v.kept
             (image g p.page v.order) ≡ claim_by h e.kept (image g p.page e.order) =
-            (λ i. claim_by h (same_kept i) (bytes_in (same_form i))) in omega arith;
+            (λ i. claim_by h (same.kept i) (bytes_in (same.form i))) in omega arith;
+        storage = entry_back g l _ p.page e v held refl (λ h. ap (block_by h) same.kept)
+            (λ b bytes. let y : lies_by b bytes v.kept (content g p.page v.order)
+            ≡ lies_by b bytes e.kept (content g p.page e.order) =
+            (λ i. lies_by b bytes (same.kept i) (same.content i)) in omega arith);
         pins = λ h. let r = ap (held_sum (spot n) (outs h)) held in
-            let x = ap (held_sum (spot n) nothing) held in let y = none_pin h l.pin sl.pins in
+            let x = ap (held_sum (spot n) nothing) held in let y = none_pin h l.pin bare.pins in
             omega arith;
         frames = let r = ap (held_sum (spot n) pages) held in
-            let x = ap (held_sum (spot n) chains) held in let y = sl.owes in omega arith;
+            let x = ap (held_sum (spot n) chains) held in let y = bare.owes in omega arith;
         counts = λ i. let r = ap (held_sum (spot n) (counters i)) held in
             let x = ap (held_sum (spot n) (shown i)) held in
-            let y = none_weight i l.ahead sl.counts.0 in
-            let z = none_weight i l.behind sl.counts.1 in
-            let u = ap (λ (k : Kept). measure i (weight_of k)) same_kept in omega arith;
+            let y = none_weight i l.ahead bare.more in
+            let z = none_weight i l.behind bare.less in
+            let u = ap (λ (k : Kept). measure i (weight_of k)) same.kept in omega arith;
         stays = λ y. let r = ap (held_sum (spot n) (fixed y)) held in omega arith;
-        rises = let r = ap (held_sum (spot n) (ever_at g)) held in let z = up in omega arith;
+        rises = let r = ap (held_sum (spot n) (ever_at g)) held in let z = same.up in omega arith;
         most = inl (
           (let r = ap (held_sum (spot n) mosts) held in omega arith),
           (let r = ap (held_sum (spot n) pages) held in omega arith),
         );
       }
 
-      read_op : (op : Op) → p.op ≡ op → Looks op → FailBy g p op None
-          → form_at g p.page (e.order ++ tag_by l.actor p ∷ []) ≡ form_at g p.page e.order
-      read_op (Write start count stuff) is k b = absurd b
-      read_op (Read start count) is k b = form_read g ok p e.order
-          (tag_by l.actor p) is_named start count is
-      read_op (Discard start count) is k b = absurd b
-      read_op Compact is k b = absurd b
+      -- the piece leaves its entry
+      pub give_left : (end : PartEnd) → EndsSo (ground_of g) p end
+          → Gift g a l (slot p.page) (holds.Slot e) (piece_over l p end [] rest)
+      give_left end so = give_back end [] so e bare.fits (record {
+        kept = refl;
+        form = refl;
+        content = refl;
+        back = refl;
+        up = omega arith;
+      })
+
+      -- a read is noted
+      pub give_noted : (end : PartEnd) (got : List (List ℕ)) → EndsSo (ground_of g) p end
+          → (start count : ℕ) → p.op ≡ Read start count
+          → Notes g.clock e f e.kept (tag_by l.actor p)
+          → Gift g a l (slot p.page) (holds.Slot f) (piece_over l p end got rest)
+      give_noted end got so start count is notes =
+          give_back end got so f (noted_fits e f e.kept bare.begun bare.fits notes bare.fits.small)
+          (record {
+            kept = notes.kept;
+            form = ap (form_at g p.page) notes.order
+                ∙ form_read g ok p e.order (tag_by l.actor p) is_named start count is;
+            content = ap (content g p.page) notes.order
+                ∙ content_read g ok p e.order (tag_by l.actor p) is_named start count is;
+            back = ap (back_at g p.page) notes.order
+                ∙ back_read g p e.order (tag_by l.actor p) is_named start count is;
+            up = let r = ever_up g p.page e.order (tag_by l.actor p) in
+                let q = ap (ever g p.page) notes.order in omega arith;
+          })
+
+    module _ (at : l.at ≡ Leaving) where
+      sl : Stage g p e Leaving l.fresh l.pin l.owed l.ahead l.behind l.page l.fail
+      sl = stage _ Leaving held at
+
+      bare_leaving : IsBare
+      bare_leaving = record {
+        made = sl.made;
+        pins = sl.pins;
+        owes = sl.owes;
+        stands = sl.stands;
+        backs = sl.backs;
+        more = sl.counts.0;
+        less = sl.counts.1;
+        fits = (all _ Leaving held at).0;
+        begun = sl.begun;
+      }
 
       pub give_reads : l.fail ≡ None → Notes g.clock e f e.kept (tag_by l.actor p)
           → Gift g a l (slot p.page) (holds.Slot f) (piece_over l p Carried
           (got_from (page_in l.page e.kept) p) rest)
-      give_reads well notes = give_back Carried (got_from (page_in l.page e.kept) p) sl.begun f
-          (noted_fits e f e.kept sl.begun (all _ Leaving held at).0 notes
-          (all _ Leaving held at).0.small) notes.kept (ap (form_at g p.page) notes.order
-          ∙ read_op p.op refl sl.kind (subst (FailBy g p p.op) well sl.fails))
-          (let r = ever_up g p.page e.order (tag_by l.actor p) in
-          let q = ap (ever g p.page) notes.order in omega arith)
+      give_reads well notes = by_op p.op refl sl.kind (subst (FailBy g p p.op) well sl.fails) where
+        by_op : (op : Op) → p.op ≡ op → Looks op → FailBy g p op None
+            → Gift g a l (slot p.page) (holds.Slot f) (piece_over l p Carried
+            (got_from (page_in l.page e.kept) p) rest)
+        by_op (Write start count stuff) is k b = absurd b
+        by_op (Read start count) is k b = give_noted bare_leaving Carried
+            (got_from (page_in l.page e.kept) p) sl.begun start count is notes
+        by_op (Discard start count) is k b = absurd b
+        by_op Compact is k b = absurd b
 
       pub give_fails : (x : PartEnd) → l.fail ≡ Some x → Gift g a l (slot p.page) (holds.Slot e)
           (piece_over l p x [] rest)
-      give_fails x bad = give_back x [] (ends_badly g p p.op x
-          (subst (FailBy g p p.op) bad sl.fails)) e (all _ Leaving held at).0 refl refl
-          (omega arith)
+      give_fails x bad = give_left bare_leaving x
+          (ends_badly g p p.op x (subst (FailBy g p p.op) bad sl.fails))

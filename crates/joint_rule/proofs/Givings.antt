@@ -2,15 +2,17 @@
 use Rattle.std.proofs.Common.{◌≡◌, ◌∷◌, ◌∙◌, ℕ, List, Some, slice_get, sym, ap, subst}
 use Rattle.call_history.specs.declared.part.Part.{Part}
 use Rattle.call_history.specs.declared.part.PartEnd.TheVariants.{AtLimit, NoMemory}
+use Rattle.joint_rule.proofs.Accounts.{give_counts, give_repays}
 use Rattle.joint_rule.proofs.Compactions.{give_closes, give_moves, give_shrinks, give_sweeps}
+use Rattle.joint_rule.proofs.Device.{give_errs, give_fetches, give_leaves, give_misses, give_releases}
 use Rattle.joint_rule.proofs.Events.{Event}
 use Rattle.joint_rule.proofs.Facts.{Known}
 use Rattle.joint_rule.proofs.Gifts.{Gift, give_fails, give_puts, give_reads, give_refuses, locks}
-use Rattle.joint_rule.proofs.Objects.{give_charges, give_frees, give_pins, give_quits, give_refused, give_repays, give_stows, give_unpins, limit_refusal, memory_refusal}
+use Rattle.joint_rule.proofs.Objects.{give_charges, give_frees, give_pins, give_quits, give_refused, give_stows, give_unpins, limit_refusal, memory_refusal}
 use Rattle.joint_rule.specs.Begins.{Begin, terms}
 use Rattle.joint_rule.specs.Joint.{Joint}
 use Rattle.lock_row.specs.declared.names.At.{At}
-use Rattle.lock_row.specs.declared.names.At.TheVariants.{Both, Freeing, Giving, Leaving, Made, Pinning, Ready, Refusing, Unpinning, Moving, Shrinking}
+use Rattle.lock_row.specs.declared.names.At.TheVariants.{Both, Counting, Fetching, Freeing, Giving, Leaving, Made, Missed, Pinning, Ready, Refusing, Releasing, Unpinning, Moving, Shrinking}
 use Rattle.lock_row.specs.declared.names.LockNo.{LockNo}
 use Rattle.lock_row.specs.declared.names.Plan.TheVariants.{Give}
 use Rattle.lock_row.specs.declared.names.State.{State}
@@ -105,6 +107,24 @@ module _ (g : Begin) (ok : Known g) (w : State DiskHeld) (j : Joint g w) (a : �
   gift (event.fails p rest e x todo at held bad v_is m_is) =
       at_lock _ (slot p.page) _ (given_lock (slot p.page) (event_is p rest _ Leaving todo held at))
       v_is m_is (give_fails g ok w j a l who p rest todo e e held at x bad)
+  gift (event.fetches p rest e b d d' page todo at held is read is_page v_is m_is) =
+      at_lock _ lock.Device _ (given_lock lock.Device (event_is p rest _ Fetching todo held at))
+      v_is m_is (give_fetches g ok w j a l who p rest todo e b d d' at held is page read)
+  gift (event.misses p rest e b d d' fault todo at held is failed v_is m_is) =
+      at_lock _ lock.Device _ (given_lock lock.Device (event_is p rest _ Fetching todo held at))
+      v_is m_is (give_misses g ok w j a l who p rest todo e b d d' at held is fault failed)
+  gift (event.counts p rest e c todo at held v_is m_is) =
+      at_lock _ lock.Account _ (given_lock lock.Account (event_is p rest _ Counting todo held at))
+      v_is m_is (give_counts g ok w j a l who p rest todo e c at held)
+  gift (event.errs p rest e f x todo at held bad a_read notes v_is m_is) =
+      at_lock _ (slot p.page) _ (given_lock (slot p.page) (event_is p rest _ Missed todo held at))
+      v_is m_is (give_errs g ok w j a l who p rest todo e f at held x bad a_read notes)
+  gift (event.leaves p rest e x todo at held bad other v_is m_is) =
+      at_lock _ (slot p.page) _ (given_lock (slot p.page) (event_is p rest _ Missed todo held at))
+      v_is m_is (give_leaves g ok w j a l who p rest todo e e at held x bad)
+  gift (event.releases p rest e b x todo at held is v_is m_is) =
+      at_lock _ lock.Blocks _ (given_lock lock.Blocks (event_is p rest _ Releasing todo held at))
+      v_is m_is (give_releases g ok w j a l who p rest todo e b x at held is)
   gift (event.moves p rest x q q' u u' budget frames todo at held sh some one v_is m_is) =
       at_lock _ (lock.Class x.class) _ (given_lock (lock.Class x.class)
       (event_is p rest _ (Moving x) todo held at)) v_is m_is

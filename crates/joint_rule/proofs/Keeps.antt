@@ -7,7 +7,7 @@ use Rattle.joint_rule.proofs.Sums.{each_give, each_take, gone}
 use Rattle.joint_rule.proofs.Takes.{fits_take}
 use Rattle.joint_rule.specs.Begins.{Begin, terms}
 use Rattle.joint_rule.specs.Joint.{AtHome, IsActor, Joint}
-use Rattle.joint_rule.specs.Weights.{ahead, at_place, behind, chains, claims, counters, fixed, fresh_claim, none, nothing, outs, owing, pages, pinned, shown, stored}
+use Rattle.joint_rule.specs.Weights.{ahead, at_place, behind, block_claims, chains, claims, counters, device_size, fixed, fresh_claim, lies_at, map_size, none, nothing, outs, owing, pages, pinned, shown, stored, stored_at, used_blocks}
 use Rattle.lock_row.specs.Machine.{Turn}
 use Rattle.lock_row.specs.Totals.{mass, total}
 use Rattle.lock_row.specs.declared.names.LockNo.{LockNo}
@@ -43,6 +43,13 @@ module _ (g : Begin) (ok : Known g) (w : State DiskHeld) (j : Joint g w) (a : �
             omega arith;
         owners = λ f. same (claims g f) (fresh_claim f) refl
             ∙ (j.owners f ∙ sym (same (stored f) none refl));
+        blocks = λ f. same (block_claims f) none refl
+            ∙ (j.blocks f ∙ sym (same (used_blocks f) none refl));
+        size = let p = same map_size none refl in let q = same device_size none refl in
+            let r = j.size in omega arith;
+        disk = λ b bytes some. let p = same (lies_at g b bytes) none refl in
+            let q = same (stored_at b bytes) none refl in let r = j.disk b bytes (omega arith) in
+            omega arith;
         pins = λ f. same (outs f) none refl ∙ (j.pins f ∙ sym (same nothing (pinned f) refl));
         frames = same pages none refl ∙ (j.frames ∙ sym (same chains owing refl));
         counts = λ q. same (counters q) (behind q) refl
@@ -69,6 +76,13 @@ module _ (g : Begin) (ok : Known g) (w : State DiskHeld) (j : Joint g w) (a : �
             omega arith;
         owners = λ f. let p = gives (claims g f) (fresh_claim f) in let q = gives (stored f) none in
             let r = j.owners f in let s = x.owners f in omega arith;
+        blocks = λ f. let p = gives (block_claims f) none in let q = gives (used_blocks f) none in
+            let r = j.blocks f in let s = x.storage.blocks f in omega arith;
+        size = let p = gives map_size none in let q = gives device_size none in
+            let r = j.size in let s = x.storage.maps in let t = x.storage.devices in omega arith;
+        disk = λ b bytes some. let p = gives (lies_at g b bytes) none in
+            let q = gives (stored_at b bytes) none in let s = x.storage.lies b bytes in
+            let t = x.storage.stored b bytes in let r = j.disk b bytes (omega arith) in omega arith;
         pins = λ f. let p = gives (outs f) none in let q = gives nothing (pinned f) in
             let r = j.pins f in let s = x.pins f in omega arith;
         frames = let p = gives pages none in let q = gives chains owing in let r = j.frames in

@@ -3,6 +3,7 @@ pub mod Sums
 pub mod Pages
 pub mod Pools
 pub mod Lookups
+pub mod Blocks
 pub mod Stages
 pub mod Takes
 pub mod Zspages
@@ -12,7 +13,9 @@ pub mod Events
 pub mod Balances
 pub mod Gifts
 pub mod Objects
+pub mod Accounts
 pub mod Compactions
+pub mod Device
 pub mod Givings
 pub mod Keeps
 pub mod Bounds
@@ -22,6 +25,8 @@ pub mod Freed
 pub mod News
 pub mod Sweeps
 pub mod Alone
+pub mod Faults
+pub mod Fetches
 pub mod Turns
 pub mod Starts
 pub mod Gets

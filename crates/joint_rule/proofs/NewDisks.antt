@@ -1,17 +1,21 @@
 -- A disk on which nothing was ever written is at rest.
-use Rattle.std.proofs.Common.{◌≡◌, ◌+◌, ◌*◌, ◌<◌, ◌∙◌, ℕ, Bool, true, List, [], length, sum_by, Option, Some, slice_get, refl, sym, ap, subst, arith}
+use Rattle.std.proofs.Common.{◌≡◌, ◌+◌, ◌*◌, ◌<◌, ◌≤◌, ◌&&◌, ◌∷◌, ◌∙◌, ℕ, suc, Bool, true, List, [], length, sum_by, Option, Some, slice_get, refl, sym, ap, subst, arith}
+use Rattle.backing_dev.specs.Dev.{DeviceState}
+use Rattle.block_map.specs.declared.state.BlockState.{BlockState}
 use Rattle.class_pool.specs.Pool.{IsPool, PoolState, used_cells}
 use Rattle.class_pool.specs.Zspages.{Cells, use_at}
 use Rattle.joint_rule.proofs.Lookups.{nothing_shown}
+use Rattle.joint_rule.proofs.Starts.{device_at, device_sum, keeps_self, map_at, map_sum}
 use Rattle.joint_rule.proofs.Sums.{row_none}
 use Rattle.joint_rule.specs.Begins.{AreCarried, Begin, content, form_at, form_by, found_after, image}
-use Rattle.joint_rule.specs.Joint.{AtHome}
-use Rattle.joint_rule.specs.Stages.{IsForm, IsSmall}
-use Rattle.joint_rule.specs.Starts.{AtRest, IsNew}
-use Rattle.joint_rule.specs.Weights.{Backs, Count, FailedWrites, FreedPages, HugeWrites, Huges, News, OutOfRange, PackedBytes, Packs, PinWeigh, Refusal, Sames, Weigh, cell_weight, chains, claim_by, claims, compactions, counter, counters, measure, names, news_count, news_counter, on_account, out_weight, outs, pages, refusal_count, refusal_counter, shown, stored}
+use Rattle.joint_rule.specs.Joint.{AtHome, KeepsDevice}
+use Rattle.joint_rule.specs.Stages.{IsForm, IsSmall, is_wb}
+use Rattle.joint_rule.specs.Starts.{AreFree, AtRest, IsNew}
+use Rattle.joint_rule.specs.Weights.{Backs, BlockWeigh, Count, FailedReads, FailedWrites, FreedPages, HugeWrites, Huges, News, OutOfRange, PackedBytes, Packs, PinWeigh, Refusal, Sames, Weigh, block_by, block_claims, cell_weight, chains, claim_by, claims, compactions, counter, counters, device_size, lies_at, lies_by, map_size, measure, names, news_count, news_counter, on_account, out_weight, outs, pages, refusal_count, refusal_counter, shown, stored, use_by, used_blocks, used_from}
 use Rattle.lock_row.specs.Totals.{row_sum}
 use Rattle.mem_account.specs.Counters.{Counters, no_counts}
 use Rattle.page_steps.specs.Steps.{DiskHeld}
+use Rattle.plain_disk.specs.Calls.{leave_page}
 use Rattle.plain_disk.specs.Phases.{touched_by}
 use Rattle.size_class.specs.Classes.{chain_of, class_size, per_of}
 use Rattle.slot_entry.specs.Entries.{weight_of}
@@ -30,6 +34,13 @@ empty_pool p e = record {
   distinct = λ i j k l u v at bt same. absurd (let q : use_at (let zs : List (Option Cells) = [] in
       zs) i j ≡ Some u = subst (λ (zs : List (Option Cells)). use_at zs i j ≡ Some u) e at in cc);
 }
+
+free_used : (f : BlockWeigh) (k : ℕ) (states : List BlockState) → AreFree states
+    → used_from f k states ≡ 0
+free_used f k [] free = refl
+free_used f k (s ∷ states) free =
+    let x = ap (use_by f k) (free 0 s refl) in
+    let r = free_used f (suc k) states (λ b t at. free (suc b) t at) in omega arith
 
 blank_form : (g : Begin) (j : ℕ) (order : List Tag) → order ≡ [] → g.blank j ≡ true
     → form_at g j order ≡ Blank
@@ -58,6 +69,7 @@ module _ (g : Begin) where
     };
     stands = subst (λ (x : PageForm × Kept). IsForm g.chain x.0 x.1)
         (λ i. (sym (blank_form g j e.order h.2 h.4) i, sym h.1 i)) tt;
+    backs = ap is_wb h.1 ∙ sym (ap (λ (b : Bool). b && leave_page g.given.actors e.order) h.5);
   }
   new_home j (holds.Class p) h = record {
     sound = (
@@ -73,10 +85,15 @@ module _ (g : Begin) where
       },
     );
     stands = tt;
+    backs = tt;
   }
-  new_home j (holds.Account c) h = record { sound = h.0; stands = tt }
-  new_home j (holds.Blocks c) h = record { sound = h; stands = tt }
-  new_home j (holds.Device c) h = record { sound = h; stands = tt }
+  new_home j (holds.Account c) h = record { sound = h.0; stands = tt; backs = tt }
+  new_home j (holds.Blocks x) h = record { sound = h.0; stands = tt; backs = tt }
+  new_home j (holds.Device d) h = record {
+    sound = (h.0, subst (λ (x : DeviceState). KeepsDevice x d) h.1 (keeps_self d h.2));
+    stands = tt;
+    backs = tt;
+  }
 
   no_claim : (f : Weigh) (j : ℕ) (v : DiskHeld) → IsNew g j v → claims g f j v ≡ 0
   no_claim f j (holds.Slot e) h = ap (λ (k : Kept). claim_by f k (image g j e.order)) h.1
@@ -92,6 +109,29 @@ module _ (g : Begin) where
   no_stored f j (holds.Account e) h = refl
   no_stored f j (holds.Blocks e) h = refl
   no_stored f j (holds.Device e) h = refl
+
+  no_block : (f : BlockWeigh) (j : ℕ) (v : DiskHeld) → IsNew g j v → block_claims f j v ≡ 0
+  no_block f j (holds.Slot e) h = ap (block_by f) h.1
+  no_block f j (holds.Class e) h = refl
+  no_block f j (holds.Account e) h = refl
+  no_block f j (holds.Blocks e) h = refl
+  no_block f j (holds.Device e) h = refl
+
+  no_used : (f : BlockWeigh) (j : ℕ) (v : DiskHeld) → IsNew g j v → used_blocks f j v ≡ 0
+  no_used f j (holds.Slot e) h = refl
+  no_used f j (holds.Class e) h = refl
+  no_used f j (holds.Account e) h = refl
+  no_used f j (holds.Blocks x) h = free_used f 0 x.states h.1
+  no_used f j (holds.Device e) h = refl
+
+  no_page : (b : ℕ) (bytes : List ℕ) (j : ℕ) (v : DiskHeld) → IsNew g j v
+      → lies_at g b bytes j v ≡ 0
+  no_page b bytes j (holds.Slot e) h =
+      ap (λ (k : Kept). lies_by b bytes k (content g j e.order)) h.1
+  no_page b bytes j (holds.Class e) h = refl
+  no_page b bytes j (holds.Account e) h = refl
+  no_page b bytes j (holds.Blocks e) h = refl
+  no_page b bytes j (holds.Device e) h = refl
 
   no_outs : (f : PinWeigh) (j : ℕ) (v : DiskHeld) → IsNew g j v → outs f j v ≡ 0
   no_outs f j (holds.Slot e) h = refl
@@ -128,6 +168,7 @@ module _ (g : Begin) where
   no_count Backs limit = refl
 
   no_refusals : (q : Refusal) (limit : ℕ) → refusal_count q (record no_counts { limit = limit }) ≡ 0
+  no_refusals FailedReads limit = refl
   no_refusals FailedWrites limit = refl
   no_refusals OutOfRange limit = refl
 
@@ -142,6 +183,22 @@ module _ (g : Begin) where
   no_shown q j (holds.Blocks e) h = refl
   no_shown q j (holds.Device e) h = refl
 
+  module _ (row : List (Option DiskHeld)) (size : length row ≡ g.given.size + 258)
+      (whole : (k : ℕ) → k < length row → (v : DiskHeld) × (slice_get row k ≡ Some (Some v)))
+      (new : (k : ℕ) (v : DiskHeld) → slice_get row k ≡ Some (Some v) → IsNew g k v) where
+    all_home : (k : ℕ) (v : DiskHeld) → slice_get row k ≡ Some (Some v) → AtHome g k v
+    all_home k v at = new_home k v (new k v at)
+
+    -- the map has no more blocks than the device
+    map_fits : row_sum map_size row ≤ row_sum device_size row
+    map_fits =
+        let x = map_at g row size whole all_home in let d = device_at g row size whole all_home in
+        let p = map_sum g row size whole all_home (λ x. length x.states) in
+        let q = device_sum g row size whole all_home (λ d. d.blocks) in
+        let r = (new (g.given.size + 256) (holds.Blocks x.0) x.1).2 in
+        let s = ap (λ (y : DeviceState). y.blocks)
+        (new (g.given.size + 257) (holds.Device d.0) d.1).1 in omega arith
+
   pub new_at_rest : (row : List (Option DiskHeld)) → length row ≡ g.given.size + 258
       → ((k : ℕ) → k < length row → (v : DiskHeld) × (slice_get row k ≡ Some (Some v)))
       → ((k : ℕ) (v : DiskHeld) → slice_get row k ≡ Some (Some v) → IsNew g k v) → AtRest g row
@@ -151,7 +208,12 @@ module _ (g : Begin) where
       record {
         size = size;
         whole = whole;
-        home = λ k v at. new_home k v (new k v at);
+        home = all_home row size whole new;
+        blocks = λ f. zero_sum (block_claims f) (no_block f)
+            ∙ sym (zero_sum (used_blocks f) (no_used f));
+        fits = map_fits row size whole new;
+        disk = λ b bytes some. absurd (let x = zero_sum (lies_at g b bytes) (no_page b bytes) in
+            omega arith);
         owners = λ f. zero_sum (claims g f) (no_claim f) ∙ sym (zero_sum (stored f) (no_stored f));
         pins = λ f. zero_sum (outs f) (no_outs f);
         frames = zero_sum pages (no_account (λ c. c.pages) (λ limit. refl))

@@ -1,8 +1,8 @@
 -- The account's counters of calls: each giving raises them by what its piece gives, and a piece
 -- that
 -- is noted gives that to its order.
-use Rattle.std.proofs.Common.{◌≡◌, ◌+◌, ◌≤◌, ◌∷◌, ◌++◌, ◌∙◌, ℕ, zero, suc, Bool, cond, List, [], Option, Some, None, slice_get, refl, sym, ap, subst, arith}
-use Rattle.call_history.specs.Parts.{left_by}
+use Rattle.std.proofs.Common.{◌≡◌, ◌+◌, ◌≤◌, ◌∷◌, ◌++◌, ◌∙◌, ℕ, zero, suc, Bool, true, cond, List, [], Option, Some, None, slice_get, refl, sym, ap, subst, arith}
+use Rattle.call_history.specs.Parts.{is_read, left_by}
 use Rattle.call_history.specs.Shows.{tag_by}
 use Rattle.call_history.specs.declared.part.Part.{Part}
 use Rattle.call_history.specs.declared.part.PartEnd.{PartEnd}
@@ -22,7 +22,7 @@ use Rattle.joint_rule.specs.Stages.{BlankBy, Changes, FailBy, Looks, NoneOf, Sta
 use Rattle.joint_rule.specs.Weights.{FreedPages, HugeWrites, Huges, News, news_count, news_counter, news_of, none, noted, order_news, same, told_ahead, told_at, told_by}
 use Rattle.lock_row.specs.Totals.{by_option, held_sum, mass, total}
 use Rattle.lock_row.specs.declared.names.At.{At}
-use Rattle.lock_row.specs.declared.names.At.TheVariants.{Both, Freeing, Giving, Inside, Leaving, Made, Old, Owing, Pinned, Pinning, Ready, Refusing, Seen, Start, Unpinning, Wanting, Sweeping, Moving, Shrunk, Shrinking}
+use Rattle.lock_row.specs.declared.names.At.TheVariants.{Both, Counting, Fetching, Freeing, Giving, Leaving, Made, Missed, Pinning, Ready, Refusing, Releasing, Start, Unpinning, Moving, Shrinking}
 use Rattle.lock_row.specs.declared.names.Compaction.{Compaction}
 use Rattle.lock_row.specs.declared.names.LockNo.{LockNo}
 use Rattle.lock_row.specs.declared.names.Object.{Object}
@@ -33,9 +33,9 @@ use Rattle.mem_account.specs.Counters.{Counters, at_most_end, charged, counted, 
 use Rattle.mem_account.specs.Tally.{huge_of}
 use Rattle.mem_account.specs.declared.weight.Weight.{Weight}
 use Rattle.page_steps.specs.Compactions.{moved_at, repaid, with_move}
-use Rattle.page_steps.specs.Givings.{Notes, kept_by, old_weight, settled, tells}
+use Rattle.page_steps.specs.Givings.{Notes, fails_by, kept_by, old_weight, settled, tells}
 use Rattle.page_steps.specs.Pages.{next_by, next_form, page_in, page_in_cell}
-use Rattle.page_steps.specs.Steps.{DiskHeld, Here, after_take, begun_at, entry_in, entry_or, lock_of, made_at, piece_over, pinned_at, plan, quit_at, settle_at, slot, spot, taken_at, took}
+use Rattle.page_steps.specs.Steps.{DiskHeld, Here, after_take, begun_at, entry_in, entry_or, fetched_at, lock_of, made_at, piece_over, pinned_at, plan, quit_at, settle_at, slot, spot, taken_at, took}
 use Rattle.plain_disk.specs.Calls.{Found, after, after_all, calls_sum, freed}
 use Rattle.plain_disk.specs.Forms.{is_huge}
 use Rattle.slot_entry.specs.Entries.{EntryState}
@@ -54,7 +54,7 @@ use Rattle.zr_base.specs.declared.op.OpEnd.TheVariants as ends
 
 -- ---- orders
 
-push_sum : (f : Option Op → Found → Found → ℕ) (actors : List (List Op)) (x : Found)
+pub push_sum : (f : Option Op → Found → Found → ℕ) (actors : List (List Op)) (x : Found)
     (order : List Tag) (t : Tag)
     → calls_sum f actors x (order ++ t ∷ []) ≡ calls_sum f actors x order
     + f (named actors t) (after_all actors x order) (after (named actors t)
@@ -89,6 +89,13 @@ read_gives FreedPages p start count x y = refl
 
 -- ---- stages
 
+-- a piece that looked at its page and wasn't refused is a read
+only_read : (g : Begin) (p : Part) (op : Op) → Looks op → FailBy g p op None → is_read op ≡ true
+only_read g p (Write start count stuff) i f = absurd f
+only_read g p (Read start count) i f = refl
+only_read g p (Discard start count) i f = absurd f
+only_read g p Compact i f = absurd f
+
 told_none : (q : News) (op : Op) → told_by q op None ≡ 0
 told_none HugeWrites op = refl
 told_none FreedPages (Write start count stuff) = refl
@@ -99,25 +106,7 @@ told_none FreedPages Compact = refl
 told_quiet : (q : News) (at : At) (ps : List Part) → told_at q at ps None ≡ 0
 told_quiet q Ready [] = refl
 told_quiet q Ready (p ∷ ps) = told_none q p.op
-told_quiet q Start ps = refl
-told_quiet q Refusing ps = refl
-told_quiet q Seen ps = refl
-told_quiet q Pinning ps = refl
-told_quiet q Pinned ps = refl
-told_quiet q Unpinning ps = refl
-told_quiet q Leaving ps = refl
-told_quiet q Wanting ps = refl
-told_quiet q Inside ps = refl
-told_quiet q Both ps = refl
-told_quiet q Made ps = refl
-told_quiet q Old ps = refl
-told_quiet q Freeing ps = refl
-told_quiet q Owing ps = refl
-told_quiet q Giving ps = refl
-told_quiet q (Sweeping x) ps = refl
-told_quiet q (Moving x) ps = refl
-told_quiet q (Shrunk x) ps = refl
-told_quiet q (Shrinking x) ps = refl
+told_quiet q at ps = refl
 
 told_free : (q : News) (at : At) (ps : List Part) (x : Option Weight) → NoneOf x
     → told_at q at ps x ≡ 0
@@ -129,6 +118,7 @@ told_settle : (q : News) (k : Kept) (ps : List Part) (x : Option Weight)
 told_settle q kept.Empty ps x = refl
 told_settle q (kept.Same w) ps x = refl
 told_settle q (kept.Obj o) ps x = refl
+told_settle q (kept.Wb b) ps x = refl
 
 told_made : (q : News) (f : PageForm) (k : Kept) (ps : List Part) (x : Option Weight)
     → told_at q (made_at f k) ps x ≡ 0
@@ -142,6 +132,13 @@ told_pinned q (Write start count stuff) f k ps x = told_made q f k ps x
 told_pinned q (Read start count) f k ps x = refl
 told_pinned q (Discard start count) f k ps x = refl
 told_pinned q Compact f k ps x = refl
+
+told_fetched : (q : News) (op : Op) (f : PageForm) (k : Kept) (ps : List Part) (x : Option Weight)
+    → told_at q (fetched_at op f k) ps x ≡ 0
+told_fetched q (Write start count stuff) f k ps x = told_made q f k ps x
+told_fetched q (Read start count) f k ps x = refl
+told_fetched q (Discard start count) f k ps x = refl
+told_fetched q Compact f k ps x = refl
 
 told_quit : (q : News) (y : Option Pin) (ps : List Part) (x : Option Weight)
     → told_at q (quit_at y) ps x ≡ 0
@@ -162,25 +159,7 @@ told_after : (g : Begin) (q : News) (at : At) (p : Part) (ps : List Part) (e e' 
 told_after g q Start p ps e e' fresh pin owed x y page fail f k s =
     told_free q (begun_at (is_compaction p.op) (is_beyond g.given.size p.op) p f k) (p ∷ ps) x
     s.counts.0
-told_after g q Refusing p ps e e' fresh pin owed x y page fail f k s = refl
-told_after g q Seen p ps e e' fresh pin owed x y page fail f k s = refl
-told_after g q Pinning p ps e e' fresh pin owed x y page fail f k s = refl
-told_after g q Pinned p ps e e' fresh pin owed x y page fail f k s = refl
-told_after g q Unpinning p ps e e' fresh pin owed x y page fail f k s = refl
-told_after g q Leaving p ps e e' fresh pin owed x y page fail f k s = refl
-told_after g q Wanting p ps e e' fresh pin owed x y page fail f k s = refl
-told_after g q Inside p ps e e' fresh pin owed x y page fail f k s = refl
-told_after g q Both p ps e e' fresh pin owed x y page fail f k s = refl
-told_after g q Made p ps e e' fresh pin owed x y page fail f k s = refl
-told_after g q Old p ps e e' fresh pin owed x y page fail f k s = refl
-told_after g q Freeing p ps e e' fresh pin owed x y page fail f k s = refl
-told_after g q Owing p ps e e' fresh pin owed x y page fail f k s = refl
-told_after g q Giving p ps e e' fresh pin owed x y page fail f k s = refl
-told_after g q Ready p ps e e' fresh pin owed x y page fail f k s = refl
-told_after g q (Sweeping z) p ps e e' fresh pin owed x y page fail f k s = refl
-told_after g q (Moving z) p ps e e' fresh pin owed x y page fail f k s = refl
-told_after g q (Shrunk z) p ps e e' fresh pin owed x y page fail f k s = refl
-told_after g q (Shrinking z) p ps e e' fresh pin owed x y page fail f k s = refl
+told_after g q at p ps e e' fresh pin owed x y page fail f k s = refl
 
 told_taken : (g : Begin) (q : News) (l : Here) (v : DiskHeld) (ps : List Part)
     → StageBy g ps (entry_in l.held) l.at l.fresh l.pin l.owed l.ahead l.behind l.page l.fail
@@ -258,6 +237,16 @@ same_failed FreedPages c = refl
 same_invalid : (q : News) (c : Counters) → news_count q (counted c delta.InvalidIo) ≡ news_count q c
 same_invalid HugeWrites c = refl
 same_invalid FreedPages c = refl
+
+same_fault : (q : News) (op : Op) (c : Counters) → news_count q (fails_by op c) ≡ news_count q c
+same_fault HugeWrites (Write start count stuff) c = refl
+same_fault HugeWrites (Read start count) c = refl
+same_fault HugeWrites (Discard start count) c = refl
+same_fault HugeWrites Compact c = refl
+same_fault FreedPages (Write start count stuff) c = refl
+same_fault FreedPages (Read start count) c = refl
+same_fault FreedPages (Discard start count) c = refl
+same_fault FreedPages Compact c = refl
 
 same_shrunk : (q : News) (c : Counters) (n : ℕ) → news_count q (shrunk n c) ≡ news_count q c
 same_shrunk HugeWrites c n = refl
@@ -362,33 +351,33 @@ module _ (g : Begin) (ok : Known g) (w : State DiskHeld) (j : Joint g w) (a : �
           let u = told_quiet q Start (left_by Carried p.nr rest) in omega arith)
           (let x = ap (held_sum (spot n) (news_counter q)) held in omega arith)
 
-    module _ (at : l.at ≡ Leaving) where
-      sl : Stage g p e Leaving l.fresh l.pin l.owed l.ahead l.behind l.page l.fail
-      sl = stage g ok w j a l who p rest todo _ Leaving held at
+    -- a read gives nothing
+    read_order : (q : News) (op : Op) → p.op ≡ op → is_read op ≡ true
+        → Notes g.clock e f e.kept (tag_by l.actor p)
+        → order_news g q p.page f.order ≡ order_news g q p.page e.order
+    read_order q (Write start count stuff) is i notes = absurd (cc)
+    read_order q (Discard start count) is i notes = absurd (cc)
+    read_order q Compact is i notes = absurd (cc)
+    read_order q (Read start count) is i notes =
+        let s = ap (order_news g q p.page) notes.order in let o = order_more q p e.order is_op in
+        let z = ap (λ (x : Op). news_of q p.page (Some x) (found_after g p.page e.order)
+        (found_after g p.page (e.order ++ tag_by l.actor p ∷ []))) is in
+        let r = read_gives q p.page start count (found_after g p.page e.order)
+        (found_after g p.page (e.order ++ tag_by l.actor p ∷ [])) in omega arith
 
+    -- the slot is given from a stage at which nothing is told
+    module _ (at : At) (at_is : l.at ≡ at) (quiet : (q : News) → told_at q at l.todo l.ahead ≡ 0)
+      where
       back_news : (q : News) (end : PartEnd) (got : List (List ℕ)) → k ≡ slot p.page
           → order_news g q p.page f.order ≡ order_news g q p.page e.order
           → Announces q (holds.Slot f) (piece_over l p end got rest)
       back_news q end got k_is same = quietly q (holds.Slot f) (piece_over l p end got rest)
           (let x = ap (held_sum (spot n) (noted g q)) held in
-          let y = silent q Leaving at refl in
+          let y = silent q at at_is (quiet q) in
           let z : noted g q (spot n k) (holds.Slot f) ≡ order_news g q p.page f.order =
           ap (λ (i : LockNo). order_news g q (spot n i) f.order) k_is in
           let u = told_quiet q Start (left_by end p.nr rest) in omega arith)
           (let x = ap (held_sum (spot n) (news_counter q)) held in omega arith)
-
-      read_order : (q : News) (op : Op) → p.op ≡ op → Looks op → FailBy g p op None
-          → Notes g.clock e f e.kept (tag_by l.actor p)
-          → order_news g q p.page f.order ≡ order_news g q p.page e.order
-      read_order q (Write start count stuff) is i b notes = absurd b
-      read_order q (Discard start count) is i b notes = absurd b
-      read_order q Compact is i b notes = absurd b
-      read_order q (Read start count) is i b notes =
-          let s = ap (order_news g q p.page) notes.order in let o = order_more q p e.order is_op in
-          let z = ap (λ (x : Op). news_of q p.page (Some x) (found_after g p.page e.order)
-          (found_after g p.page (e.order ++ tag_by l.actor p ∷ []))) is in
-          let r = read_gives q p.page start count (found_after g p.page e.order)
-          (found_after g p.page (e.order ++ tag_by l.actor p ∷ [])) in omega arith
 
   module _ (what : plan (terms g) l ≡ Give k) where
     pub news_gives : (q : News) → Event g l v m → Announces q v m
@@ -451,15 +440,42 @@ module _ (g : Begin) (ok : Known g) (w : State DiskHeld) (j : Joint g w) (a : �
         (event_is g ok w j a l who k v m what p rest _ Ready todo held at))))
     news_gives q (event.reads p rest e f todo at held well notes v_is m_is) =
         let s = stage g ok w j a l who p rest todo _ Leaving held at in
-        same_news q _ _ v_is m_is (back_news p rest todo e f held at q Carried _
+        same_news q _ _ v_is m_is (back_news p rest todo e f held Leaving at (λ q. refl) q Carried _
         (sym (given_lock g ok w j a l who k v m what (slot p.page)
         (event_is g ok w j a l who k v m what p rest _ Leaving todo held at)))
-        (read_order p rest todo e f held at q p.op refl s.kind
-        (subst (FailBy g p p.op) well s.fails) notes))
+        (read_order p rest todo e f held q p.op refl
+        (only_read g p p.op s.kind (subst (FailBy g p p.op) well s.fails)) notes))
     news_gives q (event.fails p rest e x todo at held bad v_is m_is) =
-        same_news q _ _ v_is m_is (back_news p rest todo e e held at q x []
+        same_news q _ _ v_is m_is (back_news p rest todo e e held Leaving at (λ q. refl) q x []
         (sym (given_lock g ok w j a l who k v m what (slot p.page)
         (event_is g ok w j a l who k v m what p rest _ Leaving todo held at))) refl)
+    news_gives q (event.fetches p rest e b d d' page todo at held is read is_page v_is m_is) =
+        same_news q _ _ v_is m_is (quietly q _ _ (let y = ap (held_sum (spot n) (noted g q)) held in
+        let z = silent q Fetching at refl in
+        let r = told_fetched q p.op (next_form p (Some page) e.kept) e.kept l.todo l.ahead in
+        omega arith) (let y = ap (held_sum (spot n) (news_counter q)) held in omega arith))
+    news_gives q (event.misses p rest e b d d' fault todo at held is failed v_is m_is) =
+        same_news q _ _ v_is m_is (quietly q _ _ (let y = ap (held_sum (spot n) (noted g q)) held in
+        let z = silent q Fetching at refl in omega arith)
+        (let y = ap (held_sum (spot n) (news_counter q)) held in omega arith))
+    news_gives q (event.counts p rest e c todo at held v_is m_is) =
+        same_news q _ _ v_is m_is (quietly q _ _ (let y = ap (held_sum (spot n) (noted g q)) held in
+        let z = silent q Counting at refl in omega arith)
+        (let y = ap (held_sum (spot n) (news_counter q)) held in let s = same_fault q p.op c in
+        omega arith))
+    news_gives q (event.errs p rest e f x todo at held bad reads notes v_is m_is) =
+        same_news q _ _ v_is m_is (back_news p rest todo e f held Missed at (λ q. refl) q x []
+        (sym (given_lock g ok w j a l who k v m what (slot p.page)
+        (event_is g ok w j a l who k v m what p rest _ Missed todo held at)))
+        (read_order p rest todo e f held q p.op refl reads notes))
+    news_gives q (event.leaves p rest e x todo at held bad other v_is m_is) =
+        same_news q _ _ v_is m_is (back_news p rest todo e e held Missed at (λ q. refl) q x []
+        (sym (given_lock g ok w j a l who k v m what (slot p.page)
+        (event_is g ok w j a l who k v m what p rest _ Missed todo held at))) refl)
+    news_gives q (event.releases p rest e b x todo at held is v_is m_is) =
+        same_news q _ _ v_is m_is (quietly q _ _ (let y = ap (held_sum (spot n) (noted g q)) held in
+        let z = silent q Releasing at refl in omega arith)
+        (let y = ap (held_sum (spot n) (news_counter q)) held in omega arith))
     news_gives q (event.moves p rest x y y' u u' budget frames todo at held sh some one v_is m_is) =
         same_news q _ _ v_is m_is (quietly q _ _ (let z = ap (held_sum (spot n) (noted g q)) held in
         let s = silent q (Moving x) at refl in let r = told_moved q frames (with_move x budget)

@@ -4,11 +4,12 @@ use Rattle.call_history.specs.declared.part.Part.{Part}
 use Rattle.call_history.specs.declared.part.PartEnd.{PartEnd}
 use Rattle.call_history.specs.declared.part.PartEnd.TheVariants.{AtLimit, NoMemory}
 use Rattle.class_pool.specs.Pool.{PoolState, used_cells}
-use Rattle.joint_rule.proofs.Balances.{IsBack, charged_count, charged_fixed, failed_count, failed_fixed, is_back, less_outs, less_stored, more_outs, more_stored, none_fresh, settled_count, settled_fixed, settled_most, settled_pages, swap_home, swap_out, swap_stored}
+use Rattle.joint_rule.proofs.Balances.{IsBack, charged_count, charged_fixed, failed_count, failed_fixed, is_back, less_outs, less_stored, more_outs, more_stored, none_fresh, swap_home, swap_out, swap_stored}
+use Rattle.joint_rule.proofs.Blocks.{apart}
 use Rattle.joint_rule.proofs.Events.{FreesPinned}
 use Rattle.joint_rule.proofs.Facts.{Known}
-use Rattle.joint_rule.proofs.Gifts.{Gift, all, fit, goes_on, locks, next_small, none_pin, old_is, some_one, stage}
-use Rattle.joint_rule.proofs.Lookups.{can_repay, class_is, has_counted, lone, mine_account, none_weight, nothing_shown, object_is, pin_is, under_account}
+use Rattle.joint_rule.proofs.Gifts.{Gift, all, fit, goes_on, locks, none_pin, some_one, stage}
+use Rattle.joint_rule.proofs.Lookups.{class_is, lone, mine_account, none_weight, nothing_shown, object_is, pin_is, under_account}
 use Rattle.joint_rule.proofs.Pages.{class_weight, content_page, ever_now, image_form, image_len, kept_small, pooled_weight, put_page}
 use Rattle.joint_rule.proofs.Pools.{Allocates, Swaps, chain_low, fits_less, fits_more, fits_swap}
 use Rattle.joint_rule.proofs.Stages.{made_locks, made_stage, settle_locks, settle_stage, write_blank}
@@ -16,15 +17,14 @@ use Rattle.joint_rule.proofs.Takes.{form_claim}
 use Rattle.joint_rule.specs.Begins.{Begin, content, form_at, ground_of, image}
 use Rattle.joint_rule.specs.Joint.{AtHome, EntryFits, Joint, PoolFits, Sound}
 use Rattle.joint_rule.specs.Stages.{Bears, Changes, FailBy, IsForm, IsObj, IsPinned, IsRefusal, IsRight, IsSmall, IsWrite, Looks, MadeBy, MayFail, MayPin, Names, NoneOf, Stage, locks_at}
-use Rattle.joint_rule.specs.Weights.{Count, HeldAll, Limit, PinWeigh, at_place, cell_weight, chains, claim_by, claims, counter, counters, each_one, ever_at, fixed, fixed_count, measure, mosts, nothing, outs, pages, pin_in, shown, some_of, stored}
+use Rattle.joint_rule.specs.Weights.{HeldAll, Limit, PinWeigh, at_place, block_by, block_claims, cell_weight, chains, claim_by, claims, counters, device_size, each_one, ever_at, fixed, fixed_count, lies_at, map_size, mosts, nothing, outs, pages, pin_in, shown, some_of, stored, stored_at, used_blocks}
 use Rattle.lock_row.specs.Totals.{by_option, held_sum}
-use Rattle.lock_row.specs.declared.names.At.TheVariants.{Both, Freeing, Giving, Leaving, Made, Owing, Pinning, Ready, Unpinning}
+use Rattle.lock_row.specs.declared.names.At.TheVariants.{Both, Freeing, Leaving, Made, Owing, Pinning, Unpinning}
 use Rattle.lock_row.specs.declared.names.LockNo.{LockNo}
 use Rattle.lock_row.specs.declared.names.Object.{Object}
 use Rattle.lock_row.specs.declared.names.Pin.{Pin}
 use Rattle.lock_row.specs.declared.names.State.{State}
 use Rattle.mem_account.specs.Counters.{Counters, IsPastLimit, IsWithinLimit, charged, counted}
-use Rattle.page_steps.specs.Givings.{old_weight, settled}
 use Rattle.page_steps.specs.Nexts.{emptied, pin_of}
 use Rattle.page_steps.specs.Pages.{next_by, next_form, page_in, page_in_cell}
 use Rattle.page_steps.specs.Pools.{IsNeed}
@@ -76,6 +76,7 @@ module _ (g : Begin) (ok : Known g) (w : State DiskHeld) (j : Joint g w) (a : �
         f,
       );
       stands = tt;
+      backs = tt;
     }
 
     module _ (q' : PoolState) (u u' : UsedCell) (sw : Swaps q q' u u')
@@ -115,7 +116,7 @@ module _ (g : Begin) (ok : Known g) (w : State DiskHeld) (j : Joint g w) (a : �
             l.ahead l.behind (Some page) l.fail
         pinned_stage (Write start count stuff) e_op =
             made_stage g p e l.fresh pinned_cell l.owed l.ahead l.behind
-            (Some page) l.fail names_it st.owes st.stands
+            (Some page) l.fail names_it st.owes st.stands st.backs
             (write_blank p.op (subst IsWrite (sym e_op) tt) l.ahead _)
             (subst (λ (x : Op). IsRight x p.page page (content g p.page e.order)) (sym e_op)
             (inr is_content)) st.counts.0 st.counts.1 st.fails st.begun
@@ -126,6 +127,8 @@ module _ (g : Begin) (ok : Known g) (w : State DiskHeld) (j : Joint g w) (a : �
           pins = names_it;
           owes = st.owes;
           stands = st.stands;
+          backs = st.backs;
+          partly = tt;
           right = subst (λ (x : Op). IsRight x p.page page (content g p.page e.order))
               (sym e_op) is_content;
           counts = st.counts;
@@ -173,6 +176,8 @@ module _ (g : Begin) (ok : Known g) (w : State DiskHeld) (j : Joint g w) (a : �
           owners = λ f. let r = ap (held_sum (spot n) (claims g f)) held in
               let x = ap (held_sum (spot n) (stored f)) held in
               let s = swap_stored q q' u u' sw f in omega arith;
+          storage = apart g l _ _ _ (λ f z y. let r = ap (held_sum (spot n) f) held in
+              let s = z (n + o.class) q in let t = z (n + o.class) q' in omega arith);
           pins = λ f. let r = ap (held_sum (spot n) (outs f)) held in
               let x = ap (held_sum (spot n) nothing) held in
               let s = swap_out q q' u u' sw free taken f in
@@ -215,6 +220,8 @@ module _ (g : Begin) (ok : Known g) (w : State DiskHeld) (j : Joint g w) (a : �
                 pins = tt;
                 owes = su.owes;
                 stands = su.stands;
+                backs = su.backs;
+                partly = tt;
                 right = su.right;
                 counts = su.counts;
                 blank = tt;
@@ -229,6 +236,8 @@ module _ (g : Begin) (ok : Known g) (w : State DiskHeld) (j : Joint g w) (a : �
           owners = λ f. let r = ap (held_sum (spot n) (claims g f)) held in
               let x = ap (held_sum (spot n) (stored f)) held in
               let s = swap_stored q q' u u' sw f in omega arith;
+          storage = apart g l _ _ _ (λ f z y. let r = ap (held_sum (spot n) f) held in
+              let s = z (n + o.class) q in let t = z (n + o.class) q' in omega arith);
           pins = λ f. let r = ap (held_sum (spot n) (outs f)) held in
               let x = ap (held_sum (spot n) nothing) held in
               let s = swap_home q q' u u' sw taken free f in
@@ -299,6 +308,8 @@ module _ (g : Begin) (ok : Known g) (w : State DiskHeld) (j : Joint g w) (a : �
         pins = tt;
         owes = few_frames;
         stands = tt;
+        backs = tt;
+        partly = tt;
         right = subst (λ (x : List ℕ). IsRight p.op p.page x (content g p.page e.order))
             (emptied_sees l.page e.kept is) sf.right;
         counts = ((tt, freed_small), sf.counts.1);
@@ -340,6 +351,15 @@ module _ (g : Begin) (ok : Known g) (w : State DiskHeld) (j : Joint g w) (a : �
             ap (λ (k : Kept). claim_by f k (image g p.page e.order)) is
             ∙ (λ i. f (sym (back.class ∙ class) i) (sym fp.named i) (sym freed_bytes i)) in
             omega arith;
+        storage = record {
+          blocks = λ f. let r = ap (held_sum (spot n) (block_claims f)) held in
+              let x = ap (held_sum (spot n) (used_blocks f)) held in
+              let z = ap (block_by f) is in omega arith;
+          maps = let r = ap (held_sum (spot n) map_size) held in omega arith;
+          devices = let r = ap (held_sum (spot n) device_size) held in omega arith;
+          lies = λ b bytes. let r = ap (held_sum (spot n) (lies_at g b bytes)) held in omega arith;
+          stored = λ b bytes. let r = ap (held_sum (spot n) (stored_at b bytes)) held in omega arith;
+        };
         pins = λ f. let r = ap (held_sum (spot n) (outs f)) held in
             let x = ap (held_sum (spot n) nothing) held in
             let s = less_outs mid q' u m fp.gone fp.home f in let c = back.outs f in omega arith;
@@ -389,6 +409,8 @@ module _ (g : Begin) (ok : Known g) (w : State DiskHeld) (j : Joint g w) (a : �
         pins = sb.pins;
         owes = sb.owes;
         stands = sb.stands;
+        backs = sb.backs;
+        partly = tt;
         right = sb.right;
         counts = sb.counts;
         blank = tt;
@@ -410,7 +432,7 @@ module _ (g : Begin) (ok : Known g) (w : State DiskHeld) (j : Joint g w) (a : �
           (on l Made ((lock.Class cl, holds.Class q') ∷ (slot p.page, holds.Slot e) ∷ [])
           (Some new_object) l.pin l.owed l.ahead l.behind l.page l.fail)
       give_charges = record {
-        home = record { sound = refl; stands = tt };
+        home = record { sound = refl; stands = tt; backs = tt };
         fits = goes_on g ok w j a l who p rest todo Made
             ((lock.Class cl, holds.Class q') ∷ (slot p.page, holds.Slot e) ∷ [])
             (Some new_object) l.pin l.owed l.ahead l.behind l.page l.fail
@@ -434,6 +456,9 @@ module _ (g : Begin) (ok : Known g) (w : State DiskHeld) (j : Joint g w) (a : �
             let s = more_stored q q' h need bytes al f in let y = none_fresh f l.fresh sb.made in
             let z : f q.class h bytes ≡ f cl h bytes = ap (λ (k : ℕ). f k h bytes) class_q in
             omega arith;
+        storage = apart g l _ _ _ (λ f z y. let r = ap (held_sum (spot n) f) held in
+            let s = z (n + cl) q in let t = z (n + cl) q' in let u = y (n + 255) c in
+            let v = y (n + 255) (charged c need) in omega arith);
         pins = λ f. let r = ap (held_sum (spot n) (outs f)) held in
             let x = ap (held_sum (spot n) nothing) held in
             let s = more_outs q q' h need bytes al f in omega arith;
@@ -525,7 +550,7 @@ module _ (g : Begin) (ok : Known g) (w : State DiskHeld) (j : Joint g w) (a : �
         ((lock.Class cl, holds.Class q) ∷ (slot p.page, holds.Slot e) ∷ []) l.fresh l.pin l.owed
         l.ahead l.behind l.page (Some x))
     give_refused x is = record {
-      home = record { sound = refl; stands = tt };
+      home = record { sound = refl; stands = tt; backs = tt };
       fits = goes_on g ok w j a l who p rest todo Made ((lock.Class cl, holds.Class q) ∷
           (slot p.page, holds.Slot e) ∷ []) l.fresh l.pin l.owed l.ahead l.behind l.page (Some x)
           (ap (λ (k : LockNo). k ∷ slot p.page ∷ []) in_class_lock) sounds.1
@@ -535,6 +560,8 @@ module _ (g : Begin) (ok : Known g) (w : State DiskHeld) (j : Joint g w) (a : �
             pins = sb.pins;
             owes = sb.owes;
             stands = sb.stands;
+            backs = sb.backs;
+            partly = tt;
             right = sb.right;
             counts = sb.counts;
             blank = tt;
@@ -547,6 +574,8 @@ module _ (g : Begin) (ok : Known g) (w : State DiskHeld) (j : Joint g w) (a : �
       alone = λ i. let r = ap (held_sum (spot n) (at_place i)) held in omega arith;
       owners = λ f. let r = ap (held_sum (spot n) (claims g f)) held in
           let x = ap (held_sum (spot n) (stored f)) held in omega arith;
+      storage = apart g l _ _ _ (λ f z y. let r = ap (held_sum (spot n) f) held in
+          let s = y (n + 255) c in let t = y (n + 255) (counted c delta.FailedWrite) in omega arith);
       pins = λ f. let r = ap (held_sum (spot n) (outs f)) held in
           let x = ap (held_sum (spot n) nothing) held in omega arith;
       frames = let r = ap (held_sum (spot n) pages) held in
@@ -577,12 +606,12 @@ module _ (g : Begin) (ok : Known g) (w : State DiskHeld) (j : Joint g w) (a : �
         (on l (settle_at e.kept) ((slot p.page, holds.Slot e) ∷ []) l.fresh l.pin l.owed l.ahead
         l.behind l.page l.fail)
     give_stows well = record {
-      home = record { sound = (all g ok w j a l who p rest todo _ Made held at).0; stands = tt };
+      home = record { sound = (all g ok w j a l who p rest todo _ Made held at).0; stands = tt; backs = tt };
       fits = goes_on g ok w j a l who p rest todo (settle_at e.kept)
           ((slot p.page, holds.Slot e) ∷ []) l.fresh l.pin l.owed l.ahead l.behind l.page l.fail
           (settle_locks e.kept p _ _) (all g ok w j a l who p rest todo _ Made held at).1
           (settle_stage g p e l.fresh l.pin l.owed l.ahead l.behind l.page l.fail sm.pins sm.owes
-          sm.stands (write_blank p.op sm.kind.0 l.ahead _) sm.right sm.counts.0 sm.counts.1
+          sm.stands sm.backs (write_blank p.op sm.kind.0 l.ahead _) sm.right sm.counts.0 sm.counts.1
           (subst NoneOf (sym well) tt) sm.begun (writes_change p.op sm.kind.0)
           (subst (λ (x : Option PartEnd). MadeBy g.chain x (next_form p l.page e.kept) l.fresh) well
           sm.made) e.kept refl) (let lr = ap (held_sum (spot n) (claims g each_one)) held in
@@ -591,6 +620,8 @@ module _ (g : Begin) (ok : Known g) (w : State DiskHeld) (j : Joint g w) (a : �
       alone = λ i. let r = ap (held_sum (spot n) (at_place i)) held in omega arith;
       owners = λ f. let r = ap (held_sum (spot n) (claims g f)) held in
           let x = ap (held_sum (spot n) (stored f)) held in omega arith;
+      storage = apart g l _ _ _ (λ f z y. let r = ap (held_sum (spot n) f) held in
+          let s = z (n + cl) q in omega arith);
       pins = λ f. let r = ap (held_sum (spot n) (outs f)) held in
           let x = ap (held_sum (spot n) nothing) held in omega arith;
       frames = let r = ap (held_sum (spot n) pages) held in
@@ -628,6 +659,7 @@ module _ (g : Begin) (ok : Known g) (w : State DiskHeld) (j : Joint g w) (a : �
       named_obj kept.Empty y i = absurd i
       named_obj (kept.Same v) y i = absurd i
       named_obj (kept.Obj o) y i = tt
+      named_obj (kept.Wb b) y i = absurd i
 
       quit_stage : (pin : Option Pin) → MayPin e.kept pin
           → Stage g p e (quit_at pin) l.fresh pin l.owed l.ahead l.behind l.page l.fail
@@ -637,6 +669,8 @@ module _ (g : Begin) (ok : Known g) (w : State DiskHeld) (j : Joint g w) (a : �
         pins = tt;
         owes = sm.owes;
         stands = sm.stands;
+        backs = sm.backs;
+        partly = tt;
         right = sm.right;
         counts = sm.counts;
         blank = tt;
@@ -650,6 +684,8 @@ module _ (g : Begin) (ok : Known g) (w : State DiskHeld) (j : Joint g w) (a : �
         pins = i;
         owes = sm.owes;
         stands = sm.stands;
+        backs = sm.backs;
+        partly = tt;
         right = sm.right;
         counts = sm.counts;
         blank = tt;
@@ -666,7 +702,7 @@ module _ (g : Begin) (ok : Known g) (w : State DiskHeld) (j : Joint g w) (a : �
           (on l (quit_at l.pin) ((slot p.page, holds.Slot e) ∷ []) l.fresh l.pin l.owed l.ahead
           l.behind l.page l.fail)
       give_quits = record {
-        home = record { sound = (all g ok w j a l who p rest todo _ Made held at).0; stands = tt };
+        home = record { sound = (all g ok w j a l who p rest todo _ Made held at).0; stands = tt; backs = tt };
         fits = goes_on g ok w j a l who p rest todo (quit_at l.pin)
             ((slot p.page, holds.Slot e) ∷ []) l.fresh l.pin l.owed l.ahead l.behind l.page l.fail
             (quit_locks l.pin _ _) (all g ok w j a l who p rest todo _ Made held at).1
@@ -676,6 +712,8 @@ module _ (g : Begin) (ok : Known g) (w : State DiskHeld) (j : Joint g w) (a : �
         alone = λ i. let r = ap (held_sum (spot n) (at_place i)) held in omega arith;
         owners = λ f. let r = ap (held_sum (spot n) (claims g f)) held in
             let x = ap (held_sum (spot n) (stored f)) held in omega arith;
+        storage = apart g l _ _ _ (λ f z y. let r = ap (held_sum (spot n) f) held in
+            let s = z (n + cl) q in omega arith);
         pins = λ f. let r = ap (held_sum (spot n) (outs f)) held in
             let x = ap (held_sum (spot n) nothing) held in omega arith;
         frames = let r = ap (held_sum (spot n) pages) held in
@@ -689,85 +727,3 @@ module _ (g : Begin) (ok : Known g) (w : State DiskHeld) (j : Joint g w) (a : �
           (let r = ap (held_sum (spot n) pages) held in omega arith),
         );
       }
-
-  -- ---- the account
-
-  module _ (e : EntryState) (c : Counters) (at : l.at ≡ Giving)
-      (held : l.held ≡ (lock.Account, holds.Account c) ∷ (slot p.page, holds.Slot e) ∷ []) where
-    sg : Stage g p e Giving l.fresh l.pin l.owed l.ahead l.behind l.page l.fail
-    sg = stage g ok w j a l who p rest todo _ Giving held at
-
-    abbrev new : PageForm
-    new = next_form p l.page e.kept
-
-    abbrev now : Counters
-    now = settled p.op l.owed (old_weight l.ahead e.kept) (form_weight new) c
-
-    can : l.owed ≤ c.pages
-    can = can_repay g w j a l who c ((slot p.page, holds.Slot e) ∷ []) held refl
-
-    known : (i : Count) → measure i (old_weight l.ahead e.kept) ≤ counter i c
-    known i =
-        let r = has_counted g w j a l who c ((slot p.page, holds.Slot e) ∷ []) held
-        (λ q. refl) sg.counts.1 i in
-        let x = ap (held_sum (spot n) (shown i)) held in
-        let y = old_is e.kept l.ahead sg.counts.0 i in omega arith
-
-    repaid_stage : Stage g p e Ready l.fresh l.pin 0 (Some (form_weight new))
-        (Some (weight_of e.kept)) l.page l.fail
-    repaid_stage = record {
-      kind = sg.kind;
-      made = sg.made;
-      pins = sg.pins;
-      owes = refl;
-      stands = tt;
-      right = sg.right;
-      counts = record {
-        ahead = λ q. refl;
-        behind = λ q. refl;
-        small = next_small g ok w j a l who p rest todo e sg.kind.0 sg.right;
-      };
-      blank = sg.blank;
-      fails = sg.fails;
-      begun = sg.begun;
-      compacts = tt;
-    }
-
-    pub give_repays : Gift g a l lock.Account (holds.Account now)
-        (on l Ready ((slot p.page, holds.Slot e) ∷ []) l.fresh l.pin 0 (Some (form_weight new))
-        (Some (weight_of e.kept)) l.page l.fail)
-    give_repays = record {
-      home = record { sound = refl; stands = tt };
-      fits = goes_on g ok w j a l who p rest todo Ready
-          ((slot p.page, holds.Slot e) ∷ []) l.fresh l.pin 0 (Some (form_weight new))
-          (Some (weight_of e.kept)) l.page l.fail refl (all g ok w j a l who p rest todo _ Giving
-          held at).1 repaid_stage (let lr = ap (held_sum (spot n) (claims g each_one)) held in
-          let lx = ap (held_sum (spot n) (ever_at g)) held in
-          let lz = (fit g ok w j a l who p rest todo).lean in omega arith);
-      alone = λ i. let r = ap (held_sum (spot n) (at_place i)) held in omega arith;
-      owners = λ f. let r = ap (held_sum (spot n) (claims g f)) held in
-          let x = ap (held_sum (spot n) (stored f)) held in omega arith;
-      pins = λ f. let r = ap (held_sum (spot n) (outs f)) held in
-          let x = ap (held_sum (spot n) nothing) held in omega arith;
-      frames = let r = ap (held_sum (spot n) pages) held in
-          let x = ap (held_sum (spot n) chains) held in let s = can in
-          let y = settled_pages p.op l.owed (old_weight l.ahead e.kept) (form_weight new) c in
-          omega arith;
-      counts = λ i. let r = ap (held_sum (spot n) (counters i)) held in
-          let x = ap (held_sum (spot n) (shown i)) held in
-          let s = settled_count p.op l.owed (old_weight l.ahead e.kept) (form_weight new) c i
-          (known i) in let y = old_is e.kept l.ahead sg.counts.0 i in
-          let z = none_weight i l.behind sg.counts.1 in omega arith;
-      stays = λ y. let r = ap (held_sum (spot n) (fixed y)) held in
-          let z = settled_fixed p.op l.owed (old_weight l.ahead e.kept) (form_weight new) c y in
-          omega arith;
-      rises = let r = ap (held_sum (spot n) (ever_at g)) held in omega arith;
-      most = inl (
-        (let r = ap (held_sum (spot n) mosts) held in
-            let z = settled_most p.op l.owed (old_weight l.ahead e.kept) (form_weight new) c in
-            omega arith),
-        (let r = ap (held_sum (spot n) pages) held in
-            let y = settled_pages p.op l.owed (old_weight l.ahead e.kept) (form_weight new) c in
-            omega arith),
-      );
-    }

@@ -1,15 +1,15 @@
 -- What a page has after the calls of an order.
-use Rattle.std.proofs.Common.{◌≡◌, ◌+◌, ◌*◌, ◌-◌, ◌/◌, ◌≤◌, ◌<◌, ◌∷◌, ◌++◌, ◌∙◌, ◌||◌, ℕ, zero, suc, Bool, true, false, cond, leb, ltb, List, [], length, take, drop, replicate, Option, Some, None, refl, sym, ap, subst, arith, inl, inr, ⊎_elim, length-append}
+use Rattle.std.proofs.Common.{◌≡◌, ◌+◌, ◌*◌, ◌-◌, ◌/◌, ◌≤◌, ◌<◌, ◌∷◌, ◌++◌, ◌∙◌, ◌&&◌, ◌||◌, ℕ, zero, suc, Bool, true, false, cond, leb, ltb, List, [], length, take, drop, replicate, Option, Some, None, refl, sym, ap, subst, arith, inl, inr, ⊎_elim, length-append}
 use Rattle.bdi_page.specs.Packing.{IsPage, packed}
 use Rattle.call_history.specs.Shows.{Carries, tag_by}
 use Rattle.call_history.specs.declared.part.Part.{Part}
 use Rattle.joint_rule.proofs.Facts.{Known}
-use Rattle.joint_rule.specs.Begins.{AreCarried, Begin, HasEvent, content, ever, form_at, form_by, found, found_after, image}
+use Rattle.joint_rule.specs.Begins.{AreCarried, Begin, HasEvent, back_at, content, ever, form_at, form_by, found, found_after, image}
 use Rattle.joint_rule.specs.Stages.{Changes, IsForm, IsNothing, IsPooled, IsRight, IsSmall, NoObj}
 use Rattle.mem_account.specs.declared.weight.Weight.{Weight}
 use Rattle.page_steps.specs.Pages.{join, next_by, page_after}
 use Rattle.page_steps.specs.Steps.{on}
-use Rattle.plain_disk.specs.Calls.{Found, after, after_all, blank_by, ever_pooled, kept_as}
+use Rattle.plain_disk.specs.Calls.{Found, after, after_all, blank_by, ever_pooled, kept_as, leave_page, leaves_page}
 use Rattle.plain_disk.specs.Ends.{page_put}
 use Rattle.plain_disk.specs.Forms.{in_class, is_pooled, page_bytes}
 use Rattle.plain_disk.specs.Phases.{held_after}
@@ -141,7 +141,18 @@ module _ (g : Begin) (ok : Known g) where
     unfolding form_at
     form_on = λ i. form_by (blank_on i) (form_of (content_on i))
 
-    -- a read leaves the page and its form
+    -- a read leaves the page
+    pub content_read : (start count : ℕ) → p.op ≡ Read start count
+        → content g p.page (order ++ t ∷ []) ≡ content g p.page order
+    content_read start count e =
+        content_join g p.page (order ++ t ∷ []) ∙ join_same (of_page g p.page (order ++ t ∷ []))
+        (of_page g p.page order) 0 8
+        (λ k low high. held_on order t (8 * p.page + k)
+        ∙ ap (λ (o : Option Op). sector_after_named o (8 * p.page + k)
+        (held_after g.given order (8 * p.page + k))) (is ∙ ap (λ (o : Op). Some o) e))
+        ∙ sym (content_join g p.page order)
+
+    -- and its form
     pub form_read : (start count : ℕ) → p.op ≡ Read start count
         → form_at g p.page (order ++ t ∷ []) ≡ form_at g p.page order
     unfolding form_at
@@ -149,13 +160,7 @@ module _ (g : Begin) (ok : Known g) where
         let b : (found_after g p.page (order ++ t ∷ [])).blank
         ≡ (found_after g p.page order).blank =
         blank_on ∙ ap (λ (o : Op). blank_by (Some o) (found_after g p.page order).blank) e in
-        let c : content g p.page (order ++ t ∷ []) ≡ content g p.page order =
-        content_join g p.page (order ++ t ∷ []) ∙ join_same (of_page g p.page (order ++ t ∷ []))
-        (of_page g p.page order) 0 8
-        (λ k low high. held_on order t (8 * p.page + k)
-        ∙ ap (λ (o : Option Op). sector_after_named o (8 * p.page + k)
-        (held_after g.given order (8 * p.page + k))) (is ∙ ap (λ (o : Op). Some o) e))
-        ∙ sym (content_join g p.page order) in
+        let c = content_read start count e in
         λ i. form_by (b i) (form_of (c i))
 
   -- zeros where nothing stands
@@ -275,6 +280,7 @@ module _ (g : Begin) (ok : Known g) where
   plain_right p order (kept.Same w) evs free i = ok.facts.word_page (content g p order) w
       (content_page p order) (of_word _ (content g p order) w (form_word g.chain _ w i))
   plain_right p order (kept.Obj o) evs free i = absurd free
+  plain_right p order (kept.Wb b) evs free i = absurd free
 
 module _ (g : Begin) (p : ℕ) (order : List Tag) where
   -- a page that is kept as nothing is blank
@@ -289,6 +295,7 @@ module _ (g : Begin) (p : ℕ) (order : List Tag) where
   is_written true f kept.Empty some i = absurd (some tt)
   is_written true f (kept.Same w) some i = absurd i
   is_written true f (kept.Obj o) some i = absurd i
+  is_written true f (kept.Wb b) some i = absurd i
 
   -- one that is kept as something isn't
   pub blank_some : (k : Kept) → (IsNothing k → ⊥) → IsForm g.chain (form_at g p order) k
@@ -502,6 +509,53 @@ module _ (g : Begin) (ok : Known g) (p : Part) (order : List Tag) (actor : ℕ)
         ∙ ap (sector_after p.op (8 * p.page + k)) (sym (content_sector g ok p.page order k lt));
   }
 
+-- ---- pages on the device
+
+leaves_last : (actors : List (List Op)) (t : Tag) → leave_page actors (t ∷ [])
+    ≡ leaves_page (named actors t)
+leaves_last actors t = elim (cases_Bool (leaves_page (named actors t)))
+    [ inl on ↦ rw on refl | inr off ↦ rw off refl ]
+
+and_false : (b : Bool) → (b && false) ≡ false
+and_false true = refl
+and_false false = refl
+
+module _ (actors : List (List Op)) (t : Tag) where
+  -- a read leaves the page where it is
+  read_leaves : (order : List Tag) → leaves_page (named actors t) ≡ true
+      → leave_page actors (order ++ t ∷ []) ≡ leave_page actors order
+  read_leaves [] e = leaves_last actors t ∙ e
+  read_leaves (x ∷ xs) e = ap (λ (b : Bool). leaves_page (named actors x) && b) (read_leaves xs e)
+
+  -- another call doesn't
+  change_leaves : (order : List Tag) → leaves_page (named actors t) ≡ false
+      → leave_page actors (order ++ t ∷ []) ≡ false
+  change_leaves [] e = leaves_last actors t ∙ e
+  change_leaves (x ∷ xs) e =
+      ap (λ (b : Bool). leaves_page (named actors x) && b) (change_leaves xs e)
+      ∙ and_false (leaves_page (named actors x))
+
+change_goes : (op : Op) → Changes op → leaves_page (Some op) ≡ false
+change_goes (Write start count stuff) c = refl
+change_goes (Read start count) c = absurd c
+change_goes (Discard start count) c = refl
+change_goes Compact c = absurd c
+
+module _ (g : Begin) (p : Part) (order : List Tag) (t : Tag)
+    (is : named g.given.actors t ≡ Some p.op) where
+  -- a page stays on the device where it is read
+  pub back_read : (start count : ℕ) → p.op ≡ Read start count
+      → back_at g p.page (order ++ t ∷ []) ≡ back_at g p.page order
+  back_read start count e = ap (λ (b : Bool). g.back p.page && b)
+      (read_leaves g.given.actors t order (ap leaves_page is
+      ∙ ap (λ (o : Op). leaves_page (Some o)) e))
+
+  -- and isn't there where it is changed
+  pub back_change : Changes p.op → back_at g p.page (order ++ t ∷ []) ≡ false
+  back_change c = ap (λ (b : Bool). g.back p.page && b)
+      (change_leaves g.given.actors t order (ap leaves_page is ∙ change_goes p.op c))
+      ∙ and_false (g.back p.page)
+
 -- ---- small weights
 
 module _ (g : Begin) (ok : Known g) (p : ℕ) (order : List Tag) where
@@ -523,6 +577,7 @@ module _ (g : Begin) (ok : Known g) (p : ℕ) (order : List Tag) where
       → IsSmall (weight_of k)
   kept_small_by f kept.Empty i s = omega arith
   kept_small_by f (kept.Same w) i s = omega arith
+  kept_small_by f (kept.Wb b) i s = omega arith
   kept_small_by Blank (kept.Obj o) i s = absurd i
   kept_small_by (Word w) (kept.Obj o) i s = absurd i
   kept_small_by (Pooled bytes huge) (kept.Obj o) i s =

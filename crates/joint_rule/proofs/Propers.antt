@@ -1,11 +1,12 @@
 -- Sectors keep their 512 bytes, whatever the calls, and blank pages their zeros.
 use Rattle.std.proofs.Common.{◌≡◌, ◌+◌, ◌*◌, ◌-◌, ◌/◌, ◌≤◌, ◌<◌, ◌∷◌, ◌∙◌, ◌^◌, ◌%◌, ℕ, zero, suc, true, leb, ltb, List, [], length, drop, sum_by, Option, Some, None, get_or, slice_get, refl, sym, ap, subst, arith, inl, inr, ⊎_elim, length-append}
+use Rattle.backing_dev.specs.Dev.{DeviceState}
 use Rattle.joint_rule.proofs.Ended.{entries, order_is}
 use Rattle.joint_rule.proofs.Facts.{Known}
 use Rattle.joint_rule.proofs.Pages.{blank_zero, holds_after}
 use Rattle.joint_rule.proofs.Ranges.{range_by, range_map, range_none}
 use Rattle.joint_rule.proofs.Rests.{at_rest}
-use Rattle.joint_rule.specs.Begins.{AreCarried, AreRequests, Begin, IsRoomy, IsSector, Proper, found_after}
+use Rattle.joint_rule.specs.Begins.{AreCarried, AreRequests, Begin, IsRoomy, IsSector, Proper, back_at, found_after}
 use Rattle.joint_rule.specs.Ends.{AllFinished, begin_at, new_rest, order_in, orders_of, rest_after, value_at}
 use Rattle.joint_rule.specs.Rule.{Rule}
 use Rattle.joint_rule.specs.Starts.{IsRenewed}
@@ -184,6 +185,7 @@ module _ (r : Rest) (actors : List (List Op)) (ok : Known (begin_at r actors)) (
         time = ap (λ (o : List Tag). touched_by o r.set.clock (r.touched j)) order_e
             ∙ sym home.sound.touched;
         blank = ap (λ (o : List Tag). (found_after g j o).blank) order_e;
+        back = ap (back_at g j) order_e;
         before = λ k lt8. ap (λ (q : ℕ). held_after (begun r actors)
             (nth_order (orders_of r.size w.row) q) (8 * j + k))
             (let q : (8 * j + k) / 8 ≡ j = omega arith in q)
@@ -192,38 +194,42 @@ module _ (r : Rest) (actors : List (List Op)) (ok : Known (begin_at r actors)) (
 
 -- ---- a new disk
 
-pub new_proper : (n : ℕ) (set : Settings) (actors : List (List Op)) → AreRequests actors
-    → IsRoomy (begin_at (new_rest n set) actors) → Proper (begin_at (new_rest n set) actors)
-new_proper n set actors requests room = proper_is (begin_at (new_rest n set) actors) requests
+pub new_proper : (n : ℕ) (set : Settings) (device : DeviceState) (actors : List (List Op))
+    → AreRequests actors → IsRoomy (begin_at (new_rest n set device) actors)
+    → Proper (begin_at (new_rest n set device) actors)
+new_proper n set device actors requests room =
+    proper_is (begin_at (new_rest n set device) actors) requests
     (λ s. zero_is) (λ p k lt b. refl) room
 
 none_kept : (f : Weight → ℕ) → f weight.Empty ≡ 0 → (n : ℕ) (set : Settings)
-    → sum_by f (kept_pages page_weight (new_rest n set)) ≡ 0
-none_kept f z n set = range_map f (kept_at page_weight (new_rest n set)) 0 n
-    ∙ range_none (λ p. f (kept_at page_weight (new_rest n set) p)) 0 n (λ i le lt. z)
+    (device : DeviceState) → sum_by f (kept_pages page_weight (new_rest n set device)) ≡ 0
+none_kept f z n set device = range_map f (kept_at page_weight (new_rest n set device)) 0 n
+    ∙ range_none (λ p. f (kept_at page_weight (new_rest n set device) p)) 0 n (λ i le lt. z)
 
 none_framed : (chain : ℕ) → frames_of chain (λ k. []) ≡ 0
 none_framed chain = range_by (λ k. chain_of chain k * 0) 0 255
     ∙ range_none (λ k. chain_of chain k * 0) 0 255 (λ i le lt. omega arith)
 
-pub new_stats : (n : ℕ) (set : Settings) → stats page_weight (new_rest n set)
-    ≡ record no_counts { limit = set.limit }
-new_stats n set = λ i. record no_counts {
+pub new_stats : (n : ℕ) (set : Settings) (device : DeviceState)
+    → stats page_weight (new_rest n set device) ≡ record no_counts { limit = set.limit }
+new_stats n set device = λ i. record no_counts {
   pages = none_framed set.chain i;
   limit = set.limit;
-  same = none_kept same_of refl n set i;
-  packed = none_kept packed_of refl n set i;
-  packed_bytes = none_kept packed_bytes_of refl n set i;
-  huge = none_kept huge_of refl n set i;
-  back = none_kept back_of refl n set i;
+  same = none_kept same_of refl n set device i;
+  packed = none_kept packed_of refl n set device i;
+  packed_bytes = none_kept packed_bytes_of refl n set device i;
+  huge = none_kept huge_of refl n set device i;
+  back = none_kept back_of refl n set device i;
 }
 
-pub new_plain : (r : Rest) (n : ℕ) → IsNewDisk r n (new_rest n r.set)
+pub new_plain : (r : Rest) (n : ℕ) → IsNewDisk r n (new_rest n r.set r.device)
 new_plain r n = record {
   size = refl;
   holds = λ s lt. refl;
   blank = λ p lt. refl;
+  back = λ p lt. refl;
   touched = λ p lt. refl;
   unused = record { used = λ k lt. refl; most = refl; so_far = refl };
+  device = refl;
   set = refl;
 }

@@ -1,12 +1,15 @@
 -- The rest that a phase leaves is the one with which the next begins.
-use Rattle.std.proofs.Common.{◌≡◌, ◌+◌, ◌*◌, ◌<◌, ◌≤◌, ◌∷◌, ◌∙◌, ℕ, zero, suc, List, [], length, Option, Some, None, slice_get, refl, sym, ap, subst, arith}
+use Rattle.std.proofs.Common.{◌≡◌, ◌+◌, ◌*◌, ◌<◌, ◌≤◌, ◌∷◌, ◌∙◌, ◌&&◌, ℕ, zero, suc, Bool, true, false, List, [], length, Option, Some, None, slice_get, refl, sym, ap, subst, arith}
+use Rattle.backing_dev.specs.Dev.{DeviceState}
+use Rattle.block_map.specs.BlockMap.{BlockMap}
+use Rattle.class_pool.specs.Pool.{PoolState}
 use Rattle.joint_rule.proofs.Pages.{content_join, join_same}
-use Rattle.joint_rule.proofs.Starts.{account_at, account_sum}
-use Rattle.joint_rule.specs.Begins.{AreCarried, Begin, content, form_at, form_by, found_after}
-use Rattle.joint_rule.specs.Joint.{AtHome, PoolFits}
-use Rattle.joint_rule.specs.Stages.{IsForm, IsSmall}
-use Rattle.joint_rule.specs.Starts.{AtRest, IsNextDisk, IsOther, IsRenewed, Matched, Renewed}
-use Rattle.joint_rule.specs.Weights.{Backs, Count, FailedWrites, FreedPages, HugeWrites, Huges, News, OutOfRange, PackedBytes, Packs, Refusal, Sames, Weigh, chains, claim_by, claims, compactions, counter, counters, measure, mosts, news_count, news_counter, outs, pages, refusal_count, refusal_counter, shown, stored}
+use Rattle.joint_rule.proofs.Starts.{account_at, account_sum, keeps_self}
+use Rattle.joint_rule.specs.Begins.{AreCarried, Begin, back_at, content, form_at, form_by, found_after, image}
+use Rattle.joint_rule.specs.Joint.{AtHome, KeepsDevice, PoolFits}
+use Rattle.joint_rule.specs.Stages.{IsForm, IsSmall, is_wb}
+use Rattle.joint_rule.specs.Starts.{AtRest, IsNextDisk, IsRenewed, Matched, Renewed}
+use Rattle.joint_rule.specs.Weights.{Backs, Count, FailedReads, FailedWrites, FreedPages, HugeWrites, Huges, News, OutOfRange, PackedBytes, Packs, Refusal, Sames, Weigh, block_by, block_claims, chains, claim_by, claims, compactions, counter, counters, device_size, lies_at, lies_by, map_size, measure, mosts, news_count, news_counter, on_entry, outs, pages, refusal_count, refusal_counter, shown, stored, stored_at, used_blocks, used_from}
 use Rattle.lock_row.specs.Totals.{row_sum}
 use Rattle.mem_account.specs.Counters.{Counters}
 use Rattle.page_steps.specs.Steps.{DiskHeld}
@@ -74,6 +77,10 @@ row_match R f h e (Some v ∷ xs) (Some u ∷ ys) m = let a = e 0 v u m.0 in
     let r = row_match (λ j. R (suc j)) (λ j. f (suc j)) (λ j. h (suc j))
     (λ j. e (suc j)) xs ys m.1 in omega arith
 
+and_true : (b : Bool) → (b && true) ≡ b
+and_true true = refl
+and_true false = refl
+
 module _ (g h : Begin) where
   module _ (j : ℕ) (e f : EntryState) (r : IsRenewed g h j e f) where
     same_content : content h j [] ≡ content g j e.order
@@ -86,33 +93,50 @@ module _ (g h : Begin) where
     same_form = ap (λ (ts : List Tag). form_by (found_after h j ts).blank
         (form_of (content h j ts))) r.order ∙ (λ i. form_by (r.blank i) (form_of (same_content i)))
 
-  no_claims : (w : Weigh) (j : ℕ) (v : DiskHeld) → IsOther v → claims g w j v ≡ claims h w j v
-  no_claims w j (holds.Slot e) f = absurd f
-  no_claims w j (holds.Class e) f = refl
-  no_claims w j (holds.Account e) f = absurd f
-  no_claims w j (holds.Blocks e) f = refl
-  no_claims w j (holds.Device e) f = refl
+  -- a weight of entries, where what renews an entry keeps it
+  entry_same : (f k : ℕ → Kept → List Tag → ℕ) → ((j : ℕ) (e d : EntryState)
+      → IsRenewed g h j e d → f j e.kept e.order ≡ k j d.kept d.order) → (j : ℕ) (v u : DiskHeld)
+      → Renewed g h j v u → on_entry f j v ≡ on_entry k j u
+  entry_same f k each j v u (renewed.slots e d is_v is_u r) = ap (on_entry f j) is_v ∙ each j e d r
+      ∙ ap (on_entry k j) (sym is_u)
+  entry_same f k each j v u (renewed.accounts c d is_v is_u e keeps) = ap (on_entry f j) is_v
+      ∙ ap (on_entry k j) (sym is_u)
+  entry_same f k each j v u (renewed.pools p is_v is_u) = ap (on_entry f j) is_v
+      ∙ ap (on_entry k j) (sym is_u)
+  entry_same f k each j v u (renewed.maps x y is_v is_u e) = ap (on_entry f j) is_v
+      ∙ ap (on_entry k j) (sym is_u)
+  entry_same f k each j v u (renewed.devices d is_v is_u e) = ap (on_entry f j) is_v
+      ∙ ap (on_entry k j) (sym is_u)
 
   claims_same : (w : Weigh) (j : ℕ) (v u : DiskHeld) → Renewed g h j v u
       → claims g w j v ≡ claims h w j u
-  claims_same w j v u (renewed.slots e f is_v is_u r) = ap (claims g w j) is_v
-      ∙ (λ i. claim_by w (sym r.kept i) (bytes_in (sym (same_form j e f r) i)))
-      ∙ ap (claims h w j) (sym is_u)
-  claims_same w j v u (renewed.accounts c d is_v is_u e keeps) = ap (claims g w j) is_v
-      ∙ ap (claims h w j) (sym is_u)
-  claims_same w j v u (renewed.stays free e) = no_claims w j v free ∙ ap (claims h w j) (sym e)
+  claims_same w = entry_same (λ j k order. claim_by w k (image g j order))
+      (λ j k order. claim_by w k (image h j order))
+      (λ j e f r i. claim_by w (sym r.kept i) (bytes_in (sym (same_form j e f r) i)))
+
+  lies_same : (b : ℕ) (bytes : List ℕ) (j : ℕ) (v u : DiskHeld) → Renewed g h j v u
+      → lies_at g b bytes j v ≡ lies_at h b bytes j u
+  lies_same b bytes = entry_same (λ j k order. lies_by b bytes k (content g j order))
+      (λ j k order. lies_by b bytes k (content h j order))
+      (λ j e f r i. lies_by b bytes (sym r.kept i)
+      (sym (ap (content h j) r.order ∙ same_content j e f r) i))
 
   plain_same : (f : ℕ → DiskHeld → ℕ) → ((j : ℕ) (e d : EntryState) → d.kept ≡ e.kept
       → f j (holds.Slot e) ≡ f j (holds.Slot d))
       → ((j : ℕ) (c : Counters) (limit most : ℕ) → f j (holds.Account c)
-      ≡ f j (holds.Account (record c { limit = limit; most = most }))) → (j : ℕ) (v u : DiskHeld)
+      ≡ f j (holds.Account (record c { limit = limit; most = most })))
+      → ((j : ℕ) (x y : BlockMap) → y.states ≡ x.states
+      → f j (holds.Blocks x) ≡ f j (holds.Blocks y)) → (j : ℕ) (v u : DiskHeld)
       → Renewed g h j v u → f j v ≡ f j u
-  plain_same f each acc j v u (renewed.slots e d is_v is_u r) = ap (f j) is_v ∙ each j e d r.kept
+  plain_same f each acc map j v u (renewed.slots e d is_v is_u r) = ap (f j) is_v ∙ each j e d r.kept
       ∙ ap (f j) (sym is_u)
-  plain_same f each acc j v u (renewed.accounts c d is_v is_u e keeps) = ap (f j) is_v
+  plain_same f each acc map j v u (renewed.accounts c d is_v is_u e keeps) = ap (f j) is_v
       ∙ acc j c d.limit d.most
       ∙ ap (λ (x : Counters). f j (holds.Account x)) (sym e) ∙ ap (f j) (sym is_u)
-  plain_same f each acc j v u (renewed.stays free e) = ap (f j) (sym e)
+  plain_same f each acc map j v u (renewed.pools p is_v is_u) = ap (f j) (is_v ∙ sym is_u)
+  plain_same f each acc map j v u (renewed.maps x y is_v is_u e) = ap (f j) is_v ∙ map j x y e
+      ∙ ap (f j) (sym is_u)
+  plain_same f each acc map j v u (renewed.devices d is_v is_u e) = ap (f j) (is_v ∙ sym is_u)
 
   -- an account whose maximum isn't below its frames stays one
   most_keeps : (j : ℕ) (v : DiskHeld) (c d : Counters) → Renewed g h j v (holds.Account d)
@@ -123,28 +147,30 @@ module _ (g h : Begin) where
       let least = keeps (subst (λ (x : Counters). x.pages ≤ x.most) was le) in
       let same = ap (λ (x : Counters). x.pages) e in
       subst (λ (x : Counters). x.pages ≤ x.most) (sym now) (omega arith)
-  most_keeps j v c d (renewed.stays free e) is le = absurd (subst IsOther is free)
+  most_keeps j v c d (renewed.pools p is_v is_u) is le = absurd (cc)
+  most_keeps j v c d (renewed.maps x y is_v is_u e) is le = absurd (cc)
+  most_keeps j v c d (renewed.devices x is_v is_u e) is le = absurd (cc)
 
   module _ (on_it : IsNextDisk g h) where
-    other_home : (j : ℕ) (v : DiskHeld) → IsOther v → AtHome g j v → AtHome h j v
-    other_home j (holds.Slot e) f x = absurd f
-    other_home j (holds.Account e) f x = absurd f
-    other_home j (holds.Class e) f x = record {
+    pool_home : (j : ℕ) (p : PoolState) → AtHome g j (holds.Class p) → AtHome h j (holds.Class p)
+    pool_home j p x = record {
       sound = (
         (let q = x.sound.0 in let s = on_it.size in omega arith),
-        subst (λ (y : ℕ). PoolFits y e) (sym on_it.chain) x.sound.1,
+        subst (λ (y : ℕ). PoolFits y p) (sym on_it.chain) x.sound.1,
       );
       stands = tt;
+      backs = tt;
     }
-    other_home j (holds.Blocks e) f x = record {
-      sound = (let q = x.sound in let s = on_it.size in
-          omega arith);
+
+    device_home : (j : ℕ) (d : DeviceState) → h.device ≡ d → AtHome g j (holds.Device d)
+        → AtHome h j (holds.Device d)
+    device_home j d e x = record {
+      sound = (
+        (let q = x.sound.0 in let s = on_it.size in omega arith),
+        subst (λ (y : DeviceState). KeepsDevice y d) (sym e) (keeps_self d x.sound.1.end),
+      );
       stands = tt;
-    }
-    other_home j (holds.Device e) f x = record {
-      sound = (let q = x.sound in let s = on_it.size in
-          omega arith);
-      stands = tt;
+      backs = tt;
     }
 
     slot_home : (j : ℕ) (e d : EntryState) → IsRenewed g h j e d → AtHome g j (holds.Slot e)
@@ -159,6 +185,8 @@ module _ (g h : Begin) where
       };
       stands = subst (λ (y : ℕ × PageForm × Kept). IsForm y.0 y.1 y.2)
           (λ i. (sym on_it.chain i, sym (same_form j e d r) i, sym r.kept i)) x.stands;
+      backs = ap is_wb r.kept ∙ x.backs ∙ sym (ap (back_at h j) r.order ∙ and_true (h.back j)
+          ∙ r.back);
     }
 
     home_same : (j : ℕ) (v u : DiskHeld) → Renewed g h j v u → AtHome g j v → AtHome h j u
@@ -169,8 +197,19 @@ module _ (g h : Begin) where
           sound =
               (let q = (subst (AtHome g j) is_v x).sound in let s = on_it.size in omega arith);
           stands = tt;
+          backs = tt;
         })
-    home_same j v u (renewed.stays free e) x = subst (AtHome h j) (sym e) (other_home j v free x)
+    home_same j v u (renewed.pools p is_v is_u) x =
+        subst (AtHome h j) (sym is_u) (pool_home j p (subst (AtHome g j) is_v x))
+    home_same j v u (renewed.maps y z is_v is_u e) x =
+        subst (AtHome h j) (sym is_u) (record {
+          sound =
+              (let q = (subst (AtHome g j) is_v x).sound in let s = on_it.size in omega arith);
+          stands = tt;
+          backs = tt;
+        })
+    home_same j v u (renewed.devices d is_v is_u e) x =
+        subst (AtHome h j) (sym is_u) (device_home j d e (subst (AtHome g j) is_v x))
 
     module _ (xs ys : List (Option DiskHeld)) (m : Matched (Renewed g h) xs ys) (a : AtRest g xs)
       where
@@ -207,30 +246,46 @@ module _ (g h : Begin) where
         let same : (f : ℕ → DiskHeld → ℕ) → ((j : ℕ) (e d : EntryState) → d.kept ≡ e.kept
         → f j (holds.Slot e) ≡ f j (holds.Slot d)) → ((j : ℕ) (c : Counters) (limit most : ℕ)
         → f j (holds.Account c) ≡ f j (holds.Account (record c { limit = limit; most = most })))
-        → row_sum f xs ≡ row_sum f ys = λ f e c. row_match (Renewed g h) f f
-        (plain_same f e c) xs ys m in
+        → ((j : ℕ) (x y : BlockMap) → y.states ≡ x.states
+        → f j (holds.Blocks x) ≡ f j (holds.Blocks y))
+        → row_sum f xs ≡ row_sum f ys = λ f e c b. row_match (Renewed g h) f f
+        (plain_same f e c b) xs ys m in
         record {
           size = size_after xs ys m a;
           whole = match_size (Renewed g h) xs ys m;
           home = home_after xs ys m a;
           owners = λ f. let x = row_match (Renewed g h) (claims g f) (claims h f)
               (claims_same f) xs ys m in let y = same (stored f) (λ j e d r. refl)
-              (λ j c n t. refl) in let z = a.owners f in omega arith;
-          pins = λ f. let x = same (outs f) (λ j e d r. refl) (λ j c n t. refl) in let z = a.pins f in
-              omega arith;
-          frames = let x = same pages (λ j e d r. refl) (λ j c n t. refl) in
-              let y = same chains (λ j e d r. refl) (λ j c n t. refl) in let z = a.frames in
-              omega arith;
-          counts = λ q. let x = same (counters q) (λ j e d r. refl) (λ j c n t. any_limit q c n t) in
+              (λ j c n t. refl) (λ j x y e. refl) in let z = a.owners f in omega arith;
+          blocks = λ f. let x = same (block_claims f) (λ j e d r. ap (block_by f) (sym r))
+              (λ j c n t. refl) (λ j x y e. refl) in
+              let y = same (used_blocks f) (λ j e d r. refl) (λ j c n t. refl)
+              (λ j x y e. ap (used_from f 0) (sym e)) in let z = a.blocks f in omega arith;
+          fits = let x = same map_size (λ j e d r. refl) (λ j c n t. refl)
+              (λ j x y e. ap length (sym e)) in
+              let y = same device_size (λ j e d r. refl) (λ j c n t. refl) (λ j x y e. refl) in
+              let z = a.fits in omega arith;
+          disk = λ b bytes some. let x = row_match (Renewed g h) (lies_at g b bytes)
+              (lies_at h b bytes) (lies_same b bytes) xs ys m in
+              let y = same (stored_at b bytes) (λ j e d r. refl) (λ j c n t. refl)
+              (λ j x y e. refl) in let z = a.disk b bytes (omega arith) in omega arith;
+          pins = λ f. let x = same (outs f) (λ j e d r. refl) (λ j c n t. refl) (λ j x y e. refl) in
+              let z = a.pins f in omega arith;
+          frames = let x = same pages (λ j e d r. refl) (λ j c n t. refl) (λ j x y e. refl) in
+              let y = same chains (λ j e d r. refl) (λ j c n t. refl) (λ j x y e. refl) in
+              let z = a.frames in omega arith;
+          counts = λ q. let x = same (counters q) (λ j e d r. refl)
+              (λ j c n t. any_limit q c n t) (λ j x y e. refl) in
               let y = same (shown q) (λ j e d r. ap (λ (k : Kept). measure q (weight_of k)) (sym r))
-              (λ j c n t. refl) in let z = a.counts q in omega arith;
+              (λ j c n t. refl) (λ j x y e. refl) in let z = a.counts q in omega arith;
           most = most_after xs ys m a;
           refusals = λ q. let x = same (refusal_counter q) (λ j e d r. refl)
-              (λ j c n t. any_refusals q c n t) in let z = a.refusals q in omega arith;
-          compacted = let x = same compactions (λ j e d r. refl) (λ j c n t. refl) in
-              let z = a.compacted in omega arith;
-          news = λ q. let x = same (news_counter q) (λ j e d r. refl) (λ j c n t. any_news q c n t) in
-              let z = a.news q in omega arith;
+              (λ j c n t. any_refusals q c n t) (λ j x y e. refl) in let z = a.refusals q in
+              omega arith;
+          compacted = let x = same compactions (λ j e d r. refl) (λ j c n t. refl)
+              (λ j x y e. refl) in let z = a.compacted in omega arith;
+          news = λ q. let x = same (news_counter q) (λ j e d r. refl)
+              (λ j c n t. any_news q c n t) (λ j x y e. refl) in let z = a.news q in omega arith;
         } where
           any_limit : (q : Count) (c : Counters) (n t : ℕ)
               → counter q c ≡ counter q (record c { limit = n; most = t })
@@ -242,6 +297,7 @@ module _ (g h : Begin) where
 
           any_refusals : (q : Refusal) (c : Counters) (n t : ℕ)
               → refusal_count q c ≡ refusal_count q (record c { limit = n; most = t })
+          any_refusals FailedReads c n t = refl
           any_refusals FailedWrites c n t = refl
           any_refusals OutOfRange c n t = refl
 

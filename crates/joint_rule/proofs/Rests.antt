@@ -1,5 +1,5 @@
 -- What a finished phase leaves is at rest.
-use Rattle.std.proofs.Common.{◌≡◌, ◌≤◌, ◌<◌, ◌∷◌, ◌∙◌, ◌^◌, ℕ, zero, suc, Bool, true, false, List, [], map, length, Option, Some, None, slice_get, refl, ap, subst, arith}
+use Rattle.std.proofs.Common.{◌≡◌, ◌≤◌, ◌<◌, ◌∷◌, ◌∙◌, ◌^◌, ℕ, zero, suc, Bool, true, false, List, [], map, length, Option, Some, None, slice_get, refl, sym, ap, subst, arith}
 use Rattle.call_history.specs.declared.part.Part.{Part}
 use Rattle.joint_rule.proofs.Starts.{no_locals, none_first}
 use Rattle.joint_rule.proofs.Sums.{row_nothing}
@@ -9,10 +9,10 @@ use Rattle.joint_rule.specs.Joint.{IsActor, Joint}
 use Rattle.joint_rule.specs.Rule.{Rule}
 use Rattle.joint_rule.specs.Stages.{NoneOf, StageBy, locks_by}
 use Rattle.joint_rule.specs.Starts.{AtRest}
-use Rattle.joint_rule.specs.Weights.{ahead, at_place, behind, chains, claims, compactions, counters, fresh_claim, measure, mosts, news_counter, none, nothing, object_weight, outs, owing, pages, pinned, refusal_counter, shown, stored}
+use Rattle.joint_rule.specs.Weights.{ahead, at_place, behind, block_claims, chains, claims, compactions, counters, device_size, fresh_claim, lies_at, map_size, measure, mosts, news_counter, none, nothing, object_weight, outs, owing, pages, pinned, refusal_counter, shown, stored, stored_at, used_blocks}
 use Rattle.lock_row.specs.Totals.{by_option, row_sum, total}
 use Rattle.lock_row.specs.declared.names.At.{At}
-use Rattle.lock_row.specs.declared.names.At.TheVariants.{Both, Freeing, Giving, Inside, Leaving, Made, Old, Owing, Pinned, Pinning, Ready, Refusing, Seen, Start, Unpinning, Wanting, Sweeping, Moving, Shrunk, Shrinking}
+use Rattle.lock_row.specs.declared.names.At.TheVariants.{Start}
 use Rattle.lock_row.specs.declared.names.LockNo.{LockNo}
 use Rattle.lock_row.specs.declared.names.Plan.TheVariants.{Finished}
 use Rattle.lock_row.specs.declared.names.State.{State}
@@ -37,25 +37,7 @@ never_finished size Start p c d e = started (is_compaction p.op) (is_beyond size
   started true b x = cc
   started false true x = cc
   started false false x = cc
-never_finished size Refusing p c d e = cc
-never_finished size Seen p c d e = cc
-never_finished size Pinning p c d e = cc
-never_finished size Pinned p c d e = cc
-never_finished size Unpinning p c d e = cc
-never_finished size Leaving p c d e = cc
-never_finished size Wanting p c d e = cc
-never_finished size Inside p c d e = cc
-never_finished size Both p c d e = cc
-never_finished size Made p c d e = cc
-never_finished size Old p c d e = cc
-never_finished size Freeing p c d e = cc
-never_finished size Owing p c d e = cc
-never_finished size Giving p c d e = cc
-never_finished size Ready p c d e = cc
-never_finished size (Sweeping x) p c d e = cc
-never_finished size (Moving x) p c d e = cc
-never_finished size (Shrunk x) p c d e = cc
-never_finished size (Shrinking x) p c d e = cc
+never_finished size at p c d e = cc
 
 -- a counter stands still at its end
 within_end : (a b : ℕ) → a ≡ at_most_end b → a < 2 ^ 64
@@ -108,6 +90,13 @@ module _ (g : Begin) (w : State DiskHeld) (r : Rule g w) (fin : AllFinished g w)
     owners = λ f. let x = left (claims g f) (fresh_claim f)
         (λ a l e. none_weigh (object_weight f) l.fresh (quiet a l e).made) in
         let y = left (stored f) none (λ a l e. refl) in let z = j.owners f in omega arith;
+    blocks = λ f. sym (left (block_claims f) none (λ a l e. refl)) ∙ j.blocks f
+        ∙ left (used_blocks f) none (λ a l e. refl);
+    fits = let x = left map_size none (λ a l e. refl) in
+        let y = left device_size none (λ a l e. refl) in let z = j.size in omega arith;
+    disk = λ b bytes some. let x = left (lies_at g b bytes) none (λ a l e. refl) in
+        let y = left (stored_at b bytes) none (λ a l e. refl) in
+        let z = j.disk b bytes (omega arith) in omega arith;
     pins = λ f. let x = left (outs f) none (λ a l e. refl) in
         let y = left nothing (pinned f) (λ a l e. none_weigh f l.pin (quiet a l e).pins) in
         let z = j.pins f in let r = row_nothing g.given.size w.row in omega arith;

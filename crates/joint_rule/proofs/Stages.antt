@@ -5,8 +5,8 @@ use Rattle.call_history.specs.declared.part.Done.{Done}
 use Rattle.call_history.specs.declared.part.Part.{Part}
 use Rattle.call_history.specs.declared.part.PartEnd.{PartEnd}
 use Rattle.joint_rule.proofs.Pages.{form_low}
-use Rattle.joint_rule.specs.Begins.{Begin, content, form_at, found_after}
-use Rattle.joint_rule.specs.Stages.{Bears, BlankAt, Changes, GoneBy, IsForm, IsObj, IsPooled, IsRight, IsWrite, MayPin, NoObj, NoneOf, Stage, locks_at}
+use Rattle.joint_rule.specs.Begins.{Begin, back_at, content, form_at, found_after}
+use Rattle.joint_rule.specs.Stages.{Bears, BlankAt, Changes, GoneBy, IsForm, IsObj, IsPooled, IsRight, IsWb, IsWrite, MayPin, NoObj, NoneOf, Stage, is_wb, locks_at}
 use Rattle.lock_row.specs.declared.names.At.TheVariants.{Old, Owing}
 use Rattle.lock_row.specs.declared.names.Object.{Object}
 use Rattle.lock_row.specs.declared.names.Pin.{Pin}
@@ -34,6 +34,12 @@ no_pin k None o m = tt
 no_pin kept.Empty (Some x) o m = absurd m
 no_pin (kept.Same w) (Some x) o m = absurd m
 no_pin (kept.Obj s) (Some x) o m = absurd o
+no_pin (kept.Wb b) (Some x) o m = absurd o
+
+-- a page on the device has no object
+wb_none : (k : Kept) (b : ℕ) (x : Option Pin) → k ≡ kept.Wb b → MayPin k x → NoneOf x
+wb_none k b None e m = tt
+wb_none k b (Some x) e m = absurd (subst (λ (i : Kept). MayPin i (Some x)) e m)
 
 pub may_none : (k : Kept) (x : Option Pin) → NoneOf x → MayPin k x
 may_none k None n = tt
@@ -42,8 +48,8 @@ may_none k (Some x) n = absurd n
 module _ (g : Begin) (p : Part) (e : EntryState) (fresh : Option Object) (pin : Option Pin)
     (owed : ℕ) (ahead behind : Option Weight) (page : Option (List ℕ)) (fail : Option PartEnd)
     (pins : MayPin e.kept pin) (owes : owed ≡ 0) (stands : IsForm g.chain
-    (form_at g p.page e.order) e.kept) (blank : BlankAt Old p.op ahead
-    (found_after g p.page e.order).blank) (right : IsRight p.op p.page (page_in page e.kept)
+    (form_at g p.page e.order) e.kept) (backs : is_wb e.kept ≡ back_at g p.page e.order)
+    (blank : BlankAt Old p.op ahead (found_after g p.page e.order).blank) (right : IsRight p.op p.page (page_in page e.kept)
     (content g p.page e.order))
     (more : NoneOf ahead) (less : NoneOf behind) (well : NoneOf fail)
     (begun : is_single g.given.size p.op ≡ false) where
@@ -61,6 +67,8 @@ module _ (g : Begin) (p : Part) (e : EntryState) (fresh : Option Object) (pin : 
       pins = no_pin e.kept pin free pins;
       owes = few_owed;
       stands = tt;
+      backs = tt;
+      partly = tt;
       right = right;
       counts = (gone_none ahead e.kept more, less);
       blank = blank;
@@ -79,6 +87,23 @@ module _ (g : Begin) (p : Part) (e : EntryState) (fresh : Option Object) (pin : 
       pins = pins;
       owes = owes;
       stands = stands;
+      backs = backs;
+      partly = tt;
+      right = right;
+      counts = (more, less);
+      blank = blank;
+      fails = well;
+      begun = begun;
+      compacts = tt;
+    }
+    settle_stage (kept.Wb b) is = record {
+      kind = (ch, subst IsWb (sym is) tt);
+      made = made;
+      pins = wb_none e.kept b pin is pins;
+      owes = owes;
+      stands = stands;
+      backs = backs;
+      partly = tt;
       right = right;
       counts = (more, less);
       blank = blank;
@@ -105,6 +130,8 @@ module _ (g : Begin) (p : Part) (e : EntryState) (fresh : Option Object) (pin : 
     pins = pins;
     owes = owes;
     stands = stands;
+    backs = backs;
+    partly = tt;
     right = right;
     counts = (more, less);
     blank = tt;
@@ -131,6 +158,7 @@ pub settle_locks : (k : Kept) (p : Part) (c d : ℕ) → slot p.page ∷ [] ≡ 
 settle_locks kept.Empty p c d = refl
 settle_locks (kept.Same w) p c d = refl
 settle_locks (kept.Obj o) p c d = refl
+settle_locks (kept.Wb b) p c d = refl
 
 pub made_locks : (f : PageForm) (k : Kept) (p : Part) (c d : ℕ)
     → slot p.page ∷ [] ≡ locks_at (made_at f k) p c d
@@ -141,6 +169,7 @@ made_locks (Pooled x y) k p c d = refl
 pub old_low : (chain : ℕ) (f : PageForm) (k : Kept) → IsForm chain f k → class_by k < 255
 old_low chain f kept.Empty i = omega arith
 old_low chain f (kept.Same w) i = omega arith
+old_low chain f (kept.Wb b) i = omega arith
 old_low chain Blank (kept.Obj o) i = absurd i
 old_low chain (Word w) (kept.Obj o) i = absurd i
 old_low chain (Pooled b h) (kept.Obj o) i =

@@ -1,24 +1,28 @@
 -- A prepared start has the rule.
 use Rattle.std.proofs.Common.{◌≡◌, ◌≢◌, ◌+◌, ◌≤◌, ◌<◌, ◌∷◌, ◌∙◌, ◌^◌, ℕ, zero, suc, List, [], map, length, Option, Some, None, slice_get, refl, sym, ap, subst, arith}
+use Rattle.backing_dev.specs.Dev.{DeviceState}
+use Rattle.block_map.specs.BlockMap.{BlockMap}
 use Rattle.call_history.specs.Alone.{AreIdleOver}
 use Rattle.call_history.specs.Parts.{EndsSo, Follows, done_sum, noted_on, ops_of, program}
 use Rattle.call_history.specs.declared.part.Done.{Done}
 use Rattle.call_history.specs.declared.part.Part.{Part}
 use Rattle.call_history.specs.declared.part.PartEnd.{PartEnd}
 use Rattle.joint_rule.proofs.Calm.{no_compaction}
+use Rattle.joint_rule.proofs.Counts.{fails_none, refused_none}
 use Rattle.joint_rule.proofs.Facts.{Known}
+use Rattle.joint_rule.proofs.Faults.{locals_none}
 use Rattle.joint_rule.proofs.Freed.{freed_start}
 use Rattle.joint_rule.proofs.Gifts.{start_locks, start_stage}
 use Rattle.joint_rule.proofs.Pages.{content_sector}
 use Rattle.joint_rule.proofs.Sums.{row_none, row_nothing}
-use Rattle.joint_rule.proofs.Takes.{IsAccount, account_kind}
+use Rattle.joint_rule.proofs.Takes.{IsAccount, IsDevice, IsMap, account_kind, device_kind, map_kind}
 use Rattle.joint_rule.specs.Alone.{IsCalm, compacting}
 use Rattle.joint_rule.specs.Begins.{Begin, ground_of, pieces_each, pieces_on}
-use Rattle.joint_rule.specs.Joint.{AtHome, IsActor, Joint, Sound}
+use Rattle.joint_rule.specs.Joint.{AtHome, IsActor, Joint, KeepsDevice, Sound}
 use Rattle.joint_rule.specs.Rule.{FailKeeps, OfOrder, Rule, ShowsOrder, done_by, dones, owed, owed_by, reach_at}
 use Rattle.joint_rule.specs.Stages.{StageBy, locks_by}
 use Rattle.joint_rule.specs.Starts.{IsStart}
-use Rattle.joint_rule.specs.Weights.{HeldAll, News, Refusal, ahead, at_place, behind, chains, claims, compactions, counters, each_one, ever_at, fixed, fixed_count, freed_at, freed_by, fresh_claim, loose_pools, measure, mosts, news_count, news_counter, none, noted, nothing, object_weight, on_account, order_news, outs, owing, pages, pinned, refusal_count, refusal_counter, refusal_of, refusals, refused_by, same, shown, some_of, stored, told_ahead, told_at}
+use Rattle.joint_rule.specs.Weights.{HeldAll, News, Refusal, ahead, at_place, behind, block_claims, chains, claims, compactions, counters, device_reads, device_size, each_one, ever_at, fails_so, faults_told, fixed, fixed_count, freed_at, freed_by, fresh_claim, lies_at, loose_pools, map_size, measure, mosts, news_count, news_counter, none, noted, nothing, object_weight, on_account, on_blocks, on_device, order_news, outs, owing, pages, pinned, refusal_count, refusal_counter, refusal_of, refusals, refused_by, same, shown, some_of, stored, stored_at, told_ahead, told_at, used_blocks}
 use Rattle.lock_row.specs.Totals.{by_option, held_sum, locals_sum, mass, row_sum, total}
 use Rattle.lock_row.specs.declared.names.At.{At}
 use Rattle.lock_row.specs.declared.names.At.TheVariants.{Start}
@@ -30,7 +34,7 @@ use Rattle.mem_account.specs.Counters.{Counters, at_most_end}
 use Rattle.mem_account.specs.declared.weight.Weight.{Weight}
 use Rattle.page_steps.specs.Pages.{new_class}
 use Rattle.page_steps.specs.Steps.{DiskHeld, Here, class_by, entry_in, spot}
-use Rattle.plain_disk.specs.Ends.{compacted}
+use Rattle.plain_disk.specs.Ends.{compacted, tells_fault}
 use Rattle.zr_base.specs.declared.op.Op.{Op}
 use Rattle.zr_base.specs.declared.op.Tag.{Tag}
 use Rattle.lock_row.specs.declared.names.Held.TheVariants as holds
@@ -71,7 +75,7 @@ row_lone f (Some x ∷ xs) (suc k) v e z =
     z (suc i) u at (λ s. ne (let q : i ≡ k = omega arith in q))) in
     let h = z 0 x refl (λ s. let no : ⊥ = omega arith in no) in omega arith
 
--- the account of a row with all values at home
+-- the account, the map of blocks and the device of a row with all values at home
 module _ (g : Begin) (row : List (Option DiskHeld)) (size : length row ≡ g.given.size + 258)
     (whole : (k : ℕ) → k < length row → (v : DiskHeld) × (slice_get row k ≡ Some (Some v)))
     (home : (k : ℕ) (v : DiskHeld) → slice_get row k ≡ Some (Some v) → AtHome g k v) where
@@ -101,6 +105,71 @@ module _ (g : Begin) (row : List (Option DiskHeld)) (size : length row ≡ g.giv
   account_sum f = row_lone (on_account f) row (g.given.size + 255)
       (holds.Account account_at.0) account_at.1
       (λ i u at ne. not_there f i u (home i u at).sound ne)
+
+  is_map : (v : DiskHeld) → IsMap v → (x : BlockMap) × (v ≡ holds.Blocks x)
+  is_map (holds.Slot e) i = absurd i
+  is_map (holds.Class p) i = absurd i
+  is_map (holds.Account c) i = absurd i
+  is_map (holds.Blocks x) i = (x, refl)
+  is_map (holds.Device d) i = absurd i
+
+  pub map_at : (x : BlockMap) × (slice_get row (g.given.size + 256)
+      ≡ Some (Some (holds.Blocks x)))
+  map_at =
+      let v = whole (g.given.size + 256) (omega arith) in
+      let x = is_map v.0 (map_kind g v.0 (home (g.given.size + 256) v.0 v.1).sound) in
+      (x.0, v.1 ∙ ap (λ (x : DiskHeld). Some (Some x)) x.1)
+
+  no_map : (f : BlockMap → ℕ) (i : ℕ) (u : DiskHeld) → Sound g i u → i ≢ g.given.size + 256
+      → on_blocks f i u ≡ 0
+  no_map f i (holds.Slot e) s ne = refl
+  no_map f i (holds.Class p) s ne = refl
+  no_map f i (holds.Account c) s ne = refl
+  no_map f i (holds.Blocks x) s ne = absurd (ne s)
+  no_map f i (holds.Device d) s ne = refl
+
+  pub map_sum : (f : BlockMap → ℕ) → row_sum (on_blocks f) row ≡ f map_at.0
+  map_sum f = row_lone (on_blocks f) row (g.given.size + 256) (holds.Blocks map_at.0) map_at.1
+      (λ i u at ne. no_map f i u (home i u at).sound ne)
+
+  is_device : (v : DiskHeld) → IsDevice v → (d : DeviceState) × (v ≡ holds.Device d)
+  is_device (holds.Slot e) i = absurd i
+  is_device (holds.Class p) i = absurd i
+  is_device (holds.Account c) i = absurd i
+  is_device (holds.Blocks x) i = absurd i
+  is_device (holds.Device d) i = (d, refl)
+
+  pub device_at : (d : DeviceState) × (slice_get row (g.given.size + 257)
+      ≡ Some (Some (holds.Device d)))
+  device_at =
+      let v = whole (g.given.size + 257) (omega arith) in
+      let d = is_device v.0 (device_kind g v.0 (home (g.given.size + 257) v.0 v.1).sound) in
+      (d.0, v.1 ∙ ap (λ (x : DiskHeld). Some (Some x)) d.1)
+
+  no_device : (f : DeviceState → ℕ) (i : ℕ) (u : DiskHeld) → Sound g i u → i ≢ g.given.size + 257
+      → on_device f i u ≡ 0
+  no_device f i (holds.Slot e) s ne = refl
+  no_device f i (holds.Class p) s ne = refl
+  no_device f i (holds.Account c) s ne = refl
+  no_device f i (holds.Blocks x) s ne = refl
+  no_device f i (holds.Device d) s ne = absurd (ne s.0)
+
+  pub device_sum : (f : DeviceState → ℕ) → row_sum (on_device f) row ≡ f device_at.0
+  device_sum f = row_lone (on_device f) row (g.given.size + 257)
+      (holds.Device device_at.0) device_at.1
+      (λ i u at ne. no_device f i u (home i u at).sound ne)
+
+-- a device is as it was
+pub keeps_self : (d : DeviceState) → d.reads < 2 ^ 64 → KeepsDevice d d
+keeps_self d low = record {
+  same = refl;
+  blocks = refl;
+  honest = λ h. h;
+  faults = omega arith;
+  reads = omega arith;
+  end = low;
+  writes = refl;
+}
 
 module _ (size : ℕ) where
   pub no_locals : (f : ℕ → DiskHeld → ℕ) (h : Here → ℕ) (ls : List Here)
@@ -159,6 +228,13 @@ module _ (g : Begin) (ok : Known g) (w : State DiskHeld) (s : IsStart g w) where
       account_sum g w.row s.rest.size s.rest.whole s.rest.home f
       ∙ ap f (s.account (n + 255) c.0 c.1)
 
+  -- so is the device
+  device_of : (f : DeviceState → ℕ) → row_sum (on_device f) w.row ≡ f g.device
+  device_of f =
+      let d = device_at g w.row s.rest.size s.rest.whole s.rest.home in
+      device_sum g w.row s.rest.size s.rest.whole s.rest.home f
+      ∙ ap f (s.device (n + 257) d.0 d.1)
+
   pub start_joint : Joint g w
   start_joint = record {
     each = record { in_row = s.rest.home; in_local = actor_fits };
@@ -172,6 +248,13 @@ module _ (g : Begin) (ok : Known g) (w : State DiskHeld) (s : IsStart g w) where
     owners = λ f. let x = only (claims g f) (fresh_claim f)
         (λ a l e. ap (by_option (object_weight f)) (s.actors a l e).fresh) in
         let y = only (stored f) none (λ a l e. refl) in let z = s.rest.owners f in omega arith;
+    blocks = λ f. only (block_claims f) none (λ a l e. refl) ∙ s.rest.blocks f
+        ∙ sym (only (used_blocks f) none (λ a l e. refl));
+    size = let x = only map_size none (λ a l e. refl) in
+        let y = only device_size none (λ a l e. refl) in let z = s.rest.fits in omega arith;
+    disk = λ b bytes some. let x = only (lies_at g b bytes) none (λ a l e. refl) in
+        let y = only (stored_at b bytes) none (λ a l e. refl) in
+        let z = s.rest.disk b bytes (omega arith) in omega arith;
     pins = λ f. let x = only (outs f) none (λ a l e. refl) in
         let y = only nothing (pinned f) (λ a l e. ap (by_option f) (s.actors a l e).pin) in
         let z = s.rest.pins f in let r = row_nothing n w.row in omega arith;
@@ -237,16 +320,6 @@ module _ (g : Begin) (ok : Known g) (w : State DiskHeld) (s : IsStart g w) where
   no_news q k (holds.Blocks p) at = refl
   no_news q k (holds.Device p) at = refl
 
-  none_refused : (q : Refusal) (ps : List Part) → refused_by q ps None ≡ 0
-  none_refused q [] = refl
-  none_refused q (p ∷ ps) = refl
-
-  locals_none : (h : Here → ℕ) (ls : List Here) → ((a : ℕ) (l : Here) → slice_get ls a ≡ Some l
-      → h l ≡ 0) → locals_sum h ls ≡ 0
-  locals_none h [] z = refl
-  locals_none h (l ∷ ls) z = let r = locals_none h ls (λ a. z (suc a)) in let q = z 0 l refl in
-      omega arith
-
   told_start : (q : News) (l : Here) → l.at ≡ Start → told_ahead q l ≡ 0
   told_start q l is = ap (λ (at : At). told_at q at l.todo l.ahead) is
 
@@ -273,9 +346,9 @@ module _ (g : Begin) (ok : Known g) (w : State DiskHeld) (s : IsStart g w) where
         let c = account_of (refusal_count q) in
         let z = locals_none (refusals q) w.locals (λ a l e. let h = s.actors a l e in
         let ds : List Done = [] in
-        let x : refusals q l ≡ done_sum (refusal_of q) ds + refused_by q l.todo None =
-        (λ i. done_sum (refusal_of q) (h.done i) + refused_by q l.todo (h.fail i)) in
-        let y = none_refused q l.todo in omega arith) in
+        let x : refusals q l ≡ done_sum (refusal_of q) ds + refused_by q Start l.todo None =
+        (λ i. done_sum (refusal_of q) (h.done i) + refused_by q (h.at i) l.todo (h.fail i)) in
+        let y = refused_none q Start l.todo in omega arith) in
         let r = s.rest.refusals q in
         only (refusal_counter q) none (λ a l e. refl) ∙ c
         ∙ within_end (refusal_count q g.was) (omega arith)
@@ -304,6 +377,13 @@ module _ (g : Begin) (ok : Known g) (w : State DiskHeld) (s : IsStart g w) where
           subst (λ (ds : List Done). slice_get ds i ≡ Some d) h.done at in cc);
       now = subst (FailKeeps g (reach_at g w)) (sym h.fail) tt;
     };
+    faults = λ f. let z = locals_none (faults_told f) w.locals (λ a l e. let h = s.actors a l e in
+        let ds : List Done = [] in
+        let x : faults_told f l ≡ done_sum (tells_fault f) ds + fails_so (tells_fault f) l.todo None =
+        (λ i. done_sum (tells_fault f) (h.done i) + fails_so (tells_fault f) l.todo (h.fail i)) in
+        let y = fails_none (tells_fault f) l.todo in omega arith) in omega arith;
+    fetches = let x = only device_reads none (λ a l e. refl) in
+        let y = device_of (λ d. d.reads) in omega arith;
     alone = λ l e.
         let h = s.actors 0 l (ap (λ (ls : List Here). slice_get ls 0) e) in record {
           idle = subst (AreIdleOver g.tight) (sym h.done) tt;

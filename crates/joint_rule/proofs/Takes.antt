@@ -7,12 +7,12 @@ use Rattle.joint_rule.proofs.Facts.{Known}
 use Rattle.joint_rule.proofs.Lookups.{none_weight, nothing_shown}
 use Rattle.joint_rule.proofs.Pages.{blank_empty, blank_some, ever_now, form_low, plain_right}
 use Rattle.joint_rule.proofs.Stages.{OnDisk, made_locks, made_stage, may_none, old_low, on_disk, settle_locks, settle_stage}
-use Rattle.joint_rule.specs.Begins.{Begin, content, form_at, found_after, ground_of, image, terms}
-use Rattle.joint_rule.specs.Joint.{AtHome, EntryFits, IsActor, Sound, Stands}
-use Rattle.joint_rule.specs.Stages.{Bears, BlankAt, BlankBy, Changes, FailBy, IsForm, IsNothing, IsObj, IsRight, IsSmall, IsWrite, Looks, NoObj, NoneOf, Stage, StageBy, WasBlank, locks_at, locks_by}
+use Rattle.joint_rule.specs.Begins.{Begin, back_at, content, form_at, found_after, ground_of, image, terms}
+use Rattle.joint_rule.specs.Joint.{AtHome, Backs, EntryFits, IsActor, Sound, Stands}
+use Rattle.joint_rule.specs.Stages.{Bears, BlankAt, BlankBy, Changes, FailBy, IsForm, IsNothing, IsObj, IsPartly, IsRight, IsSmall, IsWb, IsWrite, Looks, NoObj, NoneOf, Stage, StageBy, WasBlank, is_wb, locks_at, locks_by}
 use Rattle.joint_rule.specs.Weights.{claim_by, claims, each_one, ever_at, measure}
 use Rattle.lock_row.specs.declared.names.At.{At}
-use Rattle.lock_row.specs.declared.names.At.TheVariants.{Both, Freeing, Giving, Inside, Leaving, Made, Old, Owing, Pinned, Pinning, Ready, Refusing, Seen, Start, Unpinning, Wanting, Sweeping, Moving, Shrunk, Shrinking}
+use Rattle.lock_row.specs.declared.names.At.TheVariants.{Away, Backed, Both, Counting, Failing, Fetching, Freeing, Giving, Inside, Leaving, Made, Missed, Old, Owing, Pinned, Pinning, Ready, Refusing, Releasing, Seen, Start, Unpinning, Wanting, Sweeping, Moving, Shrunk, Shrinking}
 use Rattle.lock_row.specs.declared.names.LockNo.{LockNo}
 use Rattle.lock_row.specs.declared.names.Object.{Object}
 use Rattle.lock_row.specs.declared.names.Pin.{Pin}
@@ -39,6 +39,7 @@ pub form_claim : (chain : ℕ) (f : PageForm) (k : Kept) (b : List ℕ) → IsFo
     → claim_by each_one k b ≤ pooled f
 form_claim chain f kept.Empty b i = omega arith
 form_claim chain f (kept.Same w) b i = omega arith
+form_claim chain f (kept.Wb x) b i = omega arith
 form_claim chain Blank (kept.Obj o) b i = absurd i
 form_claim chain (Word w) (kept.Obj o) b i = absurd i
 form_claim chain (Pooled x h) (kept.Obj o) b i = omega arith
@@ -73,6 +74,20 @@ IsAccount (holds.Account x) = ⊤
 IsAccount (holds.Blocks x) = ⊥
 IsAccount (holds.Device x) = ⊥
 
+abbrev pub IsMap : DiskHeld → Type 0
+IsMap (holds.Slot e) = ⊥
+IsMap (holds.Class x) = ⊥
+IsMap (holds.Account x) = ⊥
+IsMap (holds.Blocks x) = ⊤
+IsMap (holds.Device x) = ⊥
+
+abbrev pub IsDevice : DiskHeld → Type 0
+IsDevice (holds.Slot e) = ⊥
+IsDevice (holds.Class x) = ⊥
+IsDevice (holds.Account x) = ⊥
+IsDevice (holds.Blocks x) = ⊥
+IsDevice (holds.Device x) = ⊤
+
 module _ (g : Begin) where
   abbrev size : ℕ
   size = g.given.size
@@ -82,21 +97,35 @@ module _ (g : Begin) where
   entry_kind p lt (holds.Class x) s = let q = s.0 in absurd (omega arith)
   entry_kind p lt (holds.Account x) s = absurd (omega arith)
   entry_kind p lt (holds.Blocks x) s = absurd (omega arith)
-  entry_kind p lt (holds.Device x) s = absurd (omega arith)
+  entry_kind p lt (holds.Device x) s = let q = s.0 in absurd (omega arith)
 
   pub class_kind : (c : ℕ) → c < 255 → (v : DiskHeld) → Sound g (size + c) v → IsPoolOf v
   class_kind c lt (holds.Slot e) s = let q = s.page in absurd (omega arith)
   class_kind c lt (holds.Class x) s = tt
   class_kind c lt (holds.Account x) s = absurd (omega arith)
   class_kind c lt (holds.Blocks x) s = absurd (omega arith)
-  class_kind c lt (holds.Device x) s = absurd (omega arith)
+  class_kind c lt (holds.Device x) s = let q = s.0 in absurd (omega arith)
 
   pub account_kind : (v : DiskHeld) → Sound g (size + 255) v → IsAccount v
   account_kind (holds.Slot e) s = let q = s.page in absurd (omega arith)
   account_kind (holds.Class x) s = let q = s.0 in let r = s.1.class in absurd (omega arith)
   account_kind (holds.Account x) s = tt
   account_kind (holds.Blocks x) s = absurd (omega arith)
-  account_kind (holds.Device x) s = absurd (omega arith)
+  account_kind (holds.Device x) s = let q = s.0 in absurd (omega arith)
+
+  pub map_kind : (v : DiskHeld) → Sound g (size + 256) v → IsMap v
+  map_kind (holds.Slot e) s = let q = s.page in absurd (omega arith)
+  map_kind (holds.Class x) s = let q = s.0 in let r = s.1.class in absurd (omega arith)
+  map_kind (holds.Account x) s = absurd (omega arith)
+  map_kind (holds.Blocks x) s = tt
+  map_kind (holds.Device x) s = let q = s.0 in absurd (omega arith)
+
+  pub device_kind : (v : DiskHeld) → Sound g (size + 257) v → IsDevice v
+  device_kind (holds.Slot e) s = let q = s.page in absurd (omega arith)
+  device_kind (holds.Class x) s = let q = s.0 in let r = s.1.class in absurd (omega arith)
+  device_kind (holds.Account x) s = absurd (omega arith)
+  device_kind (holds.Blocks x) s = absurd (omega arith)
+  device_kind (holds.Device x) s = tt
 
 module _ (g : Begin) (ok : Known g) (p : Part) (fresh : Option Object) (pin : Option Pin) (owed : ℕ)
     (ahead behind : Option Weight) (page : Option (List ℕ)) (fail : Option PartEnd) where
@@ -113,6 +142,7 @@ module _ (g : Begin) (ok : Known g) (p : Part) (fresh : Option Object) (pin : Op
   -- a slot is taken
   module _ (e : EntryState) (start : Stays e Start) (x : EntryState) (fit : EntryFits g p.page x)
       (stands : IsForm g.chain (form_at g p.page x.order) x.kept)
+      (backs : is_wb x.kept ≡ back_at g p.page x.order)
       (begun : is_single n p.op ≡ false) where
     abbrev Goes : At → Type 0
     Goes at = (slot p.page ∷ [] ≡ locks_at at p (class_by x.kept)
@@ -136,7 +166,7 @@ module _ (g : Begin) (ok : Known g) (p : Part) (fresh : Option Object) (pin : Op
       made_locks (next_form p page x.kept) x.kept p (class_by x.kept)
           (class_in g.chain (next_form p page x.kept)),
       made_stage g p x fresh pin owed ahead behind page fail
-          (may_none x.kept pin start.pins) start.owes stands
+          (may_none x.kept pin start.pins) start.owes stands backs
           (no_blank p.op wr) right start.counts.0 start.counts.1 start.fails begun wr start.made
           (next_form p page x.kept) refl x.kept refl,
     )
@@ -150,6 +180,8 @@ module _ (g : Begin) (ok : Known g) (p : Part) (fresh : Option Object) (pin : Op
         pins = start.pins;
         owes = start.owes;
         stands = stands;
+        backs = backs;
+        partly = tt;
         right = subst (λ (o : Op). IsRight o p.page (page_in page x.kept)
             (content g p.page x.order)) (sym is) (is_right page start.right free);
         counts = start.counts;
@@ -169,6 +201,28 @@ module _ (g : Begin) (ok : Known g) (p : Part) (fresh : Option Object) (pin : Op
         pins = start.pins;
         owes = start.owes;
         stands = stands;
+        backs = backs;
+        partly = tt;
+        right = start.right;
+        counts = start.counts;
+        blank = tt;
+        fails = start.fails;
+        begun = begun;
+        compacts = tt;
+      },
+    )
+
+    goes_away : Looks p.op → IsWb x.kept → IsPartly p.op p.page → Goes Away
+    goes_away looks wb part = (
+      refl,
+      record {
+        kind = (looks, wb);
+        made = start.made;
+        pins = start.pins;
+        owes = start.owes;
+        stands = stands;
+        backs = backs;
+        partly = part;
         right = start.right;
         counts = start.counts;
         blank = tt;
@@ -187,28 +241,33 @@ module _ (g : Begin) (ok : Known g) (p : Part) (fresh : Option Object) (pin : Op
       write_whole e = made_there is_write (subst (λ (o : Op).
           IsRight o p.page (page_in page x.kept) (content g p.page x.order)) (sym is) (inl e))
 
-      write_part : (k : Kept) → x.kept ≡ k → Goes (part_at (next_form p page x.kept) k)
-      write_part kept.Empty e = subst (λ (k : Kept). Goes (made_at (next_form p page x.kept) k)) e
+      write_part : (k : Kept) → x.kept ≡ k → has_whole start_ count p.page ≡ false
+          → Goes (part_at (next_form p page x.kept) k)
+      write_part kept.Empty e part = subst (λ (k : Kept). Goes (made_at (next_form p page x.kept) k)) e
           (made_there is_write (subst (λ (o : Op). IsRight o p.page (page_in page x.kept)
           (content g p.page x.order)) (sym is) (inr
           (is_right page start.right (subst NoObj (sym e) tt)))))
-      write_part (kept.Same w) e = subst (λ (k : Kept).
+      write_part (kept.Same w) e part = subst (λ (k : Kept).
           Goes (made_at (next_form p page x.kept) k)) e
           (made_there is_write (subst (λ (o : Op). IsRight o p.page (page_in page x.kept)
           (content g p.page x.order)) (sym is) (inr
           (is_right page start.right (subst NoObj (sym e) tt)))))
-      write_part (kept.Obj o) e = sees (subst Looks (sym is) tt) (subst IsObj (sym e) tt)
+      write_part (kept.Obj o) e part = sees (subst Looks (sym is) tt) (subst IsObj (sym e) tt)
+      write_part (kept.Wb b) e part = goes_away (subst Looks (sym is) tt) (subst IsWb (sym e) tt)
+          (subst (λ (o : Op). IsPartly o p.page) (sym is) part)
 
       write_by : (b : Bool) → has_whole start_ count p.page ≡ b
           → Goes (write_at b (next_form p page x.kept) x.kept)
       write_by true e = write_whole e
-      write_by false e = write_part x.kept refl
+      write_by false e = write_part x.kept refl e
 
     module _ (start_ count : ℕ) (is : p.op ≡ Read start_ count) where
       read_by : (k : Kept) → x.kept ≡ k → Goes (seen_at k)
       read_by kept.Empty e = leaves is (subst NoObj (sym e) tt)
       read_by (kept.Same w) e = leaves is (subst NoObj (sym e) tt)
       read_by (kept.Obj o) e = sees (subst Looks (sym is) tt) (subst IsObj (sym e) tt)
+      read_by (kept.Wb b) e = goes_away (subst Looks (sym is) tt) (subst IsWb (sym e) tt)
+          (subst (λ (o : Op). IsPartly o p.page) (sym is) tt)
 
     module _ (start_ count : ℕ) (is : p.op ≡ Discard start_ count) where
       drops : Changes p.op
@@ -229,7 +288,7 @@ module _ (g : Begin) (ok : Known g) (p : Part) (fresh : Option Object) (pin : Op
       settles some = (
         settle_locks x.kept p (class_by x.kept) (class_in g.chain (next_form p page x.kept)),
         settle_stage g p x fresh pin owed ahead behind page fail
-            (may_none x.kept pin start.pins) start.owes stands
+            (may_none x.kept pin start.pins) start.owes stands backs
             (was_blank false (blank_some g p.page x.order x.kept some stands))
             (subst (λ (o : Op). IsRight o p.page (page_in page x.kept) (content g p.page x.order))
             (sym is) tt) start.counts.0 start.counts.1 start.fails begun drops bears x.kept refl,
@@ -249,6 +308,8 @@ module _ (g : Begin) (ok : Known g) (p : Part) (fresh : Option Object) (pin : Op
           pins = start.pins;
           owes = start.owes;
           stands = tt;
+          backs = tt;
+          partly = tt;
           right = subst (λ (o : Op). IsRight o p.page (page_in page x.kept)
               (content g p.page x.order)) (sym is) tt;
           counts = record {
@@ -270,6 +331,8 @@ module _ (g : Begin) (ok : Known g) (p : Part) (fresh : Option Object) (pin : Op
           (settles (subst (λ (k : Kept). IsNothing k → ⊥) (sym e) (λ i. i)))
       discard_by (kept.Obj o) e = subst (λ (k : Kept). Goes (settle_at k)) e
           (settles (subst (λ (k : Kept). IsNothing k → ⊥) (sym e) (λ i. i)))
+      discard_by (kept.Wb b) e = subst (λ (k : Kept). Goes (settle_at k)) e
+          (settles (subst (λ (k : Kept). IsNothing k → ⊥) (sym e) (λ i. i)))
 
     on_page : (o : Op) → p.op ≡ o → is_single n o ≡ false
     on_page o is = subst (λ (x : Op). is_single n x ≡ false) is begun
@@ -287,7 +350,7 @@ module _ (g : Begin) (ok : Known g) (p : Part) (fresh : Option Object) (pin : Op
     abbrev Taken : LockNo → At → Type 0
     Taken m at = Moved ks m (entry_or v e) at
 
-    -- a pool or the account is taken, and the entry in hand stays
+    -- another value is taken, and the entry in hand stays
     by_pool : (c : ℕ) (at : At) → c < 255 → Sound g (n + c) v
         → (lock.Class c ∷ ks ≡ locks_at at p (class_by e.kept)
         (class_in g.chain (next_form p page e.kept))) → Stays e at → Taken (lock.Class c) at
@@ -310,13 +373,36 @@ module _ (g : Begin) (ok : Known g) (p : Part) (fresh : Option Object) (pin : Op
       account (holds.Blocks y) i = absurd i
       account (holds.Device y) i = absurd i
 
+    by_map : (at : At) → Sound g (n + 256) v → (lock.Blocks ∷ ks
+        ≡ locks_at at p (class_by e.kept) (class_in g.chain (next_form p page e.kept))) → Stays e at
+        → Taken lock.Blocks at
+    by_map at kind locks s = map_of v (map_kind g v kind) where
+      map_of : (u : DiskHeld) → IsMap u → Moved ks lock.Blocks (entry_or u e) at
+      map_of (holds.Slot y) i = absurd i
+      map_of (holds.Class y) i = absurd i
+      map_of (holds.Account y) i = absurd i
+      map_of (holds.Blocks y) i = (locks, s)
+      map_of (holds.Device y) i = absurd i
+
+    by_device : (at : At) → Sound g (n + 257) v → (lock.Device ∷ ks
+        ≡ locks_at at p (class_by e.kept) (class_in g.chain (next_form p page e.kept))) → Stays e at
+        → Taken lock.Device at
+    by_device at kind locks s = device v (device_kind g v kind) where
+      device : (u : DiskHeld) → IsDevice u → Moved ks lock.Device (entry_or u e) at
+      device (holds.Slot y) i = absurd i
+      device (holds.Class y) i = absurd i
+      device (holds.Account y) i = absurd i
+      device (holds.Blocks y) i = absurd i
+      device (holds.Device y) i = (locks, s)
+
     start_take : (a b : Bool) → is_compaction p.op ≡ a → is_beyond n p.op ≡ b
         → start_plan a b p ≡ Take k
         → Sound g (spot n (lock_of (start_plan a b p))) v
         → Stands g (spot n (lock_of (start_plan a b p))) v
+        → Backs g (spot n (lock_of (start_plan a b p))) v
         → ks ≡ [] → Stays e Start → Taken (lock_of (start_plan a b p))
         (begun_at a b p (next_form p page (entry_or v e).kept) (entry_or v e).kept)
-    start_take true b a c what kind stands locks s = by_pool 0 (Moving first_class) (omega arith) kind
+    start_take true b a c what kind stands backs locks s = by_pool 0 (Moving first_class) (omega arith) kind
         (ap (λ (xs : List LockNo). lock.Class 0 ∷ xs) locks)
         (record {
           kind = tt;
@@ -324,6 +410,8 @@ module _ (g : Begin) (ok : Known g) (p : Part) (fresh : Option Object) (pin : Op
           pins = s.pins;
           owes = s.owes;
           stands = tt;
+          backs = tt;
+          partly = tt;
           right = s.right;
           counts = s.counts;
           blank = tt;
@@ -331,7 +419,7 @@ module _ (g : Begin) (ok : Known g) (p : Part) (fresh : Option Object) (pin : Op
           begun = a;
           compacts = record { class = omega arith; frames = (let o = s.owes in omega arith) };
         })
-    start_take false true a b what kind stands locks s = account v (account_kind g v kind) where
+    start_take false true a b what kind stands backs locks s = account v (account_kind g v kind) where
       account : (u : DiskHeld) → IsAccount u → Moved ks lock.Account (entry_or u e) Refusing
       account (holds.Account c) i = (
         ap (λ (xs : List LockNo). lock.Account ∷ xs) locks,
@@ -341,6 +429,8 @@ module _ (g : Begin) (ok : Known g) (p : Part) (fresh : Option Object) (pin : Op
           pins = s.pins;
           owes = s.owes;
           stands = tt;
+          backs = tt;
+          partly = tt;
           right = s.right;
           counts = s.counts;
           blank = tt;
@@ -353,17 +443,17 @@ module _ (g : Begin) (ok : Known g) (p : Part) (fresh : Option Object) (pin : Op
       account (holds.Class c) i = absurd i
       account (holds.Blocks c) i = absurd i
       account (holds.Device c) i = absurd i
-    start_take false false a b what kind stands locks s = slot_of v
-        (entry_kind g p.page (disk (or_from _ _ a b)).0 v kind) kind stands where
+    start_take false false a b what kind stands backs locks s = slot_of v
+        (entry_kind g p.page (disk (or_from _ _ a b)).0 v kind) kind stands backs where
           slot_of : (u : DiskHeld) → IsEntry u → Sound g p.page u → Stands g p.page u
-              → Moved ks (slot p.page) (entry_or u e) (entered_at p.op p.page
+              → Backs g p.page u → Moved ks (slot p.page) (entry_or u e) (entered_at p.op p.page
               (next_form p page (entry_or u e).kept) (entry_or u e).kept)
-          slot_of (holds.Slot x) i so st = let r = entered e s x so st (or_from _ _ a b) p.op refl in
+          slot_of (holds.Slot x) i so st ba = let r = entered e s x so st ba (or_from _ _ a b) p.op refl in
               (ap (λ (xs : List LockNo). slot p.page ∷ xs) locks ∙ r.0, r.1)
-          slot_of (holds.Class c) i so st = absurd i
-          slot_of (holds.Account c) i so st = absurd i
-          slot_of (holds.Blocks c) i so st = absurd i
-          slot_of (holds.Device c) i so st = absurd i
+          slot_of (holds.Class c) i so st ba = absurd i
+          slot_of (holds.Account c) i so st ba = absurd i
+          slot_of (holds.Blocks c) i so st ba = absurd i
+          slot_of (holds.Device c) i so st ba = absurd i
 
     abbrev c : ℕ
     c = class_by e.kept
@@ -373,12 +463,13 @@ module _ (g : Begin) (ok : Known g) (p : Part) (fresh : Option Object) (pin : Op
 
     at_take : (at : At) → plan_at n at p c d ≡ Take k → Sound g
         (spot n (lock_of (plan_at n at p c d))) v → Stands g
+        (spot n (lock_of (plan_at n at p c d))) v → Backs g
         (spot n (lock_of (plan_at n at p c d))) v
         → ks ≡ locks_at at p c d → Stays e at → Taken (lock_of (plan_at n at p c d))
         (after_take n at p (next_form p page (entry_or v e).kept) (entry_or v e).kept)
-    at_take Start what kind stands locks s = start_take (is_compaction p.op)
-        (is_beyond n p.op) refl refl what kind stands locks s
-    at_take Seen what kind stands locks s = by_pool c Pinning
+    at_take Start what kind stands backs locks s = start_take (is_compaction p.op)
+        (is_beyond n p.op) refl refl what kind stands backs locks s
+    at_take Seen what kind stands backs locks s = by_pool c Pinning
         (old_low g.chain (form_at g p.page e.order) e.kept s.stands) kind
         (ap (λ (xs : List LockNo). lock.Class c ∷ xs) locks)
         (record {
@@ -387,6 +478,8 @@ module _ (g : Begin) (ok : Known g) (p : Part) (fresh : Option Object) (pin : Op
           pins = s.pins;
           owes = s.owes;
           stands = s.stands;
+          backs = s.backs;
+          partly = tt;
           right = s.right;
           counts = s.counts;
           blank = s.blank;
@@ -394,7 +487,7 @@ module _ (g : Begin) (ok : Known g) (p : Part) (fresh : Option Object) (pin : Op
           begun = s.begun;
           compacts = tt;
         })
-    at_take Pinned what kind stands locks s = by_pool c Unpinning
+    at_take Pinned what kind stands backs locks s = by_pool c Unpinning
         (old_low g.chain (form_at g p.page e.order) e.kept s.stands) kind
         (ap (λ (xs : List LockNo). lock.Class c ∷ xs) locks)
         (record {
@@ -403,6 +496,8 @@ module _ (g : Begin) (ok : Known g) (p : Part) (fresh : Option Object) (pin : Op
           pins = s.pins;
           owes = s.owes;
           stands = s.stands;
+          backs = s.backs;
+          partly = tt;
           right = s.right;
           counts = s.counts;
           blank = s.blank;
@@ -410,7 +505,41 @@ module _ (g : Begin) (ok : Known g) (p : Part) (fresh : Option Object) (pin : Op
           begun = s.begun;
           compacts = tt;
         })
-    at_take Wanting what kind stands locks s = by_pool d Inside
+    at_take Away what kind stands backs locks s = by_device Fetching kind
+        (ap (λ (xs : List LockNo). lock.Device ∷ xs) locks)
+        (record {
+          kind = s.kind;
+          made = s.made;
+          pins = s.pins;
+          owes = s.owes;
+          stands = s.stands;
+          backs = s.backs;
+          partly = s.partly;
+          right = s.right;
+          counts = s.counts;
+          blank = s.blank;
+          fails = s.fails;
+          begun = s.begun;
+          compacts = tt;
+        })
+    at_take Failing what kind stands backs locks s = by_account Counting kind
+        (ap (λ (xs : List LockNo). lock.Account ∷ xs) locks)
+        (record {
+          kind = s.kind;
+          made = s.made;
+          pins = s.pins;
+          owes = s.owes;
+          stands = s.stands;
+          backs = s.backs;
+          partly = tt;
+          right = s.right;
+          counts = s.counts;
+          blank = s.blank;
+          fails = s.fails;
+          begun = s.begun;
+          compacts = tt;
+        })
+    at_take Wanting what kind stands backs locks s = by_pool d Inside
         (form_low g.chain (next_form p page e.kept)) kind
         (ap (λ (xs : List LockNo). lock.Class d ∷ xs) locks)
         (record {
@@ -419,6 +548,8 @@ module _ (g : Begin) (ok : Known g) (p : Part) (fresh : Option Object) (pin : Op
           pins = s.pins;
           owes = s.owes;
           stands = s.stands;
+          backs = s.backs;
+          partly = tt;
           right = s.right;
           counts = s.counts;
           blank = s.blank;
@@ -426,7 +557,7 @@ module _ (g : Begin) (ok : Known g) (p : Part) (fresh : Option Object) (pin : Op
           begun = s.begun;
           compacts = tt;
         })
-    at_take Inside what kind stands locks s = by_account Both kind
+    at_take Inside what kind stands backs locks s = by_account Both kind
         (ap (λ (xs : List LockNo). lock.Account ∷ xs) locks)
         (record {
           kind = s.kind;
@@ -434,6 +565,8 @@ module _ (g : Begin) (ok : Known g) (p : Part) (fresh : Option Object) (pin : Op
           pins = s.pins;
           owes = s.owes;
           stands = s.stands;
+          backs = s.backs;
+          partly = tt;
           right = s.right;
           counts = s.counts;
           blank = s.blank;
@@ -441,7 +574,7 @@ module _ (g : Begin) (ok : Known g) (p : Part) (fresh : Option Object) (pin : Op
           begun = s.begun;
           compacts = tt;
         })
-    at_take Old what kind stands locks s = by_pool c Freeing
+    at_take Old what kind stands backs locks s = by_pool c Freeing
         (old_low g.chain (form_at g p.page e.order) e.kept s.stands) kind
         (ap (λ (xs : List LockNo). lock.Class c ∷ xs) locks)
         (record {
@@ -450,6 +583,8 @@ module _ (g : Begin) (ok : Known g) (p : Part) (fresh : Option Object) (pin : Op
           pins = s.pins;
           owes = s.owes;
           stands = s.stands;
+          backs = s.backs;
+          partly = tt;
           right = s.right;
           counts = s.counts;
           blank = s.blank;
@@ -457,7 +592,24 @@ module _ (g : Begin) (ok : Known g) (p : Part) (fresh : Option Object) (pin : Op
           begun = s.begun;
           compacts = tt;
         })
-    at_take Owing what kind stands locks s = by_account Giving kind
+    at_take Backed what kind stands backs locks s = by_map Releasing kind
+        (ap (λ (xs : List LockNo). lock.Blocks ∷ xs) locks)
+        (record {
+          kind = s.kind;
+          made = s.made;
+          pins = s.pins;
+          owes = s.owes;
+          stands = s.stands;
+          backs = s.backs;
+          partly = tt;
+          right = s.right;
+          counts = s.counts;
+          blank = s.blank;
+          fails = s.fails;
+          begun = s.begun;
+          compacts = tt;
+        })
+    at_take Owing what kind stands backs locks s = by_account Giving kind
         (ap (λ (xs : List LockNo). lock.Account ∷ xs) locks)
         (record {
           kind = s.kind;
@@ -465,6 +617,8 @@ module _ (g : Begin) (ok : Known g) (p : Part) (fresh : Option Object) (pin : Op
           pins = s.pins;
           owes = s.owes;
           stands = s.stands;
+          backs = s.backs;
+          partly = tt;
           right = s.right;
           counts = s.counts;
           blank = s.blank;
@@ -472,7 +626,7 @@ module _ (g : Begin) (ok : Known g) (p : Part) (fresh : Option Object) (pin : Op
           begun = s.begun;
           compacts = tt;
         })
-    at_take (Sweeping x) what kind stands locks s = by_pool x.class (Moving x) s.compacts.class kind
+    at_take (Sweeping x) what kind stands backs locks s = by_pool x.class (Moving x) s.compacts.class kind
         (ap (λ (xs : List LockNo). lock.Class x.class ∷ xs) locks)
         (record {
           kind = tt;
@@ -480,6 +634,8 @@ module _ (g : Begin) (ok : Known g) (p : Part) (fresh : Option Object) (pin : Op
           pins = s.pins;
           owes = s.owes;
           stands = tt;
+          backs = tt;
+          partly = tt;
           right = s.right;
           counts = s.counts;
           blank = tt;
@@ -487,7 +643,7 @@ module _ (g : Begin) (ok : Known g) (p : Part) (fresh : Option Object) (pin : Op
           begun = s.begun;
           compacts = s.compacts;
         })
-    at_take (Shrunk x) what kind stands locks s = by_account (Shrinking x) kind
+    at_take (Shrunk x) what kind stands backs locks s = by_account (Shrinking x) kind
         (ap (λ (xs : List LockNo). lock.Account ∷ xs) locks)
         (record {
           kind = tt;
@@ -495,6 +651,8 @@ module _ (g : Begin) (ok : Known g) (p : Part) (fresh : Option Object) (pin : Op
           pins = s.pins;
           owes = s.owes;
           stands = tt;
+          backs = tt;
+          partly = tt;
           right = s.right;
           counts = s.counts;
           blank = tt;
@@ -502,17 +660,21 @@ module _ (g : Begin) (ok : Known g) (p : Part) (fresh : Option Object) (pin : Op
           begun = s.begun;
           compacts = s.compacts;
         })
-    at_take Refusing what kind stands locks s = absurd (cc)
-    at_take Pinning what kind stands locks s = absurd (cc)
-    at_take Unpinning what kind stands locks s = absurd (cc)
-    at_take Leaving what kind stands locks s = absurd (cc)
-    at_take Both what kind stands locks s = absurd (cc)
-    at_take Made what kind stands locks s = absurd (cc)
-    at_take Freeing what kind stands locks s = absurd (cc)
-    at_take Giving what kind stands locks s = absurd (cc)
-    at_take Ready what kind stands locks s = absurd (cc)
-    at_take (Moving x) what kind stands locks s = absurd (cc)
-    at_take (Shrinking x) what kind stands locks s = absurd (cc)
+    at_take Refusing what kind stands backs locks s = absurd (cc)
+    at_take Pinning what kind stands backs locks s = absurd (cc)
+    at_take Unpinning what kind stands backs locks s = absurd (cc)
+    at_take Leaving what kind stands backs locks s = absurd (cc)
+    at_take Fetching what kind stands backs locks s = absurd (cc)
+    at_take Counting what kind stands backs locks s = absurd (cc)
+    at_take Missed what kind stands backs locks s = absurd (cc)
+    at_take Both what kind stands backs locks s = absurd (cc)
+    at_take Made what kind stands backs locks s = absurd (cc)
+    at_take Freeing what kind stands backs locks s = absurd (cc)
+    at_take Releasing what kind stands backs locks s = absurd (cc)
+    at_take Giving what kind stands backs locks s = absurd (cc)
+    at_take Ready what kind stands backs locks s = absurd (cc)
+    at_take (Moving x) what kind stands backs locks s = absurd (cc)
+    at_take (Shrinking x) what kind stands backs locks s = absurd (cc)
 
 module _ (g : Begin) (ok : Known g) where
   by_take : (l : Here) (v : DiskHeld) (k : LockNo) (ps : List Part) (e : EntryState)
@@ -522,6 +684,8 @@ module _ (g : Begin) (ok : Known g) where
       (new_class g.chain ps l.page e.kept)))) v
       → Stands g (spot g.given.size (lock_of (plan_by g.given.size ps l.at (class_by e.kept)
       (new_class g.chain ps l.page e.kept)))) v
+      → Backs g (spot g.given.size (lock_of (plan_by g.given.size ps l.at (class_by e.kept)
+      (new_class g.chain ps l.page e.kept)))) v
       → ks ≡ locks_by ps l.at (class_by e.kept) (new_class g.chain ps l.page e.kept)
       → StageBy g ps e l.at l.fresh l.pin l.owed l.ahead l.behind l.page l.fail
       → (lock_of (plan_by g.given.size ps l.at (class_by e.kept)
@@ -530,10 +694,10 @@ module _ (g : Begin) (ok : Known g) where
       (new_class g.chain ps l.page (entry_or v e).kept))
       × StageBy g ps (entry_or v e) (taken_at g.given.size ps l.at l.page (entry_or v e).kept)
       l.fresh l.pin l.owed l.ahead l.behind l.page l.fail
-  by_take l v k [] e ks disk what kind stands locks s = absurd (cc)
-  by_take l v k (p ∷ ps) e ks disk what kind stands locks s =
+  by_take l v k [] e ks disk what kind stands backs locks s = absurd (cc)
+  by_take l v k (p ∷ ps) e ks disk what kind stands backs locks s =
       at_take g ok p l.fresh l.pin l.owed l.ahead l.behind l.page l.fail e v k ks
-      (disk p ps refl) l.at what kind stands locks s
+      (disk p ps refl) l.at what kind stands backs locks s
 
   pub fits_take : (a : ℕ) (l : Here) (k : LockNo) (v : DiskHeld) → plan (terms g) l ≡ Take k
       → IsActor g a l → AtHome g (spot g.given.size k) v → IsActor g a (took (terms g) l v)
@@ -541,10 +705,11 @@ module _ (g : Begin) (ok : Known g) where
       let q : k ≡ lock_of (plan (terms g) l) = ap lock_of (sym what) in
       let kind = subst (λ (m : LockNo). Sound g (spot g.given.size m) v) q home.sound in
       let stands = subst (λ (m : LockNo). Stands g (spot g.given.size m) v) q home.stands in
+      let backs = subst (λ (m : LockNo). Backs g (spot g.given.size m) v) q home.backs in
       let t = by_take l v k l.todo (entry_in l.held) (map (λ (x : LockNo × DiskHeld). x.0) l.held)
       (λ p rest is. on_disk (EndsSo (ground_of g)) g.given.size f.ops l.done p rest
       (subst (Follows (EndsSo (ground_of g)) (program g.given.size 0 f.ops) l.done) is
-      f.follows)) what kind stands f.locks f.stage in
+      f.follows)) what kind stands backs f.locks f.stage in
       record {
         who = f.who;
         ops = f.ops;

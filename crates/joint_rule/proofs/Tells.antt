@@ -1,11 +1,11 @@
 -- Each turn keeps orders, what they make of pages, and what pieces have read.
-use Rattle.std.proofs.Common.{◌≡◌, ◌≢◌, ◌+◌, ◌*◌, ◌-◌, ◌≤◌, ◌∷◌, ◌++◌, ◌∙◌, ℕ, Bool, false, cond, eqb, List, [], length, Option, Some, None, slice_get, slice_set, refl, sym, ap, subst, arith, inl, inr, ⊎_elim, length-append}
-use Rattle.call_history.specs.Parts.{got_by, is_carried, is_on, left_by, stands_so, without}
+use Rattle.std.proofs.Common.{◌≡◌, ◌≢◌, ◌+◌, ◌*◌, ◌-◌, ◌≤◌, ◌∷◌, ◌++◌, ◌∙◌, ℕ, Bool, true, false, cond, eqb, List, [], length, Option, Some, None, slice_get, slice_set, refl, sym, ap, subst, arith, inl, inr, ⊎_elim, length-append}
+use Rattle.call_history.specs.Parts.{got_by, is_carried, is_on, is_read, left_by, stands_so, without}
 use Rattle.call_history.specs.Shows.{Grown, ShowsPage, got_from, tag_by}
 use Rattle.call_history.specs.declared.part.Done.{Done}
 use Rattle.call_history.specs.declared.part.Part.{Part}
 use Rattle.call_history.specs.declared.part.PartEnd.{PartEnd}
-use Rattle.call_history.specs.declared.part.PartEnd.TheVariants.{AtLimit, Carried, NoMemory, Whole}
+use Rattle.call_history.specs.declared.part.PartEnd.TheVariants.{AtLimit, Carried, Eio, NoMemory, Whole}
 use Rattle.joint_rule.proofs.Events.{Event}
 use Rattle.joint_rule.proofs.Facts.{Known}
 use Rattle.joint_rule.proofs.Gifts.{Gift, is_named, stage}
@@ -16,10 +16,10 @@ use Rattle.joint_rule.proofs.Sums.{each_take, get_else, get_here, get_set, gone,
 use Rattle.joint_rule.specs.Begins.{Begin, content, piece_on, pieces_on, terms}
 use Rattle.joint_rule.specs.Joint.{Joint}
 use Rattle.joint_rule.specs.Rule.{OfOrder, ShowsOrder, Told, done_by, dones, owed, owed_by}
-use Rattle.joint_rule.specs.Stages.{Changes, FailBy, IsRight, Looks}
+use Rattle.joint_rule.specs.Stages.{Changes, FailBy, IsFault, IsRight, Looks}
 use Rattle.joint_rule.specs.Weights.{HeldAll, at_place, none, same}
 use Rattle.lock_row.specs.Totals.{held_sum, mass}
-use Rattle.lock_row.specs.declared.names.At.TheVariants.{Leaving, Ready}
+use Rattle.lock_row.specs.declared.names.At.TheVariants.{Leaving, Missed, Ready}
 use Rattle.lock_row.specs.declared.names.LockNo.{LockNo}
 use Rattle.lock_row.specs.declared.names.Plan.TheVariants.{Give, Take}
 use Rattle.lock_row.specs.declared.names.State.{State}
@@ -127,12 +127,13 @@ module _ (g : Begin) (P : ℕ → List Tag → ℕ → Type 0) where
     quiet : m.done ≡ l.done → m.todo ≡ l.todo → (HeldAll g.given.size (OfOrder P) l.held
         → OfOrder P (spot g.given.size k) v × HeldAll g.given.size (OfOrder P) m.held)
         → Tells l k v m
-    noted : (p : Part) (rest : List Part) (e f : EntryState) (got : List (List ℕ))
+    noted : (p : Part) (rest : List Part) (e f : EntryState) (end : PartEnd) (got : List (List ℕ))
         → l.todo ≡ p ∷ rest → k ≡ slot p.page → l.held ≡ (slot p.page, holds.Slot e) ∷ []
         → v ≡ holds.Slot f
         → is_single g.given.size p.op ≡ false → f.order ≡ e.order ++ tag_by l.actor p ∷ []
-        → e.room ≤ f.room + 1 → got ≡ got_from (content g p.page e.order) p
-        → m ≡ piece_over l p Carried got rest → Tells l k v m
+        → e.room ≤ f.room + 1 → stands_so p.op end ≡ true
+        → got ≡ cond (is_carried end) (got_from (content g p.page e.order) p) []
+        → m ≡ piece_over l p end got rest → Tells l k v m
     refused : (p : Part) (rest : List Part) (end : PartEnd) → l.todo ≡ p ∷ rest
         → stands_so p.op end ≡ false → Carry l k v → m ≡ piece_over l p end [] rest → Tells l k v m
 
@@ -152,9 +153,27 @@ bad_stands g p (Write start count stuff) Carried f = absurd f
 bad_stands g p (Write start count stuff) (Whole end) f = absurd f
 bad_stands g p (Write start count stuff) (AtLimit c n l) f = refl
 bad_stands g p (Write start count stuff) NoMemory f = refl
+bad_stands g p (Write start count stuff) (Eio fault) f = absurd f
 bad_stands g p (Read start count) x f = absurd f
 bad_stands g p (Discard start count) x f = absurd f
 bad_stands g p Compact x f = absurd f
+
+-- a piece of which the device failed stands where it is a read, and has read nothing
+fault_stands : (g : Begin) (p : Part) (op : Op) (x : PartEnd) (b : Bool) → IsFault g p (Some x)
+    → is_read op ≡ b → stands_so op x ≡ b
+fault_stands g p op Carried b f e = absurd f
+fault_stands g p op (AtLimit c n l) b f e = absurd f
+fault_stands g p op NoMemory b f e = absurd f
+fault_stands g p op (Eio fault) b f e = e
+fault_stands g p op (Whole end) b f e = absurd f
+
+fault_got : (g : Begin) (p : Part) (x : PartEnd) (got : List (List ℕ)) → IsFault g p (Some x)
+    → (let xs : List (List ℕ) = [] in xs) ≡ cond (is_carried x) got []
+fault_got g p Carried got f = absurd f
+fault_got g p (AtLimit c n l) got f = absurd f
+fault_got g p NoMemory got f = absurd f
+fault_got g p (Eio fault) got f = refl
+fault_got g p (Whole end) got f = absurd f
 
 right_read : (g : Begin) (q : Part) (op : Op) (p : ℕ) (page was : List ℕ) → Looks op
     → FailBy g q op None → IsRight op p page was → page ≡ was
@@ -217,14 +236,14 @@ module _ (g : Begin) (ok : Known g) (w : State DiskHeld) (j : Joint g w) (a : �
       )))
   tells_of (event.puts p rest e f todo at held notes v_is m_is) =
       let st = stage g ok w j a l who p rest todo _ Ready held at in
-      noted p rest e f [] todo (sym (given_lock g ok w j a l who k v m what (slot p.page)
+      noted p rest e f Carried [] todo (sym (given_lock g ok w j a l who k v m what (slot p.page)
       (event_is g ok w j a l who k v m what p rest _ Ready todo held at))) held v_is st.begun
-      notes.order notes.room (no_got p.op p (content g p.page e.order) refl st.kind.0) m_is
+      notes.order notes.room refl (no_got p.op p (content g p.page e.order) refl st.kind.0) m_is
   tells_of (event.reads p rest e f todo at held well notes v_is m_is) =
       let st = stage g ok w j a l who p rest todo _ Leaving held at in
-      noted p rest e f _ todo (sym (given_lock g ok w j a l who k v m what (slot p.page)
+      noted p rest e f Carried _ todo (sym (given_lock g ok w j a l who k v m what (slot p.page)
       (event_is g ok w j a l who k v m what p rest _ Leaving todo held at))) held v_is st.begun
-      notes.order notes.room
+      notes.order notes.room refl
       (ap (λ (page : List ℕ). got_from page p) (right_read g p p.op p.page (page_in l.page e.kept)
       (content g p.page e.order) st.kind (subst (FailBy g p p.op) well st.fails) st.right)) m_is
   tells_of (event.fails p rest e x todo at held bad v_is m_is) =
@@ -235,6 +254,41 @@ module _ (g : Begin) (ok : Known g) (w : State DiskHeld) (j : Joint g w) (a : �
       (subst (FailBy g p p.op) bad st.fails)) (λ h.
       subst (λ (c : LockNo). OfOrder P (spot g.given.size c) (holds.Slot e)) k_is
       (subst (HeldAll g.given.size (OfOrder P)) held h).0) m_is)
+  tells_of (event.fetches p rest e b d d' page todo at held is reads is_page v_is m_is) =
+      same_tells _ _ v_is m_is (quiet refl refl (λ h. (
+        tt,
+        (subst (HeldAll g.given.size (OfOrder P)) held h).1,
+      )))
+  tells_of (event.misses p rest e b d d' fault todo at held is fails v_is m_is) =
+      same_tells _ _ v_is m_is (quiet refl refl (λ h. (
+        tt,
+        (subst (HeldAll g.given.size (OfOrder P)) held h).1,
+      )))
+  tells_of (event.counts p rest e c todo at held v_is m_is) =
+      same_tells _ _ v_is m_is (quiet refl refl (λ h. (
+        tt,
+        (subst (HeldAll g.given.size (OfOrder P)) held h).1,
+      )))
+  tells_of (event.errs p rest e f x todo at held bad reads notes v_is m_is) =
+      let st = stage g ok w j a l who p rest todo _ Missed held at in
+      let fault = subst (IsFault g p) bad st.fails in
+      noted p rest e f x [] todo (sym (given_lock g ok w j a l who k v m what (slot p.page)
+      (event_is g ok w j a l who k v m what p rest _ Missed todo held at))) held v_is st.begun
+      notes.order notes.room (fault_stands g p p.op x true fault reads)
+      (fault_got g p x (got_from (content g p.page e.order) p) fault) m_is
+  tells_of (event.leaves p rest e x todo at held bad other v_is m_is) =
+      let st = stage g ok w j a l who p rest todo _ Missed held at in
+      let k_is = given_lock g ok w j a l who k v m what (slot p.page)
+      (event_is g ok w j a l who k v m what p rest _ Missed todo held at) in
+      same_tells _ m v_is refl (refused p rest x todo (fault_stands g p p.op x false
+      (subst (IsFault g p) bad st.fails) other) (λ h.
+      subst (λ (c : LockNo). OfOrder P (spot g.given.size c) (holds.Slot e)) k_is
+      (subst (HeldAll g.given.size (OfOrder P)) held h).0) m_is)
+  tells_of (event.releases p rest e b x todo at held is v_is m_is) =
+      same_tells _ _ v_is m_is (quiet refl refl (λ h. (
+        tt,
+        (subst (HeldAll g.given.size (OfOrder P)) held h).1,
+      )))
   tells_of (event.moves p rest x q q' u u' budget frames todo at held sh some one v_is m_is) =
       same_tells _ _ v_is m_is (quiet refl refl (λ h. (tt, tt)))
   tells_of (event.sweeps p rest x q todo at held stuck other v_is m_is) =
@@ -356,26 +410,27 @@ module _ (g : Begin) (ok : Known g) (w : State DiskHeld) (j : Joint g w) (t : To
           few = let z = h.few in omega arith;
         }
 
-    note_here : (p : Part) (rest : List Part) (e f : EntryState) (got : List (List ℕ))
-        → l.todo ≡ p ∷ rest → is_single n p.op ≡ false → f.order ≡ e.order ++ tag_by l.actor p ∷ []
-        → e.room ≤ f.room + 1
-        → got ≡ got_from (content g p.page e.order) p → m ≡ piece_over l p Carried got rest
-        → P p.page e.order e.room → Q p.page f.order f.room
-    note_here p rest e f got todo begun order room got_is m_is h =
+    note_here : (p : Part) (rest : List Part) (e f : EntryState) (end : PartEnd)
+        (got : List (List ℕ)) → l.todo ≡ p ∷ rest → is_single n p.op ≡ false
+        → f.order ≡ e.order ++ tag_by l.actor p ∷ [] → e.room ≤ f.room + 1
+        → stands_so p.op end ≡ true
+        → got ≡ cond (is_carried end) (got_from (content g p.page e.order) p) []
+        → m ≡ piece_over l p end got rest → P p.page e.order e.room → Q p.page f.order f.room
+    note_here p rest e f end got todo begun order room stands got_is m_is h =
         let who_is = (j.each.in_local a l who).who in
         let named_a : named g.given.actors (tag_by a p) ≡ Some p.op =
         ap (λ (b : ℕ). named g.given.actors (tag_by b p)) (sym who_is)
         ∙ is_named g ok w j a l who p rest todo in
-        let q = fewer p rest Carried got todo m_is p.page in let s = once n p begun in
+        let q = fewer p rest end got todo m_is p.page in let s = once n p begun in
         let len : length f.order ≡ length e.order + 1 = ap length order
         ∙ length-append e.order (tag_by l.actor p ∷ []) in record {
           shows = subst (λ (o : List Tag). ShowsPage g.given (dones (slice_set w.locals a m)) p.page
               (content g p.page o) o) (sym (order ∙ ap (λ (b : ℕ).
               e.order ++ tag_by b p ∷ []) who_is))
               (ok.facts.here g.given (dones w.locals) (dones (slice_set w.locals a m)) a
-              (done_one p Carried got) p (content g p.page e.order) e.order
+              (done_one p end got) p (content g p.page e.order) e.order
               (content g p.page (e.order ++ tag_by a p ∷ [])) (e.order ++ tag_by a p ∷ [])
-              (grown p rest Carried got m_is) refl refl
+              (grown p rest end got m_is) refl stands
               (content_carries g ok p e.order a named_a) named_a got_is h.shows);
           spare = let z = h.spare in omega arith;
           few = let z = h.few in omega arith;
@@ -392,12 +447,12 @@ module _ (g : Begin) (ok : Known g) (w : State DiskHeld) (j : Joint g w) (t : To
         (and_right (eqb p.page i) (stands_so p.op end) off) in
         goes (λ i o r ne. f i o r) (carry (held_map n P Q f l.held (t.in_local a l who)))
         (empty_hand p rest end [] m_is)
-    told_give (noted p rest e f got todo k_is held v_is begun order room got_is m_is) =
-        goes (λ i o r ne. off_page p rest Carried got todo m_is i o r
-        (and_left (eqb p.page i) (stands_so p.op Carried)
+    told_give (noted p rest e f end got todo k_is held v_is begun order room stands got_is m_is) =
+        goes (λ i o r ne. off_page p rest end got todo m_is i o r
+        (and_left (eqb p.page i) (stands_so p.op end)
         (ne_eqb p.page i (λ s. ne (sym s ∙ ap (spot n) (sym k_is))))))
         (subst (λ (y : LockNo × DiskHeld). OfOrder Q (spot n y.0) y.1)
         (λ i. (sym k_is i, sym v_is i))
-        (note_here p rest e f got todo begun order room got_is m_is
+        (note_here p rest e f end got todo begun order room stands got_is m_is
         (subst (HeldAll n (OfOrder P)) held (t.in_local a l who)).0))
-        (empty_hand p rest Carried got m_is)
+        (empty_hand p rest end got m_is)

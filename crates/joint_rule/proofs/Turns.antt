@@ -4,7 +4,7 @@ use Rattle.call_history.specs.Parts.{KeepsTo}
 use Rattle.call_history.specs.declared.part.Done.{Done}
 use Rattle.call_history.specs.declared.part.Part.{Part}
 use Rattle.call_history.specs.declared.part.PartEnd.{PartEnd}
-use Rattle.call_history.specs.declared.part.PartEnd.TheVariants.{AtLimit, Carried, NoMemory, Whole}
+use Rattle.call_history.specs.declared.part.PartEnd.TheVariants.{AtLimit, Carried, Eio, NoMemory, Whole}
 use Rattle.class_pool.specs.Pool.{PoolState}
 use Rattle.joint_rule.proofs.Alone.{alone_give, alone_take}
 use Rattle.joint_rule.proofs.Balances.{none_fresh}
@@ -12,6 +12,8 @@ use Rattle.joint_rule.proofs.Bounds.{below, most_give, most_take, risen, times_l
 use Rattle.joint_rule.proofs.Counts.{refusals_give, refusals_take, refuses_of}
 use Rattle.joint_rule.proofs.Events.{Event}
 use Rattle.joint_rule.proofs.Facts.{Known}
+use Rattle.joint_rule.proofs.Faults.{blames_of, faults_give, faults_rise, faults_take}
+use Rattle.joint_rule.proofs.Fetches.{fetches_give, fetches_take, reads_of}
 use Rattle.joint_rule.proofs.Freed.{freed_give, freed_take, frees_of}
 use Rattle.joint_rule.proofs.Gifts.{stage}
 use Rattle.joint_rule.proofs.Givings.{gift}
@@ -20,13 +22,13 @@ use Rattle.joint_rule.proofs.Lookups.{lone, mine_account, under_account}
 use Rattle.joint_rule.proofs.News.{news_give, news_gives, news_take}
 use Rattle.joint_rule.proofs.Pages.{ever_now}
 use Rattle.joint_rule.proofs.Pools.{chain_low}
-use Rattle.joint_rule.proofs.Sums.{get_set, gone}
+use Rattle.joint_rule.proofs.Sums.{get_here, get_set, gone, row_le}
 use Rattle.joint_rule.proofs.Takes.{form_claim}
 use Rattle.joint_rule.proofs.Tells.{tells_of, told_give, told_take}
 use Rattle.joint_rule.specs.Begins.{Begin, form_at, ground_of, image, terms}
 use Rattle.joint_rule.specs.Joint.{Joint, PoolFits, Sound}
 use Rattle.joint_rule.specs.Rule.{FailKeeps, KeepsLimits, Rule, ShowsOrder, reach_at}
-use Rattle.joint_rule.specs.Weights.{HeldAll, claims, each_one, ever_at, one, pages, some_of}
+use Rattle.joint_rule.specs.Weights.{HeldAll, claims, device_faults, each_one, ever_at, none, one, pages, some_of}
 use Rattle.lock_row.specs.Machine.{Run}
 use Rattle.lock_row.specs.Totals.{held_sum}
 use Rattle.lock_row.specs.declared.names.At.TheVariants.{Both}
@@ -52,14 +54,19 @@ get_push [] x (suc i) y e = absurd (cc)
 get_push (z ∷ zs) x zero y e = inl e
 get_push (z ∷ zs) x (suc i) y e = get_push zs x i y e
 
--- ---- refusals at the limit
+-- ---- refusals
 
-module _ (g : Begin) (b c : Bounds) (up : b.reach ≤ c.reach) where
+-- neither bound falls
+abbrev Above : Bounds → Bounds → Type 0
+Above b c = (b.reach ≤ c.reach) × (b.faults ≤ c.faults)
+
+module _ (g : Begin) (b c : Bounds) (up : Above b c) where
   keeps_up : (x : PartEnd) → KeepsTo (ground_of g) b x → KeepsTo (ground_of g) c x
   keeps_up Carried h = tt
   keeps_up NoMemory h = tt
   keeps_up (Whole x) h = tt
-  keeps_up (AtLimit n need limit) h = let t = times_le g.chain b.reach c.reach up in omega arith
+  keeps_up (AtLimit n need limit) h = let t = times_le g.chain b.reach c.reach up.0 in omega arith
+  keeps_up (Eio fault) h = let t = up.1 in omega arith
 
   fail_up : (x : Option PartEnd) → FailKeeps g b x → FailKeeps g c x
   fail_up None h = tt
@@ -92,7 +99,7 @@ module _ (g : Begin) (b c : Bounds) (up : b.reach ≤ c.reach) where
   }
 
 module _ (g : Begin) (ok : Known g) (w : State DiskHeld) (j : Joint g w) (a : ℕ) (l : Here)
-    (who : slice_get w.locals a ≡ Some l) (v : DiskHeld) (m : Here) where
+    (who : slice_get w.locals a ≡ Some l) (k : LockNo) (v : DiskHeld) (m : Here) where
   abbrev n : ℕ
   n = g.given.size
 
@@ -125,55 +132,73 @@ module _ (g : Begin) (ok : Known g) (w : State DiskHeld) (j : Joint g w) (a : �
       let b = below g ok w j a l who (omega arith) in
       let few = need_few q need sounds.1.0.1 is_need in let p1 = past.1 in omega arith
 
-  pub limits_of : (c : Bounds) → (reach_at g w).reach ≤ c.reach → Event g l v m
-      → KeepsLimits g (reach_at g w) l → KeepsLimits g c m
-  limits_of c up (event.refuses p rest x todo at held v_is m_is) h =
+  pub limits_of : (c : Bounds) → Above (reach_at g w) c → device_faults (spot n k) v ≤ c.faults
+      → Event g l v m → KeepsLimits g (reach_at g w) l → KeepsLimits g c m
+  limits_of c up low (event.refuses p rest x todo at held v_is m_is) h =
       subst (KeepsLimits g c) (sym m_is) (limits_over g (reach_at g w) c up l p
       (Whole ends.Range) [] rest tt h)
-  limits_of c up (event.pins p rest e o q q' u u' cell todo at held is sw named_u free taken is_cell
-      in_cell lk v_is m_is) h = subst (KeepsLimits g c) (sym m_is)
+  limits_of c up low (event.pins p rest e o q q' u u' cell todo at held is sw named_u free taken
+      is_cell in_cell lk v_is m_is) h = subst (KeepsLimits g c) (sym m_is)
       (limits_same g (reach_at g w) c up l _ refl refl h)
-  limits_of c up (event.unpins p rest e o q q' u u' todo at held is sw named_u taken free lk v_is
-      m_is)
-      h = subst (KeepsLimits g c) (sym m_is) (limits_same g (reach_at g w) c up l _ refl refl h)
-  limits_of c up (event.charges p rest e x q q' cl hd need bytes huge todo at held is_form is_class
-      within al v_is m_is) h = subst (KeepsLimits g c) (sym m_is)
+  limits_of c up low (event.unpins p rest e o q q' u u' todo at held is sw named_u taken free lk
+      v_is m_is) h = subst (KeepsLimits g c) (sym m_is)
       (limits_same g (reach_at g w) c up l _ refl refl h)
-  limits_of c up (event.limits p rest e x q cl need todo at held is_need past v_is m_is) h =
+  limits_of c up low (event.charges p rest e x q q' cl hd need bytes huge todo at held is_form
+      is_class within al v_is m_is) h = subst (KeepsLimits g c) (sym m_is)
+      (limits_same g (reach_at g w) c up l _ refl refl h)
+  limits_of c up low (event.limits p rest e x q cl need todo at held is_need past v_is m_is) h =
       subst (KeepsLimits g c) (sym m_is) (record {
         over = (limits_up g (reach_at g w) c up l h).over;
         now = keeps_up g (reach_at g w) c up (AtLimit x.pages need x.limit)
             (refused_below p rest e x q cl need todo at held is_need past);
       })
-  limits_of c up (event.starves p rest e x q cl todo at held v_is m_is) h =
+  limits_of c up low (event.starves p rest e x q cl todo at held v_is m_is) h =
       subst (KeepsLimits g c) (sym m_is) (record {
         over = (limits_up g (reach_at g w) c up l h).over;
         now = tt;
       })
-  limits_of c up (event.stows p rest e q cl todo at held well v_is m_is) h =
+  limits_of c up low (event.stows p rest e q cl todo at held well v_is m_is) h =
       subst (KeepsLimits g c) (sym m_is) (limits_same g (reach_at g w) c up l _ refl refl h)
-  limits_of c up (event.quits p rest e q cl x todo at held bad v_is m_is) h =
+  limits_of c up low (event.quits p rest e q cl x todo at held bad v_is m_is) h =
       subst (KeepsLimits g c) (sym m_is) (limits_same g (reach_at g w) c up l _ refl refl h)
-  limits_of c up (event.frees p rest e o q q' frames todo at held is fp v_is m_is) h =
+  limits_of c up low (event.frees p rest e o q q' frames todo at held is fp v_is m_is) h =
       subst (KeepsLimits g c) (sym m_is) (limits_same g (reach_at g w) c up l _ refl refl h)
-  limits_of c up (event.repays p rest e x todo at held v_is m_is) h =
+  limits_of c up low (event.repays p rest e x todo at held v_is m_is) h =
       subst (KeepsLimits g c) (sym m_is) (limits_same g (reach_at g w) c up l _ refl refl h)
-  limits_of c up (event.puts p rest e f todo at held notes v_is m_is) h =
+  limits_of c up low (event.puts p rest e f todo at held notes v_is m_is) h =
       subst (KeepsLimits g c) (sym m_is) (limits_over g
       (reach_at g w) c up l p Carried [] rest tt h)
-  limits_of c up (event.reads p rest e f todo at held well notes v_is m_is) h =
+  limits_of c up low (event.reads p rest e f todo at held well notes v_is m_is) h =
       subst (KeepsLimits g c) (sym m_is) (limits_over g (reach_at g w) c up l p Carried _ rest tt h)
-  limits_of c up (event.fails p rest e x todo at held bad v_is m_is) h =
+  limits_of c up low (event.fails p rest e x todo at held bad v_is m_is) h =
       subst (KeepsLimits g c) (sym m_is) (limits_over g (reach_at g w) c up l p x [] rest
       (fail_up g (reach_at g w) c up (Some x) (subst (FailKeeps g (reach_at g w)) bad h.now)) h)
-  limits_of c up (event.moves p rest x q q' u u' budget frames todo at held sh some one v_is m_is) h =
+  limits_of c up low (event.fetches p rest e b d d' page todo at held is read is_page v_is m_is) h =
       subst (KeepsLimits g c) (sym m_is) (limits_same g (reach_at g w) c up l _ refl refl h)
-  limits_of c up (event.sweeps p rest x q todo at held stuck other v_is m_is) h =
+  limits_of c up low (event.misses p rest e b d d' fault todo at held is failed v_is m_is) h =
+      subst (KeepsLimits g c) (sym m_is) (record {
+        over = (limits_up g (reach_at g w) c up l h).over;
+        now = (let r = ap (device_faults (spot n k)) v_is in let s = failed.count in omega arith);
+      })
+  limits_of c up low (event.counts p rest e x todo at held v_is m_is) h =
       subst (KeepsLimits g c) (sym m_is) (limits_same g (reach_at g w) c up l _ refl refl h)
-  limits_of c up (event.closes p rest x q todo at held stuck last v_is m_is) h =
+  limits_of c up low (event.errs p rest e f x todo at held bad read notes v_is m_is) h =
+      subst (KeepsLimits g c) (sym m_is) (limits_over g (reach_at g w) c up l p x [] rest
+      (fail_up g (reach_at g w) c up (Some x) (subst (FailKeeps g (reach_at g w)) bad h.now)) h)
+  limits_of c up low (event.leaves p rest e x todo at held bad other v_is m_is) h =
+      subst (KeepsLimits g c) (sym m_is) (limits_over g (reach_at g w) c up l p x [] rest
+      (fail_up g (reach_at g w) c up (Some x) (subst (FailKeeps g (reach_at g w)) bad h.now)) h)
+  limits_of c up low (event.releases p rest e b x todo at held is v_is m_is) h =
+      subst (KeepsLimits g c) (sym m_is) (limits_same g (reach_at g w) c up l _ refl refl h)
+  limits_of c up low (event.moves p rest x q q' u u' budget frames todo at held sh some one v_is
+      m_is) h =
+      subst (KeepsLimits g c) (sym m_is) (limits_same g (reach_at g w) c up l _ refl refl h)
+  limits_of c up low (event.sweeps p rest x q todo at held stuck other v_is m_is) h =
+      subst (KeepsLimits g c) (sym m_is) (limits_same g (reach_at g w) c up l _ refl refl h)
+  limits_of c up low (event.closes p rest x q todo at held stuck last v_is m_is) h =
       subst (KeepsLimits g c) (sym m_is) (limits_over g (reach_at g w) c up l p
       (Whole (ends.Compacted x.moves x.frames)) [] rest tt h)
-  limits_of c up (event.shrinks p rest x y todo at held v_is m_is) h =
+  limits_of c up low (event.shrinks p rest x y todo at held v_is m_is) h =
       subst (KeepsLimits g c) (sym m_is) (limits_same g (reach_at g w) c up l _ refl refl h)
 
 -- ---- the rule
@@ -187,19 +212,24 @@ module _ (g : Begin) (ok : Known g) (w : State DiskHeld) (r : Rule g w) (a : ℕ
       → Rule g (gone size w a l who k None (took (terms g) l v))
   rule_take what there =
       let m = took (terms g) l v in
-      let same = ok.facts.take (spot size) (ever_at g) one w a l k v m who there
-      (ap (λ p. (lock_of p, v) ∷ l.held) what) refl in record {
+      let held = ap (λ p. (lock_of p, v) ∷ l.held) what in
+      let same = ok.facts.take (spot size) (ever_at g) one w a l k v m who there held refl in
+      let still = ok.facts.take (spot size) device_faults none w a l k v m who there held refl in
+      let up : Above (reach_at g w) (reach_at g (gone size w a l who k None m)) =
+      (omega arith, omega arith) in record {
         joint = take_keeps g ok w r.joint a l who k v what there;
         told = told_take g ok w r.joint r.told a l who k v what there;
         most = most_take g ok w r.joint a l who k v what there r.most;
         refusals = λ q. refusals_take g ok w r.joint a l who k v m q what there (r.refusals q);
         freed = freed_take g ok w r.joint a l who k v what there r.freed;
         news = λ q. news_take g ok w r.joint a l who k v m q what there (r.news q);
-        limits = λ b y e. ⊎_elim
-            (λ s. subst (KeepsLimits g _) s.1 (limits_same g (reach_at g w) _
-            (omega arith) l m refl refl (r.limits a l who)))
-            (λ o. limits_up g (reach_at g w) _ (omega arith) y (r.limits b y o.1))
-            (get_set w.locals a b m y l who e);
+        limits = λ i y e. ⊎_elim
+            (λ s. subst (KeepsLimits g _) s.1 (limits_same g (reach_at g w) _ up l m refl refl
+            (r.limits a l who)))
+            (λ o. limits_up g (reach_at g w) _ up y (r.limits i y o.1))
+            (get_set w.locals a i m y l who e);
+        faults = faults_take g ok w a l who k v r.faults;
+        fetches = fetches_take g ok w a l who k v what there r.fetches;
         alone = alone_take g ok w r.joint a l who k v what there r.alone;
       }
 
@@ -207,7 +237,14 @@ module _ (g : Begin) (ok : Known g) (w : State DiskHeld) (r : Rule g w) (a : ℕ
       → Event g l v m → Rule g (gone size w a l who k (Some v) m)
   rule_give m what there ev =
       let x = gift g ok w r.joint a l who k v m what ev in
-      let up = risen g ok w r.joint a l who k v m there x in record {
+      let b = blames_of g ok w r.joint a l who k v m ev in
+      let now = reach_at g (gone size w a l who k (Some v) m) in
+      let up : Above (reach_at g w) now = (
+        risen g ok w r.joint a l who k v m there x,
+        faults_rise g ok w r.joint a l who k v m there b,
+      ) in
+      let home = row_le size device_faults (slice_set w.row (spot size k) (Some v)) (spot size k)
+      (Some v) (get_here w.row (spot size k) (Some v) None there) in record {
         joint = give_keeps g ok w r.joint a l who k v m there x;
         told = told_give g ok w r.joint r.told a l who k v m there x
             (tells_of g ok w r.joint a l who k v m what (ShowsOrder g (slice_set w.locals a m)) ev);
@@ -218,11 +255,14 @@ module _ (g : Begin) (ok : Known g) (w : State DiskHeld) (r : Rule g w) (a : ℕ
             (frees_of g ok w r.joint a l who k v m ev) r.freed;
         news = λ q. news_give g ok w r.joint a l who k v m q there
             (news_gives g ok w r.joint a l who k v m what q ev) (r.news q);
-        limits = λ b y e. ⊎_elim
-            (λ s. subst (KeepsLimits g _) s.1 (limits_of g ok w r.joint a l who v m _ up ev
-            (r.limits a l who)))
-            (λ o. limits_up g (reach_at g w) _ up y (r.limits b y o.1))
-            (get_set w.locals a b m y l who e);
+        limits = λ i y e. ⊎_elim
+            (λ s. subst (KeepsLimits g now) s.1 (limits_of g ok w r.joint a l who k v m now up
+            (omega arith) ev (r.limits a l who)))
+            (λ o. limits_up g (reach_at g w) now up y (r.limits i y o.1))
+            (get_set w.locals a i m y l who e);
+        faults = faults_give g ok w r.joint a l who k v m r.limits b r.faults;
+        fetches = fetches_give g ok w r.joint a l who k v m there
+            (reads_of g ok w r.joint a l who k v m what ev) r.fetches;
         alone = alone_give g ok w r.joint a l who k v m what there ev r.alone;
       }
 

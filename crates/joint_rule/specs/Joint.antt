@@ -1,6 +1,6 @@
 -- The joint rule of pages, pools and the account: what each value and each actor is, and the sums
 -- over them all.
-use Rattle.std.specs.Prelude.{◌≡◌, ℕ, ◌+◌, ◌<◌, ◌≤◌, List, map, length, sum_by, Some, slice_get, ⊤}
+use Rattle.std.specs.Prelude.{◌≡◌, ℕ, ◌+◌, ◌^◌, ◌<◌, ◌≤◌, List, map, length, sum_by, Some, slice_get, ⊤}
 use Rattle.zr_base.specs.declared.op.Op.{Op}
 use Rattle.size_class.specs.Classes.{class_size, chain_of, per_of}
 use Rattle.backing_dev.specs.Dev.{DeviceState, IsHonestDevice}
@@ -38,13 +38,14 @@ pub record EntryFits (g : Begin) (j : ℕ) (e : EntryState) : Type 0 where
   pub small : IsSmall (weight_of e.kept)
 
 -- The device is the one with which the phase began, with as many blocks, honest where it was. Its
--- counts haven't fallen, and nothing was written.
+-- counts haven't fallen, that of reads isn't past its end, and nothing was written.
 pub record KeepsDevice (d e : DeviceState) : Type 0 where
   pub same : e.references ≡ d.references
   pub blocks : e.blocks ≡ d.blocks
   pub honest : IsHonestDevice d → IsHonestDevice e
   pub faults : d.faults ≤ e.faults
   pub reads : d.reads ≤ e.reads
+  pub end : e.reads < 2 ^ 64
   pub writes : e.writes ≡ d.writes
 
 -- the value fits its place

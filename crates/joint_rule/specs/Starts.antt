@@ -139,4 +139,4 @@ IsNew g j (holds.Class p) = (j ≡ g.given.size + p.class) × (p.class < 255)
 IsNew g j (holds.Account c) = (j ≡ g.given.size + 255) × (c ≡ record no_counts { limit = c.limit })
 IsNew g j (holds.Blocks x) = (j ≡ g.given.size + 256) × AreFree x.states
     × (length x.states ≤ g.device.blocks)
-IsNew g j (holds.Device x) = (j ≡ g.given.size + 257) × (x ≡ g.device)
+IsNew g j (holds.Device x) = (j ≡ g.given.size + 257) × (x ≡ g.device) × (x.reads < 2 ^ 64)

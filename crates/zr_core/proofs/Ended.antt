@@ -29,7 +29,7 @@ each_same size [] page = refl
 each_same size (ops ∷ more) page = λ i. on_same size page (program size 0 ops) i
     + each_same size more page i
 
-module _ (x : Playing) (fit : AreFit x.terms x.actors x.workers) (g : Begin) (j : HasRule g x)
+module _ {D : Type 0} (x : Playing D) (fit : AreFit x.terms x.actors x.workers) (g : Begin) (j : HasRule g x)
     (finished : AllFinished (state_of x j.dones)) (chain : x.terms.chain ≡ MOST_CHAIN)
     (rests : FinishedIsAtRest) (next : RestGoesOn) (law : RequestsAreProper) where
   same_size : g.given.size ≡ x.terms.size
@@ -67,7 +67,7 @@ module _ (x : Playing) (fit : AreFit x.terms x.actors x.workers) (g : Begin) (j 
   }
 
 -- the world is at rest where all actors are finished
-pub rests_over : (x : Playing) (can : CanGoOn x)
+pub rests_over : {D : Type 0} (x : Playing D) (can : CanGoOn x)
     → ((dones : List (List Done)) → AllFinished (state_of x dones))
     → x.terms.chain ≡ MOST_CHAIN → FinishedIsAtRest → RestGoesOn → RequestsAreProper
     → IsAtRest x.terms.size x.noted x.cells
@@ -90,7 +90,7 @@ rests_over x can finished chain rests next law = by can.ruled where
       (orders_over x can.fit g j (finished j.dones) chain rests next law can.pieces)
 
 -- a whole phase by its turns
-pub steps_over : (x y : Playing) (turns : List ℕ) → Plays turns x y
+pub steps_over : {D : Type 0} (x y : Playing D) (turns : List ℕ) → Plays turns x y
     → AreFit y.terms y.actors y.workers → y.actors ≡ x.actors
     → (before : List (Option DiskHeld)) → IsSetUpOn before x
     → ((dones : List (List Done)) → AllFinished (state_of y dones))

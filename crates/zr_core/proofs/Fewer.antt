@@ -14,9 +14,9 @@ use Rattle.zr_core.proofs.States.{heres_get}
 use Rattle.zr_core.proofs.Worlds.{ruled_by}
 
 -- an actor is that of a worker
-pub of_here : (t : Terms) (actors : List (List Op)) (ws : List Worker) (dones : List (List Done))
+pub of_here : {D : Type 0} (t : Terms) (actors : List (List Op)) (ws : List (Worker D)) (dones : List (List Done))
     (a : ℕ) (l : Here) → slice_get (heres t actors ws dones) a ≡ Some l
-    → (ops : List Op) × (w : Worker) × (done : List Done)
+    → (ops : List Op) × (w : Worker D) × (done : List Done)
     × ((slice_get actors a ≡ Some ops) × (slice_get ws a ≡ Some w)) × (here t.size ops w done ≡ l)
 of_here t [] ws ds a l e = absurd (cc)
 of_here t (x ∷ xs) [] ds a l e = absurd (cc)
@@ -26,7 +26,7 @@ of_here t (x ∷ xs) (y ∷ ys) (z ∷ zs) zero l e =
 of_here t (x ∷ xs) (y ∷ ys) (z ∷ zs) (suc a) l e = of_here t xs ys zs a l e
 
 -- there are as many, whatever is over
-pub count_same : (t : Terms) (actors : List (List Op)) (ws : List Worker) (dones : List (List Done))
+pub count_same : {D : Type 0} (t : Terms) (actors : List (List Op)) (ws : List (Worker D)) (dones : List (List Done))
     → length dones ≡ length ws
     → length (heres t actors ws dones) ≡ length (heres t actors ws (nothing_over ws))
 count_same t [] ws ds e = refl
@@ -37,11 +37,11 @@ count_same t (ops ∷ more) (w ∷ ws) (d ∷ ds) e =
     ap (λ (k : ℕ). suc k) (count_same t more ws ds (omega arith))
 
 -- no class has more objects than there are pages and actors
-abbrev pub AllFew : Playing → Type 0
+abbrev pub AllFew : {D : Type 0} → Playing D → Type 0
 AllFew x = (dones : List (List Done)) → AreKept x.workers dones
     → AreFew x.terms.size (state_of x dones)
 
-pub can_few : CompactedIsFew → (x : Playing) → CanGoOn x → AllFew x
+pub can_few : {D : Type 0} → CompactedIsFew → (x : Playing D) → CanGoOn x → AllFew x
 can_few law x can dones kept a l who =
     let o = of_here x.terms x.actors x.workers dones a l who in
     let r = ruled_by x a o.0 can.ruled o.3.0 in

@@ -256,22 +256,22 @@ still_rests pages noted old new rest d counts r = record {
 
 -- ---- the workers
 
-none_over : (ws : List Worker) (a : ℕ) (done : List Done)
+none_over : {D : Type 0} (ws : List (Worker D)) (a : ℕ) (done : List Done)
     → slice_get (nothing_over ws) a ≡ Some done
     → done ≡ []
 none_over [] a done e = absurd (cc)
 none_over (w ∷ ws) zero done e = let q : Some (let ds : List Done = [] in ds) ≡ Some done = e in cc
 none_over (w ∷ ws) (suc a) done e = none_over ws a done e
 
-record HereAt (t : Terms) (actors : List (List Op)) (ws : List Worker) (a : ℕ)
+record HereAt {D : Type 0} (t : Terms) (actors : List (List Op)) (ws : List (Worker D)) (a : ℕ)
     (l : Here) : Type 0 where
   ops : List Op
-  worker : Worker
+  worker : Worker D
   named : slice_get actors a ≡ Some ops
   there : slice_get ws a ≡ Some worker
   is : l ≡ here t.size ops worker []
 
-here_at : (t : Terms) (actors : List (List Op)) (ws : List Worker) (a : ℕ) (l : Here)
+here_at : {D : Type 0} (t : Terms) (actors : List (List Op)) (ws : List (Worker D)) (a : ℕ) (l : Here)
     → slice_get (heres t actors ws (nothing_over ws)) a ≡ Some l → HereAt t actors ws a l
 here_at t [] ws a l e = absurd (cc)
 here_at t (ops ∷ more) [] a l e = absurd (cc)
@@ -287,16 +287,16 @@ here_at t (ops ∷ more) (w ∷ ws) zero l e =
 here_at t (ops ∷ more) (w ∷ ws) (suc a) l e = let h = here_at t more ws a l e in
     record { ops = h.ops; worker = h.worker; named = h.named; there = h.there; is = h.is }
 
-as_many : (t : Terms) (actors : List (List Op)) (ws : List Worker) → length ws ≡ length actors
+as_many : {D : Type 0} (t : Terms) (actors : List (List Op)) (ws : List (Worker D)) → length ws ≡ length actors
     → length (heres t actors ws (nothing_over ws)) ≡ length actors
 as_many t [] ws e = refl
 as_many t (ops ∷ more) [] e = absurd (let q : 0 ≡ suc (length more) = e in
     let none : ⊥ = omega arith in none)
 as_many t (ops ∷ more) (w ∷ ws) e = ap suc (as_many t more ws (omega arith))
 
-owed_is : (t : Terms) (p : ℕ) (actors : List (List Op)) (ws : List Worker)
+owed_is : {D : Type 0} (t : Terms) (p : ℕ) (actors : List (List Op)) (ws : List (Worker D))
     → length ws ≡ length actors
-    → ((a : ℕ) (ops : List Op) (w : Worker) → slice_get actors a ≡ Some ops
+    → ((a : ℕ) (ops : List Op) (w : Worker D) → slice_get actors a ≡ Some ops
     → slice_get ws a ≡ Some w
     → todo_at t.size ops w.place ≡ program t.size 0 ops)
     → owed t.size (heres t actors ws (nothing_over ws)) p ≡ pieces_each t.size actors p
@@ -310,14 +310,14 @@ owed_is t p (ops ∷ more) (w ∷ ws) e todo =
 
 -- ---- the state before the first turn
 
-module _ (t : Terms) (actors : List (List Op)) (cells cells' : Row) (ws : List Worker)
+module _ {D : Type 0} (t : Terms) (actors : List (List Op)) (cells cells' : Row) (ws : List (Worker D))
     (limit : ℕ) (counts : BTreeMap ℕ ℕ) (noted : List ℕ)
     (new : AreNewWorkers t.size t.chain actors ws)
     (counted : (p : ℕ) → p < t.size → count_at counts p ≡ counted_each t.size actors p)
     (r : AreReserved (λ p. true) counts t.size cells cells')
     (beyond : (k : ℕ) (e : EntryState) → t.size ≤ k
     → slice_get cells k ≡ Some (Some (holds.Slot e)) → ⊥) where
-  abbrev now : Playing
+  abbrev now : Playing D
   now = record {
     terms = t;
     limit = limit;
@@ -332,7 +332,7 @@ module _ (t : Terms) (actors : List (List Op)) (cells cells' : Row) (ws : List W
 
   kept : AreKept ws (nothing_over ws)
   kept = record {
-    count = length-map ws (λ (w : Worker). (let ds : List Done = [] in ds));
+    count = length-map ws (λ (w : Worker D). (let ds : List Done = [] in ds));
     each = λ a w done e f. subst (Keeps w) (sym (none_over ws a done f))
         (let ops = there_is actors a
         (let q = slice_get_within ws a w e in let n = new.count in omega arith) in

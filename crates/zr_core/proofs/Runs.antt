@@ -72,7 +72,7 @@ module _ (sums : SumMoves DiskHeld) (t : Terms) where
 -- ---- workers
 
 -- what is left doesn't depend on what is over
-sum_same : (n : ℕ) (t : Terms) (actors : List (List Op)) (ws : List Worker)
+sum_same : {D : Type 0} (n : ℕ) (t : Terms) (actors : List (List Op)) (ws : List (Worker D))
     (dones : List (List Done)) → length dones ≡ length ws
     → locals_sum (left_by n) (heres t actors ws dones)
     ≡ locals_sum (left_by n) (heres t actors ws (nothing_over ws))
@@ -83,7 +83,7 @@ sum_same n t (ops ∷ more) (w ∷ ws) [] e = absurd (let q : 0 ≡ suc (length 
 sum_same n t (ops ∷ more) (w ∷ ws) (d ∷ ds) e =
     ap (λ (k : ℕ). left_by n (here t.size ops w d) + k) (sum_same n t more ws ds (omega arith))
 
-pub left_same : (x : Playing) (dones : List (List Done)) → length dones ≡ length x.workers
+pub left_same : {D : Type 0} (x : Playing D) (dones : List (List Done)) → length dones ≡ length x.workers
     → all_left x.terms.size (state_of x dones) ≡ left_of x
 left_same x dones e =
     sum_same (x.terms.size + length (heres x.terms x.actors x.workers dones)) x.terms x.actors
@@ -92,7 +92,7 @@ left_same x dones e =
     (heres x.terms x.actors x.workers (nothing_over x.workers)))
     (count_same x.terms x.actors x.workers dones e)
 
-pub heres_length : (t : Terms) (actors : List (List Op)) (ws : List Worker)
+pub heres_length : {D : Type 0} (t : Terms) (actors : List (List Op)) (ws : List (Worker D))
     (dones : List (List Done))
     → length (heres t actors ws dones) ≤ length actors
 heres_length t [] ws ds = omega arith
@@ -127,7 +127,7 @@ may_move g w (gives a l k who what out) = (
   ),
 )
 
-module _ (free : NobodyWaitsForever) (x : Playing) (can : CanGoOn x) (busy : IsBusy x.actors x.workers)
+module _ {D : Type 0} (free : NobodyWaitsForever) (x : Playing D) (can : CanGoOn x) (busy : IsBusy x.actors x.workers)
   where
     -- the rule, since there is an actor
     pub rule : (g : Begin) × HasRule g x
@@ -151,7 +151,7 @@ module _ (free : NobodyWaitsForever) (x : Playing) (can : CanGoOn x) (busy : IsB
         (f.0, subst (λ (t : Terms). IsFree t s f.0) j.of.goes_by f.1)
 
     -- a whole round leaves fewer events
-    pub round_left : SumMoves DiskHeld → (y : Playing) → y.terms ≡ x.terms → y.actors ≡ x.actors
+    pub round_left : {D : Type 0} → SumMoves DiskHeld → (y : Playing D) → y.terms ≡ x.terms → y.actors ≡ x.actors
         → (n : ℕ)
         → length x.actors ≤ n → RoundTo (state_of x rule.1.dones) y n
         → left_of y < left_of x
@@ -167,8 +167,8 @@ module _ (free : NobodyWaitsForever) (x : Playing) (can : CanGoOn x) (busy : IsB
         ∙ left_same y r.0 r.1.count in omega arith
 
 -- where all workers are past their operations, all actors are finished
-pub all_finished : (t : Terms) (actors : List (List Op)) (cells : List (Option DiskHeld))
-    (ws : List Worker) (dones : List (List Done)) → AllOver actors ws
+pub all_finished : {D : Type 0} (t : Terms) (actors : List (List Op)) (cells : List (Option DiskHeld))
+    (ws : List (Worker D)) (dones : List (List Done)) → AllOver actors ws
     → AllFinished (state t actors cells ws dones)
 all_finished t actors cells ws dones over a l who =
     let x = of_here t actors ws dones a l who in
@@ -176,12 +176,12 @@ all_finished t actors cells ws dones over a l who =
     (no_todo t.size x.1.place.nr x.0 x.1.place.page x.1.place.left (over a x.0 x.1 x.3.0 x.3.1))
 
 -- one more actor that is finished
-pub more_over : (actors : List (List Op)) (ws : List Worker) (n : ℕ) (ops : List Op) (w : Worker)
+pub more_over : {D : Type 0} (actors : List (List Op)) (ws : List (Worker D)) (n : ℕ) (ops : List Op) (w : Worker D)
     → slice_get actors n ≡ Some ops → slice_get ws n ≡ Some w → length ops ≤ w.place.nr
-    → ((a : ℕ) (os : List Op) (v : Worker) → a < n → slice_get actors a ≡ Some os
+    → ((a : ℕ) (os : List Op) (v : Worker D) → a < n → slice_get actors a ≡ Some os
     → slice_get ws a ≡ Some v
     → length os ≤ v.place.nr)
-    → (a : ℕ) (os : List Op) (v : Worker) → a < n + 1 → slice_get actors a ≡ Some os
+    → (a : ℕ) (os : List Op) (v : Worker D) → a < n + 1 → slice_get actors a ≡ Some os
     → slice_get ws a ≡ Some v
     → length os ≤ v.place.nr
 more_over actors ws n ops w named there over before a os v lt e f = dite (ℕ_discrete a n)
@@ -189,7 +189,7 @@ more_over actors ws n ops w named there over before a os v lt e f = dite (ℕ_di
     let p : ops ≡ os =
     (let q : Some ops ≡ Some os = sym named ∙ (ap (slice_get actors) (sym s) ∙ e) in cc) in
     let r : w ≡ v = (let q : Some w ≡ Some v = sym there ∙ (ap (slice_get ws) (sym s) ∙ f) in cc) in
-    subst (λ (x : List Op × Worker). length x.0 ≤ x.1.place.nr) (λ i. (p i, r i)) over)
+    subst (λ (x : List Op × Worker D). length x.0 ≤ x.1.place.nr) (λ i. (p i, r i)) over)
     (λ ne. before a os v (omega arith) e f)
 
 range_suc : (a n j : ℕ) → a + n ≡ j → range_with_len a (suc n) ≡ range_with_len a n ++ j ∷ []
@@ -199,7 +199,7 @@ range_suc a (suc n) j e = ap (λ (xs : List ℕ). a ∷ xs) (range_suc (a + 1) n
 range_push : (a n j : ℕ) → a + n ≡ j → range_with_len a (n + 1) ≡ range_with_len a n ++ j ∷ []
 range_push a n j e = rw add-one (range_suc a n j e)
 
-pub turn_more : SumMoves DiskHeld → (start : State DiskHeld) (x y : Playing) → y.terms ≡ x.terms
+pub turn_more : {D : Type 0} → SumMoves DiskHeld → (start : State DiskHeld) (x y : Playing D) → y.terms ≡ x.terms
     → (i : ℕ) (t : WasTurn) → AllFew x → RoundTo start x i
     → ((dones : List (List Done)) → AreKept x.workers dones → TurnsOnce i x y t dones)
     → RoundTo start y (i + 1)
@@ -219,7 +219,7 @@ turn_more sums start x y same i t few r turn =
 
 -- ---- turns after turns
 
-pub plays_none : (x : Playing) → CanGoOn x → Plays [] x x
+pub plays_none : {D : Type 0} (x : Playing D) → CanGoOn x → Plays [] x x
 plays_none x can = record {
   same = refl;
   limit = refl;
@@ -227,7 +227,7 @@ plays_none x can = record {
   goes = λ dones kept. (dones, kept, refl);
 }
 
-pub plays_on : (xs ys : List ℕ) (x y z : Playing) → Plays xs x y → Plays ys y z
+pub plays_on : {D : Type 0} (xs ys : List ℕ) (x y z : Playing D) → Plays xs x y → Plays ys y z
     → Plays (xs ++ ys) x z
 plays_on xs ys x y z first then = record {
   same = then.same ∙ first.same;
@@ -244,7 +244,7 @@ plays_on xs ys x y z first then = record {
 }
 
 -- one turn
-pub plays_once : (a : ℕ) (x y : Playing) (t : WasTurn) → y.terms ≡ x.terms → y.limit ≡ x.limit
+pub plays_once : {D : Type 0} (a : ℕ) (x y : Playing D) (t : WasTurn) → y.terms ≡ x.terms → y.limit ≡ x.limit
     → CanGoOn y
     → ((dones : List (List Done)) → AreKept x.workers dones → TurnsOnce a x y t dones)
     → Plays (a ∷ []) x y
@@ -278,7 +278,7 @@ idle u (suc k) a w n (turn.Waited m) not is =
 idle u (suc k) a w n turn.Finished not is =
     (w, one_turn u a w w turn.Finished (is.0, is.1, is.2, refl), idle u k a w n turn.Finished not is)
 
-pub plays_idle : (k a : ℕ) (x y : Playing) (t : WasTurn) → t ≢ turn.Went → y.terms ≡ x.terms
+pub plays_idle : {D : Type 0} (k a : ℕ) (x y : Playing D) (t : WasTurn) → t ≢ turn.Went → y.terms ≡ x.terms
     → y.limit ≡ x.limit → CanGoOn y
     → ((dones : List (List Done)) → AreKept x.workers dones → TurnsOnce a x y t dones)
     → Plays (replicate k a) x y
@@ -289,7 +289,7 @@ plays_idle k a x y t not same limit can once = record {
   goes = λ dones kept. let n = once dones kept in (n.0, n.1, idle x.terms k a _ _ t not n.2);
 }
 
-module _ (x y z : Playing) where
+module _ {D : Type 0} (x y z : Playing D) where
   pub then_once : (n a : ℕ) → Plays (replicate n a) x y → Plays (a ∷ []) y z
       → Plays (replicate (n + 1) a) x z
   then_once n a before more =
@@ -339,7 +339,7 @@ module _ (x y z : Playing) where
 
 -- ---- what turns keep
 
-module _ (xs : List ℕ) (x y : Playing) (ops : y.actors ≡ x.actors) (plays : Plays xs x y) where
+module _ {D : Type 0} (xs : List ℕ) (x y : Playing D) (ops : y.actors ≡ x.actors) (plays : Plays xs x y) where
   pub plays_rule : TurnKeepsRule → (g : Begin) → HasRule g x → HasRule g y
   plays_rule keeps g j = let n = plays.goes j.dones j.kept in record {
     of = of_on x y plays.same ops g j.of;
@@ -362,7 +362,7 @@ module _ (xs : List ℕ) (x y : Playing) (ops : y.actors ≡ x.actors) (plays : 
   }
 
 -- a schedule, and then rounds until all actors are finished
-pub runs_out : (x y : Playing) (turns : List ℕ) (rounds : ℕ)
+pub runs_out : {D : Type 0} (x y : Playing D) (turns : List ℕ) (rounds : ℕ)
     → Plays (turns ++ rounds_of (length x.actors) rounds) x y → AllOver y.actors y.workers
     → (dones : List (List Done)) → AreKept x.workers dones → RunsOut turns x y dones
 runs_out x y turns rounds plays over dones kept =

@@ -88,7 +88,7 @@ told_is size pl k (Discard start count) r fits =
     sym (ap (told_by r.end) fits ∙ nothing_told r.end)
 told_is size pl k Compact r fits = sym (ap (told_by r.end) fits ∙ nothing_told r.end)
 
-each_reply : (t : Terms) (ops : List Op) (w : Worker) (done : List Done) → IsFit t ops w
+each_reply : {D : Type 0} (t : Terms) (ops : List Op) (w : Worker D) (done : List Done) → IsFit t ops w
     → Keeps w done
     → Each done 0 ops w.replies.items
 each_reply t ops w done fit keeps k op r named there =
@@ -100,21 +100,21 @@ each_reply t ops w done fit keeps k op r named there =
     })
 
 module _ (t : Terms) where
-  less_fit : (ops : List Op) (more : List (List Op)) (w : Worker) (ws : List Worker)
+  less_fit : {D : Type 0} (ops : List Op) (more : List (List Op)) (w : Worker D) (ws : List (Worker D))
       → AreFit t (ops ∷ more) (w ∷ ws) → AreFit t more ws
   less_fit ops more w ws fit = record {
     count = (let q = fit.count in omega arith);
     each = λ a os v e g. fit.each (suc a) os v e g;
   }
 
-  less_kept : (w : Worker) (ws : List Worker) (d : List Done) (ds : List (List Done))
+  less_kept : {D : Type 0} (w : Worker D) (ws : List (Worker D)) (d : List Done) (ds : List (List Done))
       → AreKept (w ∷ ws) (d ∷ ds) → AreKept ws ds
   less_kept w ws d ds kept = record {
     count = (let q = kept.count in omega arith);
     each = λ a v x e g. kept.each (suc a) v x e g;
   }
 
-  pub all_ends : (actors : List (List Op)) (ws : List Worker) (dones : List (List Done))
+  pub all_ends : {D : Type 0} (actors : List (List Op)) (ws : List (Worker D)) (dones : List (List Done))
       → AreFit t actors ws
       → AreKept ws dones → ends_each actors dones ≡ ends_shown ws
   all_ends [] [] ds fit kept = refl
@@ -130,7 +130,7 @@ module _ (t : Terms) where
       (each_reply t ops w d f (kept.each 0 w d refl refl)) i
       ∷ all_ends more ws ds (less_fit ops more w ws fit) (less_kept w ws d ds kept) i
 
-  pub all_told : (actors : List (List Op)) (ws : List Worker) (dones : List (List Done))
+  pub all_told : {D : Type 0} (actors : List (List Op)) (ws : List (Worker D)) (dones : List (List Done))
       → AreFit t actors ws
       → AreKept ws dones → told_each actors dones ≡ sectors_shown ws
   all_told [] [] ds fit kept = refl
@@ -147,7 +147,7 @@ module _ (t : Terms) where
       ∷ all_told more ws ds (less_fit ops more w ws fit) (less_kept w ws d ds kept) i
 
   -- the histories of the workers' locals are what is over
-  histories_are : (actors : List (List Op)) (ws : List Worker) (dones : List (List Done))
+  histories_are : {D : Type 0} (actors : List (List Op)) (ws : List (Worker D)) (dones : List (List Done))
       → length ws ≡ length actors
       → length dones ≡ length ws → histories (heres t actors ws dones) ≡ dones
   histories_are [] [] [] e f = refl
@@ -163,7 +163,7 @@ module _ (t : Terms) where
       ap (λ (hs : List (List Done)). d ∷ hs) (histories_are xs ws ds (omega arith) (omega arith))
 
   -- what the world and its phase show is what the machine prints
-  pub shows_lines : (actors : List (List Op)) (cells : List (Option DiskHeld)) (ws : List Worker)
+  pub shows_lines : {D : Type 0} (actors : List (List Op)) (cells : List (Option DiskHeld)) (ws : List (Worker D))
       (dones : List (List Done)) → AreFit t actors ws → AreKept ws dones
       → phase_lines (ends_shown ws) (sectors_shown ws) (orders_of t.size cells)
       ≡ printed t.size actors (state t actors cells ws dones)

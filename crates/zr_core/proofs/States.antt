@@ -24,8 +24,8 @@ use Rattle.zr_core.proofs.Lists.{get_set, set_same}
 
 -- ---- lists
 
-pub heres_get : (t : Terms) (actors : List (List Op)) (ws : List Worker) (dones : List (List Done))
-    (a : ℕ) (ops : List Op) (w : Worker) (done : List Done)
+pub heres_get : {D : Type 0} (t : Terms) (actors : List (List Op)) (ws : List (Worker D)) (dones : List (List Done))
+    (a : ℕ) (ops : List Op) (w : Worker D) (done : List Done)
     → slice_get actors a ≡ Some ops → slice_get ws a ≡ Some w → slice_get dones a ≡ Some done
     → slice_get (heres t actors ws dones) a ≡ Some (here t.size ops w done)
 heres_get t [] ws ds a ops w done e f h = absurd (cc)
@@ -39,8 +39,8 @@ heres_get t (x ∷ xs) (y ∷ ys) (z ∷ zs) zero ops w done e f h =
 heres_get t (x ∷ xs) (y ∷ ys) (z ∷ zs) (suc a) ops w done e f h =
     heres_get t xs ys zs a ops w done e f h
 
-pub heres_set : (t : Terms) (actors : List (List Op)) (ws : List Worker) (dones : List (List Done))
-    (a : ℕ) (ops : List Op) (w : Worker) (done : List Done)
+pub heres_set : {D : Type 0} (t : Terms) (actors : List (List Op)) (ws : List (Worker D)) (dones : List (List Done))
+    (a : ℕ) (ops : List Op) (w : Worker D) (done : List Done)
     → slice_get actors a ≡ Some ops → a < length ws → a < length dones
     → heres t actors (slice_set ws a w) (slice_set dones a done)
     ≡ slice_set (heres t actors ws dones) a (here t.size ops w done)
@@ -54,15 +54,15 @@ heres_set t (x ∷ xs) (y ∷ ys) (z ∷ zs) (suc a) ops w done e f h =
     ap (λ (ls : List Here). here t.size x y z ∷ ls)
     (heres_set t xs ys zs a ops w done e (omega arith) (omega arith))
 
-pub fit_set : (t : Terms) (actors : List (List Op)) (ws : List Worker) (a : ℕ) (ops : List Op)
-    (old w : Worker)
+pub fit_set : {D : Type 0} (t : Terms) (actors : List (List Op)) (ws : List (Worker D)) (a : ℕ) (ops : List Op)
+    (old w : Worker D)
     → AreFit t actors ws → slice_get actors a ≡ Some ops → slice_get ws a ≡ Some old
     → IsFit t ops w
     → AreFit t actors (slice_set ws a w)
 fit_set t actors ws a ops old w fit named there new = record {
   count = length-set ws a w ∙ fit.count;
   each = λ b os v e f. ⊎_elim
-      (λ s. subst (λ (x : List Op × Worker). IsFit t x.0 x.1) (λ i. (
+      (λ s. subst (λ (x : List Op × Worker D). IsFit t x.0 x.1) (λ i. (
         (let q : Some ops ≡ Some os = sym named
             ∙ (ap (slice_get actors) (sym s.0) ∙ e) in let r : ops ≡ os = cc in r) i,
         s.1 i,
@@ -71,7 +71,7 @@ fit_set t actors ws a ops old w fit named there new = record {
       (get_set ws a b w v old there f);
 }
 
-pub kept_set : (ws : List Worker) (dones : List (List Done)) (a : ℕ) (old w : Worker)
+pub kept_set : {D : Type 0} (ws : List (Worker D)) (dones : List (List Done)) (a : ℕ) (old w : Worker D)
     (was done : List Done)
     → AreKept ws dones → slice_get ws a ≡ Some old → slice_get dones a ≡ Some was → Keeps w done
     → AreKept (slice_set ws a w) (slice_set dones a done)
@@ -79,7 +79,7 @@ kept_set ws dones a old w was done kept there had new = record {
   count = length-set dones a done ∙ kept.count ∙ sym (length-set ws a w);
   each = λ b v d e f. ⊎_elim
       (λ s. ⊎_elim
-      (λ t. subst (λ (x : Worker × List Done). Keeps x.0 x.1) (λ i. (s.1 i, t.1 i)) new)
+      (λ t. subst (λ (x : Worker D × List Done). Keeps x.0 x.1) (λ i. (s.1 i, t.1 i)) new)
       (λ t. absurd (t.0 s.0))
       (get_set dones a b done d was had f))
       (λ o. ⊎_elim

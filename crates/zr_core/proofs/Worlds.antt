@@ -38,7 +38,7 @@ one_turn t a w n turn.Finished (l, who, none, same) =
     (new_class t.chain ps l.page (entry_in l.held).kept)) none) same
 
 -- An actor of a phase, its worker, and the row as its hand sees it.
-pub record Seat (x : Playing) (a : ℕ) (ops : List Op) (w : Worker) (r : Row DiskHeld)
+pub record Seat {D : Type 0} (x : Playing D) (a : ℕ) (ops : List Op) (w : Worker D) (r : Row DiskHeld)
     : Type 0 where
   pub places : NamesHavePlaces
   pub takes : TakesLock
@@ -50,7 +50,7 @@ pub record Seat (x : Playing) (a : ℕ) (ops : List Op) (w : Worker) (r : Row Di
   pub begin : Begin
   pub rule : HasRule begin x
 
-module _ (x : Playing) (a : ℕ) (ops : List Op) (w : Worker) (r : Row DiskHeld)
+module _ {D : Type 0} (x : Playing D) (a : ℕ) (ops : List Op) (w : Worker D) (r : Row DiskHeld)
     (s : Seat x a ops w r) where
   done_of : (dones : List (List Done)) → AreKept x.workers dones
       → (done : List Done) × (slice_get dones a ≡ Some done) × Keeps w done
@@ -126,10 +126,10 @@ module _ (x : Playing) (a : ℕ) (ops : List Op) (w : Worker) (r : Row DiskHeld)
       → (cell (row_of h) k ≡ Some None) × (row_of m ≡ row_of h))
       (gave : (k : LockNo) (f : Next) (v : DiskHeld) → gives h k f v m
       → (cell (row_of h) k ≡ Some None) × (row_of m ≡ with_cell (row_of h) k (Some v)))
-      (w' : Worker) (res : Turn) (t : Terms) (same : t ≡ x.terms)
+      (w' : Worker D) (res : Turn) (t : Terms) (same : t ≡ x.terms)
       (all : (done : List Done) → Keeps w done
       → Advanced takes misses gives t ops w h w' m res done) where
-    abbrev after : Playing
+    abbrev after : Playing D
     after = record {
       terms = x.terms;
       limit = x.limit;
@@ -177,7 +177,7 @@ module _ (x : Playing) (a : ℕ) (ops : List Op) (w : Worker) (r : Row DiskHeld)
         turn_keeps name y z u (turned d.0 d.2).2
 
 -- where there is an actor the disk has its size, and the rule holds for some beginning
-pub ruled_by : (x : Playing) (a : ℕ) (ops : List Op) → IsEmpty x ⊎ ((g : Begin) × HasRule g x)
+pub ruled_by : {D : Type 0} (x : Playing D) (a : ℕ) (ops : List Op) → IsEmpty x ⊎ ((g : Begin) × HasRule g x)
     → slice_get x.actors a ≡ Some ops → (g : Begin) × HasRule g x
 ruled_by x a ops (inl none) e = absurd (let q : None ≡ Some ops = sym (ap (λ (xs : List (List Op)).
     slice_get xs a) none.1) ∙ e in cc)
@@ -185,7 +185,7 @@ ruled_by x a ops (inr ruled) e = ruled
 
 -- ---- what a turn keeps
 
-pub of_on : (x y : Playing) → y.terms ≡ x.terms → y.actors ≡ x.actors → (g : Begin) → IsOf g x
+pub of_on : {D : Type 0} (x y : Playing D) → y.terms ≡ x.terms → y.actors ≡ x.actors → (g : Begin) → IsOf g x
     → IsOf g y
 of_on x y same ops g o = record {
   goes_by = o.goes_by ∙ sym same;
@@ -195,7 +195,7 @@ of_on x y same ops g o = record {
   proper = o.proper;
 }
 
-module _ (x y : Playing) (same : y.terms ≡ x.terms) (ops : y.actors ≡ x.actors) (a : ℕ) (t : Turn)
+module _ {D : Type 0} (x y : Playing D) (same : y.terms ≡ x.terms) (ops : y.actors ≡ x.actors) (a : ℕ) (t : Turn)
     (turn : (dones : List (List Done)) → AreKept x.workers dones → TurnsOnce a x y t dones) where
   pub rule_on : TurnKeepsRule → (g : Begin) → HasRule g x → HasRule g y
   rule_on keeps g j = let n = turn j.dones j.kept in record {

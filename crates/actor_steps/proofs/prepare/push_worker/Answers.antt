@@ -3,7 +3,7 @@ use Rattle.actor_steps.proofs.Beginners.{is_new_worker}
 use Rattle.actor_steps.proofs.prepare.push_worker.Goals as goal
 
 pub returns-clause-added : goal.returns-clause-added
-returns-clause-added c =
+returns-clause-added g c =
     let s = c.settled-place.ensures in (
       _,
       is_new_worker c.args.size c.args.chain _ c.args.ops.now _ c.requires.requests

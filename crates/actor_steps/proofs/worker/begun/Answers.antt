@@ -10,46 +10,46 @@ use Rattle.actor_steps.proofs.Begun.{begun_count, begun_as, begun_compact, begun
 use Rattle.actor_steps.proofs.worker.begun.Goals as goal
 use Rattle.actor_steps.proofs.worker.begun.Goals.{After-index-ops-nr}
 
-op_at : (c : After-index-ops-nr) → slice_get c.args.ops.now c.args.place.nr ≡ Some c.index-ops-nr.result
-op_at c = at_index c.args.ops.now c.args.place.nr c.index-ops-nr.result c.requires.more
+op_at : (g : _) (c : After-index-ops-nr g) → slice_get c.args.ops.now c.args.place.nr ≡ Some c.index-ops-nr.result
+op_at g c = at_index c.args.ops.now c.args.place.nr c.index-ops-nr.result c.requires.more
     c.index-ops-nr.is
 
-asked : (c : After-index-ops-nr) → IsRequest c.index-ops-nr.result
-asked c = c.requires.requests c.args.place.nr c.index-ops-nr.result (op_at c)
+asked : (g : _) (c : After-index-ops-nr g) → IsRequest c.index-ops-nr.result
+asked g c = c.requires.requests c.args.place.nr c.index-ops-nr.result (op_at g c)
 
-touched : (c : After-index-ops-nr) → is_compaction c.index-ops-nr.result ≡ false
+touched : (g : _) (c : After-index-ops-nr g) → is_compaction c.index-ops-nr.result ≡ false
     → IsTrue (touches (start_of c.index-ops-nr.result) (count_of c.index-ops-nr.result)
     c.args.place.page)
-touched c request =
+touched g c request =
     is_touched c.index-ops-nr.result c.args.place.page request
-    (touches_here c.args.size c.args.ops.now c.args.place c.index-ops-nr.result (op_at c)
+    (touches_here c.args.size c.args.ops.now c.args.place c.index-ops-nr.result (op_at g c)
     c.requires.requests c.requires.place c.requires.settled request)
 
 pub is_beyond-requires : goal.is_beyond-requires
-is_beyond-requires c = asked (goal.at.is_beyond-requires c).After-index-ops-nr
+is_beyond-requires g c = asked g (goal.at.is_beyond-requires g c).After-index-ops-nr
 
 pub returns-then-is_beyond : goal.returns-then-is_beyond
-returns-then-is_beyond c =
+returns-then-is_beyond g c =
     begun_for c.args.size c.args.now (record { actor = c.args.actor; op = c.args.place.nr })
     c.args.place.page c.args.fresh.now c.args.ops.now c.args.place.nr c.index-ops-nr.result
-    (op_at (goal.at.returns-then-is_beyond c).After-index-ops-nr) (call.Page c.out_of_range.result) _
+    (op_at g (goal.at.returns-then-is_beyond g c).After-index-ops-nr) (call.Page c.out_of_range.result) _
     (ap call.Page (sym c.out_of_range.ensures))
     (begun_count c.args.size c.args.now _ c.index-ops-nr.result c.args.place.page c.args.fresh.now
     (sym c.is_beyond.ensures ∙ c.if-is_beyond.true))
 
 pub bring-requires-clause-bounds : goal.bring-requires-clause-bounds
-bring-requires-clause-bounds c =
-    (subst IsRequest c.in-Write.is (asked (goal.at.bring-requires-clause-bounds c).After-index-ops-nr)).0
+bring-requires-clause-bounds g c =
+    (subst IsRequest c.in-Write.is (asked g (goal.at.bring-requires-clause-bounds g c).After-index-ops-nr)).0
 
 pub bring-requires-clause-there : goal.bring-requires-clause-there
-bring-requires-clause-there c =
-    (subst IsRequest c.in-Write.is (asked (goal.at.bring-requires-clause-there c).After-index-ops-nr)).1
+bring-requires-clause-there g c =
+    (subst IsRequest c.in-Write.is (asked g (goal.at.bring-requires-clause-there g c).After-index-ops-nr)).1
 
 pub returns-in-Write : goal.returns-in-Write
-returns-in-Write c =
+returns-in-Write g c =
     begun_for c.args.size c.args.now (record { actor = c.args.actor; op = c.args.place.nr })
     c.args.place.page c.bring.new.fresh c.args.ops.now c.args.place.nr c.index-ops-nr.result
-    (op_at (goal.at.returns-in-Write c).After-index-ops-nr) (call.Page c.write.result) _
+    (op_at g (goal.at.returns-in-Write g c).After-index-ops-nr) (call.Page c.write.result) _
     (ap call.Page (sym c.write.ensures))
     (begun_as c.args.size c.args.now _ c.index-ops-nr.result c.args.place.page c.bring.new.fresh
     work.Writes c.piece_on-piece.result (ap is_compaction c.in-Write.is)
@@ -65,33 +65,33 @@ returns-in-Write c =
     })))
 
 pub piece_on-piece-requires-clause-touched : goal.piece_on-piece-requires-clause-touched
-piece_on-piece-requires-clause-touched c =
-    touched (goal.at.piece_on-piece-requires-clause-touched c).After-index-ops-nr
+piece_on-piece-requires-clause-touched g c =
+    touched g (goal.at.piece_on-piece-requires-clause-touched g c).After-index-ops-nr
     (ap is_compaction c.in-Write.is)
 
 pub piece_on-requires-clause-request : goal.piece_on-requires-clause-request
-piece_on-requires-clause-request c =
-    asked (goal.at.piece_on-requires-clause-request c).After-index-ops-nr
+piece_on-requires-clause-request g c =
+    asked g (goal.at.piece_on-requires-clause-request g c).After-index-ops-nr
 
 pub piece_on-requires-clause-touched : goal.piece_on-requires-clause-touched
-piece_on-requires-clause-touched c =
-    touched (goal.at.piece_on-requires-clause-touched c).After-index-ops-nr
+piece_on-requires-clause-touched g c =
+    touched g (goal.at.piece_on-requires-clause-touched g c).After-index-ops-nr
     (ap is_compaction c.in-Read.is)
 
 pub piece_on-requires-in-Discard-clause-request : goal.piece_on-requires-in-Discard-clause-request
-piece_on-requires-in-Discard-clause-request c =
-    asked (goal.at.piece_on-requires-in-Discard-clause-request c).After-index-ops-nr
+piece_on-requires-in-Discard-clause-request g c =
+    asked g (goal.at.piece_on-requires-in-Discard-clause-request g c).After-index-ops-nr
 
 pub piece_on-requires-in-Discard-clause-touched : goal.piece_on-requires-in-Discard-clause-touched
-piece_on-requires-in-Discard-clause-touched c =
-    touched (goal.at.piece_on-requires-in-Discard-clause-touched c).After-index-ops-nr
+piece_on-requires-in-Discard-clause-touched g c =
+    touched g (goal.at.piece_on-requires-in-Discard-clause-touched g c).After-index-ops-nr
     (ap is_compaction c.in-Discard.is)
 
 pub returns-in-Read : goal.returns-in-Read
-returns-in-Read c =
+returns-in-Read g c =
     begun_for c.args.size c.args.now (record { actor = c.args.actor; op = c.args.place.nr })
     c.args.place.page c.args.fresh.now c.args.ops.now c.args.place.nr c.index-ops-nr.result
-    (op_at (goal.at.returns-in-Read c).After-index-ops-nr) (call.Page c.read.result) _
+    (op_at g (goal.at.returns-in-Read g c).After-index-ops-nr) (call.Page c.read.result) _
     (ap call.Page (sym c.read.ensures))
     (begun_as c.args.size c.args.now _ c.index-ops-nr.result c.args.place.page c.args.fresh.now
     work.Reads c.piece_on.result (ap is_compaction c.in-Read.is)
@@ -100,10 +100,10 @@ returns-in-Read c =
     (subst (Asks work.Reads c.piece_on.result c.args.fresh.now) (sym c.in-Read.is) tt))
 
 pub returns-in-Discard : goal.returns-in-Discard
-returns-in-Discard c =
+returns-in-Discard g c =
     begun_for c.args.size c.args.now (record { actor = c.args.actor; op = c.args.place.nr })
     c.args.place.page c.args.fresh.now c.args.ops.now c.args.place.nr c.index-ops-nr.result
-    (op_at (goal.at.returns-in-Discard c).After-index-ops-nr) (call.Page c.discard.result) _
+    (op_at g (goal.at.returns-in-Discard g c).After-index-ops-nr) (call.Page c.discard.result) _
     (ap call.Page (sym c.discard.ensures))
     (begun_as c.args.size c.args.now _ c.index-ops-nr.result c.args.place.page c.args.fresh.now
     work.Discards c.piece_on-in-Discard.result (ap is_compaction c.in-Discard.is)
@@ -112,9 +112,9 @@ returns-in-Discard c =
     (subst (Asks work.Discards c.piece_on-in-Discard.result c.args.fresh.now) (sym c.in-Discard.is) tt))
 
 pub returns-in-Compact : goal.returns-in-Compact
-returns-in-Compact c =
+returns-in-Compact g c =
     begun_for c.args.size c.args.now (record { actor = c.args.actor; op = c.args.place.nr })
     c.args.place.page c.args.fresh.now c.args.ops.now c.args.place.nr c.index-ops-nr.result
-    (op_at (goal.at.returns-in-Compact c).After-index-ops-nr) (call.Compact c.new.result) _ refl
+    (op_at g (goal.at.returns-in-Compact g c).After-index-ops-nr) (call.Compact c.new.result) _ refl
     (begun_compact c.args.size c.args.now _ c.index-ops-nr.result c.args.place.page c.args.fresh.now
     c.new.result c.new.ensures (ap is_compaction c.in-Compact.is))

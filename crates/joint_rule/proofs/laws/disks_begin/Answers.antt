@@ -9,10 +9,10 @@ pub returns-clause-proper : goal.returns-clause-proper
 returns-clause-proper c g requests before blanks room = proper_is g requests before blanks room
 
 pub returns-clause-new : goal.returns-clause-new
-returns-clause-new c n set actors requests room = new_proper n set actors requests room
+returns-clause-new c n set device actors requests room = new_proper n set device actors requests room
 
 pub returns-clause-account : goal.returns-clause-account
-returns-clause-account c n set = new_stats n set
+returns-clause-account c n set device = new_stats n set device
 
 pub returns-clause-plain : goal.returns-clause-plain
 returns-clause-plain c r n = new_plain r n

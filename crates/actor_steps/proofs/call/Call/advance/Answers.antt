@@ -10,18 +10,18 @@ pub advance-requires-clause-allows : goal.advance-requires-clause-allows
 advance-requires-clause-allows g c =
     let r = c.args.scratch.now in
     page_allows c.in-Page.call r
-    (subst (λ (d : Call). Allows g.H.Hand.can_take g.H.Hand.takes g.H.Hand.can_give (Does d r) (local d r)
+    (subst (λ (d : Call _). Allows g.H.Hand.can_take g.H.Hand.takes g.H.Hand.can_give (Does d r) (local d r)
     (next_event d) c.args.hand.now) c.in-Page.is c.requires.allows)
 
 pub advance-requires-in-Compact-clause-allows : goal.advance-requires-in-Compact-clause-allows
 advance-requires-in-Compact-clause-allows g c =
     let r = c.args.scratch.now in
-    subst (λ (d : Call). Allows g.H.Hand.can_take g.H.Hand.takes g.H.Hand.can_give (Does d r) (local d r)
+    subst (λ (d : Call _). Allows g.H.Hand.can_take g.H.Hand.takes g.H.Hand.can_give (Does d r) (local d r)
     (next_event d) c.args.hand.now) c.in-Compact.is c.requires.allows
 
 pub returns-in-Page-clause-turn : goal.returns-in-Page-clause-turn
 returns-in-Page-clause-turn g c =
-    subst (λ (d : Call). Advanced g.H.Hand.takes g.H.Hand.misses g.H.Hand.gives d c.args.scratch.now
+    subst (λ (d : Call _). Advanced g.H.Hand.takes g.H.Hand.misses g.H.Hand.gives d c.args.scratch.now
     c.args.hand.now (call.Page c.advance.new.self) c.advance.new.scratch c.advance.new.hand
     c.advance.result) (sym c.in-Page.is)
     (page_turn c.args.scratch.now c.advance.new.scratch c.advance.result c.in-Page.call
@@ -30,8 +30,8 @@ returns-in-Page-clause-turn g c =
 pub returns-in-Compact-clause-turn : goal.returns-in-Compact-clause-turn
 returns-in-Compact-clause-turn g c =
     let r = c.args.scratch.now in
-    subst (λ (d : Call). Advanced g.H.Hand.takes g.H.Hand.misses g.H.Hand.gives d r c.args.hand.now
+    subst (λ (d : Call _). Advanced g.H.Hand.takes g.H.Hand.misses g.H.Hand.gives d r c.args.hand.now
     (call.Compact c.advance-in-Compact.new.self) r c.advance-in-Compact.new.hand
     c.advance-in-Compact.result) (sym c.in-Compact.is)
-    (compact_turn r r c.advance-in-Compact.result c.in-Compact.call c.advance-in-Compact.new.self
+    (compact_turn r r c.advance-in-Compact.result g.row.D.Denot c.in-Compact.call c.advance-in-Compact.new.self
     c.advance-in-Compact.ensures.turn)

@@ -10,24 +10,24 @@ use Rattle.actor_steps.proofs.Places.{at_index, touches_here}
 use Rattle.actor_steps.proofs.worker.Worker.finish.Goals as goal
 use Rattle.actor_steps.proofs.worker.Worker.finish.Goals.{After-index-ops-nr, then-self-nr, else-self-nr}
 
-op_at : (c : After-index-ops-nr)
+op_at : (g : _) (c : After-index-ops-nr g)
     → slice_get c.args.ops.now c.args.self.now.place.nr ≡ Some c.index-ops-nr.result
-op_at c = at_index c.args.ops.now c.args.self.now.place.nr c.index-ops-nr.result c.requires.more
+op_at g c = at_index c.args.ops.now c.args.self.now.place.nr c.index-ops-nr.result c.requires.more
     c.index-ops-nr.is
 
 pub keep-requires-clause-touched : goal.keep-requires-clause-touched
-keep-requires-clause-touched c request =
+keep-requires-clause-touched g c request =
     touches_here c.args.size c.args.ops.now c.args.self.now.place c.index-ops-nr.result
-    (op_at (goal.at.keep-requires-clause-touched c).After-index-ops-nr)
+    (op_at g (goal.at.keep-requires-clause-touched g c).After-index-ops-nr)
     c.requires.requests c.requires.place c.requires.settled request
 
 pub keep-requires-clause-room : goal.keep-requires-clause-room
-keep-requires-clause-room c r there =
+keep-requires-clause-room g c r there =
     c.requires.room c.index-ops-nr.result r
-    (op_at (goal.at.keep-requires-clause-room c).After-index-ops-nr) there
+    (op_at g (goal.at.keep-requires-clause-room g c).After-index-ops-nr) there
 
 pub returns : goal.returns
-returns c =
+returns g c =
     let w = c.args.self.now in
     let rest = todo_at c.args.size c.args.ops.now (behind w.place) in
     let next = c.next_place-self.ensures in
@@ -50,7 +50,7 @@ returns c =
       replies = λ op at.
           let same : op ≡ c.index-ops-nr.result =
           (let q : Some op ≡ Some c.index-ops-nr.result = sym at
-          ∙ op_at (goal.at.returns c).After-index-ops-nr in cc) in
+          ∙ op_at g (goal.at.returns g c).After-index-ops-nr in cc) in
           subst (λ (o : Op). HasMore w.place.nr (op_end (end_of c.args.end) w.carried)
           (got_of c.args.end w.scratch.page (part_at w.place op)) (reads o w.place.page)
           w.replies.items c.keep.new.replies.items) (sym same)

@@ -11,10 +11,10 @@ use Rattle.actor_steps.proofs.Overs.{ends_as, can_finish, ends_fit, ends_turn}
 use Rattle.actor_steps.proofs.worker.Worker.go_on.Goals as goal
 
 -- the worker without its call
-abbrev beside : Worker → Worker
+abbrev beside : {D : Type 0} → Worker D → Worker D
 beside w = with_call w None
 
-keeps_with : (w : Worker) (o : Option Call) (done : List Done) → Keeps w done
+keeps_with : {D : Type 0} (w : Worker D) (o : Option (Call D)) (done : List Done) → Keeps w done
     → Keeps (with_call w o) done
 keeps_with w o done keeps = record {
   ends = keeps.ends;
