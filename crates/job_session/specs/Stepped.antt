@@ -7,6 +7,7 @@ use Rattle.mem_account.specs.Stat.{mm_stat_of, io_stat_of}
 use Rattle.block_map.specs.declared.state.BlockState.TheVariants.{Free}
 use Rattle.block_map.specs.BlockMap.{BlockMap}
 use Rattle.backing_dev.specs.Dev.{DeviceState}
+use Rattle.backing_dev.specs.declared.backing.Backing.{Ghosts}
 use Rattle.plain_disk.specs.Output.{OutLine, AttrRefusal, disksize_busy, backing_busy, backing_range, memory, calls, device_calls, refused}
 use Rattle.plain_disk.specs.Rests.{states, classes}
 use Rattle.lock_row.specs.declared.names.Held.TheVariants as holds
@@ -16,7 +17,7 @@ use Rattle.disk_rest.specs.Printed.{row_report}
 use Rattle.zr_core.specs.declared.limits.TheConstants.{MOST_CHAIN}
 use Rattle.zr_core.specs.declared.disk.World.{World}
 use Rattle.zr_core.specs.Machines.{PhaseSteps, rounds_of}
-use Rattle.zr_core.specs.Rests.{account_of, no_blocks, device_by, blocks_by, new_disk}
+use Rattle.zr_core.specs.Rests.{account_of, no_blocks, blocks_in, device_by, blocks_by, new_disk}
 use Rattle.zr_core.specs.Rows.{AreNew}
 use Rattle.zr_core.specs.Runs.{turns_of}
 use Rattle.job_text.specs.declared.job.Attr.{Attr}
@@ -41,7 +42,7 @@ without_pages device =
     record { size = 0; limit = 0; row = []; device = device; blocks = no_blocks }
 
 -- the disk of a world
-abbrev pub disk_of : {D : Type 0} → World D → Disk
+abbrev pub disk_of : {D : Type 0} {b : Ghosts D} → World D b → Disk
 disk_of world = record {
   size = world.pages;
   limit = world.limit;
@@ -133,10 +134,10 @@ AttrSteps d LowerMax lines m = (lines ≡ []) × IsLowered d m
 
 -- ---- phases
 
--- the map of blocks at a place of the row, or this one where there is none
-abbrev pub map_in : BlockMap → Option DiskHeld → BlockMap
-map_in x (Some (holds.Blocks y)) = y
-map_in x _ = x
+-- the map of blocks in the row of a disk of so many pages; one without pages has this one
+abbrev pub map_of : BlockMap → ℕ → List (Option DiskHeld) → BlockMap
+map_of x zero row = x
+map_of x (suc n) row = blocks_in (value_at row (suc n + 256))
 
 -- What a run of a phase leaves beside its row: the pages, the limit, and the device and the map of the
 -- row, if there is one.
@@ -144,7 +145,7 @@ pub record IsRunOn (d m : Disk) : Type 0 where
   pub size : m.size ≡ d.size
   pub limit : m.limit ≡ d.limit
   pub device : m.device ≡ device_of d.device d.size m.row
-  pub blocks : m.blocks ≡ map_in d.blocks (value_at m.row (d.size + 256))
+  pub blocks : m.blocks ≡ map_of d.blocks d.size m.row
 
 -- ---- jobs
 
