@@ -26,11 +26,11 @@ use Rattle.lock_row.specs.Totals.{locals_sum}
 use Rattle.slot_entry.specs.declared.kept.Kept.{Kept}
 use Rattle.slot_entry.specs.declared.kept.Kept.TheVariants as kept
 use Rattle.slot_entry.specs.Forms.{PageForm, Blank, Word, Pooled}
-use Rattle.page_steps.specs.Givings.{Works, refuses, pins, unpins, charges, limits, starves, stows, quits, frees, repays, puts, reads, fails, compacts}
+use Rattle.page_steps.specs.Givings.{Works, refuses, pins, unpins, fetches, misses, counts, charges, limits, starves, stows, quits, frees, releases, repays, puts, reads, fails, errs, leaves, compacts}
 use Rattle.page_steps.specs.Compactions.{moves, rests, shrinks, compaction_at, with_move, with_next, with_frames, moved_at, resting_by}
-use Rattle.page_steps.specs.Nexts.{ending_by, failing_by, pin_at, own_entry}
+use Rattle.page_steps.specs.Nexts.{ending_by, failing_by, fetch_at, pin_at, own_entry}
 use Rattle.page_steps.specs.Pages.{page_in, page_in_cell, next_form}
-use Rattle.page_steps.specs.Steps.{Terms, DiskHeld, Here, plan, plan_by, plan_at, took, taken_at, after_take, begun_at, entered_at, write_at, made_at, seen_at, discard_at, settle_at, pinned_at, quit_at}
+use Rattle.page_steps.specs.Steps.{Terms, DiskHeld, Here, plan, plan_by, plan_at, took, taken_at, after_take, begun_at, entered_at, write_at, made_at, seen_at, discard_at, settle_at, pinned_at, fetched_at, quit_at}
 use Rattle.zr_core.specs.Machines.{OneTurn}
 use Rattle.zr_core.specs.Runs.{class_left, piece_left, pieces_left, stage_left, left_at, left_by, all_left, Few, AreFew, IsFree}
 
@@ -42,6 +42,7 @@ module _ (n : ℕ) (p : Part) where
   settle_left kept.Empty = omega arith
   settle_left (kept.Same w) = omega arith
   settle_left (kept.Obj o) = omega arith
+  settle_left (kept.Wb b) = omega arith
 
   made_left : (f : PageForm) (k : Kept) → stage_left n p (made_at f k) ≤ 9
   made_left Blank k = let q = settle_left k in omega arith
@@ -53,16 +54,19 @@ module _ (n : ℕ) (p : Part) where
   write_left false f kept.Empty = let q = made_left f kept.Empty in omega arith
   write_left false f (kept.Same w) = let q = made_left f (kept.Same w) in omega arith
   write_left false f (kept.Obj o) = omega arith
+  write_left false f (kept.Wb b) = omega arith
 
   seen_left : (k : Kept) → stage_left n p (seen_at k) ≤ 11
   seen_left kept.Empty = omega arith
   seen_left (kept.Same w) = omega arith
   seen_left (kept.Obj o) = omega arith
+  seen_left (kept.Wb b) = omega arith
 
   discard_left : (k : Kept) → stage_left n p (discard_at k) ≤ 11
   discard_left kept.Empty = omega arith
   discard_left (kept.Same w) = omega arith
   discard_left (kept.Obj o) = omega arith
+  discard_left (kept.Wb b) = omega arith
 
   entered_left : (op : Op) (page : ℕ) (f : PageForm) (k : Kept)
       → stage_left n p (entered_at op page f k) ≤ 11
@@ -82,6 +86,12 @@ module _ (n : ℕ) (p : Part) where
   pinned_left (Discard start count) f k = omega arith
   pinned_left Compact f k = omega arith
 
+  fetched_left : (op : Op) (f : PageForm) (k : Kept) → stage_left n p (fetched_at op f k) ≤ 9
+  fetched_left (Write start count stuff) f k = made_left f k
+  fetched_left (Read start count) f k = omega arith
+  fetched_left (Discard start count) f k = omega arith
+  fetched_left Compact f k = omega arith
+
   quit_left : (x : Option Pin) → stage_left n p (quit_at x) ≤ 3
   quit_left None = omega arith
   quit_left (Some x) = omega arith
@@ -98,12 +108,19 @@ module _ (n : ℕ) (p : Part) where
   some_left at.Pinned = omega arith
   some_left at.Unpinning = omega arith
   some_left at.Leaving = omega arith
+  some_left at.Away = omega arith
+  some_left at.Fetching = omega arith
+  some_left at.Failing = omega arith
+  some_left at.Counting = omega arith
+  some_left at.Missed = omega arith
   some_left at.Wanting = omega arith
   some_left at.Inside = omega arith
   some_left at.Both = omega arith
   some_left at.Made = omega arith
   some_left at.Old = omega arith
   some_left at.Freeing = omega arith
+  some_left at.Backed = omega arith
+  some_left at.Releasing = omega arith
   some_left at.Owing = omega arith
   some_left at.Giving = omega arith
   some_left at.Ready = omega arith
@@ -129,12 +146,19 @@ after_left n size at.Pinning p c d f k m e = absurd (cc)
 after_left n size at.Pinned p c d f k m e = omega arith
 after_left n size at.Unpinning p c d f k m e = absurd (cc)
 after_left n size at.Leaving p c d f k m e = absurd (cc)
+after_left n size at.Away p c d f k m e = omega arith
+after_left n size at.Fetching p c d f k m e = absurd (cc)
+after_left n size at.Failing p c d f k m e = omega arith
+after_left n size at.Counting p c d f k m e = absurd (cc)
+after_left n size at.Missed p c d f k m e = absurd (cc)
 after_left n size at.Wanting p c d f k m e = omega arith
 after_left n size at.Inside p c d f k m e = omega arith
 after_left n size at.Both p c d f k m e = absurd (cc)
 after_left n size at.Made p c d f k m e = absurd (cc)
 after_left n size at.Old p c d f k m e = omega arith
 after_left n size at.Freeing p c d f k m e = absurd (cc)
+after_left n size at.Backed p c d f k m e = omega arith
+after_left n size at.Releasing p c d f k m e = absurd (cc)
 after_left n size at.Owing p c d f k m e = omega arith
 after_left n size at.Giving p c d f k m e = absurd (cc)
 after_left n size at.Ready p c d f k m e = absurd (cc)
@@ -197,6 +221,13 @@ module _ (n : ℕ) where
       subst (λ qs. stage_left n q (pin_at qs page k) ≤ 9) (sym e)
       (pinned_left n q p.op (next_form p (Some page) k) k)
 
+  -- that of one that was read from the device
+  fetch_left : (q : Part) (ps : List Part) (page : List ℕ) (k : Kept) (p : Part) (rest : List Part)
+      → ps ≡ p ∷ rest → stage_left n q (fetch_at ps page k) ≤ 9
+  fetch_left q ps page k p rest e =
+      subst (λ qs. stage_left n q (fetch_at qs page k) ≤ 9) (sym e)
+      (fetched_left n q p.op (next_form p (Some page) k) k)
+
   abbrev Less : Here → Here → Type 0
   Less l m = left_by n m < left_by n l
 
@@ -246,6 +277,12 @@ module _ (n : ℕ) where
   moved_falls x p budget zero few = omega arith
   moved_falls x p budget (suc frames) few = omega arith
 
+  -- a piece that ends with a refusal
+  fails_left : (l : Here) (p : Part) (rest : List Part) (end : PartEnd) → l.todo ≡ p ∷ rest
+      → l.fail ≡ Some end → Less l (failing_by l l.fail)
+  fails_left l p rest end todo some = subst (λ (x : Option PartEnd). Less l (failing_by l x)) (sym some)
+      (ends_left l p rest end (λ q. []) todo)
+
   -- ---- all givings
 
   give_falls : (t : Terms) (l : Here) (v : DiskHeld) (m : Here) → Few n l → Works t l v m → Less l m
@@ -257,6 +294,14 @@ module _ (n : ℕ) where
       (let most = pin_left p l.todo (page_in_cell o cell) (own_entry l).kept p rest todo in omega arith))
   give_falls t l v m few (unpins p rest e o q q' todo stage held kept back v_is m_is) =
       subst (Less l) (sym m_is) (goes_on l p rest at.Unpinning at.Leaving todo stage (omega arith))
+  give_falls t l v m few (fetches p rest e b d d' page todo stage held kept bytes is v_is m_is) =
+      subst (Less l) (sym m_is)
+      (goes_on l p rest at.Fetching (fetch_at l.todo page (own_entry l).kept) todo stage
+      (let most = fetch_left p l.todo page (own_entry l).kept p rest todo in omega arith))
+  give_falls t l v m few (misses p rest e b d d' fault todo stage held kept bad v_is m_is) =
+      subst (Less l) (sym m_is) (goes_on l p rest at.Fetching at.Failing todo stage (omega arith))
+  give_falls t l v m few (counts p rest e c todo stage held v_is m_is) =
+      subst (Less l) (sym m_is) (goes_on l p rest at.Counting at.Missed todo stage (omega arith))
   give_falls t l v m few (charges p rest e c q q' class handle need bytes huge todo stage held form is within
       adds v_is m_is) =
       subst (Less l) (sym m_is) (goes_on l p rest at.Both at.Made todo stage (omega arith))
@@ -272,15 +317,20 @@ module _ (n : ℕ) where
       (goes_on l p rest at.Made (quit_at l.pin) todo stage (let most = quit_left n p l.pin in omega arith))
   give_falls t l v m few (frees p rest e o q q' frames todo stage held kept drops v_is m_is) =
       subst (Less l) (sym m_is) (goes_on l p rest at.Freeing at.Owing todo stage (omega arith))
+  give_falls t l v m few (releases p rest e b x todo stage held kept v_is m_is) =
+      subst (Less l) (sym m_is) (goes_on l p rest at.Releasing at.Owing todo stage (omega arith))
   give_falls t l v m few (repays p rest e c todo stage held v_is m_is) =
       subst (Less l) (sym m_is) (goes_on l p rest at.Giving at.Ready todo stage (omega arith))
   give_falls t l v m few (puts p rest e f todo stage held notes v_is m_is) = subst (Less l) (sym m_is)
       (ends_left l p rest over.Carried (λ q. []) todo)
   give_falls t l v m few (reads p rest e f todo stage held none notes v_is m_is) = subst (Less l) (sym m_is)
       (ends_left l p rest over.Carried (λ q. got_from (page_in l.page (own_entry l).kept) q) todo)
-  give_falls t l v m few (fails p rest e end todo stage held some v_is m_is) = subst (Less l) (sym m_is)
-      (subst (λ (x : Option PartEnd). Less l (failing_by l x)) (sym some)
-      (ends_left l p rest end (λ q. []) todo))
+  give_falls t l v m few (fails p rest e end todo stage held some v_is m_is) =
+      subst (Less l) (sym m_is) (fails_left l p rest end todo some)
+  give_falls t l v m few (errs p rest e f end todo stage held some is_read notes v_is m_is) =
+      subst (Less l) (sym m_is) (fails_left l p rest end todo some)
+  give_falls t l v m few (leaves p rest e end todo stage held some writes v_is m_is) =
+      subst (Less l) (sym m_is) (fails_left l p rest end todo some)
   give_falls t l v m few (compacts (moves p rest x q q' budget frames todo stage held is moved v_is m_is)) =
       subst (Less l) (sym m_is)
       (goes_on l p rest (at.Moving x) (moved_at frames (with_move (compaction_at l.at) budget)) todo stage

@@ -17,4 +17,5 @@ pub mod Noted
 pub mod Preparing
 pub mod Prepared
 pub mod Fresh
+pub mod Spares
 pub mod Telling

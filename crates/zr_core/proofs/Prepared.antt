@@ -25,6 +25,7 @@ use Rattle.joint_rule.specs.Laws.{StartHasRule, RestGoesOn, RequestsAreProper}
 use Rattle.joint_rule.specs.Rule.{owed}
 use Rattle.joint_rule.specs.Starts.{IsStart}
 use Rattle.zr_core.specs.declared.limits.TheConstants.{MOST_CHAIN}
+use Rattle.zr_core.specs.declared.spare.Spare.{Spare}
 use Rattle.zr_core.specs.Machines.{order_at, without_calls, IsKept, KeepsValues, Begins, IsSetUp}
 use Rattle.zr_core.specs.Noted.{is_in, AreCounted, HasAllOrders}
 use Rattle.zr_core.specs.Preparing.{IsReserved, KeepsPage, AreReserved}
@@ -311,7 +312,7 @@ owed_is t p (ops ∷ more) (w ∷ ws) e todo =
 -- ---- the state before the first turn
 
 module _ {D : Type 0} (t : Terms) (actors : List (List Op)) (cells cells' : Row) (ws : List (Worker D))
-    (limit : ℕ) (counts : BTreeMap ℕ ℕ) (noted : List ℕ)
+    (limit : ℕ) (spare : Option (Spare D)) (counts : BTreeMap ℕ ℕ) (noted : List ℕ)
     (new : AreNewWorkers t.size t.chain actors ws)
     (counted : (p : ℕ) → p < t.size → count_at counts p ≡ counted_each t.size actors p)
     (r : AreReserved (λ p. true) counts t.size cells cells')
@@ -321,6 +322,7 @@ module _ {D : Type 0} (t : Terms) (actors : List (List Op)) (cells cells' : Row)
   now = record {
     terms = t;
     limit = limit;
+    spare = spare;
     noted = noted;
     actors = actors;
     cells = cells';

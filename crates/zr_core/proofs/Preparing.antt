@@ -1,7 +1,8 @@
 -- Setting a phase up: one value of the row at a time.
-use Rattle.std.proofs.Common.{◌≡◌, ℕ, ◌≤◌, List, [], length, Option, Some, None, slice_get, slice_set, sym, ap, ◌∙◌, length-set}
+use Rattle.std.proofs.Common.{◌≡◌, ℕ, ◌+◌, ◌≤◌, List, [], length, Option, Some, None, slice_get, slice_set, sym, ap, ◌∙◌, arith, length-set}
 use Rattle.std.specs.Prelude.{Result, Ok, Err, OnOk, OnErr}
 use Rattle.lock_row.specs.declared.names.LockNo.{LockNo}
+use Rattle.lock_row.specs.declared.names.LockNo.TheVariants as lock
 use Rattle.lock_row.specs.declared.names.Held.TheVariants as holds
 use Rattle.lock_row.specs.Laws.{NamesHavePlaces}
 use Rattle.lock_row.specs.Rows.{Row, IsIn, cell, with_cell}
@@ -64,6 +65,29 @@ module _ (places : NamesHavePlaces) (size : ℕ) (k : LockNo) (is : IsLock size 
       pub gives_back : w ≡ v → r₂.cells ≡ r.cells
       gives_back same = cells_set
           ∙ set_same r.cells at (Some w) (there ∙ ap (λ (x : DiskHeld). Some (Some x)) (sym same))
+
+-- ---- the map of blocks and the device, which are out
+
+module _ (places : NamesHavePlaces) (size : ℕ) (r : Row DiskHeld) (names : r.names ≡ names_of size)
+    (b d : DiskHeld) (r₁ : Row DiskHeld) (first : r₁ ≡ with_cell r lock.Blocks (Some b)) where
+  first_names : r₁.names ≡ names_of size
+  first_names = ap (λ (x : Row DiskHeld). x.names) first ∙ names
+
+  first_cells : r₁.cells ≡ slice_set r.cells (size + 256) (Some b)
+  first_cells = ap (λ (x : Row DiskHeld). x.cells) first
+      ∙ cells_with size places lock.Blocks tt r names (Some b)
+
+  pub still_out : slice_get r.cells (size + 257) ≡ Some None → cell r₁ lock.Device ≡ Some None
+  still_out out = cell_at size places lock.Device tt r₁ first_names
+      ∙ ap (λ (cs : List (Option DiskHeld)). slice_get cs (size + 257)) first_cells
+      ∙ get_else r.cells (size + 256) (size + 257) (Some b)
+      (λ e. let none : ⊥ = omega arith in none) ∙ out
+
+  pub both_set : (r₂ : Row DiskHeld) → r₂ ≡ with_cell r₁ lock.Device (Some d)
+      → r₂.cells ≡ slice_set (slice_set r.cells (size + 256) (Some b)) (size + 257) (Some d)
+  both_set r₂ then = ap (λ (x : Row DiskHeld). x.cells) then
+      ∙ cells_with size places lock.Device tt r₁ first_names (Some d)
+      ∙ ap (λ (cs : List (Option DiskHeld)). slice_set cs (size + 257) (Some d)) first_cells
 
 -- ---- an entry whose order is emptied
 

@@ -1,5 +1,5 @@
 -- A row between two phases.
-use Rattle.std.proofs.Common.{◌≡◌, ℕ, zero, suc, ◌+◌, ◌*◌, ◌/◌, ◌<◌, ◌≤◌, List, [], ◌∷◌, length, get_or, Option, Some, None, slice_get, slice_set, refl, sym, ap, ◌∙◌, subst, arith, inr, length-set}
+use Rattle.std.proofs.Common.{◌≡◌, ◌≢◌, ℕ, zero, suc, ◌+◌, ◌*◌, ◌/◌, ◌<◌, ◌≤◌, Bool, true, false, ◌&&◌, List, [], ◌∷◌, length, get_or, Option, Some, None, slice_get, slice_set, refl, sym, ap, ◌∙◌, subst, arith, inr, length-set}
 use mathlib.Core.Logic.{dite}
 use native.Mathlib.Decide.{ℕ_discrete}
 use Rattle.std.proofs.lemmas.Option.{get_or_from_slice_get}
@@ -7,6 +7,8 @@ use Rattle.zr_base.specs.declared.op.Tag.{Tag}
 use Rattle.zr_base.specs.declared.op.Op.{Op}
 use Rattle.zr_base.specs.declared.limits.TheConstants.{MOST_PAGES}
 use Rattle.mem_account.specs.Counters.{Counters, no_counts}
+use Rattle.block_map.specs.BlockMap.{BlockMap}
+use Rattle.backing_dev.specs.Dev.{DeviceState}
 use Rattle.call_history.specs.Parts.{program}
 use Rattle.plain_disk.specs.Phases.{held_after}
 use Rattle.lock_row.specs.declared.names.Held.TheVariants as holds
@@ -14,11 +16,12 @@ use Rattle.lock_row.specs.declared.names.State.{State}
 use Rattle.slot_entry.specs.Entries.{EntryState}
 use Rattle.page_steps.specs.Pages.{new_class}
 use Rattle.page_steps.specs.Steps.{DiskHeld, class_by, entry_in, plan_by}
-use Rattle.joint_rule.specs.Begins.{Begin, found_after, pieces_each, AreCarried, Proper}
+use Rattle.joint_rule.specs.Begins.{Begin, found_after, back_at, pieces_each, AreCarried, Proper}
+use Rattle.joint_rule.specs.Ends.{device_in}
 use Rattle.joint_rule.specs.Joint.{Sound}
 use Rattle.joint_rule.specs.Laws.{RestGoesOn, FinishedIsAtRest, RequestsAreProper}
 use Rattle.joint_rule.specs.Rule.{Rule, owed}
-use Rattle.joint_rule.specs.Starts.{AtRest, Renewed, slots, accounts, stays, IsStart}
+use Rattle.joint_rule.specs.Starts.{AtRest, Renewed, slots, accounts, pools, maps, devices, IsStart}
 use Rattle.zr_core.specs.Machines.{AllFinished, order_in, order_at, without_calls, without_orders, IsKept, KeepsValues, IsSetUp}
 use Rattle.zr_core.specs.declared.limits.TheConstants.{MOST_CHAIN}
 use Rattle.zr_core.specs.Noted.{HasAllOrders}
@@ -48,6 +51,31 @@ account_by g j (holds.Account c) at is = (c, refl)
 account_by g j (holds.Blocks x) at is = absurd (let none : ⊥ = omega arith in none)
 account_by g j (holds.Device x) at is = absurd (let none : ⊥ = omega arith in none)
 
+-- the last two are the map of blocks and the device
+blocks_by : (g : Begin) (j : ℕ) (v : DiskHeld) → j ≡ g.given.size + 256 → Sound g j v
+    → (x : BlockMap) × (v ≡ holds.Blocks x)
+blocks_by g j (holds.Slot e) at is = absurd (let p = is.page in let none : ⊥ = omega arith in none)
+blocks_by g j (holds.Class q) at is =
+    absurd (let e = is.0 in let c = is.1.class in let none : ⊥ = omega arith in none)
+blocks_by g j (holds.Account c) at is = absurd (let none : ⊥ = omega arith in none)
+blocks_by g j (holds.Blocks x) at is = (x, refl)
+blocks_by g j (holds.Device x) at is =
+    absurd (let e = is.0 in let none : ⊥ = omega arith in none)
+
+device_by : (g : Begin) (j : ℕ) (v : DiskHeld) → j ≡ g.given.size + 257 → Sound g j v
+    → (d : DeviceState) × (v ≡ holds.Device d)
+device_by g j (holds.Slot e) at is = absurd (let p = is.page in let none : ⊥ = omega arith in none)
+device_by g j (holds.Class q) at is =
+    absurd (let e = is.0 in let c = is.1.class in let none : ⊥ = omega arith in none)
+device_by g j (holds.Account c) at is = absurd (let none : ⊥ = omega arith in none)
+device_by g j (holds.Blocks x) at is = absurd (let none : ⊥ = omega arith in none)
+device_by g j (holds.Device x) at is = (x, refl)
+
+-- a page that was on the device is there where no call came to it
+and_true : (b : Bool) → b ≡ (b && true)
+and_true true = refl
+and_true false = refl
+
 get_or_none : (row : Row) (p : ℕ) → slice_get row p ≡ None → get_or row p None ≡ None
 get_or_none [] p e = refl
 get_or_none (x ∷ row) zero e = absurd (cc)
@@ -71,6 +99,20 @@ module _ (g : Begin) (row : Row) (rest : AtRest g row) where
       let c = account_by g (g.given.size + 255) v.0 refl (sound_at (g.given.size + 255) v.0 v.1) in
       (c.0, v.1 ∙ ap (λ (u : DiskHeld). Some (Some u)) c.1)
 
+  pub blocks_there : (x : BlockMap)
+      × (slice_get row (g.given.size + 256) ≡ Some (Some (holds.Blocks x)))
+  blocks_there =
+      let v = rest.whole (g.given.size + 256) (let n = rest.size in omega arith) in
+      let x = blocks_by g (g.given.size + 256) v.0 refl (sound_at (g.given.size + 256) v.0 v.1) in
+      (x.0, v.1 ∙ ap (λ (u : DiskHeld). Some (Some u)) x.1)
+
+  pub device_there : (d : DeviceState)
+      × (slice_get row (g.given.size + 257) ≡ Some (Some (holds.Device d)))
+  device_there =
+      let v = rest.whole (g.given.size + 257) (let n = rest.size in omega arith) in
+      let d = device_by g (g.given.size + 257) v.0 refl (sound_at (g.given.size + 257) v.0 v.1) in
+      (d.0, v.1 ∙ ap (λ (u : DiskHeld). Some (Some u)) d.1)
+
 -- the value as the phase after finds it
 abbrev IsNext : DiskHeld → DiskHeld → Type 0
 IsNext (holds.Slot e) u =
@@ -79,7 +121,7 @@ IsNext (holds.Slot e) u =
 IsNext (holds.Class q) u = u ≡ holds.Class q
 IsNext (holds.Account c) u = (d : Counters) × (u ≡ holds.Account d)
     × (d ≡ record c { limit = d.limit; most = d.most }) × (c.pages ≤ c.most → c.pages ≤ d.most)
-IsNext (holds.Blocks x) u = u ≡ holds.Blocks x
+IsNext (holds.Blocks x) u = (y : BlockMap) × (u ≡ holds.Blocks y) × (y.states ≡ x.states)
 IsNext (holds.Device x) u = u ≡ holds.Device x
 
 -- ---- a disk at rest
@@ -91,6 +133,13 @@ entry_was (holds.Class q) e is = absurd (cc)
 entry_was (holds.Account c) e is = absurd (cc)
 entry_was (holds.Blocks x) e is = absurd (cc)
 entry_was (holds.Device x) e is = absurd (cc)
+
+blocks_was : (v : DiskHeld) (x : BlockMap) → without_calls v ≡ holds.Blocks x → v ≡ holds.Blocks x
+blocks_was (holds.Slot f) x is = absurd (cc)
+blocks_was (holds.Class q) x is = absurd (cc)
+blocks_was (holds.Account c) x is = absurd (cc)
+blocks_was (holds.Blocks y) x is = is
+blocks_was (holds.Device y) x is = absurd (cc)
 
 module _ (g : Begin) (pages : ℕ) (cells : Row) (rests : RestsAs g pages cells) where
   pub rests_long : length cells ≡ pages + 258
@@ -111,6 +160,17 @@ module _ (g : Begin) (pages : ℕ) (cells : Row) (rests : RestsAs g pages cells)
         (f.0, v.1 ∙ ap (λ (u : DiskHeld). Some (Some u)) f.1);
   }
 
+  -- the map of blocks is at home
+  pub rests_blocks : (x : BlockMap)
+      × (slice_get cells (pages + 256) ≡ Some (Some (holds.Blocks x)))
+  rests_blocks =
+      let b = blocks_there g (without_orders cells) rests.row in
+      let v = was_at cells (g.given.size + 256) (holds.Blocks b.0) b.1 in (
+        b.0,
+        ap (λ (n : ℕ). slice_get cells (n + 256)) (sym rests.size) ∙ v.1
+            ∙ ap (λ (u : DiskHeld). Some (Some u)) (blocks_was v.0 b.0 v.2),
+      )
+
   pub at_rest : (noted : List ℕ) → HasAllOrders pages noted cells → IsAtRest pages noted cells
   at_rest noted orders = record {
     entries = rests_entries;
@@ -122,7 +182,8 @@ module _ (g : Begin) (pages : ℕ) (cells : Row) (rests : RestsAs g pages cells)
   pub rests_on : (after : Row) → KeepsValues cells after → RestsAs g pages after
   rests_on after keeps =
       let same = rows_same cells after rests_whole keeps in
-      let a = keeps.each (pages + 255) (holds.Account g.was) rests.account in record {
+      let a = keeps.each (pages + 255) (holds.Account g.was) rests.account in
+      let d = keeps.each (pages + 257) (holds.Device g.device) rests.device in record {
         size = rests.size;
         some = rests.some;
         most = rests.most;
@@ -131,12 +192,14 @@ module _ (g : Begin) (pages : ℕ) (cells : Row) (rests : RestsAs g pages cells)
         proper = rests.proper;
         row = subst (AtRest g) (sym same) rests.row;
         account = a.1 ∙ ap (λ (u : DiskHeld). Some (Some u)) a.2;
+        device = d.1 ∙ ap (λ (u : DiskHeld). Some (Some u)) d.2;
       }
 
   -- ---- what goes on from here
 
   module _ (h : Begin) (size : h.given.size ≡ g.given.size) (chain : h.chain ≡ g.chain)
       (touched : (j : ℕ) → h.touched j ≡ g.touched j) (blank : (p : ℕ) → h.blank p ≡ g.blank p)
+      (back : (p : ℕ) → h.back p ≡ g.back p) (device : h.device ≡ g.device)
       (before : (s : ℕ) → h.given.before s ≡ g.given.before s) (next : RestGoesOn) (after : Row)
       (long : length after ≡ length cells)
       (each : (k : ℕ) (v : DiskHeld) → slice_get cells k ≡ Some (Some v)
@@ -146,6 +209,15 @@ module _ (g : Begin) (pages : ℕ) (cells : Row) (rests : RestsAs g pages cells)
         → h.touched j ≡ e.touched
     touched_was e j at = touched j
         ∙ sym (rests.row.home j (without_calls (holds.Slot e)) at).sound.touched
+
+    device_was : (x : DeviceState) (j : ℕ)
+        → slice_get (without_orders cells) j ≡ Some (Some (holds.Device x)) → g.device ≡ x
+    device_was x j at =
+        let e : j ≡ pages + 257 =
+        (let k = (rests.row.home j (holds.Device x) at).sound.0 in let s = rests.size in omega arith) in
+        let q : Some (Some (holds.Device g.device)) ≡ Some (Some (holds.Device x)) =
+        sym (emptied_at cells (pages + 257) (Some (holds.Device g.device)) rests.device)
+        ∙ ap (slice_get (without_orders cells)) (sym e) ∙ at in cc
 
     renewed : (j : ℕ) (v u : DiskHeld)
         → slice_get (without_orders cells) j ≡ Some (Some (without_calls v)) → IsNext v u
@@ -158,12 +230,13 @@ module _ (g : Begin) (pages : ℕ) (cells : Row) (rests : RestsAs g pages cells)
           touched = is.3;
           time = touched_was e j at;
           blank = blank j;
+          back = back j ∙ and_true (g.back j);
           before = λ k lt. before (8 * j + k);
         }
-    renewed j (holds.Class q) u at is = stays tt is
+    renewed j (holds.Class q) u at is = pools q refl is
     renewed j (holds.Account c) u at is = accounts c is.0 refl is.1 is.2 is.3
-    renewed j (holds.Blocks x) u at is = stays tt is
-    renewed j (holds.Device x) u at is = stays tt is
+    renewed j (holds.Blocks x) u at is = maps x is.0 refl is.1 is.2
+    renewed j (holds.Device x) u at is = devices x refl is (device ∙ device_was x j at)
 
     pub goes_on : AtRest h after
     goes_on = next g h (without_orders cells) after record { size = size; chain = chain }
@@ -197,11 +270,12 @@ module _ (g : Begin) (pages : ℕ) (cells : Row) (rests : RestsAs g pages cells)
     )
     next_is k (holds.Class q) u there is = is
     next_is k (holds.Account c) u there is = (c, is, refl, λ le. le)
-    next_is k (holds.Blocks x) u there is = is
+    next_is k (holds.Blocks x) u there is = (x, is, refl)
     next_is k (holds.Device x) u there is = is
 
     begins_rest : AtRest new w.row
-    begins_rest = goes_on new refl refl (λ j. refl) (λ p. refl) (λ s. refl) next w.row up.row.size
+    begins_rest = goes_on new refl refl (λ j. refl) (λ p. refl) (λ p. refl) refl (λ s. refl) next
+        w.row up.row.size
         (λ k v at. let u = up.row.each k v at in (u.0, u.1, next_is k v u.0 u.1 u.2))
 
     -- the account of the row that is set up
@@ -215,6 +289,17 @@ module _ (g : Begin) (pages : ℕ) (cells : Row) (rests : RestsAs g pages cells)
         ∙ ap (slice_get w.row) e
         ∙ u.1 ∙ ap (λ (x : DiskHeld). Some (Some x)) u.2 in cc
 
+    -- and the device
+    device_is : (k : ℕ) (d : DeviceState) → slice_get w.row k ≡ Some (Some (holds.Device d))
+        → d ≡ g.device
+    device_is k d at =
+        let is = (begins_rest.home k (holds.Device d) at).sound.0 in
+        let u = up.row.each (pages + 257) (holds.Device g.device) rests.device in
+        let e : k ≡ pages + 257 = (let s = rests.size in omega arith) in
+        let q : Some (Some (holds.Device d)) ≡ Some (Some (holds.Device g.device)) = sym at
+        ∙ ap (slice_get w.row) e
+        ∙ u.1 ∙ ap (λ (x : DiskHeld). Some (Some x)) u.2 in cc
+
     pub begins : IsStart new w
     begins = record {
       rest = begins_rest;
@@ -224,6 +309,7 @@ module _ (g : Begin) (pages : ℕ) (cells : Row) (rests : RestsAs g pages cells)
         subst (λ (n : ℕ). owed n w.locals k ≤ e.room) (sym rests.size) o.1,
       );
       account = account_is;
+      device = device_is;
       actors = λ a l at. let b = up.begin a l at in record {
         who = b.who;
         ops = b.ops;
@@ -243,14 +329,11 @@ module _ (g : Begin) (pages : ℕ) (cells : Row) (rests : RestsAs g pages cells)
       count = up.count;
     }
 
-  -- ---- another limit or maximum
+  -- ---- another value at a place
 
-  module _ (d : Counters) (only : d ≡ record g.was { limit = d.limit; most = d.most })
-      (keeps : g.was.pages ≤ g.was.most → g.was.pages ≤ d.most) (next : RestGoesOn) (after : Row)
-      (is : after ≡ slice_set cells (pages + 255) (Some (holds.Account d))) where
-    abbrev now : DiskHeld
-    now = holds.Account d
-
+  module _ (at : ℕ) (was now : DiskHeld) (there : slice_get cells at ≡ Some (Some was))
+      (goes : IsNext was (without_calls now)) (after : Row)
+      (is : after ≡ slice_set cells at (Some now)) where
     same_next : (v : DiskHeld) → IsNext v (without_calls v)
     same_next (holds.Slot e) = (
       record { kept = e.kept; order = []; room = 0; touched = e.touched },
@@ -261,31 +344,38 @@ module _ (g : Begin) (pages : ℕ) (cells : Row) (rests : RestsAs g pages cells)
     )
     same_next (holds.Class q) = refl
     same_next (holds.Account c) = (c, refl, refl, λ le. le)
-    same_next (holds.Blocks x) = refl
+    same_next (holds.Blocks x) = (x, refl, refl)
     same_next (holds.Device x) = refl
 
-    changed_at : slice_get after (pages + 255) ≡ Some (Some now)
-    changed_at = ap (λ (row : Row). slice_get row (pages + 255)) is
-        ∙ get_here cells (pages + 255) (Some now) (Some (holds.Account g.was)) rests.account
+    set_at : slice_get after at ≡ Some (Some now)
+    set_at = ap (λ (row : Row). slice_get row at) is ∙ get_here cells at (Some now) (Some was) there
 
-    changed_each : (k : ℕ) (v : DiskHeld) → slice_get cells k ≡ Some (Some v)
+    set_else : (k : ℕ) → k ≢ at → slice_get after k ≡ slice_get cells k
+    set_else k ne = ap (λ (row : Row). slice_get row k) is ∙ get_else cells at k (Some now) ne
+
+    set_each : (k : ℕ) (v : DiskHeld) → slice_get cells k ≡ Some (Some v)
         → (u : DiskHeld) × (slice_get (without_orders after) k ≡ Some (Some u)) × IsNext v u
-    changed_each k v at = dite (ℕ_discrete k (pages + 255))
-        (λ here. (
-          now,
-          emptied_at after k (Some now) (ap (slice_get after) here ∙ changed_at),
-          subst (λ (x : DiskHeld). IsNext x now)
-              (let q : Some (Some (holds.Account g.was)) ≡ Some (Some v) = sym rests.account
-              ∙ ap (slice_get cells) (sym here) ∙ at in
-              let r : holds.Account g.was ≡ v = cc in r)
-              (d, refl, only, keeps),
+    set_each k v here = dite (ℕ_discrete k at)
+        (λ same. (
+          without_calls now,
+          emptied_at after k (Some now) (ap (slice_get after) same ∙ set_at),
+          subst (λ (x : DiskHeld). IsNext x (without_calls now))
+              (let q : Some (Some was) ≡ Some (Some v) = sym there
+              ∙ ap (slice_get cells) (sym same) ∙ here in
+              let r : was ≡ v = cc in r)
+              goes,
         ))
-        (λ ne. (
-          without_calls v,
-          emptied_at after k (Some v) (ap (λ (row : Row). slice_get row k) is
-              ∙ get_else cells (pages + 255) k (Some now) ne ∙ at),
-          same_next v,
-        ))
+        (λ ne. (without_calls v, emptied_at after k (Some v) (set_else k ne ∙ here), same_next v))
+
+    set_long : length (without_orders after) ≡ length cells
+    set_long = emptied_long after ∙ ap length is ∙ length-set cells at (Some now)
+
+  -- another limit or maximum
+  module _ (d : Counters) (only : d ≡ record g.was { limit = d.limit; most = d.most })
+      (keeps : g.was.pages ≤ g.was.most → g.was.pages ≤ d.most) (next : RestGoesOn) (after : Row)
+      (is : after ≡ slice_set cells (pages + 255) (Some (holds.Account d))) where
+    goes : IsNext (holds.Account g.was) (holds.Account d)
+    goes = (d, refl, only, keeps)
 
     pub changed : RestsAs (with_account g d) pages after
     changed = record {
@@ -302,11 +392,40 @@ module _ (g : Begin) (pages : ℕ) (cells : Row) (rests : RestsAs g pages cells)
         few = rests.proper.few;
         pieces = rests.proper.pieces;
       };
-      row = goes_on (with_account g d) refl refl (λ j. refl) (λ p. refl) (λ s. refl) next
+      row = goes_on (with_account g d) refl refl (λ j. refl) (λ p. refl) (λ p. refl) refl (λ s. refl)
+          next (without_orders after)
+          (set_long (pages + 255) (holds.Account g.was) (holds.Account d) rests.account goes after is)
+          (set_each (pages + 255) (holds.Account g.was) (holds.Account d) rests.account goes after is);
+      account =
+          set_at (pages + 255) (holds.Account g.was) (holds.Account d) rests.account goes after is;
+      device =
+          set_else (pages + 255) (holds.Account g.was) (holds.Account d) rests.account goes after is
+          (pages + 257) (λ e. let none : ⊥ = omega arith in none) ∙ rests.device;
+    }
+
+  -- another budget of the map of blocks
+  module _ (x y : BlockMap) (there : slice_get cells (pages + 256) ≡ Some (Some (holds.Blocks x)))
+      (same : y.states ≡ x.states) (next : RestGoesOn) (after : Row)
+      (is : after ≡ slice_set cells (pages + 256) (Some (holds.Blocks y))) where
+    maps_go : IsNext (holds.Blocks x) (holds.Blocks y)
+    maps_go = (y, refl, same)
+
+    pub mapped : RestsAs g pages after
+    mapped = record {
+      size = rests.size;
+      some = rests.some;
+      most = rests.most;
+      none = rests.none;
+      chain = rests.chain;
+      proper = rests.proper;
+      row = goes_on g refl refl (λ j. refl) (λ p. refl) (λ p. refl) refl (λ s. refl) next
           (without_orders after)
-          (let a = emptied_long after in let b = ap length is
-          ∙ length-set cells (pages + 255) (Some now) in omega arith) changed_each;
-      account = changed_at;
+          (set_long (pages + 256) (holds.Blocks x) (holds.Blocks y) there maps_go after is)
+          (set_each (pages + 256) (holds.Blocks x) (holds.Blocks y) there maps_go after is);
+      account = set_else (pages + 256) (holds.Blocks x) (holds.Blocks y) there maps_go after is
+          (pages + 255) (λ e. let none : ⊥ = omega arith in none) ∙ rests.account;
+      device = set_else (pages + 256) (holds.Blocks x) (holds.Blocks y) there maps_go after is
+          (pages + 257) (λ e. let none : ⊥ = omega arith in none) ∙ rests.device;
     }
 
 -- the account of a disk with pages
@@ -330,6 +449,11 @@ module _ (g : Begin) (w : State DiskHeld) (proper : Proper g) (rule : Rule g w)
   abbrev gone : Begin
   gone = left g w.row
 
+  gone_device : (x : DeviceState)
+      → slice_get w.row (g.given.size + 257) ≡ Some (Some (holds.Device x)) → gone.device ≡ x
+  gone_device x at = ap (device_in g.device)
+      (get_or_from_slice_get w.row (g.given.size + 257) (Some (holds.Device x)) None at)
+
   gone_at : (j : ℕ) (v : DiskHeld) → slice_get w.row j ≡ Some (Some v)
       → Renewed g gone j v (without_calls v)
   gone_at j (holds.Slot e) at =
@@ -340,13 +464,15 @@ module _ (g : Begin) (w : State DiskHeld) (proper : Proper g) (rule : Rule g w)
         touched = refl;
         time = ap touched_in (get_or_from_slice_get w.row j (Some (holds.Slot e)) None at);
         blank = ap (λ (o : List Tag). (found_after g j o).blank) order;
+        back = ap (λ (o : List Tag). back_at g j o) order;
         before = λ k lt. ap (λ (o : List Tag). held_after g.given o (8 * j + k))
             (ap (order_at w.row) (let q : (8 * j + k) / 8 ≡ j = omega arith in q) ∙ order);
       }
-  gone_at j (holds.Class q) at = stays tt refl
+  gone_at j (holds.Class q) at = pools q refl refl
   gone_at j (holds.Account c) at = accounts c c refl refl refl (λ le. le)
-  gone_at j (holds.Blocks x) at = stays tt refl
-  gone_at j (holds.Device x) at = stays tt refl
+  gone_at j (holds.Blocks x) at = maps x x refl refl refl
+  gone_at j (holds.Device x) at = devices x refl refl
+      (gone_device x (ap (slice_get w.row) (sym (ends.home j (holds.Device x) at).sound.0) ∙ at))
 
   carried : (p : ℕ) → AreCarried g p (order_at w.row p)
   carried p = by (slice_get w.row p) refl where
@@ -370,7 +496,8 @@ module _ (g : Begin) (w : State DiskHeld) (proper : Proper g) (rule : Rule g w)
 
   pub left_rests : RestsAs gone g.given.size w.row
   left_rests =
-      let a = account_there g w.row ends in record {
+      let a = account_there g w.row ends in
+      let d = device_there g w.row ends in record {
         size = refl;
         some = some;
         most = most;
@@ -386,6 +513,8 @@ module _ (g : Begin) (w : State DiskHeld) (proper : Proper g) (rule : Rule g w)
             (sym (account_some g.was.limit g.given.size w.row some
             ∙ ap (account_in (record no_counts { limit = g.was.limit }))
             (get_or_from_slice_get w.row (g.given.size + 255) (Some (holds.Account a.0)) None a.1)));
+        device = d.1 ∙ ap (λ (x : DeviceState). Some (Some (holds.Device x)))
+            (sym (gone_device d.0 d.1));
       }
 
   -- a page on which no piece has events has no order

@@ -151,7 +151,7 @@ module _ {D : Type 0} (free : NobodyWaitsForever) (x : Playing D) (can : CanGoOn
         (f.0, subst (λ (t : Terms). IsFree t s f.0) j.of.goes_by f.1)
 
     -- a whole round leaves fewer events
-    pub round_left : {D : Type 0} → SumMoves DiskHeld → (y : Playing D) → y.terms ≡ x.terms → y.actors ≡ x.actors
+    pub round_left : SumMoves DiskHeld → (y : Playing D) → y.terms ≡ x.terms → y.actors ≡ x.actors
         → (n : ℕ)
         → length x.actors ≤ n → RoundTo (state_of x rule.1.dones) y n
         → left_of y < left_of x
@@ -184,7 +184,7 @@ pub more_over : {D : Type 0} (actors : List (List Op)) (ws : List (Worker D)) (n
     → (a : ℕ) (os : List Op) (v : Worker D) → a < n + 1 → slice_get actors a ≡ Some os
     → slice_get ws a ≡ Some v
     → length os ≤ v.place.nr
-more_over actors ws n ops w named there over before a os v lt e f = dite (ℕ_discrete a n)
+more_over {D} actors ws n ops w named there over before a os v lt e f = dite (ℕ_discrete a n)
     (λ s.
     let p : ops ≡ os =
     (let q : Some ops ≡ Some os = sym named ∙ (ap (slice_get actors) (sym s) ∙ e) in cc) in
@@ -223,6 +223,7 @@ pub plays_none : {D : Type 0} (x : Playing D) → CanGoOn x → Plays [] x x
 plays_none x can = record {
   same = refl;
   limit = refl;
+  spare = refl;
   can = can;
   goes = λ dones kept. (dones, kept, refl);
 }
@@ -232,6 +233,7 @@ pub plays_on : {D : Type 0} (xs ys : List ℕ) (x y z : Playing D) → Plays xs 
 plays_on xs ys x y z first then = record {
   same = then.same ∙ first.same;
   limit = then.limit ∙ first.limit;
+  spare = then.spare ∙ first.spare;
   can = then.can;
   goes = λ dones kept.
       let f = first.goes dones kept in
@@ -244,13 +246,14 @@ plays_on xs ys x y z first then = record {
 }
 
 -- one turn
-pub plays_once : {D : Type 0} (a : ℕ) (x y : Playing D) (t : WasTurn) → y.terms ≡ x.terms → y.limit ≡ x.limit
-    → CanGoOn y
+pub plays_once : {D : Type 0} (a : ℕ) (x y : Playing D) (t : WasTurn) → y.terms ≡ x.terms
+    → y.limit ≡ x.limit → y.spare ≡ x.spare → CanGoOn y
     → ((dones : List (List Done)) → AreKept x.workers dones → TurnsOnce a x y t dones)
     → Plays (a ∷ []) x y
-plays_once a x y t same limit can turn = record {
+plays_once a x y t same limit spare can turn = record {
   same = same;
   limit = limit;
+  spare = spare;
   can = can;
   goes = λ dones kept. let n = turn dones kept in
       (n.0, n.1, (state_of y n.0, one_turn x.terms a _ _ t n.2, refl));
@@ -279,12 +282,13 @@ idle u (suc k) a w n turn.Finished not is =
     (w, one_turn u a w w turn.Finished (is.0, is.1, is.2, refl), idle u k a w n turn.Finished not is)
 
 pub plays_idle : {D : Type 0} (k a : ℕ) (x y : Playing D) (t : WasTurn) → t ≢ turn.Went → y.terms ≡ x.terms
-    → y.limit ≡ x.limit → CanGoOn y
+    → y.limit ≡ x.limit → y.spare ≡ x.spare → CanGoOn y
     → ((dones : List (List Done)) → AreKept x.workers dones → TurnsOnce a x y t dones)
     → Plays (replicate k a) x y
-plays_idle k a x y t not same limit can once = record {
+plays_idle k a x y t not same limit spare can once = record {
   same = same;
   limit = limit;
+  spare = spare;
   can = can;
   goes = λ dones kept. let n = once dones kept in (n.0, n.1, idle x.terms k a _ _ t not n.2);
 }

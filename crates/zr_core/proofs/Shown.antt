@@ -68,6 +68,7 @@ nothing_told ends.Ok = refl
 nothing_told ends.Range = refl
 nothing_told (ends.AtLimit pages need limit done) = refl
 nothing_told (ends.NoMemory done) = refl
+nothing_told (ends.Eio fault done) = refl
 nothing_told (ends.Compacted moves frames) = refl
 
 read_told : (start count : ℕ) (end : OpEnd) (got : List (List ℕ))
@@ -76,6 +77,7 @@ read_told start count ends.Ok got = refl
 read_told start count ends.Range got = refl
 read_told start count (ends.AtLimit pages need limit done) got = refl
 read_told start count (ends.NoMemory done) got = refl
+read_told start count (ends.Eio fault done) got = refl
 read_told start count (ends.Compacted moves frames) got = refl
 
 -- what is told of an operation is what its reply shows

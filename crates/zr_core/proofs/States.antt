@@ -59,7 +59,7 @@ pub fit_set : {D : Type 0} (t : Terms) (actors : List (List Op)) (ws : List (Wor
     → AreFit t actors ws → slice_get actors a ≡ Some ops → slice_get ws a ≡ Some old
     → IsFit t ops w
     → AreFit t actors (slice_set ws a w)
-fit_set t actors ws a ops old w fit named there new = record {
+fit_set {D} t actors ws a ops old w fit named there new = record {
   count = length-set ws a w ∙ fit.count;
   each = λ b os v e f. ⊎_elim
       (λ s. subst (λ (x : List Op × Worker D). IsFit t x.0 x.1) (λ i. (
@@ -75,7 +75,7 @@ pub kept_set : {D : Type 0} (ws : List (Worker D)) (dones : List (List Done)) (a
     (was done : List Done)
     → AreKept ws dones → slice_get ws a ≡ Some old → slice_get dones a ≡ Some was → Keeps w done
     → AreKept (slice_set ws a w) (slice_set dones a done)
-kept_set ws dones a old w was done kept there had new = record {
+kept_set {D} ws dones a old w was done kept there had new = record {
   count = length-set dones a done ∙ kept.count ∙ sym (length-set ws a w);
   each = λ b v d e f. ⊎_elim
       (λ s. ⊎_elim
@@ -109,12 +109,19 @@ no_plan t l e = todo l.todo refl where
         going at.Pinned c d f = cc
         going at.Unpinning c d f = cc
         going at.Leaving c d f = cc
+        going at.Away c d f = cc
+        going at.Fetching c d f = cc
+        going at.Failing c d f = cc
+        going at.Counting c d f = cc
+        going at.Missed c d f = cc
         going at.Wanting c d f = cc
         going at.Inside c d f = cc
         going at.Both c d f = cc
         going at.Made c d f = cc
         going at.Old c d f = cc
         going at.Freeing c d f = cc
+        going at.Backed c d f = cc
+        going at.Releasing c d f = cc
         going at.Owing c d f = cc
         going at.Giving c d f = cc
         going at.Ready c d f = cc

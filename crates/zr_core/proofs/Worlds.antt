@@ -133,6 +133,7 @@ module _ {D : Type 0} (x : Playing D) (a : ℕ) (ops : List Op) (w : Worker D) (
     after = record {
       terms = x.terms;
       limit = x.limit;
+      spare = x.spare;
       noted = x.noted;
       actors = x.actors;
       cells = (row_of m).cells;

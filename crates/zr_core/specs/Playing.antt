@@ -1,6 +1,7 @@
 -- A world and its phase, as they stand between two turns, and what they show.
 use Rattle.std.specs.Prelude.{◌≡◌, List}
 use Rattle.zr_base.specs.declared.op.Op.{Op}
+use Rattle.backing_dev.specs.declared.backing.Backing.{Ghosts}
 use Rattle.plain_disk.specs.Output.{OutLine, phase_lines}
 use Rattle.call_history.specs.declared.part.Done.{Done}
 use Rattle.joint_rule.specs.Begins.{Begin}
@@ -13,10 +14,11 @@ use Rattle.zr_core.specs.Rests.{RestsAs, left}
 use Rattle.zr_core.specs.States.{AreKept, IsOf, Playing, ends_shown, sectors_shown, state_of}
 
 -- a world and its phase, between two turns
-abbrev pub playing : {D : Type 0} → World D → Phase D → List (List Op) → Playing D
+abbrev pub playing : {D : Type 0} {b : Ghosts D} → World D b → Phase D → List (List Op) → Playing D
 playing world phase actors = record {
   terms = record { size = world.pages; chain = MOST_CHAIN; clock = phase.clock };
   limit = world.limit;
+  spare = world.spare;
   noted = world.noted.items;
   actors = actors;
   cells = world.row.cells;

@@ -1,5 +1,5 @@
 -- A disk between two phases: its row, and what a phase on it begins with.
-use Rattle.std.specs.Prelude.{◌≡◌, ◌⊎◌, ℕ, zero, suc, ◌+◌, ◌/◌, ◌<◌, ◌≤◌, nat_lt, true, false, List, [], ◌∷◌, ◌++◌, map, get_or, length, if◌then◌else◌, Option, Some, None, slice_get}
+use Rattle.std.specs.Prelude.{◌≡◌, ◌⊎◌, ℕ, zero, suc, ◌+◌, ◌/◌, ◌^◌, ◌<◌, ◌≤◌, ◌==◌, nat_lt, true, false, List, [], ◌∷◌, ◌++◌, map, get_or, length, if◌then◌else◌, Option, Some, None, is_some, IfSome, slice_get}
 use Rattle.std.specs.List.{range_with_len}
 use Rattle.zr_base.specs.declared.op.Op.{Op}
 use Rattle.zr_base.specs.Plain.{zero_sector}
@@ -103,17 +103,15 @@ blocks_in (Some (holds.Blocks x)) = x
 blocks_in (Some (holds.Device x)) = no_blocks
 
 -- What stands beside the row before the disk's size is given: the map has free blocks alone, and no
--- more than the device.
+-- more than the device, whose count of reads isn't past its end.
 pub record IsSpare {D : Type 0} (s : Spare D) : Type 0 where
   pub free : AreFree s.blocks.states
   pub fits : length s.blocks.states ≤ s.device.blocks
+  pub reads : s.device.reads < 2 ^ 64
 
 -- before the disk's size is given, the device and the map stand beside the row, and then in it
 abbrev pub IsEarly : {D : Type 0} → ℕ → Option (Spare D) → Type 0
-IsEarly zero None = ⊥
-IsEarly zero (Some s) = IsSpare s
-IsEarly (suc n) None = ⊤
-IsEarly (suc n) (Some s) = ⊥
+IsEarly pages s = (is_some s ≡ (pages == 0)) × IfSome s IsSpare
 
 -- the device of a disk
 abbrev pub device_by : {D : Type 0} → Option (Spare D) → ℕ → List (Option DiskHeld) → DeviceState

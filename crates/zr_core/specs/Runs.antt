@@ -41,6 +41,7 @@ RunsOut turns x y dones = (rounds : ℕ) × (dones' : List (List Done)) × AreKe
 pub record Plays {D : Type 0} (turns : List ℕ) (x y : Playing D) : Type 0 where
   pub same : y.terms ≡ x.terms
   pub limit : y.limit ≡ x.limit
+  pub spare : y.spare ≡ x.spare
   pub can : CanGoOn y
   pub goes : (dones : List (List Done)) → AreKept x.workers dones → GoesBy turns x y dones
 

@@ -19,6 +19,7 @@ use Rattle.actor_steps.specs.Workers.{here, Keeps, IsFit}
 use Rattle.joint_rule.specs.Begins.{Begin, terms, Proper}
 use Rattle.joint_rule.specs.Rule.{Rule}
 use Rattle.joint_rule.specs.Starts.{IsStart}
+use Rattle.zr_core.specs.declared.spare.Spare.{Spare}
 use Rattle.zr_core.specs.Machines.{IsReached, IsSetUp}
 use Rattle.zr_core.specs.Noted.{HasAllPieces}
 use Rattle.zr_core.specs.Rests.{IsBare}
@@ -62,11 +63,12 @@ pub record AreKept {D : Type 0} (ws : List (Worker D)) (dones : List (List Done)
   pub each : (a : ℕ) (w : Worker D) (done : List Done) → slice_get ws a ≡ Some w
       → slice_get dones a ≡ Some done → Keeps w done
 
--- A phase between two turns: what its steps go by, the disk's limit, the pages that may have an
--- order, the actors' operations, the row and the workers.
+-- A phase between two turns: what its steps go by, the disk's limit, what stands beside the row, the
+-- pages that may have an order, the actors' operations, the row and the workers.
 pub record Playing (D : Type 0) : Type 0 where
   pub terms : Terms
   pub limit : ℕ
+  pub spare : Option (Spare D)
   pub noted : List ℕ
   pub actors : List (List Op)
   pub cells : List (Option DiskHeld)

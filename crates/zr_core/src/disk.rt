@@ -1,16 +1,21 @@
 //! A disk: its row of entries, one for each page, of pools, one for each class, and of the account.
 
-ghost use Rattle.std.specs.Prelude.{◌≡◌, ◌+◌, ◌<◌, ◌≤◌, ◌^◌, [], slice_get, slice_set, Some, OnOk, OnErr};
+ghost use Rattle.std.proofs.Props.{props};
+ghost use Rattle.std.specs.Prelude.{◌≡◌, ◌+◌, ◌<◌, ◌≤◌, ◌^◌, [], replicate, slice_get, slice_set, Some, OnOk, OnErr};
 ghost use Rattle.zr_base.specs.declared.limits.TheConstants.{MOST_PAGES};
 ghost use Rattle.mem_account.specs.Counters.{Counters};
+ghost use Rattle.block_map.specs.BlockMap.{BlockMap};
 ghost use Rattle.lock_row.specs.declared.names.Held.TheVariants as holds;
 ghost use Rattle.joint_rule.specs.Begins.{Begin};
-ghost use Rattle.zr_core.specs.Rests.{names_by, IsAtRest, RestsAs, new_disk, with_limit, with_lowered};
+ghost use Rattle.zr_core.specs.Rests.{names_by, no_blocks, IsEarly, device_by, blocks_by, IsAtRest, RestsAs, new_disk, with_limit, with_lowered};
 ghost use Rattle.zr_core.specs.Rows.{AreNew};
 
-use crate::row::{entry_in, new_row, put_account};
+use crate::row::{blocks_in, device_in, device_of, entry_in, new_row, put_account, put_device, set_blocks};
+use crate::spare::Spare;
+use backing_dev::{Backing, Dev};
+use block_map::{BlockState, Blocks};
 use joint_rule::{disks_begin, phases_go_on};
-use lock_row::{LockNo, SimRow, names_have_places};
+use lock_row::{Hand, LockNo, SimRow, Still, names_have_places};
 use page_steps::DiskHeld;
 use slot_entry::Entry;
 use std::alloc::{AllocError, Global};
@@ -29,7 +34,7 @@ pub struct World<D: Backing> {
     pub(crate) noted: Vec<u32>,
     // the device and the map of its blocks, until they stand in the row
     pub(crate) spare: Option<Spare<D>>,
-    ghost early: { IsEarly pages spare },
+    ghost early: { IsEarly pages spare } by { Prim.hlevel props },
     ghost names: { row.names ≡ names_by pages },
     ghost small: { limit < 2 ^ 52 },
 }
@@ -108,6 +113,8 @@ impl<D: Backing> World<D> {
         ensures limit { self.new.limit ≡ self.old.limit }
         ensures row { self.new.row ≡ self.old.row }
         ensures noted { self.new.noted.items ≡ self.old.noted.items }
+        ensures rest { IsAtRest self.old.pages self.old.noted.items self.old.row.cells
+            → IsAtRest self.new.pages self.new.noted.items self.new.row.cells }
         ensures device { device_by self.new.spare self.new.pages self.new.row.cells
             ≡ device_by self.old.spare self.old.pages self.old.row.cells }
         ensures blocks { OnOk result (blocks_by self.new.spare self.new.pages self.new.row.cells
@@ -116,12 +123,16 @@ impl<D: Backing> World<D> {
         ensures err { OnErr result (self.new.spare ≡ self.old.spare) }
     {
         let mut map = Blocks::new(self.alloc, blocks)?;
-        let Some(spare) = &mut self.spare else {
+        let Some(spare) = self.spare.take() else {
             unreachable!()
         };
-        map.set_limit(spare.blocks.budget());
-        map.set_enable(spare.blocks.is_enabled());
-        spare.blocks = map;
+        let Spare { device, blocks } = spare;
+        map.set_limit(blocks.budget());
+        map.set_enable(blocks.is_enabled());
+        self.spare = Some(Spare {
+            device,
+            blocks: map,
+        });
         Ok(())
     }
 

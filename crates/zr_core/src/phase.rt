@@ -6,6 +6,7 @@ ghost use Rattle.page_steps.specs.Steps.{Terms};
 ghost use Rattle.zr_core.specs.States.{ends_shown, sectors_shown, of_op, HasEnded, AreFit, AreKept};
 
 use actor_steps::Worker;
+use backing_dev::Backing;
 use zr_base::OpEnd;
 
 /// The actors of a phase, and its time.

@@ -9,6 +9,7 @@ ghost use Rattle.zr_core.specs.Rests.{names_by, HasEntries};
 ghost use Rattle.zr_core.specs.Preparing.{IsReserved, AreReserved};
 
 use crate::row::entry_of;
+use backing_dev::Backing;
 use lock_row::{Hand, Held, LockNo, SimRow, Still, names_have_places};
 use page_steps::DiskHeld;
 use std::alloc::{AllocError, Global};

@@ -1,14 +1,20 @@
 //! The row of a new disk, and the values of a row.
 
-ghost use Rattle.std.specs.Prelude.{◌≡◌, ℕ, ◌+◌, ◌<◌, ◌≤◌, ◌^◌, [], ◌++◌, OnOk, IfOk, Some, slice_get, slice_set};
+ghost use Rattle.std.specs.Prelude.{◌≡◌, ℕ, ◌+◌, ◌<◌, ◌≤◌, ◌^◌, List, [], ◌∷◌, ◌++◌, OnOk, IfOk, Option, Some, None, slice_get, slice_set};
 ghost use Rattle.zr_base.specs.declared.limits.TheConstants.{MOST_PAGES};
 ghost use Rattle.mem_account.specs.Counters.{Counters, no_counts};
+ghost use Rattle.block_map.specs.BlockMap.{BlockMap};
+ghost use Rattle.backing_dev.specs.Dev.{DeviceState};
 ghost use Rattle.lock_row.specs.declared.names.Held.TheVariants as holds;
 ghost use Rattle.slot_entry.specs.Entries.{EntryState};
+ghost use Rattle.page_steps.specs.Steps.{DiskHeld};
 ghost use Rattle.zr_core.specs.Rests.{slots_of, classes_of, names_of, names_by, new_disk};
 ghost use Rattle.zr_core.specs.Rows.{AreNew};
 
 use crate::limits::MOST_CHAIN;
+use crate::spare::Spare;
+use backing_dev::{Backing, Dev};
+use block_map::Blocks;
 use class_pool::ClassPool;
 use lock_row::{Hand, Held, LockNo, SimRow, Still, names_have_places};
 use mem_account::Account;
@@ -71,8 +77,8 @@ pub(crate) fn new_row<D: Backing>(alloc: Global, pages: u32, limit: u64) -> Resu
     requires most { pages ≤ MOST_PAGES }
     requires small { limit < 2 ^ 52 }
     ensures names { IfOk result (λ row. row.names ≡ names_of pages) }
-    ensures cells { IfOk result (λ row. (device : DeviceState)
-        → (front : List (Option DiskHeld)) × AreNew (new_disk pages limit device) (pages + 256) front
+    ensures cells { IfOk result (λ row. (front : List (Option DiskHeld))
+        × ((device : DeviceState) → AreNew (new_disk pages limit device) (pages + 256) front)
         × (row.cells ≡ front ++ None ∷ None ∷ [])) }
     ensures account { IfOk result (λ row. slice_get row.cells (pages + 255)
         ≡ Some (Some (holds.Account (record no_counts { limit = limit })))) }

@@ -3,10 +3,11 @@
 ghost use Rattle.std.specs.Prelude.{◌≡◌, Some, IfSome, IfNone};
 ghost use Rattle.std.specs.Option.{option_copied};
 ghost use Rattle.mem_account.specs.Stat.{mm_stat_of, io_stat_of};
-ghost use Rattle.zr_core.specs.Rests.{account_in, account_of, pool_in, pool_of};
+ghost use Rattle.zr_core.specs.Rests.{account_in, account_of, pool_in, pool_of, device_by, IsAtRest};
 ghost use Rattle.zr_core.specs.Stats.{zspages_of, HasStat};
 
 use crate::disk::World;
+use backing_dev::{Backing, BdStat};
 use class_pool::ClassPool;
 use lock_row::{Held, LockNo, names_have_places};
 use mem_account::{Account, IoStat, MmStat};

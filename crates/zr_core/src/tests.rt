@@ -1,8 +1,9 @@
-//! A phase of two actors, turn by turn.
+//! A disk over a device in memory, and a phase of two actors, turn by turn.
 
 ghost use Rattle.std.specs.Prelude.{◌≡◌, [], ◌∷◌, IfOk};
 
-use crate::{Turn, World};
+use crate::{BdStat, Turn, World};
+use backing_dev::{Backing, MemBacking};
 use lock_row::LockNo;
 use std::alloc::{AllocError, Global};
 use std::test::Fail;
@@ -10,7 +11,7 @@ use zr_base::{ActorOps, Op, PageIx, Stuff, Turns};
 
 #[test]
 fn makes_a_disk(rt: HostRuntime) -> Result<(), Fail> {
-    let mut world = World::new(rt.alloc());
+    let mut world = World::new(rt.alloc(), MemBacking::new(rt.alloc(), 0, &[], &[])?);
     assert_eq!(rt; world.pages(), 0);
     world.set_limit(3);
     assert_eq!(rt; world.mm_stat().limit, 12288);
@@ -21,6 +22,26 @@ fn makes_a_disk(rt: HostRuntime) -> Result<(), Fail> {
     assert!(rt; world.entry(PageIx(1)).order().is_empty());
     world.lower_max();
     assert_eq!(rt; world.mm_stat().max, 0);
+    Ok(())
+}
+
+#[test]
+fn backs_a_disk(rt: HostRuntime) -> Result<(), Fail> {
+    let mut world = World::new(rt.alloc(), MemBacking::new(rt.alloc(), 3, &[], &[])?);
+    assert_eq!(rt; world.device_blocks(), 3);
+    world.set_wb_limit(5);
+    world.set_wb_enable(true);
+    world.set_backing(2)?;
+    world.set_disk(1)?;
+    world.set_wb_limit(7);
+    world.set_wb_enable(false);
+    let none = BdStat {
+        count: 0,
+        reads: 0,
+        writes: 0,
+    };
+    assert_eq!(rt; world.bd_stat(), none);
+    assert_eq!(rt; world.close().blocks(), 3);
     Ok(())
 }
 
@@ -36,7 +57,7 @@ fn operations(alloc: Global, op: Op) -> Result<ActorOps, AllocError>
 
 #[test]
 fn runs_two_actors(rt: HostRuntime) -> Result<(), Fail> {
-    let mut world = World::new(rt.alloc());
+    let mut world = World::new(rt.alloc(), MemBacking::new(rt.alloc(), 0, &[], &[])?);
     world.set_disk(2)?;
     let write = Op::Write {
         start: 0,

@@ -14,7 +14,7 @@ ghost use Rattle.actor_steps.specs.Places.{IsWork};
 ghost use Rattle.joint_rule.specs.Begins.{Begin};
 ghost use Rattle.zr_core.specs.Machines.{rounds_of, KeepsValues, PhaseSteps};
 ghost use Rattle.zr_core.specs.Playing.{playing, lines_shown, HasEndedAs};
-ghost use Rattle.zr_core.specs.Rests.{IsAtRest, RestsAs, begun};
+ghost use Rattle.zr_core.specs.Rests.{device_by, blocks_by, IsAtRest, RestsAs, begun};
 ghost use Rattle.zr_core.specs.Runs.{turns_of, Plays, RunsOut, IsBusy, AllOver, left_of};
 ghost use Rattle.zr_core.specs.States.{AreKept, CanGoOn, HasRule, IsPrepared, IsReachedFrom, IsSetUpOn, TurnsOnce};
 
@@ -23,6 +23,7 @@ use crate::limits::MOST_CHAIN;
 use crate::phase::Phase;
 use crate::prepare::{noted_pages, reserve_all};
 use actor_steps::{Turn, count_pieces, new_workers};
+use backing_dev::Backing;
 use joint_rule::{disks_begin, locks_are_of_the_disk, phases_go_on, rule_keeps, values_fit};
 use lock_row::{names_have_places, sums_move};
 use page_steps::DiskHeld;

@@ -3,13 +3,13 @@ use Rattle.zr_core.proofs.Prepared.{reserved_entries, reserved_both, all_reserve
 use Rattle.zr_core.proofs.prepare.reserve_all.Goals as goal
 
 pub reserve_pages-requires-2-clause-rest : goal.reserve_pages-requires-2-clause-rest
-reserve_pages-requires-2-clause-rest c =
+reserve_pages-requires-2-clause-rest o c =
     reserved_entries c.args.size c.reserve_pages.ensures.kept.0 c.args.counts.now
     c.args.row.now.cells c.reserve_pages.new.row.cells c.requires.rest
     c.reserve_pages.ensures.kept.1
 
 pub returns-in_err-reserve_pages-2-clause-kept : goal.returns-in_err-reserve_pages-2-clause-kept
-returns-in_err-reserve_pages-2-clause-kept c =
+returns-in_err-reserve_pages-2-clause-kept o c =
     let first = c.reserve_pages.ensures.kept in
     let second = c.reserve_pages-2.ensures.kept in (
       λ p. second.0 p || first.0 p,
@@ -19,7 +19,7 @@ returns-in_err-reserve_pages-2-clause-kept c =
     )
 
 pub returns-clause-kept : goal.returns-clause-kept
-returns-clause-kept c =
+returns-clause-kept o c =
     let first = c.reserve_pages.ensures.kept in
     let second = c.reserve_pages-2.ensures.kept in (
       λ p. second.0 p || first.0 p,
@@ -29,7 +29,7 @@ returns-clause-kept c =
     )
 
 pub returns-clause-reserved : goal.returns-clause-reserved
-returns-clause-reserved c =
+returns-clause-reserved o c =
     all_reserved c.args.size c.args.counts.now c.args.before.now c.args.noted.now
     c.args.row.now.cells
     c.reserve_pages.new.row.cells c.reserve_pages-2.new.row.cells c.requires.orders

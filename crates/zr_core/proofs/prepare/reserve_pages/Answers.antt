@@ -7,22 +7,22 @@ use Rattle.zr_core.proofs.Prepared.{reserved_entries, reserved_none, reserved_mo
 use Rattle.zr_core.proofs.prepare.reserve_pages.Goals as goal
 
 pub loop-page-init : goal.loop-page-init
-loop-page-init c = record {
+loop-page-init o c = record {
   names = refl;
   reserved = reserved_none c.args.size c.args.counts.now c.args.row.now.cells c.requires.rest;
 }
 
 pub reserve-requires-clause-names : goal.reserve-requires-clause-names
-reserve-requires-clause-names c = c.loop-page.invariant.names ∙ c.requires.names
+reserve-requires-clause-names o c = c.loop-page.invariant.names ∙ c.requires.names
 
 pub reserve-requires-clause-rest : goal.reserve-requires-clause-rest
-reserve-requires-clause-rest c =
+reserve-requires-clause-rest o c =
     reserved_entries c.args.size _ c.args.counts.now c.args.row.now.cells c.loop-page.row.cells
     c.requires.rest
     c.loop-page.invariant.reserved
 
 pub loop-page-preserved : goal.loop-page-preserved
-loop-page-preserved c = let i = c.loop-page.invariant in record {
+loop-page-preserved o c = let i = c.loop-page.invariant in record {
   names = c.reserve.ensures.names ∙ i.names;
   reserved = subst
       (λ (xs : List ℕ). AreReserved

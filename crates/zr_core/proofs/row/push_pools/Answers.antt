@@ -10,20 +10,21 @@ use Rattle.zr_core.proofs.Fresh.{new_more, one_class}
 use Rattle.zr_core.proofs.row.push_pools.Goals as goal
 
 pub loop-class-init : goal.loop-class-init
-loop-class-init c = record {
+loop-class-init o c = record {
   names = c.requires.names ∙ sym (append-nil (slots_of c.args.pages));
-  cells = λ limit. subst (λ (n : ℕ). AreNew (new_disk c.args.pages limit) n c.args.cells.now.items)
-      (let q : c.args.pages ≡ c.args.pages + 0 = omega arith in q) (c.requires.cells limit);
+  cells = λ limit device.
+      subst (λ (n : ℕ). AreNew (new_disk c.args.pages limit device) n c.args.cells.now.items)
+      (let q : c.args.pages ≡ c.args.pages + 0 = omega arith in q) (c.requires.cells limit device);
 }
 
 pub loop-class-preserved : goal.loop-class-preserved
-loop-class-preserved c =
+loop-class-preserved o c =
     let i = c.loop-class.invariant in
     let limit_is = c.new-table.ensures.limit in record {
       names = c.in_ok-push.ensures.items
           ∙ one_class c.loop-class.names.items (slots_of c.args.pages) c.loop-class.class i.names;
-      cells = λ limit.
-          let g = new_disk c.args.pages limit in
+      cells = λ limit device.
+          let g = new_disk c.args.pages limit device in
           subst (AreNew g (c.args.pages + (c.loop-class.class + 1)))
           (sym c.in_ok-push-2.ensures.items)
           (subst (λ (n : ℕ). AreNew g n
@@ -31,7 +32,7 @@ loop-class-preserved c =
           (let q : c.args.pages + c.loop-class.class + 1
           ≡ c.args.pages + (c.loop-class.class + 1) = omega arith in q)
           (new_more g (c.args.pages + c.loop-class.class) c.loop-class.cells.items
-          (holds.Class c.new-pool.result) (i.cells limit)
+          (holds.Class c.new-pool.result) (i.cells limit device)
           (subst (λ (p : PoolState). IsNew g (c.args.pages + c.loop-class.class) (holds.Class p))
           (sym c.new-pool.ensures.is) (
             refl,
@@ -49,8 +50,8 @@ loop-class-preserved c =
     }
 
 pub returns-clause-cells : goal.returns-clause-cells
-returns-clause-cells c limit =
-    subst (λ (n : ℕ). AreNew (new_disk c.args.pages limit) n c.loop-class.cells.items)
+returns-clause-cells o c limit device =
+    subst (λ (n : ℕ). AreNew (new_disk c.args.pages limit device) n c.loop-class.cells.items)
     (let t = c.loop-class-test.false in let e = c.loop-class.auto.class-end in
     let q : c.args.pages + c.loop-class.class ≡ c.args.pages + 255 = omega arith in q)
-    (c.loop-class.invariant.cells limit)
+    (c.loop-class.invariant.cells limit device)

@@ -4,10 +4,10 @@ use Rattle.zr_core.proofs.Runs.{plays_none, then_schedule}
 use Rattle.zr_core.proofs.disk.World.play.Goals as goal
 
 pub loop-turns-init : goal.loop-turns-init
-loop-turns-init c = plays_none _ c.requires.can
+loop-turns-init o c = plays_none _ c.requires.can
 
 pub loop-turns-preserved : goal.loop-turns-preserved
-loop-turns-preserved c =
+loop-turns-preserved o c =
     then_schedule _ _ _ c.args.schedule.now c.loop-turns.turns-index _
     (slice_get-get_or c.args.schedule.now c.loop-turns.turns-index _
     (let q = c.loop-turns-test.true in omega arith))

@@ -8,17 +8,17 @@ use Rattle.zr_core.proofs.Runs.{plays_none, plays_once, then_turn, turn_more, ro
 use Rattle.zr_core.proofs.disk.World.round.Goals as goal
 
 pub loop-actor-init : goal.loop-actor-init
-loop-actor-init c = record {
+loop-actor-init o c = record {
   plays = plays_none _ c.requires.can;
   falls = λ dones kept. (dones, kept, refl, round_none (playing c.args.self.now c.args.phase.now c.args.actors.now).terms _);
 }
 
 pub loop-actor-preserved : goal.loop-actor-preserved
-loop-actor-preserved c =
+loop-actor-preserved o c =
     let i = c.loop-actor.invariant in
     let t = c.step-turn.ensures in record {
       plays = then_turn _ _ _ c.loop-actor.actor i.plays
-          (plays_once c.loop-actor.actor _ _ c.step-turn.result t.same t.limit t.can t.turn);
+          (plays_once c.loop-actor.actor _ _ c.step-turn.result t.same t.limit t.spare t.can t.turn);
       falls = λ dones kept. turn_more c.sums_move.ensures.moves
           (state_of (playing c.args.self.now c.args.phase.now c.args.actors.now) dones)
           (playing c.loop-actor.self c.loop-actor.phase c.args.actors.now)
@@ -31,7 +31,7 @@ loop-actor-preserved c =
     }
 
 pub returns-clause-plays : goal.returns-clause-plays
-returns-clause-plays c =
+returns-clause-plays o c =
     let all : c.loop-actor.actor ≡ length c.args.actors.now = (let t = c.loop-actor-test.false in
     let le = c.loop-actor.auto in omega arith) in
     subst (λ (n : ℕ). Plays (range_with_len 0 n)
@@ -40,7 +40,7 @@ returns-clause-plays c =
     c.loop-actor.invariant.plays
 
 pub returns-clause-falls : goal.returns-clause-falls
-returns-clause-falls c busy =
+returns-clause-falls o c busy =
     let i = c.loop-actor.invariant in
     let x = playing c.args.self.now c.args.phase.now c.args.actors.now in
     let j = (rule c.rule_keeps.ensures.free x c.requires.can busy).1 in

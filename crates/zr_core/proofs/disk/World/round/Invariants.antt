@@ -7,7 +7,7 @@ use Rattle.zr_core.specs.States.{state_of, AreKept}
 use Rattle.zr_core.proofs.disk.World.round.Given as goal
 
 abbrev pub invariant-loop-actor : goal.invariant-loop-actor
-invariant-loop-actor l = record {
+invariant-loop-actor o l = record {
   plays : Plays (range_with_len 0 l.actor) (playing l.initial.self l.initial.phase l.actors)
       (playing l.self l.phase l.actors);
   falls : (dones : List (List Done)) → AreKept l.initial.phase.workers.items dones

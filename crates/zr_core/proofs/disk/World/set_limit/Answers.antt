@@ -5,23 +5,23 @@ use Rattle.zr_core.proofs.disk.World.set_limit.Goals as goal
 -- a disk without pages
 
 pub returns-then-self-eq0-clause-cells : goal.returns-then-self-eq0-clause-cells
-returns-then-self-eq0-clause-cells c counters at =
+returns-then-self-eq0-clause-cells o c counters at =
     absurd (no_account c.args.self.now.pages c.args.self.now.noted.items c.args.self.now.row.cells
     c.requires.rest c.if-self-eq0.true counters at)
 
 pub returns-then-self-eq0-clause-rests_as : goal.returns-then-self-eq0-clause-rests_as
-returns-then-self-eq0-clause-rests_as c g rests =
+returns-then-self-eq0-clause-rests_as o c g rests =
     absurd (let a = rests.some in let b = c.if-self-eq0.true in let none : ⊥ = omega arith in none)
 
 -- one with pages
 
 pub put_account-requires-clause-home : goal.put_account-requires-clause-home
-put_account-requires-clause-home c =
+put_account-requires-clause-home o c =
     account_home c.args.self.now.pages c.args.self.now.noted.items c.args.self.now.row.cells
     c.requires.rest (let b = c.if-self-eq0.false in omega arith)
 
 pub returns-clause-rest : goal.returns-clause-rest
-returns-clause-rest c =
+returns-clause-rest o c =
     put_rests
     c.args.self.now.pages c.args.self.now.noted.items c.args.self.now.row.cells c.requires.rest
     (let b = c.if-self-eq0.false in omega arith) (λ d. record d { limit = c.args.pages }) (λ d. refl)
@@ -30,7 +30,7 @@ returns-clause-rest c =
     c.account-account.ensures c.set_limit.ensures.limit c.put_account.ensures.cells
 
 pub returns-clause-rests_as : goal.returns-clause-rests_as
-returns-clause-rests_as c =
+returns-clause-rests_as o c =
     put_as
     c.args.self.now.pages c.args.self.now.noted.items c.args.self.now.row.cells c.requires.rest
     (let b = c.if-self-eq0.false in omega arith) (λ d. record d { limit = c.args.pages }) (λ d. refl)
