@@ -4,6 +4,7 @@ use Rattle.std.proofs.lemmas.List.{get_or-replicate, length-replicate}
 use Rattle.std.proofs.lemmas.Option.{slice_get_within}
 use Rattle.zr_base.specs.Plain.{zero_sector}
 use Rattle.mem_account.specs.Counters.{Counters, no_counts}
+use Rattle.backing_dev.specs.Dev.{DeviceState}
 use Rattle.class_pool.specs.Pool.{PoolState}
 use Rattle.plain_disk.specs.Rests.{Rest, stats}
 use Rattle.lock_row.specs.declared.names.Held.TheVariants as holds
@@ -17,7 +18,7 @@ use Rattle.joint_rule.specs.Ends.{begin_at, used_in, account_in, account_of, new
 use Rattle.joint_rule.specs.Weights.{used_each}
 use Rattle.disk_rest.specs.Rows.{Row, used_at, without_calls, without_orders}
 use Rattle.disk_rest.specs.Resting.{StandsFor}
-use Rattle.disk_rest.proofs.Places.{pool_at, account_there, value_is}
+use Rattle.disk_rest.proofs.Places.{pool_at, account_there, device_there, value_is}
 use Rattle.disk_rest.proofs.Matches.{was_at, emptied_long, emptied_at}
 
 zero_is : IsSector zero_sector
@@ -31,7 +32,7 @@ zero_is = (
 
 new_empties : (g : Begin) (k : ℕ) (v : DiskHeld) → IsNewValue g k v
     → IsNewValue g k (without_calls v)
-new_empties g k (holds.Slot e) is = (is.0, is.1, refl, is.3, is.4)
+new_empties g k (holds.Slot e) is = (is.0, is.1, refl, is.3, is.4, is.5)
 new_empties g k (holds.Class x) is = is
 new_empties g k (holds.Account x) is = is
 new_empties g k (holds.Blocks x) is = is
@@ -41,11 +42,11 @@ module _ (r : Rest) (n : ℕ) (row : Row) (at_rest : NewIsAtRest)
     (counts : NewCountsNothing) (low : 4 ≤ r.set.chain) (high : r.set.chain ≤ 16)
     (long : length row ≡ n + 258)
     (new : (k : ℕ) → k < length row → (v : DiskHeld) × (slice_get row k ≡ Some (Some v))
-    × IsNewValue (begin_at (new_rest n r.set) []) k v)
+    × IsNewValue (begin_at (new_rest n r.set r.device) []) k v)
     (limit : (k : ℕ) (c : Counters) → slice_get row k ≡ Some (Some (holds.Account c))
     → c.limit ≡ r.set.limit) where
   abbrev m : Rest
-  m = new_rest n r.set
+  m = new_rest n r.set r.device
 
   abbrev g : Begin
   g = begin_at m []
@@ -77,7 +78,12 @@ module _ (r : Rest) (n : ℕ) (row : Row) (at_rest : NewIsAtRest)
       ap account_in (value_is row (n + 255) (holds.Account a.counters) a.at)
       ∙ (value_new (n + 255) (holds.Account a.counters) a.at).1
       ∙ ap (λ (l : ℕ). record no_counts { limit = l }) (limit (n + 255) a.counters a.at)
-      ∙ sym (counts n r.set)
+      ∙ sym (counts n r.set r.device)
+
+  device_here : slice_get row (n + 257) ≡ Some (Some (holds.Device r.device))
+  device_here = let d = device_there g row rest in
+      d.at ∙ ap (λ (x : DeviceState). Some (Some (holds.Device x)))
+      (value_new (n + 257) (holds.Device d.device) d.at).1
 
   pub begins : StandsFor m row
   begins = record {
@@ -90,4 +96,5 @@ module _ (r : Rest) (n : ℕ) (row : Row) (at_rest : NewIsAtRest)
     rest = empty_rest;
     used = no_used;
     account = nothing_yet_counted;
+    device = device_here;
   }

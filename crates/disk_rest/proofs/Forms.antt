@@ -1,6 +1,8 @@
 -- What a page in the form that it has to have weighs.
-use Rattle.std.proofs.Common.{◌≡◌, ℕ, Bool, true, false, cond, List, refl}
+use Rattle.std.proofs.Common.{◌≡◌, ℕ, Bool, true, false, ◌&&◌, cond, List, refl, sym, ap, ◌∙◌}
+use Rattle.std.proofs.lemmas.Bool.{true≢false}
 use Rattle.zr_base.specs.declared.op.Tag.{Tag}
+use Rattle.mem_account.specs.declared.weight.Weight.{Weight}
 use Rattle.mem_account.specs.declared.weight.Weight.TheVariants as weights
 use Rattle.plain_disk.specs.Calls.{kept_as}
 use Rattle.slot_entry.specs.declared.kept.Kept.{Kept}
@@ -8,21 +10,36 @@ use Rattle.slot_entry.specs.declared.kept.Kept.TheVariants as kept
 use Rattle.slot_entry.specs.Entries.{weight_of}
 use Rattle.slot_entry.specs.Forms.{PageForm, Blank, Word, Pooled, form_of, form_weight, page_weight}
 use Rattle.joint_rule.specs.Begins.{Begin, content, form_by, form_at, found_after}
-use Rattle.joint_rule.specs.Stages.{IsForm}
+use Rattle.joint_rule.specs.Stages.{IsForm, is_wb}
 
--- the account counts a kept form as the form
-pub weight_same : (chain : ℕ) (f : PageForm) (k : Kept) → IsForm chain f k
+-- the account counts a kept form as the form, where its page isn't on the device
+weight_same : (chain : ℕ) (f : PageForm) (k : Kept) → IsForm chain f k → is_wb k ≡ false
     → weight_of k ≡ form_weight f
-weight_same chain Blank kept.Empty is = refl
-weight_same chain Blank (kept.Same w) is = absurd is
-weight_same chain Blank (kept.Obj o) is = absurd is
-weight_same chain (Word v) kept.Empty is = absurd is
-weight_same chain (Word v) (kept.Same w) is = refl
-weight_same chain (Word v) (kept.Obj o) is = absurd is
-weight_same chain (Pooled bytes huge) kept.Empty is = absurd is
-weight_same chain (Pooled bytes huge) (kept.Same w) is = absurd is
-weight_same chain (Pooled bytes huge) (kept.Obj o) is =
+weight_same chain Blank kept.Empty is here = refl
+weight_same chain Blank (kept.Same w) is here = absurd is
+weight_same chain Blank (kept.Obj o) is here = absurd is
+weight_same chain (Word v) kept.Empty is here = absurd is
+weight_same chain (Word v) (kept.Same w) is here = refl
+weight_same chain (Word v) (kept.Obj o) is here = absurd is
+weight_same chain (Pooled bytes huge) kept.Empty is here = absurd is
+weight_same chain (Pooled bytes huge) (kept.Same w) is here = absurd is
+weight_same chain (Pooled bytes huge) (kept.Obj o) is here =
     λ i. cond (is.2 i) weights.Huge (weights.Packed (is.1 i))
+weight_same chain f (kept.Wb b) is here = absurd (true≢false here)
+
+-- a page on the device is counted as one
+weight_back : (k : Kept) → is_wb k ≡ true → weight_of k ≡ weights.Back
+weight_back kept.Empty back = absurd (true≢false (sym back))
+weight_back (kept.Same w) back = absurd (true≢false (sym back))
+weight_back (kept.Obj o) back = absurd (true≢false (sym back))
+weight_back (kept.Wb b) back = refl
+
+-- a page is counted by where it is
+pub weight_kept : (chain : ℕ) (f : PageForm) (k : Kept) (back : Bool) (w : Weight)
+    → IsForm chain f k → is_wb k ≡ back → form_weight f ≡ w
+    → weight_of k ≡ cond back weights.Back w
+weight_kept chain f k true w is where_it weighs = weight_back k where_it
+weight_kept chain f k false w is where_it weighs = weight_same chain f k is where_it ∙ weighs
 
 by_blank : (b : Bool) (f : PageForm)
     → form_weight (form_by b f) ≡ cond b weights.Empty (form_weight f)
@@ -35,3 +52,8 @@ pub form_keeps : (g : Begin) (p : ℕ) (order : List Tag)
 unfolding form_at content
 form_keeps g p order =
     by_blank (found_after g p order).blank (form_of (content g p order))
+
+-- without calls a page stays where it is
+pub back_still : (back : Bool) → (back && true) ≡ back
+back_still true = refl
+back_still false = refl

@@ -1,6 +1,6 @@
 -- What a finished phase leaves: it is one that the plain disk allows, and its row stands for the
 -- rest after it.
-use Rattle.std.proofs.Common.{◌≡◌, ℕ, List, [], Some, slice_get, refl, sym, ap, ◌∙◌, subst, arith}
+use Rattle.std.proofs.Common.{◌≡◌, ℕ, ◌+◌, List, [], Some, slice_get, refl, sym, ap, ◌∙◌, subst, arith}
 use Rattle.std.proofs.lemmas.List.{ext_get_or}
 use Rattle.std.proofs.lemmas.List.FromFn.{length-map-range_with_len, get_or-map-range_with_len}
 use Rattle.zr_base.specs.declared.op.Tag.{Tag}
@@ -8,6 +8,7 @@ use Rattle.zr_base.specs.declared.op.Op.{Op}
 use Rattle.plain_disk.specs.Output.{phase_lines}
 use Rattle.plain_disk.specs.Rests.{Rest, stats}
 use Rattle.plain_disk.specs.Phases.{IsPhase}
+use Rattle.backing_dev.specs.Dev.{DeviceState}
 use Rattle.call_history.specs.declared.part.Part.{Part}
 use Rattle.call_history.specs.Laws.{TellsPhase, TellsAccount}
 use Rattle.call_history.specs.Histories.{HasSomeEach, ends_each, told_each}
@@ -19,11 +20,12 @@ use Rattle.page_steps.specs.Steps.{DiskHeld, class_by, entry_in, plan_by}
 use Rattle.joint_rule.specs.Begins.{Begin, Proper, IsRoomy}
 use Rattle.joint_rule.specs.Laws.{FinishedIsAtRest, FinishedAgrees, FinishedTallies, RestGoesOn, EntryGoesOn, NextIsProper}
 use Rattle.joint_rule.specs.Rule.{Rule}
-use Rattle.joint_rule.specs.Starts.{AtRest, Renewed, slots, accounts, stays}
-use Rattle.joint_rule.specs.Ends.{begin_at, AllFinished, orders_of, histories, account_of, rest_after}
+use Rattle.joint_rule.specs.Starts.{AtRest, Renewed, slots, accounts, pools, maps, devices}
+use Rattle.joint_rule.specs.Ends.{begin_at, AllFinished, orders_of, histories, account_of, device_in, rest_after}
 use Rattle.disk_rest.specs.Rows.{Row, NoPieceLeft, AreOrders, order_at, without_calls, without_orders}
 use Rattle.disk_rest.specs.Resting.{IsPlain, StandsFor}
 use Rattle.disk_rest.proofs.Asked.{no_requests}
+use Rattle.disk_rest.proofs.Places.{device_there, value_is}
 use Rattle.disk_rest.proofs.Matches.{matched, emptied_long, emptied_at}
 
 -- an actor without a piece is finished
@@ -64,6 +66,16 @@ module _ (laws : Ending) (r : Rest) (actors : List (List Op)) (w : State DiskHel
 
   finished : AllFinished g w
   finished = all_finished g w over
+
+  rest : AtRest g w.row
+  rest = laws.rest g w rule finished
+
+  -- the device of the row is the rest's
+  device_is : (k : ℕ) (d : DeviceState) → slice_get w.row k ≡ Some (Some (holds.Device d))
+      → m.device ≡ d
+  device_is k d at = ap (device_in r.device) (value_is w.row (r.size + 257) (holds.Device d)
+      (subst (λ (j : ℕ). slice_get w.row j ≡ Some (Some (holds.Device d)))
+      (rest.home k (holds.Device d) at).sound.0 at))
 
   -- ---- what is printed
 
@@ -113,14 +125,13 @@ module _ (laws : Ending) (r : Rest) (actors : List (List Op)) (w : State DiskHel
       (laws.entry r actors [] r.set w k e
       (record { kept = e.kept; order = []; room = 0; touched = e.touched }) proper rule finished at
       refl refl refl)
-  renewed k (holds.Class x) at = stays tt refl
+  renewed k (holds.Class x) at = pools x refl refl
   renewed k (holds.Account x) at = accounts x x refl refl refl (λ le. le)
-  renewed k (holds.Blocks x) at = stays tt refl
-  renewed k (holds.Device x) at = stays tt refl
+  renewed k (holds.Blocks x) at = maps x x refl refl refl
+  renewed k (holds.Device x) at = devices x refl refl (device_is k x at)
 
   goes_on : AtRest h (without_orders w.row)
   goes_on =
-      let rest = laws.rest g w rule finished in
       laws.next g h w.row (without_orders w.row) (record { size = refl; chain = refl })
       (matched (Renewed g h) w.row (without_orders w.row) (emptied_long w.row)
       (λ k lt. let v = rest.whole k lt in record {
@@ -132,9 +143,13 @@ module _ (laws : Ending) (r : Rest) (actors : List (List Op)) (w : State DiskHel
       })) rest
 
   pub leaves : TellsAccount → StandsFor m w.row
-  leaves tells = record {
-    plain = plain;
-    rest = goes_on;
-    used = λ k lt. refl;
-    account = account_right tells;
-  }
+  leaves tells =
+      let d = device_there g w.row rest in
+      record {
+        plain = plain;
+        rest = goes_on;
+        used = λ k lt. refl;
+        account = account_right tells;
+        device = d.at ∙ ap (λ (x : DeviceState). Some (Some (holds.Device x)))
+            (sym (device_is (r.size + 257) d.device d.at));
+      }

@@ -4,6 +4,7 @@ use Rattle.std.proofs.lemmas.Bool.{cases_eq}
 use Rattle.std.proofs.lemmas.Option.{slice_get_within}
 use Rattle.zr_base.specs.declared.op.Op.{Op}
 use Rattle.mem_account.specs.Counters.{Counters}
+use Rattle.backing_dev.specs.Dev.{DeviceState}
 use Rattle.plain_disk.specs.Rests.{Rest, frames_of, stats}
 use Rattle.plain_disk.specs.Legal.{sets, lowered}
 use Rattle.lock_row.specs.declared.names.Held.TheVariants as holds
@@ -14,10 +15,11 @@ use Rattle.slot_entry.specs.Forms.{page_weight}
 use Rattle.joint_rule.specs.Begins.{Begin}
 use Rattle.joint_rule.specs.Joint.{AtHome, Sound}
 use Rattle.joint_rule.specs.Laws.{RestGoesOn}
-use Rattle.joint_rule.specs.Starts.{AtRest, IsStart, Renewed, slots, accounts, stays}
+use Rattle.joint_rule.specs.Starts.{AtRest, IsStart, Renewed, slots, accounts, pools, maps, devices}
 use Rattle.joint_rule.specs.Ends.{begin_at, value_at, used_in, account_in, account_of}
 use Rattle.disk_rest.specs.Rows.{Row, used_at, without_calls, without_orders, IsKept, KeepsValues}
 use Rattle.disk_rest.specs.Resting.{StandsFor, IsSetUp}
+use Rattle.disk_rest.proofs.Forms.{back_still}
 use Rattle.disk_rest.proofs.Places.{value_is}
 use Rattle.disk_rest.proofs.Tight.{no_pool_loose}
 use Rattle.disk_rest.proofs.Matches.{matched, value_there, was_at, was_slot, emptied_long, emptied_at}
@@ -56,6 +58,19 @@ NoCalls u = (f : EntryState) → u ≡ holds.Slot f → f.order ≡ []
 no_calls : (u : DiskHeld) → NoCalls (without_calls u)
 no_calls u f e = (was_slot u f (sym e)).order
 
+-- the device of a row that stands for a rest is the rest's
+device_known : (r : Rest) (row : Row) → StandsFor r row → (k : ℕ) (v : DiskHeld)
+    → slice_get row k ≡ Some (Some v) → AtHome (begin_at r []) k (without_calls v)
+    → (d : DeviceState) → v ≡ holds.Device d → r.device ≡ d
+device_known r row st k v at home d is =
+    let P : DiskHeld → Type 0 = λ x. Sound (begin_at r []) k (without_calls x) in
+    let place : k ≡ r.size + 257 = (subst P is home.sound).0 in
+    let here : slice_get row k ≡ Some (Some (holds.Device d)) =
+    at ∙ ap (λ (x : DiskHeld). Some (Some x)) is in
+    let there : slice_get row k ≡ Some (Some (holds.Device r.device)) =
+    ap (slice_get row) place ∙ st.device in
+    cc
+
 -- ---- rows that go on from one that stands for a rest
 
 module _ (r : Rest) (n most : ℕ) (actors : List (List Op)) where
@@ -67,8 +82,9 @@ module _ (r : Rest) (n most : ℕ) (actors : List (List Op)) where
 
   -- a value that is kept, with an empty order, is one with which the next phase begins
   renews : (k : ℕ) (v u : DiskHeld) → IsKept v u → NoCalls u → AtHome g k (without_calls v)
+      → ((d : DeviceState) → v ≡ holds.Device d → r.device ≡ d)
       → Renewed g h k (without_calls v) u
-  renews k (holds.Slot e) u is none home =
+  renews k (holds.Slot e) u is none home known =
       slots (record { kept = e.kept; order = []; room = 0; touched = e.touched }) is.0 refl is.1
       (record {
         kept = is.2;
@@ -76,12 +92,13 @@ module _ (r : Rest) (n most : ℕ) (actors : List (List Op)) where
         touched = is.3;
         time = sym home.sound.touched;
         blank = refl;
+        back = sym (back_still (r.back k));
         before = λ j lt. refl;
       })
-  renews k (holds.Class x) u is none home = stays tt is
-  renews k (holds.Account x) u is none home = accounts x x refl is refl (λ le. le)
-  renews k (holds.Blocks x) u is none home = stays tt is
-  renews k (holds.Device x) u is none home = stays tt is
+  renews k (holds.Class x) u is none home known = pools x refl is
+  renews k (holds.Account x) u is none home known = accounts x x refl is refl (λ le. le)
+  renews k (holds.Blocks x) u is none home known = maps x x refl is refl
+  renews k (holds.Device x) u is none home known = devices x refl is (known x refl)
 
   goes_on : (row ys : Row) → RestGoesOn → AtRest g (without_orders row) → length ys ≡ length row
       → ((k : ℕ) (v : DiskHeld) → slice_get row k ≡ Some (Some v) → AtHome g k (without_calls v)
@@ -118,7 +135,8 @@ module _ (r : Rest) (actors : List (List Op)) (row : Row) (w : State DiskHeld)
         u.0,
         u.1,
         renews r r.set.limit r.most actors k v u.0 u.2
-            (λ f e. (up.orders k f (u.1 ∙ ap (λ (x : DiskHeld). Some (Some x)) e)).0) home,
+            (λ f e. (up.orders k f (u.1 ∙ ap (λ (x : DiskHeld). Some (Some x)) e)).0) home
+            (device_known r row st k v at home),
       ))
 
   account_is : (k : ℕ) (c : Counters) → slice_get w.row k ≡ Some (Some (holds.Account c))
@@ -130,11 +148,21 @@ module _ (r : Rest) (actors : List (List Op)) (row : Row) (w : State DiskHeld)
       let u = up.row.each (r.size + 255) _ (account_tells r row st) in
       let a = u.1 in let b = u.2 in cc
 
+  device_is : (k : ℕ) (d : DeviceState) → slice_get w.row k ≡ Some (Some (holds.Device d))
+      → d ≡ r.device
+  device_is k d e =
+      let place : k ≡ r.size + 257 = (next_rest.home k (holds.Device d) e).sound.0 in
+      let now : slice_get w.row (r.size + 257) ≡ Some (Some (holds.Device d)) =
+      subst (λ (j : ℕ). slice_get w.row j ≡ Some (Some (holds.Device d))) place e in
+      let u = up.row.each (r.size + 257) _ st.device in
+      let a = u.1 in let b = u.2 in cc
+
   pub starts : IsStart (begin_at r actors) w
   starts = record {
     rest = next_rest;
     orders = up.orders;
     account = account_is;
+    device = device_is;
     actors = up.starts;
     count = up.count;
     tight = λ yes. no_pool_loose r w.row
@@ -163,10 +191,13 @@ module _ (r : Rest) (row ys : Row) (next : RestGoesOn) (st : StandsFor r row)
           without_calls u.0,
           emptied_at ys k u.0 u.1,
           renews r r.set.limit r.most [] k v (without_calls u.0) (kept_still v u.0 u.2)
-              (no_calls u.0) home,
+              (no_calls u.0) home (device_known r row st k v at home),
         ));
     used = used_still r row ys st keeps;
     account = account_still;
+    device =
+        let u = keeps.each (r.size + 257) _ st.device in
+        u.1 ∙ ap (λ (x : DiskHeld). Some (Some x)) u.2;
   }
 
 -- ---- another limit, or a lower maximum
@@ -215,7 +246,7 @@ module _ (r : Rest) (row : Row) (n most : ℕ) (next : RestGoesOn) (st : StandsF
       emptied_at ys k v
           (value_there ys k v (value_else k else ∙ value_is row k v e)),
       renews r n most [] k v (without_calls v)
-          (kept_still v v (self_kept v)) (no_calls v) home,
+          (kept_still v v (self_kept v)) (no_calls v) home (device_known r row st k v e home),
     )
   ]
 
@@ -237,6 +268,9 @@ module _ (r : Rest) (row : Row) (n most : ℕ) (next : RestGoesOn) (st : StandsF
         change_each;
     used = used_same;
     account = ap account_in (value_is ys (r.size + 255) (holds.Account now) at_account);
+    device = value_there ys (r.size + 257) (holds.Device r.device)
+        (value_else (r.size + 257) (λ e. let none : ⊥ = omega arith in none)
+        ∙ value_is row (r.size + 257) (holds.Device r.device) st.device);
   }
 
 module _ (r : Rest) (row : Row) (c : Counters) (next : RestGoesOn) (st : StandsFor r row)

@@ -2,6 +2,7 @@
 use Rattle.std.proofs.Common.{◌≡◌, ℕ, ◌+◌, ◌<◌, Some, None, slice_get, arith}
 use Rattle.std.proofs.lemmas.Option.{get_or_from_slice_get}
 use Rattle.mem_account.specs.Counters.{Counters}
+use Rattle.backing_dev.specs.Dev.{DeviceState}
 use Rattle.class_pool.specs.Pool.{PoolState}
 use Rattle.lock_row.specs.declared.names.Held.TheVariants as holds
 use Rattle.slot_entry.specs.Entries.{EntryState}
@@ -43,6 +44,11 @@ pub record AccountAt (g : Begin) (row : Row) : Type 0 where
   pub counters : Counters
   pub at : slice_get row (g.given.size + 255) ≡ Some (Some (holds.Account counters))
 
+-- The device.
+pub record DeviceAt (g : Begin) (row : Row) : Type 0 where
+  pub device : DeviceState
+  pub at : slice_get row (g.given.size + 257) ≡ Some (Some (holds.Device device))
+
 module _ (g : Begin) (row : Row) (rest : AtRest g row) where
   pub there : (k : ℕ) → k < g.given.size + 258 → There g row k
   there k lt = let size = rest.size in let w = rest.whole k (omega arith) in
@@ -54,7 +60,7 @@ module _ (g : Begin) (row : Row) (rest : AtRest g row) where
   slot_by p lt (holds.Class q) at home = absurd (let s = home.sound.0 in omega arith)
   slot_by p lt (holds.Account c) at home = absurd (let s = home.sound in omega arith)
   slot_by p lt (holds.Blocks x) at home = absurd (let s = home.sound in omega arith)
-  slot_by p lt (holds.Device x) at home = absurd (let s = home.sound in omega arith)
+  slot_by p lt (holds.Device x) at home = absurd (let s = home.sound.0 in omega arith)
 
   pub slot_at : (p : ℕ) → p < g.given.size → SlotAt g row p
   slot_at p lt = let t = there p (omega arith) in slot_by p lt t.value t.at t.home
@@ -71,7 +77,7 @@ module _ (g : Begin) (row : Row) (rest : AtRest g row) where
   }
   pool_by k lt (holds.Account c) at home = absurd (let s = home.sound in omega arith)
   pool_by k lt (holds.Blocks x) at home = absurd (let s = home.sound in omega arith)
-  pool_by k lt (holds.Device x) at home = absurd (let s = home.sound in omega arith)
+  pool_by k lt (holds.Device x) at home = absurd (let s = home.sound.0 in omega arith)
 
   pub pool_at : (k : ℕ) → k < 255 → PoolAt g row k
   pool_at k lt = let t = there (g.given.size + k) (omega arith) in pool_by k lt t.value t.at t.home
@@ -83,8 +89,21 @@ module _ (g : Begin) (row : Row) (rest : AtRest g row) where
       absurd (let s = home.sound.0 in let c = home.sound.1.class in omega arith)
   account_by (holds.Account c) at home = record { counters = c; at = at }
   account_by (holds.Blocks x) at home = absurd (let s = home.sound in omega arith)
-  account_by (holds.Device x) at home = absurd (let s = home.sound in omega arith)
+  account_by (holds.Device x) at home = absurd (let s = home.sound.0 in omega arith)
 
   pub account_there : AccountAt g row
   account_there =
       let t = there (g.given.size + 255) (omega arith) in account_by t.value t.at t.home
+
+  device_by : (v : DiskHeld) → slice_get row (g.given.size + 257) ≡ Some (Some v)
+      → AtHome g (g.given.size + 257) v → DeviceAt g row
+  device_by (holds.Slot e) at home = absurd (let s = home.sound.page in omega arith)
+  device_by (holds.Class q) at home =
+      absurd (let s = home.sound.0 in let c = home.sound.1.class in omega arith)
+  device_by (holds.Account c) at home = absurd (let s = home.sound in omega arith)
+  device_by (holds.Blocks x) at home = absurd (let s = home.sound in omega arith)
+  device_by (holds.Device d) at home = record { device = d; at = at }
+
+  pub device_there : DeviceAt g row
+  device_there =
+      let t = there (g.given.size + 257) (omega arith) in device_by t.value t.at t.home

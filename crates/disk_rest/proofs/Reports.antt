@@ -7,22 +7,22 @@ use Rattle.mem_account.specs.Stat.{mm_stat_of, io_stat_of}
 use Rattle.class_pool.specs.Pool.{PoolState}
 use Rattle.plain_disk.specs.Output.{OutLine, memory, calls}
 use Rattle.plain_disk.specs.Calls.{kept_as}
-use Rattle.plain_disk.specs.Rests.{Rest, kept_at, stats, state_line, class_line, Report, mm_stat, io_stat, states, classes, report}
+use Rattle.plain_disk.specs.Rests.{Rest, kept_at, stats, state_line, class_line, Report, mm_stat, io_stat, bd_stat, states, classes, report}
 use Rattle.plain_disk.specs.Phases.{touched_by}
 use Rattle.lock_row.specs.declared.names.Held.TheVariants as holds
 use Rattle.slot_entry.specs.Entries.{EntryState, weight_of}
 use Rattle.page_steps.specs.Steps.{DiskHeld}
 use Rattle.slot_entry.specs.Forms.{page_weight}
-use Rattle.joint_rule.specs.Begins.{Begin, form_at, found_after}
+use Rattle.joint_rule.specs.Begins.{Begin, form_at, back_at, found_after}
 use Rattle.joint_rule.specs.Joint.{PoolFits}
 use Rattle.joint_rule.specs.Ends.{begin_at, value_at, used_in, account_in}
 use Rattle.joint_rule.specs.Weights.{used_each}
 use Rattle.disk_rest.specs.Rows.{Row, used_at}
 use Rattle.disk_rest.specs.Resting.{StandsFor}
-use Rattle.disk_rest.specs.Printed.{state_in, row_report}
+use Rattle.disk_rest.specs.Printed.{state_in, device_line, row_report}
 use Rattle.disk_rest.proofs.Places.{slot_at, pool_at, account_there, value_is}
 use Rattle.disk_rest.proofs.Matches.{was_at, was_slot, was_pool, was_account}
-use Rattle.disk_rest.proofs.Forms.{weight_same, form_keeps}
+use Rattle.disk_rest.proofs.Forms.{weight_kept, form_keeps, back_still}
 
 -- An entry that keeps page p as the rest says.
 pub record EntryTells (r : Rest) (row : Row) (p : ℕ) : Type 0 where
@@ -58,9 +58,11 @@ module _ (r : Rest) (row : Row) (st : StandsFor r row) where
         entry = e.entry;
         at = was.at ∙ ap (λ (v : DiskHeld). Some (Some v)) e.is;
         weight = ap weight_of (sym e.kept)
-            ∙ weight_same r.set.chain (form_at g p s.entry.order) s.entry.kept s.home.stands
-            ∙ form_keeps g p s.entry.order
-            ∙ ap (λ (order : List Tag). kept_as page_weight p (found_after g p order)) e.order;
+            ∙ weight_kept r.set.chain (form_at g p s.entry.order) s.entry.kept (r.back p) _
+            s.home.stands
+            (s.home.backs ∙ ap (back_at g p) e.order ∙ back_still (r.back p))
+            (form_keeps g p s.entry.order
+            ∙ ap (λ (order : List Tag). kept_as page_weight p (found_after g p order)) e.order);
         touched = sym e.touched ∙ s.home.sound.touched
             ∙ ap (λ (order : List Tag). touched_by order r.set.clock (r.touched p)) e.order;
       }
@@ -99,6 +101,8 @@ module _ (r : Rest) (row : Row) (st : StandsFor r row) where
   pub prints : (q : Report) → row_report r.size r.set.chain row q ≡ report page_weight r q
   prints mm_stat = ap (λ (c : Counters). memory (mm_stat_of c) ∷ []) st.account
   prints io_stat = ap (λ (c : Counters). calls (io_stat_of c) ∷ []) st.account
+  prints bd_stat = λ i. device_line ((st.account i).back)
+      (value_is row (r.size + 257) (holds.Device r.device) st.device i)
   prints states = lines_same (λ p. state_in p (value_at row p))
       (λ p. state_line p (kept_at page_weight r p) (r.touched p)) 0 r.size
       (λ p le lt. state_same p (omega arith))

@@ -1,5 +1,5 @@
 -- What a finished phase and a row at rest tell: statements that the laws claim.
-use Rattle.std.specs.Prelude.{◌≡◌, ℕ, ◌+◌, ◌-◌, ◌^◌, ◌<◌, ◌≤◌, ◌==◌, List, [], length, sum_by, count_by, slice_get, slice_set, Some}
+use Rattle.std.specs.Prelude.{◌≡◌, ℕ, ◌+◌, ◌-◌, ◌^◌, ◌<◌, ◌≤◌, ◌==◌, List, [], ◌∷◌, length, sum_by, count_by, slice_get, slice_set, Some}
 use Rattle.zr_base.specs.declared.op.Tag.{Tag}
 use Rattle.zr_base.specs.declared.op.Op.{Op}
 use Rattle.zr_base.specs.Plain.{IsRequest}
@@ -7,8 +7,8 @@ use Rattle.mem_account.specs.Counters.{Counters, no_counts}
 use Rattle.size_class.specs.Groups.{group_of}
 use Rattle.zspage.specs.Cells.{used_of}
 use Rattle.class_pool.specs.Pool.{PoolState, objects, is_in_group}
-use Rattle.plain_disk.specs.Output.{phase_lines}
-use Rattle.plain_disk.specs.Rests.{Rest, kept_at, stats, Report, states, classes, report}
+use Rattle.plain_disk.specs.Output.{device_calls, phase_lines}
+use Rattle.plain_disk.specs.Rests.{Rest, kept_at, stats, Report, bd_stat, states, classes, report}
 use Rattle.plain_disk.specs.Phases.{IsPhase}
 use Rattle.plain_disk.specs.Legal.{IsNew, IsUnused, sets, lowered}
 use Rattle.call_history.specs.Histories.{HasSomeEach, ends_each, told_each}
@@ -47,10 +47,16 @@ abbrev pub PrintsReports : Type 0
 PrintsReports = (r : Rest) (row : Row) (q : Report) → StandsFor r row
     → row_report r.size r.set.chain row q ≡ report page_weight r q
 
--- before there is a disk, the statistics are none but the limit, and no page and no class has a line
+-- before there is a disk, the statistics are none but the limit, no page is on the device, and no page
+-- and no class has a line
 abbrev pub PrintsNothing : Type 0
 PrintsNothing = (r : Rest) → r.size ≡ 0 → IsUnused r
     → (stats page_weight r ≡ record no_counts { limit = r.set.limit })
+    × (report page_weight r bd_stat ≡ device_calls (record {
+      count = 0;
+      reads = r.device.reads;
+      writes = r.device.writes;
+    }) ∷ [])
     × (report page_weight r states ≡ []) × (report page_weight r classes ≡ [])
 
 -- an entry keeps its page as the rest says, and was touched when it says
@@ -97,10 +103,10 @@ abbrev pub BeginsDisk : Type 0
 BeginsDisk = (r : Rest) (n : ℕ) (row : Row) → 4 ≤ r.set.chain → r.set.chain ≤ 16
     → length row ≡ n + 258
     → ((k : ℕ) → k < length row → (v : DiskHeld) × (slice_get row k ≡ Some (Some v))
-    × IsNewValue (begin_at (new_rest n r.set) []) k v)
+    × IsNewValue (begin_at (new_rest n r.set r.device) []) k v)
     → ((k : ℕ) (c : Counters) → slice_get row k ≡ Some (Some (holds.Account c))
     → c.limit ≡ r.set.limit)
-    → IsNew r n (new_rest n r.set) × StandsFor (new_rest n r.set) row
+    → IsNew r n (new_rest n r.set r.device) × StandsFor (new_rest n r.set r.device) row
 
 -- a row of which only orders have changed stands for the same rest
 abbrev pub StandsStill : Type 0

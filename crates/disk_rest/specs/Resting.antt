@@ -22,12 +22,13 @@ pub record IsPlain (r : Rest) : Type 0 where
   pub most : r.set.chain ≤ 16
 
 -- The row stands for the rest: with empty orders it is one on which a phase may begin, each pool has
--- the rest's used cells, and the account has counted the rest's statistics.
+-- the rest's used cells, the account has counted the rest's statistics, and the device is the rest's.
 pub record StandsFor (r : Rest) (row : Row) : Type 0 where
   pub plain : IsPlain r
   pub rest : AtRest (begin_at r []) (without_orders row)
   pub used : (k : ℕ) → k < 255 → used_at r.size row k ≡ r.used k
   pub account : account_of r.size row ≡ stats page_weight r
+  pub device : slice_get row (r.size + 257) ≡ Some (Some (holds.Device r.device))
 
 -- A phase of these actors is set up on a row: the values are kept, the orders are empty, with room
 -- for the phase's pieces, and no actor has had a turn.

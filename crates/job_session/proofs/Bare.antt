@@ -1,9 +1,10 @@
 -- A disk without pages: nothing is printed, and nothing changes but the limit.
-use Rattle.std.proofs.Common.{◌≡◌, ℕ, ◌<◌, ◌≤◌, List, [], ◌∷◌, length, Option, Some, slice_get, refl, sym, ap, ◌∙◌, subst, arith}
+use Rattle.std.proofs.Common.{◌≡◌, ℕ, ◌+◌, ◌<◌, ◌≤◌, List, [], ◌∷◌, length, Option, Some, slice_get, refl, sym, ap, ◌∙◌, subst, arith}
 use Rattle.std.proofs.lemmas.Option.{slice_get_within}
+use Rattle.backing_dev.specs.Dev.{DeviceState}
 use Rattle.plain_disk.specs.Output.{OutLine}
 use Rattle.plain_disk.specs.Rests.{Rest, nothing_yet, frames_of, IsUsed}
-use Rattle.plain_disk.specs.Phases.{IsPhase}
+use Rattle.plain_disk.specs.Phases.{LeavesDevice, IsPhase}
 use Rattle.plain_disk.specs.Legal.{IsUnused}
 use Rattle.lock_row.specs.Machine.Turn.{finished, missed, taken, given}
 use Rattle.lock_row.specs.declared.names.State.{State}
@@ -55,6 +56,27 @@ not_below n lt = omega (arith, lt)
 least : (n : ℕ) → n ≡ 0 → n ≤ 0
 least n is = omega (arith, is)
 
+no_less : (n : ℕ) → n ≤ n
+no_less n = omega arith
+
+least_one : 0 ≤ 1
+least_one = omega arith
+
+no_more : (n : ℕ) → n ≤ n + 0
+no_more n = omega arith
+
+-- the device is left as it is
+device_still : (d : DeviceState) → LeavesDevice d d 0
+device_still d = record {
+  same = refl;
+  blocks = refl;
+  honest = λ honest. honest;
+  faults = no_less d.faults;
+  reads = no_less d.reads;
+  few = no_more d.reads;
+  writes = refl;
+}
+
 module _ (r : Rest) (none : r.size ≡ 0) (unused : IsUnused r)
     (empty : frames_of r.set.chain r.used ≡ 0) where
   -- the rest with what is known of it
@@ -66,9 +88,11 @@ module _ (r : Rest) (none : r.size ≡ 0) (unused : IsUnused r)
     size = sym none i;
     holds = r.holds;
     blank = r.blank;
+    back = r.back;
     touched = r.touched;
     used = r.used;
     most = sym unused.most i;
+    device = r.device;
     set = r.set;
     so_far = sym unused.so_far i;
   }
@@ -81,6 +105,7 @@ module _ (r : Rest) (none : r.size ≡ 0) (unused : IsUnused r)
     ends = [];
     orders = [];
     may = tt;
+    faults_differ = λ f. least_one;
     every_page = refl;
     each = λ p lt. absurd (not_below _ lt);
     lines_are = refl;
@@ -89,6 +114,7 @@ module _ (r : Rest) (none : r.size ≡ 0) (unused : IsUnused r)
         size = refl;
         holds = λ s lt. absurd (not_below _ lt);
         blank = λ p lt. absurd (not_below _ lt);
+        back = λ p lt. absurd (not_below _ lt);
         touched = λ p lt. absurd (not_below _ lt);
         used = λ k lt. used_none k (unused.used k lt);
         most = record {
@@ -100,6 +126,7 @@ module _ (r : Rest) (none : r.size ≡ 0) (unused : IsUnused r)
         set = refl;
       };
       so_far = refl;
+      device = device_still r.device;
     };
     alone = λ ops es one ends. absurd (cc);
   }

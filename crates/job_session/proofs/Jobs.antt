@@ -1,19 +1,20 @@
 -- Jobs item by item, as they are told.
-use Rattle.std.proofs.Common.{◌≡◌, ℕ, List, [], ◌∷◌, ◌++◌, Option, Result, Ok, Err, OnOk, refl, sym, ap, ◌∙◌, subst, append_assoc}
+use Rattle.std.proofs.Common.{◌≡◌, ℕ, zero, suc, ◌<◌, ◌≤◌, Bool, true, false, List, [], ◌∷◌, ◌++◌, Option, Result, Ok, Err, OnOk, refl, sym, ap, ◌∙◌, subst, append_assoc, arith}
 use Rattle.std.proofs.lemmas.List.{append-nil}
 use Rattle.zr_base.specs.declared.op.Op.{Op}
 use Rattle.zr_base.specs.declared.op.Turns.{Turns}
-use Rattle.plain_disk.specs.Output.{OutLine}
+use Rattle.std.specs.Prelude.{nat_lt}
+use Rattle.plain_disk.specs.Output.{OutLine, disksize_busy, backing_busy, backing_range, refused}
 use Rattle.page_steps.specs.Steps.{DiskHeld}
 use Rattle.zr_core.specs.declared.limits.TheConstants.{MOST_CHAIN}
 use Rattle.zr_core.specs.Machines.{PhaseSteps}
 use Rattle.job_text.specs.declared.job.Attr.{Attr}
-use Rattle.job_text.specs.declared.job.Attr.TheVariants.{DiskPages, LimitPages, LowerMax}
+use Rattle.job_text.specs.declared.job.Attr.TheVariants.{DiskPages, LimitPages, Backing, LowerMax}
 use Rattle.job_text.specs.declared.job.Report.{Report}
 use Rattle.job_text.specs.declared.job.Item.{Item}
 use Rattle.job_text.specs.declared.job.Item.TheVariants as items
 use Rattle.job_text.specs.declared.job.PhaseText.{PhaseText}
-use Rattle.job_session.specs.Stepped.{Disk, terms_of, report_of, Stepped, IsBySchedule, AreOwn}
+use Rattle.job_session.specs.Stepped.{Disk, terms_of, report_of, IsNewDisk, backed, SizeSteps, BackingSteps, AttrSteps, IsRunOn, Stepped, IsBySchedule, AreOwn}
 use Rattle.job_session.specs.declared.stop.Stop.{Stop}
 use Rattle.job_session.specs.Telling.{StopCause, OutputState, Tells, ItemsTold}
 use Rattle.job_session.proofs.Lawful.{KeepsPages}
@@ -29,12 +30,14 @@ stepped_append [] ys d m last ts us ls ks s next =
     let P : List (List ℕ) × List OutLine × Disk → Type 0 =
     λ x. Stepped x.2 ys (x.0 ++ us) (x.1 ++ ks) last in
     subst P (λ i. (sym s.0 i, sym s.1 i, s.2 i)) next
-stepped_append (items.Attr (DiskPages n) ∷ xs) ys d m last ts us ls ks s next =
-    (s.0, s.1, stepped_append xs ys s.0 m last ts us ls ks s.2 next)
-stepped_append (items.Attr (LimitPages n) ∷ xs) ys d m last ts us ls ks s next =
-    (s.0, s.1, stepped_append xs ys s.0 m last ts us ls ks s.2 next)
-stepped_append (items.Attr LowerMax ∷ xs) ys d m last ts us ls ks s next =
-    (s.0, s.1, stepped_append xs ys s.0 m last ts us ls ks s.2 next)
+stepped_append (items.Attr attr ∷ xs) ys d m last ts us ls ks s next = (
+  s.0,
+  s.1,
+  s.2 ++ ks,
+  s.3,
+  stepped_append xs ys s.0 m last ts us s.2 ks s.4 next,
+  ap (λ (x : List OutLine). x ++ ks) s.5 ∙ append_assoc s.1 s.2 ks,
+)
 stepped_append (items.Report report ∷ xs) ys d m last ts us ls ks s next = (
   s.0 ++ ks,
   stepped_append xs ys d m last ts us s.0 ks s.1 next,
@@ -48,10 +51,9 @@ stepped_append (items.Phase phase ∷ xs) ys d m last ts us ls ks s next = (
   s.4 ++ ks,
   s.5,
   s.6,
-  s.7,
-  stepped_append xs ys s.0 m last s.2 us s.4 ks s.8 next,
-  ap (λ (x : List (List ℕ)). x ++ us) s.9,
-  ap (λ (x : List OutLine). x ++ ks) s.10 ∙ append_assoc s.3 s.4 ks,
+  stepped_append xs ys s.0 m last s.2 us s.4 ks s.7 next,
+  ap (λ (x : List (List ℕ)). x ++ us) s.8,
+  ap (λ (x : List OutLine). x ++ ks) s.9 ∙ append_assoc s.3 s.4 ks,
 )
 
 own_append : (xs ys : List Item) (ts us : List (List ℕ)) → AreOwn xs ts → AreOwn ys us
@@ -75,13 +77,14 @@ items_none d o = record {
   own = refl;
   told = Tells-none o;
   whole = (refl, refl);
+  device = refl;
 }
 
 -- nothing was told of these items
 pub items_stop : (d m : Disk) (job : List Item) (o : OutputState) (stop : Stop)
-    → StopCause o.faults o.faults o.stopped stop
+    → StopCause o.faults o.faults o.stopped stop → d.device ≡ m.device
     → ItemsTold d job m o o (Err stop)
-items_stop d m job o stop cause = record {
+items_stop d m job o stop cause device = record {
   front = [];
   later = job;
   parts = refl;
@@ -92,6 +95,7 @@ items_stop d m job o stop cause = record {
   own = refl;
   told = Tells-stop o stop cause;
   whole = tt;
+  device = device;
 }
 
 -- where nothing went wrong, all items were run, up to the disk that is there
@@ -106,17 +110,35 @@ module _ (xs : List Item) (d m : Disk) (o p : OutputState) (t : ItemsTold d xs m
   pub all_own : AreOwn xs t.turns
   all_own = subst (λ (x : List Item). AreOwn x t.turns) all_items t.own
 
+-- a disk's size leaves pages, and a backing leaves those that there are
+size_some : (size : ℕ) (d m : Disk) (n : ℕ) (lines : List OutLine) → size ≡ d.size
+    → SizeSteps size d n lines m → 1 ≤ n → 1 ≤ m.size
+size_some zero d m n lines is s some = let new = s.1.size in omega (arith, new, some)
+size_some (suc size) d m n lines is s some =
+    let same = ap (λ (x : Disk). x.size) s.same in omega (arith, same, is)
+
+backing_same : (size : ℕ) (past : Bool) (d m : Disk) (n : ℕ) (lines : List OutLine)
+    → BackingSteps size past d n lines m → m.size ≡ d.size
+backing_same zero false d m n lines s = ap (λ (x : Disk). x.size) s.1
+backing_same zero true d m n lines s = ap (λ (x : Disk). x.size) s.same
+backing_same (suc size) past d m n lines s = ap (λ (x : Disk). x.size) s.same
+
+-- an attribute leaves these pages
+pub attr_keeps : (d m : Disk) (attr : Attr) (lines : List OutLine) → AttrSteps d attr lines m
+    → KeepsPages (items.Attr attr) d.size m.size
+attr_keeps d m (DiskPages n) lines s = λ some. size_some d.size d m n lines refl s some
+attr_keeps d m (LimitPages n) lines s = s.1.size
+attr_keeps d m (Backing n) lines s = backing_same d.size (nat_lt d.device.blocks n) d m n lines s
+attr_keeps d m LowerMax lines s = s.1.size
+
 -- an item leaves these pages
 keeps_pages : (d m : Disk) (item : Item) (turns : List (List ℕ)) (lines : List OutLine)
     → Stepped d (item ∷ []) turns lines m → KeepsPages item d.size m.size
-keeps_pages d m (items.Attr (DiskPages n)) turns lines s =
-    ap (λ (x : Disk). x.size) s.2.2 ∙ s.1.size
-keeps_pages d m (items.Attr (LimitPages n)) turns lines s =
-    ap (λ (x : Disk). x.size) s.2.2 ∙ s.1.size
-keeps_pages d m (items.Attr LowerMax) turns lines s =
-    ap (λ (x : Disk). x.size) s.2.2 ∙ s.1.size
+keeps_pages d m (items.Attr attr) turns lines s =
+    subst (λ (x : Disk). KeepsPages (items.Attr attr) d.size x.size) (sym s.4.2)
+    (attr_keeps d s.0 attr s.1 s.3)
 keeps_pages d m (items.Report report) turns lines s = ap (λ (x : Disk). x.size) s.1.2
-keeps_pages d m (items.Phase text) turns lines s = ap (λ (x : Disk). x.size) s.8.2 ∙ s.5
+keeps_pages d m (items.Phase text) turns lines s = ap (λ (x : Disk). x.size) s.7.2 ∙ s.5.size
 
 -- so does one that was told
 pub item_keeps : (d m : Disk) (item : Item) (o p : OutputState)
@@ -140,12 +162,13 @@ items_more xs ys d m n o p q r s t = record {
   own = own_append xs t.front s.turns t.turns (all_own xs d m o p s) t.own;
   told = Tells-more o p q r s.lines t.lines s.told t.told;
   whole = t.whole;
+  device = t.device;
 }
 
 -- what was given up among some items was given up among more
-pub items_cut : (xs ys : List Item) (d m n : Disk) (o p : OutputState) (stop : Stop)
-    → ItemsTold d xs m o p (Err stop) → ItemsTold d (xs ++ ys) n o p (Err stop)
-items_cut xs ys d m n o p stop t = record {
+pub items_cut : (xs ys : List Item) (d m : Disk) (o p : OutputState) (stop : Stop)
+    → ItemsTold d xs m o p (Err stop) → ItemsTold d (xs ++ ys) m o p (Err stop)
+items_cut xs ys d m o p stop t = record {
   front = t.front;
   later = t.later ++ ys;
   parts = ap (λ (x : List Item). x ++ ys) t.parts ∙ append_assoc t.front t.later ys;
@@ -156,6 +179,7 @@ items_cut xs ys d m n o p stop t = record {
   own = t.own;
   told = t.told;
   whole = tt;
+  device = t.device;
 }
 
 -- no item is left
@@ -164,20 +188,50 @@ no_more : (m : Disk) (r : Result (Unit {0}) Stop)
 no_more m (Ok x) = (refl, refl)
 no_more m (Err stop) = tt
 
-pub attr_told : (d m : Disk) (attr : Attr) (o : OutputState)
-    → Stepped d (items.Attr attr ∷ []) [] [] m
-    → ItemsTold d (items.Attr attr ∷ []) m o o (Ok tt)
-attr_told d m attr o s = record {
+-- what comes of a disk's size, and of the blocks of the device
+pub size_busy : (size : ℕ) (d : Disk) (n : ℕ) → 0 < size
+    → SizeSteps size d n (refused disksize_busy ∷ []) d
+size_busy zero d n some = absurd (omega (arith, some))
+size_busy (suc size) d n some = record { told = refl; same = refl }
+
+pub size_given : (size : ℕ) (d m : Disk) (n : ℕ) → size ≡ 0 → IsNewDisk d n m
+    → SizeSteps size d n [] m
+size_given zero d m n none new = (refl, new)
+size_given (suc size) d m n none new = absurd (omega (arith, none))
+
+pub backing_busy_now : (size : ℕ) (past : Bool) (d : Disk) (n : ℕ) → 0 < size
+    → BackingSteps size past d n (refused backing_busy ∷ []) d
+backing_busy_now zero past d n some = absurd (omega (arith, some))
+backing_busy_now (suc size) past d n some = record { told = refl; same = refl }
+
+pub backing_past : (size : ℕ) (past : Bool) (d : Disk) (n : ℕ) → size ≡ 0 → past ≡ true
+    → BackingSteps size past d n (refused backing_range ∷ []) d
+backing_past zero true d n none is = record { told = refl; same = refl }
+backing_past zero false d n none is = absurd (let no : ⊥ = cc is in no)
+backing_past (suc size) past d n none is = absurd (omega (arith, none))
+
+pub backing_given : (size : ℕ) (past : Bool) (d m : Disk) (n : ℕ) → size ≡ 0 → past ≡ false
+    → m ≡ backed d n → BackingSteps size past d n [] m
+backing_given zero false d m n none is same = (refl, same)
+backing_given zero true d m n none is same = absurd (let no : ⊥ = cc is in no)
+backing_given (suc size) past d m n none is same = absurd (omega (arith, none))
+
+-- an attribute whose lines were told
+pub attr_told : (d m : Disk) (attr : Attr) (lines : List OutLine) (o p : OutputState)
+    (r : Result (Unit {0}) Stop)
+    → AttrSteps d attr lines m → Tells o p r lines → ItemsTold d (items.Attr attr ∷ []) m o p r
+attr_told d m attr lines o p r steps told = record {
   front = items.Attr attr ∷ [];
   later = [];
   parts = refl;
   turns = [];
-  lines = [];
+  lines = lines;
   last = m;
-  stepped = s;
+  stepped = (m, lines, [], steps, (refl, refl, refl), sym (append-nil lines));
   own = refl;
-  told = Tells-none o;
-  whole = (refl, refl);
+  told = told;
+  whole = no_more m r;
+  device = refl;
 }
 
 -- a report that was told
@@ -194,6 +248,7 @@ report_told d report o p r told = record {
   own = refl;
   told = told;
   whole = no_more d r;
+  device = refl;
 }
 
 -- the steps of a phase on the disk, by what they go by
@@ -210,11 +265,11 @@ steps_on d size clock actors turns lines after same none =
 pub phase_told : (d m : Disk) (phase : PhaseText) (actors : List (List Op)) (schedule : List Turns)
     (turns : List ℕ)
     (lines : List OutLine) (o p : OutputState) (r : Result (Unit {0}) Stop)
-    → actors ≡ phase.actors → schedule ≡ phase.schedule → m.size ≡ d.size → m.limit ≡ d.limit
+    → actors ≡ phase.actors → schedule ≡ phase.schedule → IsRunOn d m
     → IsBySchedule actors schedule turns
     → PhaseSteps (terms_of d) actors d.row turns lines m.row → Tells o p r lines
     → ItemsTold d (items.Phase phase ∷ []) m o p r
-phase_told d m phase actors schedule turns lines o p r are is size limit own steps told = record {
+phase_told d m phase actors schedule turns lines o p r are is run own steps told = record {
   front = items.Phase phase ∷ [];
   later = [];
   parts = refl;
@@ -227,8 +282,7 @@ phase_told d m phase actors schedule turns lines o p r are is size limit own ste
     [],
     lines,
     [],
-    size,
-    limit,
+    run,
     subst (λ (x : List (List Op)). PhaseSteps (terms_of d) x d.row turns lines m.row) are steps,
     (refl, refl, refl),
     refl,
@@ -241,4 +295,5 @@ phase_told d m phase actors schedule turns lines o p r are is size limit own ste
   );
   told = told;
   whole = no_more m r;
+  device = refl;
 }

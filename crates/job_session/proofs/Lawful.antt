@@ -10,10 +10,11 @@ use Rattle.zr_base.specs.declared.op.Turns.{Turns}
 use Rattle.zr_base.specs.Plain.{IsRequest}
 use Rattle.zr_base.specs.declared.limits.TheConstants.{MOST_ACTORS, MOST_OPERATIONS}
 use Rattle.actor_steps.specs.Places.{AreRequests, IsWork, operations}
-use Rattle.job_text.specs.declared.job.Attr.TheVariants.{DiskPages, LimitPages, LowerMax}
+use Rattle.job_text.specs.declared.job.Attr.{Attr}
+use Rattle.job_text.specs.declared.job.Attr.TheVariants.{DiskPages, LimitPages, Backing, LowerMax}
 use Rattle.job_text.specs.declared.job.Item.{Item}
 use Rattle.job_text.specs.declared.job.Item.TheVariants as items
-use Rattle.job_text.specs.Jobs.{Used, with_attr, with_phase, with_op, with_ops, with_actors, with_text, HasDisk, MayOperate, MayAct, MayTurn, MayFollow}
+use Rattle.job_text.specs.Jobs.{Used, with_attr, with_phase, with_op, with_ops, with_actors, with_text, HasDisk, MaySet, MayOperate, MayAct, MayTurn, MayFollow}
 use Rattle.job_session.specs.Telling.{MayStand}
 
 pub no_item : {A : Type 0} (k : ℕ) (x : A) → slice_get [] k ≡ Some x → ⊥
@@ -111,44 +112,40 @@ none_without u (ops ∷ more) has none = absurd (true≢false (sym has ∙ none)
 
 -- ---- items
 
--- the disk's pages before and after an item: only a disk's size changes them
+-- the disk's pages before and after an item: there are some after a disk's size, and nothing else
+-- changes them
 abbrev pub KeepsPages : Item → ℕ → ℕ → Type 0
-KeepsPages (items.Attr (DiskPages n)) before after = after ≡ n
+KeepsPages (items.Attr (DiskPages n)) before after = 1 ≤ n → 1 ≤ after
 KeepsPages (items.Attr (LimitPages n)) before after = after ≡ before
+KeepsPages (items.Attr (Backing n)) before after = after ≡ before
 KeepsPages (items.Attr LowerMax) before after = after ≡ before
 KeepsPages (items.Report report) before after = after ≡ before
 KeepsPages (items.Phase text) before after = after ≡ before
 
+-- a disk without pages after an attribute has no size yet
+pub sized_on : (u : Used) (attr : Attr) (before after : ℕ) → KeepsPages (items.Attr attr) before after
+    → MaySet attr → (before ≡ 0 → u.disk ≡ false) → after ≡ 0 → (with_attr u attr).disk ≡ false
+sized_on u (DiskPages n) before after keeps may sized none =
+    let some = keeps may.0 in absurd (omega (arith, none, some))
+sized_on u (LimitPages n) before after keeps may sized none = sized (sym keeps ∙ none)
+sized_on u (Backing n) before after keeps may sized none = sized (sym keeps ∙ none)
+sized_on u LowerMax before after keeps may sized none = sized (sym keeps ∙ none)
+
 -- the items after one that was run, which leaves so many pages
 pub stand_on : (pages after : ℕ) (item : Item) (more : List Item) → KeepsPages item pages after
     → MayStand pages (item ∷ more) → MayStand after more
-stand_on pages after (items.Attr (DiskPages n)) more keeps may = record {
-  used = with_attr may.used (DiskPages n);
-  bare = λ bare. absurd (true≢false bare);
-  sized = λ none. let some = may.may.1.0 in absurd (omega (arith, none, keeps, some));
-  may = may.may.2;
-}
-stand_on pages after (items.Attr (LimitPages n)) more keeps may = record {
-  used = with_attr may.used (LimitPages n);
-  bare = λ bare. keeps ∙ may.bare bare;
-  sized = λ none. may.sized (sym keeps ∙ none);
-  may = may.may.2;
-}
-stand_on pages after (items.Attr LowerMax) more keeps may = record {
-  used = with_attr may.used LowerMax;
-  bare = λ bare. keeps ∙ may.bare bare;
-  sized = λ none. may.sized (sym keeps ∙ none);
-  may = may.may.2;
+stand_on pages after (items.Attr attr) more keeps may = record {
+  used = with_attr may.used attr;
+  sized = sized_on may.used attr pages after keeps may.may.0 may.sized;
+  may = may.may.1;
 }
 stand_on pages after (items.Report report) more keeps may = record {
   used = may.used;
-  bare = λ bare. keeps ∙ may.bare bare;
   sized = λ none. may.sized (sym keeps ∙ none);
   may = may.may;
 }
 stand_on pages after (items.Phase text) more keeps may = record {
   used = with_text may.used text.actors text.schedule;
-  bare = λ bare. keeps ∙ may.bare (sym (disk_by (with_phase may.used) text.actors) ∙ bare);
   sized = λ none. disk_by (with_phase may.used) text.actors ∙ may.sized (sym keeps ∙ none);
   may = may.may.1;
 }
@@ -158,19 +155,16 @@ pub stand_first : (pages : ℕ) (item : Item) (more : List Item) → MayStand pa
     → MayStand pages (item ∷ [])
 stand_first pages (items.Attr attr) more may = record {
   used = may.used;
-  bare = may.bare;
   sized = may.sized;
-  may = (may.may.0, may.may.1, tt);
+  may = (may.may.0, tt);
 }
 stand_first pages (items.Report report) more may = record {
   used = may.used;
-  bare = may.bare;
   sized = may.sized;
   may = tt;
 }
 stand_first pages (items.Phase text) more may = record {
   used = may.used;
-  bare = may.bare;
   sized = may.sized;
   may = (may.may.0, tt);
 }
@@ -180,7 +174,7 @@ pub front_may : (u : Used) (front later : List Item) → MayFollow u (front ++ l
     → MayFollow u front
 front_may u [] later may = tt
 front_may u (items.Attr attr ∷ front) later may =
-    (may.0, may.1, front_may (with_attr u attr) front later may.2)
+    (may.0, front_may (with_attr u attr) front later may.1)
 front_may u (items.Report report ∷ front) later may = front_may u front later may
 front_may u (items.Phase text ∷ front) later may =
     (may.0, front_may (with_text u text.actors text.schedule) front later may.1)

@@ -1,5 +1,6 @@
 -- A job item by item: where the disk stands for a rest, each item's lines are legal.
-use Rattle.std.proofs.Common.{◌≡◌, ◌⊎◌, ℕ, ◌+◌, ◌≤◌, true, false, zero, suc, List, [], ◌∷◌, length, Option, Some, None, slice_get, slice_set, unwrap_or, refl, sym, ap, ◌∙◌, subst, inl, inr, arith}
+use Rattle.std.proofs.Common.{◌≡◌, ◌⊎◌, ℕ, ◌+◌, ◌≤◌, Bool, true, false, zero, suc, List, [], ◌∷◌, length, Option, Some, None, slice_get, slice_set, unwrap_or, refl, sym, ap, ◌∙◌, subst, inl, inr, arith}
+use Rattle.std.specs.Prelude.{nat_lt}
 use Rattle.std.proofs.lemmas.Option.{get_or_from_slice_get}
 use Rattle.zr_base.specs.declared.limits.TheConstants.{MOST_PAGES, MOST_ACTORS}
 use Rattle.zr_base.specs.declared.op.Op.{Op}
@@ -7,34 +8,38 @@ use Rattle.zr_base.specs.declared.op.Op.TheVariants.{Write, Read, Discard, Compa
 use Rattle.zr_base.specs.Plain.{IsRequest}
 use Rattle.mem_account.specs.Counters.{Counters, no_counts}
 use Rattle.mem_account.specs.Stat.{mm_stat_of, io_stat_of}
-use Rattle.plain_disk.specs.Output.{OutLine, memory, calls}
+use Rattle.backing_dev.specs.Dev.{DeviceState}
+use Rattle.plain_disk.specs.Output.{OutLine, memory, calls, device_calls}
 use Rattle.plain_disk.specs.Rests.{Rest, nothing_yet, stats, report, states, classes}
 use Rattle.plain_disk.specs.Phases.{IsPhase}
-use Rattle.plain_disk.specs.Legal.{IsNew, first_settings, sets, lowered}
+use Rattle.plain_disk.specs.Legal.{IsNew, first_settings, sets, lowered, GivesDisk, GivesBacking, ItemIsLegal}
 use Rattle.call_history.specs.Histories.{HasSome, SomeEach, HasSomeEach}
 use Rattle.lock_row.specs.declared.names.Held.TheVariants as holds
 use Rattle.page_steps.specs.Steps.{DiskHeld, Terms}
 use Rattle.slot_entry.specs.Forms.{page_weight}
 use Rattle.joint_rule.specs.Begins.{terms}
 use Rattle.joint_rule.specs.Laws.{StartHasRule, ReachedHasRule}
-use Rattle.joint_rule.specs.Ends.{begin_at, rest_after, new_rest}
+use Rattle.joint_rule.specs.Ends.{begin_at, device_of, rest_after, new_rest}
 use Rattle.disk_rest.specs.Resting.{StandsFor}
 use Rattle.disk_rest.specs.Printed.{row_report}
 use Rattle.disk_rest.specs.Laws.{PrintsPhase, LeavesRest, PrintsReports, PrintsNothing, AccountTells, BeginsPhase, BeginsProper, BeginsDisk, SetsLimit, LowersMax}
 use Rattle.zr_core.specs.declared.limits.TheConstants.{MOST_CHAIN}
 use Rattle.zr_core.specs.Machines.{PhaseSteps}
-use Rattle.zr_core.specs.Rests.{account_in, account_of}
-use Rattle.job_text.specs.declared.job.Attr.TheVariants.{DiskPages, LimitPages, LowerMax}
+use Rattle.zr_core.specs.Rests.{account_in, account_of, new_disk}
+use Rattle.zr_core.specs.Rows.{AreNew}
+use Rattle.job_text.specs.declared.job.Attr.{Attr}
+use Rattle.job_text.specs.declared.job.Attr.TheVariants.{DiskPages, LimitPages, Backing, LowerMax}
 use Rattle.job_text.specs.declared.job.Report.{Report}
 use Rattle.job_text.specs.declared.job.Report.TheVariants as reports
 use Rattle.job_text.specs.declared.job.Item.{Item}
 use Rattle.job_text.specs.declared.job.Item.TheVariants as items
-use Rattle.job_text.specs.Jobs.{Used, with_attr, with_phase, with_op, with_ops, with_text, MayOperate, MayAct, MayFollow}
-use Rattle.job_session.specs.Legal.{Legal, plain_report}
+use Rattle.job_text.specs.Jobs.{Used, with_attr, with_phase, with_op, with_ops, with_text, MaySet, MayOperate, MayAct, MayFollow}
+use Rattle.job_session.specs.Legal.{Legal, plain_report, plain_item}
 use Rattle.job_session.specs.Stands.{IsBare, HasRow, Stands}
-use Rattle.job_session.specs.Stepped.{Disk, terms_of, report_of, IsNewDisk, IsLimited, IsLowered, Stepped}
+use Rattle.job_session.specs.Stepped.{Disk, terms_of, report_of, IsNewDisk, IsLimited, IsLowered, backed, SizeSteps, BackingSteps, AttrSteps, IsRunOn, Stepped}
 use Rattle.job_session.proofs.Bare.{phase_nowhere, phase_without}
-use Rattle.job_session.proofs.Lawful.{no_item, requests_each, work_by, few_operations, none_without, disk_by}
+use Rattle.job_session.proofs.Jobs.{attr_keeps}
+use Rattle.job_session.proofs.Lawful.{no_item, sized_on, requests_each, work_by, few_operations, none_without, disk_by}
 use Rattle.job_session.proofs.Standing.{phase_on, disk_on}
 
 -- ---- requests
@@ -87,9 +92,11 @@ module _ (laws : Laws) where
   -- a new disk stands for a new rest
   new_stands : (r : Rest) (d m : Disk) (n : ℕ) → 1 ≤ n → n ≤ MOST_PAGES → Stands r d
       → IsNewDisk d n m
-      → IsNew r n (new_rest n r.set) × Stands (new_rest n r.set) m
+      → IsNew r n (new_rest n r.set r.device) × Stands (new_rest n r.set r.device) m
   new_stands r d m n some most s new =
-      let both = disk_on laws.new r n d.limit m.row s.chain s.limit new.row new.account in (
+      let row = subst (λ (x : DeviceState). AreNew (new_disk n d.limit x) (n + 258) m.row)
+      (sym s.device) new.row in
+      let both = disk_on laws.new r n d.limit m.row s.chain s.limit row new.account in (
         both.0,
         record {
           size = sym new.size;
@@ -97,6 +104,7 @@ module _ (laws : Laws) where
           limit = s.limit ∙ sym new.limit;
           clock = s.clock;
           chain = s.chain;
+          device = s.device ∙ sym new.device;
           row = inr (record { some = omega (arith, some, new.size); stands = both.1 });
         },
       )
@@ -137,6 +145,7 @@ module _ (laws : Laws) where
     limit = sym is.limit;
     clock = s.clock;
     chain = s.chain;
+    device = s.device ∙ sym is.device;
     row = limited_row r d m n s is s.row;
   }
 
@@ -172,6 +181,7 @@ module _ (laws : Laws) where
     limit = s.limit ∙ sym is.limit;
     clock = s.clock;
     chain = s.chain;
+    device = s.device ∙ sym is.device;
     row = lowered_row r d m s is s.row;
   }
 
@@ -200,7 +210,7 @@ module _ (laws : Laws) where
       → row_report d.size MOST_CHAIN d.row states ≡ report page_weight r states
   states_are r d s (inl bare) =
       ap (λ (n : ℕ). row_report n MOST_CHAIN d.row states) bare.none
-      ∙ sym (laws.nothing r (s.size ∙ bare.none) bare.unused).1
+      ∙ sym (laws.nothing r (s.size ∙ bare.none) bare.unused).2
   states_are r d s (inr has) =
       (λ i. row_report (sym s.size i) (sym s.chain i) d.row states)
       ∙ laws.reports r d.row states has.stands
@@ -209,7 +219,7 @@ module _ (laws : Laws) where
       → row_report d.size MOST_CHAIN d.row classes ≡ report page_weight r classes
   classes_are r d s (inl bare) =
       (λ i. row_report (bare.none i) MOST_CHAIN (bare.empty i) classes)
-      ∙ sym (laws.nothing r (s.size ∙ bare.none) bare.unused).2
+      ∙ sym (laws.nothing r (s.size ∙ bare.none) bare.unused).3
   classes_are r d s (inr has) =
       (λ i. row_report (sym s.size i) (sym s.chain i) d.row classes)
       ∙ laws.reports r d.row classes has.stands
@@ -220,6 +230,11 @@ module _ (laws : Laws) where
       ap (λ (c : Counters). memory (mm_stat_of c) ∷ []) (account_is r d s s.row)
   report_is r d reports.IoStat s =
       ap (λ (c : Counters). calls (io_stat_of c) ∷ []) (account_is r d s s.row)
+  report_is r d reports.BdStat s = λ i. device_calls (record {
+    count = (account_is r d s s.row i).back;
+    reads = (sym s.device i).reads;
+    writes = (sym s.device i).writes;
+  }) ∷ []
   report_is r d reports.States s = states_are r d s s.row
   report_is r d reports.Classes s = classes_are r d s s.row
 
@@ -227,7 +242,7 @@ module _ (laws : Laws) where
 
   -- a phase that may run, on the disk d, which leaves the disk m
   module _ (u : Used) (actors : List (List Op)) (few : length actors ≤ MOST_ACTORS)
-      (may : MayAct u actors) (d m : Disk) (size : m.size ≡ d.size) (limit : m.limit ≡ d.limit)
+      (may : MayAct u actors) (d m : Disk) (run : IsRunOn d m)
       (turns : List ℕ) (lines : List OutLine)
       (steps : PhaseSteps (terms_of d) actors d.row turns lines m.row) (r : Rest)
       (s : Stands r d) where
@@ -250,12 +265,13 @@ module _ (laws : Laws) where
           rest_after r actors m.row,
           both.0,
           record {
-            size = s.size ∙ sym size;
-            most = omega (arith, s.most, size);
-            limit = s.limit ∙ sym limit;
+            size = s.size ∙ sym run.size;
+            most = omega (arith, s.most, run.size);
+            limit = s.limit ∙ sym run.limit;
             clock = s.clock;
             chain = s.chain;
-            row = inr (record { some = omega (arith, has.some, size); stands = both.1 });
+            device = (λ i. device_of (s.device i) (s.size i) m.row) ∙ sym run.device;
+            row = inr (record { some = omega (arith, has.some, run.size); stands = both.1 });
           },
         )
 
@@ -271,18 +287,93 @@ module _ (laws : Laws) where
           subst (λ (x : List (List Op)). IsPhase page_weight r x lines r) (sym none)
               (phase_without r no_size bare.unused empty lines over.0),
           record {
-            size = s.size ∙ sym size;
-            most = omega (arith, s.most, size);
-            limit = s.limit ∙ sym limit;
+            size = s.size ∙ sym run.size;
+            most = omega (arith, s.most, run.size);
+            limit = s.limit ∙ sym run.limit;
             clock = s.clock;
             chain = s.chain;
-            row = inl (record { none = size ∙ bare.none; empty = over.1; unused = bare.unused });
+            device = s.device ∙ sym (run.device ∙ (λ i. device_of d.device (bare.none i) (over.1 i)));
+            row = inl (record { none = run.size ∙ bare.none; empty = over.1; unused = bare.unused });
           },
         )
 
     phase_after : IsBare r d ⊎ HasRow r d → (d.size ≡ 0 → actors ≡ []) → After
     phase_after (inl bare) none = phase_bare bare (none bare.none)
     phase_after (inr has) none = phase_stands has
+
+  -- ---- attributes
+
+  -- the rest after an attribute
+  abbrev AfterAttr : Rest → Attr → List OutLine → Disk → Type 0
+  AfterAttr r attr lines m = (n : Rest)
+      × ItemIsLegal page_weight r (plain_item (items.Attr attr)) lines n × Stands n m
+
+  -- one that is refused changes nothing
+  refused_stands : (r : Rest) (d m : Disk) → m ≡ d → Stands r d → Stands r m
+  refused_stands r d m same s = subst (Stands r) (sym same) s
+
+  size_stands : (size : ℕ) (r : Rest) (d m : Disk) (n : ℕ) (lines : List OutLine)
+      → 1 ≤ n → n ≤ MOST_PAGES → Stands r d → SizeSteps size d n lines m
+      → (x : Rest) × GivesDisk size r n lines x × Stands x m
+  size_stands zero r d m n lines some most s steps =
+      let new = new_stands r d m n some most s steps.1 in
+      (new_rest n r.set r.device, (steps.0, new.0), new.1)
+  size_stands (suc size) r d m n lines some most s steps =
+      (r, record { told = steps.told; same = refl }, refused_stands r d m steps.same s)
+
+  -- other blocks for the disk that is to come
+  backed_row : (r : Rest) (d : Disk) (n : ℕ) → 0 ≡ d.size → IsBare r d ⊎ HasRow r d
+      → IsBare (sets r (record r.set { backing = n })) (backed d n)
+  backed_row r d n none (inl bare) = record {
+    none = bare.none;
+    empty = bare.empty;
+    unused = record {
+      used = bare.unused.used;
+      most = bare.unused.most;
+      so_far = bare.unused.so_far;
+    };
+  }
+  backed_row r d n none (inr has) = let some = has.some in absurd (omega (arith, none, some))
+
+  backed_stands : (r : Rest) (d : Disk) (n : ℕ) → 0 ≡ d.size → Stands r d
+      → Stands (sets r (record r.set { backing = n })) (backed d n)
+  backed_stands r d n none s = record {
+    size = s.size;
+    most = s.most;
+    limit = s.limit;
+    clock = s.clock;
+    chain = s.chain;
+    device = s.device;
+    row = inl (backed_row r d n none s.row);
+  }
+
+  backing_stands : (size : ℕ) (past : Bool) (r : Rest) (d m : Disk) (n : ℕ) (lines : List OutLine)
+      → size ≡ d.size → Stands r d → BackingSteps size past d n lines m
+      → (x : Rest) × GivesBacking size past r n lines x × Stands x m
+  backing_stands zero false r d m n lines is s steps = (
+    sets r (record r.set { backing = n }),
+    (steps.0, refl),
+    subst (Stands (sets r (record r.set { backing = n }))) (sym steps.1) (backed_stands r d n is s),
+  )
+  backing_stands zero true r d m n lines is s steps =
+      (r, record { told = steps.told; same = refl }, refused_stands r d m steps.same s)
+  backing_stands (suc size) past r d m n lines is s steps =
+      (r, record { told = steps.told; same = refl }, refused_stands r d m steps.same s)
+
+  attr_stands : (r : Rest) (d m : Disk) (attr : Attr) (lines : List OutLine) → MaySet attr
+      → Stands r d → AttrSteps d attr lines m → AfterAttr r attr lines m
+  attr_stands r d m (DiskPages n) lines may s steps =
+      subst (λ (k : ℕ). (x : Rest) × GivesDisk k r n lines x × Stands x m) (sym s.size)
+      (size_stands d.size r d m n lines may.0 may.1 s steps)
+  attr_stands r d m (LimitPages n) lines may s steps =
+      (sets r (record r.set { limit = n }), (steps.0, refl), limit_stands r d m n s steps.1)
+  attr_stands r d m (Backing n) lines may s steps =
+      let P : ℕ × ℕ → Type 0 =
+      λ k. (x : Rest) × GivesBacking k.0 (nat_lt k.1 n) r n lines x × Stands x m in
+      subst P (λ i. (sym s.size i, (sym s.device i).blocks))
+      (backing_stands d.size (nat_lt d.device.blocks n) r d m n lines refl s steps)
+  attr_stands r d m LowerMax lines may s steps =
+      (lowered r, (steps.0, refl), lowered_stands r d m s steps.1)
 
   -- ---- whole jobs
 
@@ -291,29 +382,13 @@ module _ (laws : Laws) where
       → Stands r d → Stepped d job turns lines last → (m : Rest) × Legal r job lines m × Stands m last
   legal_by u [] r d turns lines last may bare s steps =
       (r, (steps.1, refl), subst (Stands r) (sym steps.2) s)
-  legal_by u (items.Attr (DiskPages n) ∷ more) r d turns lines last may bare s steps =
-      let new = new_stands r d steps.0 n may.1.0 may.1.1 s steps.1 in
-      let some : 1 ≤ n = may.1.0 in
-      let is : steps.0.size ≡ n = steps.1.size in
-      let rest = legal_by (with_attr u (DiskPages n)) more (new_rest n r.set) steps.0 turns lines last
-      may.2 (λ none. absurd (omega (arith, none, some, is))) new.1 steps.2 in (
+  legal_by u (items.Attr attr ∷ more) r d turns lines last may bare s steps =
+      let set = attr_stands r d steps.0 attr steps.1 may.0 s steps.3 in
+      let keeps = attr_keeps d steps.0 attr steps.1 steps.3 in
+      let rest = legal_by (with_attr u attr) more set.0 steps.0 turns steps.2 last may.1
+      (sized_on u attr d.size steps.0.size keeps may.0 bare) set.2 steps.4 in (
         rest.0,
-        (new_rest n r.set, [], lines, (refl, new.0), rest.1, refl),
-        rest.2,
-      )
-  legal_by u (items.Attr (LimitPages n) ∷ more) r d turns lines last may bare s steps =
-      let next : Rest = sets r (record r.set { limit = n }) in
-      let rest = legal_by (with_attr u (LimitPages n)) more next steps.0 turns lines last may.2
-      (λ none. bare (sym steps.1.size ∙ none)) (limit_stands r d steps.0 n s steps.1) steps.2 in (
-        rest.0,
-        (next, [], lines, (refl, refl), rest.1, refl),
-        rest.2,
-      )
-  legal_by u (items.Attr LowerMax ∷ more) r d turns lines last may bare s steps =
-      let rest = legal_by (with_attr u LowerMax) more (lowered r) steps.0 turns lines last may.2
-      (λ none. bare (sym steps.1.size ∙ none)) (lowered_stands r d steps.0 s steps.1) steps.2 in (
-        rest.0,
-        (lowered r, [], lines, (refl, refl), rest.1, refl),
+        (set.0, steps.1, steps.2, set.1, rest.1, steps.5),
         rest.2,
       )
   legal_by u (items.Report q ∷ more) r d turns lines last may bare s steps =
@@ -325,27 +400,30 @@ module _ (laws : Laws) where
   legal_by u (items.Phase text ∷ more) r d turns lines last may bare s steps =
       let run = may.0 in
       let after = phase_after (with_phase u) text.actors run.few_actors run.may_act d steps.0 steps.5
-      steps.6 steps.1 steps.3 steps.7 r s s.row
+      steps.1 steps.3 steps.6 r s s.row
       (λ none. none_without u text.actors run.has_disk (bare none)) in
       let rest = legal_by (with_text u text.actors text.schedule) more after.0 steps.0 steps.2
       steps.4 last may.1
-      (λ none. disk_by (with_phase u) text.actors ∙ bare (sym steps.5 ∙ none)) after.2 steps.8 in (
+      (λ none. disk_by (with_phase u) text.actors ∙ bare (sym steps.5.size ∙ none)) after.2 steps.7
+      in (
         rest.0,
-        (after.0, steps.3, steps.4, after.1, rest.1, steps.10),
+        (after.0, steps.3, steps.4, after.1, rest.1, steps.9),
         rest.2,
       )
 
 -- ---- before the first item
 
--- the rest without a disk
-abbrev pub first_rest : Rest
-first_rest = record {
+-- the rest without a disk, over this device
+abbrev pub first_rest : DeviceState → Rest
+first_rest device = record {
   size = 0;
   holds = λ s. [];
   blank = λ p. true;
+  back = λ p. false;
   touched = λ p. 0;
   used = λ k. [];
   most = 0;
+  device = device;
   set = first_settings;
   so_far = nothing_yet;
 }

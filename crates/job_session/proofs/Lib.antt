@@ -9,3 +9,5 @@ pub mod Reports
 pub mod Shown
 pub mod Sending
 pub mod Written
+pub mod Devices
+pub mod Lent

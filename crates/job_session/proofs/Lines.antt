@@ -18,6 +18,10 @@ pub or_false : (b : Bool) → (b || false) ≡ b
 or_false true = refl
 or_false false = refl
 
+pub or_true : (b : Bool) → (b || true) ≡ true
+or_true true = refl
+or_true false = refl
+
 pub any_refusal-append : (xs ys : List OutLine) → any_refusal (xs ++ ys)
     ≡ (any_refusal xs || any_refusal ys)
 any_refusal-append [] ys = refl

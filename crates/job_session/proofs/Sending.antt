@@ -141,15 +141,25 @@ Tells-put o m n r lines sent waits refused faults loan t =
       cause = tt;
     }
 
--- one line that tells of no refusal was put into the buffer
+-- one line was put into the buffer
+pub Tells-one : (o m n : OutputState) (r : Result (Unit {0}) Stop) (line : OutLine)
+    → m.sent ≡ o.sent
+    → m.waits ≡ o.waits ++ line_text line → m.refused ≡ (o.refused || any_refusal (line ∷ []))
+    → m.faults ≡ o.faults → m.loan ≡ o.loan
+    → Tells m n r [] → Tells o n r (line ∷ [])
+Tells-one o m n r line sent waits refused faults loan t =
+    Tells-put o m n r (line ∷ []) sent
+    (waits ∙ ap (λ (x : List ℕ). o.waits ++ x) (sym (append-nil (line_text line))))
+    refused faults loan t
+
+-- one that tells of no refusal was
 pub Tells-line : (o m n : OutputState) (r : Result (Unit {0}) Stop) (line : OutLine)
     → m.sent ≡ o.sent
     → m.waits ≡ o.waits ++ line_text line → any_refusal (line ∷ []) ≡ false
     → m.refused ≡ o.refused → m.faults ≡ o.faults → m.loan ≡ o.loan
     → Tells m n r [] → Tells o n r (line ∷ [])
 Tells-line o m n r line sent waits quiet refused faults loan t =
-    Tells-put o m n r (line ∷ []) sent
-    (waits ∙ ap (λ (x : List ℕ). o.waits ++ x) (sym (append-nil (line_text line))))
+    Tells-one o m n r line sent waits
     (refused ∙ sym (or_false o.refused) ∙ ap (λ (b : Bool). o.refused || b) (sym quiet))
     faults loan t
 

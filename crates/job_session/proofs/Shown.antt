@@ -25,32 +25,33 @@ module _ {A : Type 0} where
       ∙ (there_is (get_or all actor []) op lt).1)) refl
 
 -- what is shown of a worker's replies
-module _ {A : Type 0} (f : Reply → A) (ws : List Worker) where
-  abbrev shown : Worker → List A
+module _ {A D : Type 0} (f : Reply → A) (ws : List (Worker D)) where
+  abbrev shown : Worker D → List A
   shown w = map f w.replies.items
 
-  shown_size : (actor : ℕ) (w : Worker) → slice_get ws actor ≡ Some w
+  shown_size : (actor : ℕ) (w : Worker D) → slice_get ws actor ≡ Some w
       → length (get_or (map shown ws) actor []) ≡ length w.replies.items
   shown_size actor w there =
       ap length (get_or-map shown ws actor w [] (slice_get_within ws actor w there)
       ∙ ap shown (get_or_from_slice_get ws actor w w there))
       ∙ length-map w.replies.items f
 
-module _ (t : Terms) (actors : List (List Op)) (ws : List Worker) (fit : AreFit t actors ws) where
+module _ {D : Type 0} (t : Terms) (actors : List (List Op)) (ws : List (Worker D))
+    (fit : AreFit t actors ws) where
   pub ends_count : length (ends_shown ws) ≡ length actors
-  ends_count = length-map ws (λ (w : Worker). map (λ (r : Reply). r.end) w.replies.items)
+  ends_count = length-map ws (λ (w : Worker D). map (λ (r : Reply). r.end) w.replies.items)
       ∙ fit.count
 
   pub sectors_count : length (sectors_shown ws) ≡ length actors
   sectors_count = length-map ws
-      (λ (w : Worker). map (λ (r : Reply). told_by r.end r.sectors.items) w.replies.items)
+      (λ (w : Worker D). map (λ (r : Reply). told_by r.end r.sectors.items) w.replies.items)
       ∙ fit.count
 
   -- an actor, and its operations as they were read
   module _ (actor : ℕ) (mine ops : List Op) (lt : actor < length actors) (is : mine
       ≡ get_or actors actor mine)
       (read : ops ≡ mine) where
-    worker : (w : Worker) × (slice_get ws actor ≡ Some w)
+    worker : (w : Worker D) × (slice_get ws actor ≡ Some w)
     worker = there_is ws actor (let n : length ws ≡ length actors = fit.count in
         omega (arith, lt, n))
 

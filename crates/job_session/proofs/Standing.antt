@@ -4,6 +4,7 @@ use Rattle.std.proofs.lemmas.List.FromFn.{length-map-range_with_len, get_or-map-
 use Rattle.std.proofs.lemmas.Option.{slice_get_within}
 use Rattle.zr_base.specs.declared.op.Op.{Op}
 use Rattle.mem_account.specs.Counters.{Counters, no_counts}
+use Rattle.backing_dev.specs.Dev.{DeviceState}
 use Rattle.plain_disk.specs.Output.{OutLine}
 use Rattle.plain_disk.specs.Rests.{Rest}
 use Rattle.plain_disk.specs.Phases.{IsPhase}
@@ -86,19 +87,19 @@ module _ (r : Rest) (actors : List (List Op)) (row : List (Option DiskHeld)) whe
 
 -- what a value of a new disk is doesn't lean on the row before
 new_value : (r : Rest) (n limit : ℕ) → r.set.chain ≡ MOST_CHAIN → (k : ℕ) (v : DiskHeld)
-    → IsNew (new_disk n limit) k v → IsNew (begin_at (new_rest n r.set) []) k v
+    → IsNew (new_disk n limit r.device) k v → IsNew (begin_at (new_rest n r.set r.device) []) k v
 new_value r n limit chain k (holds.Slot e) is = is
 new_value r n limit chain k (holds.Class p) is =
-    subst (λ (c : ℕ). IsNew (record (new_disk n limit) { chain = c }) k (holds.Class p)) (sym chain)
-    is
+    subst (λ (c : ℕ). IsNew (record (new_disk n limit r.device) { chain = c }) k (holds.Class p))
+    (sym chain) is
 new_value r n limit chain k (holds.Account c) is = is
 new_value r n limit chain k (holds.Blocks x) is = is
 new_value r n limit chain k (holds.Device x) is = is
 
 -- the account of a new disk is in its place
-account_place : (n limit k : ℕ) (c : Counters) → IsNew (new_disk n limit) k (holds.Account c)
-    → k ≡ n + 255
-account_place n limit k c is = is.0
+account_place : (n limit : ℕ) (device : DeviceState) (k : ℕ) (c : Counters)
+    → IsNew (new_disk n limit device) k (holds.Account c) → k ≡ n + 255
+account_place n limit device k c is = is.0
 
 some_some : (v u : DiskHeld) → (◌≡◌ {A = Option (Option DiskHeld)} (Some (Some v)) (Some (Some u)))
     → v ≡ u
@@ -106,7 +107,7 @@ some_some v u is = cc
 
 module _ (new : BeginsDisk) (r : Rest) (n limit : ℕ) (row : List (Option DiskHeld))
     (chain : r.set.chain ≡ MOST_CHAIN) (same : r.set.limit ≡ limit)
-    (are : AreNew (new_disk n limit) (n + 258) row)
+    (are : AreNew (new_disk n limit r.device) (n + 258) row)
     (account : slice_get row (n + 255)
     ≡ Some (Some (holds.Account (record no_counts { limit = limit })))) where
   limit_there : (k : ℕ) (c : Counters) → slice_get row k ≡ Some (Some (holds.Account c))
@@ -114,8 +115,8 @@ module _ (new : BeginsDisk) (r : Rest) (n limit : ℕ) (row : List (Option DiskH
   limit_there k c is lt =
       let there = are.each k lt in
       let v : there.0 ≡ holds.Account c = some_some there.0 (holds.Account c) (sym there.1 ∙ is) in
-      let place = account_place n limit k c
-      (subst (IsNew (new_disk n limit) k) v there.2) in
+      let place = account_place n limit r.device k c
+      (subst (IsNew (new_disk n limit r.device) k) v there.2) in
       let d : Counters = record no_counts { limit = limit } in
       let same_value = some_some (holds.Account c) (holds.Account d)
       (sym is ∙ ap (slice_get row) place ∙ account) in
@@ -125,7 +126,8 @@ module _ (new : BeginsDisk) (r : Rest) (n limit : ℕ) (row : List (Option DiskH
           → c.limit ≡ d.limit
       account_limit c d is = let e : c ≡ d = cc in ap (λ (x : Counters). x.limit) e
 
-  pub disk_on : IsNewRest r n (new_rest n r.set) × StandsFor (new_rest n r.set) row
+  pub disk_on : IsNewRest r n (new_rest n r.set r.device)
+      × StandsFor (new_rest n r.set r.device) row
   disk_on =
       new r n row (omega (arith, chain)) (omega (arith, chain)) are.size
       (λ k lt.

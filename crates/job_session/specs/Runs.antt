@@ -3,6 +3,7 @@ use Rattle.std.specs.Prelude.{◌≡◌, ◌⊎◌, ◌<◌, ℕ, Bool, true, fa
 use Rattle.std.specs.Borrow.{Bor}
 use Rattle.std.specs.Io.KnownBytes.{Appends, Consumes, IsAtEnd}
 use Rattle.std.specs.Str.{bytes_eq}
+use Rattle.backing_dev.specs.Dev.{DeviceState}
 use Rattle.plain_disk.specs.Output.{OutLine, any_refusal}
 use Rattle.job_text.specs.declared.fault.JobFault.{JobFault}
 use Rattle.job_text.specs.declared.job.Item.{Item}
@@ -37,6 +38,41 @@ is_run_word (word ∷ other ∷ more) = false
 abbrev pub IsRunWord : List (Bor (List ℕ)) → Type 0
 IsRunWord words = IsTrue (is_run_word (map (λ word. word.now) words))
 
+-- ---- the device
+
+-- What is seen of a device: how many blocks it has, their bytes, if it tells them, how many of its
+-- calls failed, and how many were made, if it tells that.
+pub record Seen : Type 0 where
+  pub blocks : ℕ
+  pub contents : Option (List (List ℕ))
+  pub faults : ℕ
+  pub calls : Option ℕ
+
+-- what is seen of a device by these members of its bound
+abbrev pub seen : {D : Type 0} → (D → ℕ) → (D → Option (List (List ℕ))) → (D → ℕ) → (D → Option ℕ)
+    → D → Seen
+seen blocks contents faults calls dev = record {
+  blocks = blocks dev;
+  contents = contents dev;
+  faults = faults dev;
+  calls = calls dev;
+}
+
+-- The device shows what is seen so, by whatever references it is reached.
+pub record Shows (seen : Seen) (d : DeviceState) : Type 0 where
+  pub blocks : d.blocks ≡ seen.blocks
+  pub contents : d.contents ≡ seen.contents
+  pub faults : d.faults ≡ seen.faults
+  pub calls : d.calls ≡ seen.calls
+
+-- The device shows what is seen so, and none of its calls is counted yet.
+pub record IsUncounted (seen : Seen) (d : DeviceState) : Type 0 where
+  pub shows : Shows seen d
+  pub reads : d.reads ≡ 0
+  pub writes : d.writes ≡ 0
+
+-- ---- words and bytes
+
 -- a write fault comes only where the sink has failed since, or has taken nothing of some bytes
 abbrev pub WriteCause : ℕ → ℕ → Bool → Type 0
 WriteCause before now stopped = (before < now) ⊎ (stopped ≡ true)
@@ -59,48 +95,56 @@ pub record IsRead (left left_after : Option (List ℕ)) (Is : List ℕ → Type 
 
 -- What was written is the text of lines that these items may print, from a rest without a disk on,
 -- and that their phases print by their own turns; some line says that something was refused, or none
--- does.
-pub record IsWritten (job : List Item) (Writes : List ℕ → Type 0) (refused : Bool) : Type 0 where
+-- does. The device of the first rest is what is seen at entry, with no call counted, and that of the
+-- last rest is what is seen at exit.
+pub record IsWritten (job : List Item) (entry exit : Seen) (Writes : List ℕ → Type 0)
+    (refused : Bool) : Type 0 where
   pub lines : List OutLine
   pub first : Rest
   pub last : Rest
-  pub is_first : IsFirst first
+  pub is_first : IsFirst first.device first
+  pub at_entry : IsUncounted entry first.device
   pub legal : Legal first job lines last
+  pub at_exit : Shows exit last.device
   pub turns : List (List ℕ)
   pub disk : Disk
-  pub stepped : Stepped without_pages job turns lines disk
+  pub stepped : Stepped (without_pages first.device) job turns lines disk
+  pub over : disk.device ≡ last.device
   pub own : AreOwn job turns
   pub refused_is : refused ≡ any_refusal lines
   pub output : Writes (text lines)
 
 -- the text is a job, and what it may print was written
-pub record IsTextRun (Writes : List ℕ → Type 0) (refused : Bool) (bytes : List ℕ) : Type 0 where
+pub record IsTextRun (entry exit : Seen) (Writes : List ℕ → Type 0) (refused : Bool)
+    (bytes : List ℕ) : Type 0 where
   pub job : List Item
   pub is_job : IsJob bytes job
-  pub run : IsWritten job Writes refused
+  pub run : IsWritten job entry exit Writes refused
 
 -- What some first items of the job may print was written: its output is cut after the item in work.
-pub record IsCut (job : List Item) (Writes : List ℕ → Type 0) : Type 0 where
+pub record IsCut (job : List Item) (entry exit : Seen) (Writes : List ℕ → Type 0) : Type 0 where
   pub front : List Item
   pub later : List Item
   pub parts : job ≡ front ++ later
   pub refused : Bool
-  pub run : IsWritten front Writes refused
+  pub run : IsWritten front entry exit Writes refused
 
 -- the text is a job, and its output so far was written
-pub record IsTextCut (Writes : List ℕ → Type 0) (bytes : List ℕ) : Type 0 where
+pub record IsTextCut (entry exit : Seen) (Writes : List ℕ → Type 0) (bytes : List ℕ) : Type 0 where
   pub job : List Item
   pub is_job : IsJob bytes job
-  pub cut : IsCut job Writes
+  pub cut : IsCut job entry exit Writes
 
 -- the source was read to its end, what it had is the text of a job, and what this job may print was
 -- written
-abbrev pub IsRun : Option (List ℕ) → Option (List ℕ) → (List ℕ → Type 0) → Bool → Type 0
-IsRun left left_after Writes refused = IsRead left left_after (IsTextRun Writes refused)
+abbrev pub IsRun : Option (List ℕ) → Option (List ℕ) → Seen → Seen → (List ℕ → Type 0) → Bool
+    → Type 0
+IsRun left left_after entry exit Writes refused =
+    IsRead left left_after (IsTextRun entry exit Writes refused)
 
 -- the same of a job that was given up
-abbrev pub IsCutRun : Option (List ℕ) → Option (List ℕ) → (List ℕ → Type 0) → Type 0
-IsCutRun left left_after Writes = IsRead left left_after (IsTextCut Writes)
+abbrev pub IsCutRun : Option (List ℕ) → Option (List ℕ) → Seen → Seen → (List ℕ → Type 0) → Type 0
+IsCutRun left left_after entry exit Writes = IsRead left left_after (IsTextCut entry exit Writes)
 
 -- ---- a text that is none
 

@@ -1,6 +1,7 @@
 -- How a job's lines are told: sent to a sink, or left waiting in the buffer before it.
 use Rattle.std.specs.Prelude.{◌≡◌, ◌⊎◌, ◌≤◌, ◌<◌, ℕ, Bool, true, false, ◌||◌, List, [], ◌++◌, length, Option, Result, OnOk, IfErr, ⊤}
 use Rattle.std.specs.Io.KnownBytes.{Appends, Consumes}
+use Rattle.backing_dev.specs.Dev.{DeviceState}
 use Rattle.plain_disk.specs.Output.{OutLine, any_refusal}
 use Rattle.job_text.specs.declared.job.Item.{Item}
 use Rattle.job_text.specs.declared.limits.TheConstants.{MOST_BYTES}
@@ -11,8 +12,8 @@ use Rattle.job_session.specs.declared.stop.Stop.{Stop}
 use Rattle.job_session.specs.declared.stop.Stop.TheVariants as stops
 use Rattle.job_session.specs.declared.stop.NoText.{NoText}
 use Rattle.job_session.specs.declared.stop.NoText.TheVariants as no
-use Rattle.job_session.specs.Runs.{BeginsWith, WriteCause, IsTextRun, IsNoJob, IsTextCut}
-use Rattle.job_session.specs.Stepped.{Disk, Stepped, AreOwn}
+use Rattle.job_session.specs.Runs.{Seen, Shows, IsUncounted, BeginsWith, WriteCause, IsTextRun, IsNoJob, IsTextCut}
+use Rattle.job_session.specs.Stepped.{Disk, without_pages, Stepped, AreOwn}
 use Rattle.job_print.specs.Texts.{text}
 
 -- ---- why a call was given up
@@ -60,12 +61,12 @@ pub record Tells (o m : OutputState) (r : Result (Unit {0}) Stop)
 -- items that may stand where the disk has so many pages
 pub record MayStand (pages : ℕ) (items : List Item) : Type 0 where
   pub used : Used
-  pub bare : used.disk ≡ false → pages ≡ 0
   pub sized : pages ≡ 0 → used.disk ≡ false
   pub may : MayFollow used items
 
 -- Items were run one after the other by their own turns, on the disk d, and their lines were told.
--- Where nothing went wrong these are all items of the job, and the disk m is the one after them.
+-- Where nothing went wrong these are all items of the job, and the disk m is the one after them; else
+-- it has the device that these items left.
 pub record ItemsTold (d : Disk) (job : List Item) (m : Disk) (o p : OutputState)
     (r : Result (Unit {0}) Stop) : Type 0 where
   pub front : List Item
@@ -78,31 +79,42 @@ pub record ItemsTold (d : Disk) (job : List Item) (m : Disk) (o p : OutputState)
   pub own : AreOwn front turns
   pub told : Tells o p r lines
   pub whole : OnOk r ((later ≡ []) × (last ≡ m))
+  pub device : last.device ≡ m.device
+
+-- A whole job was told, over a device that is seen so at entry and at exit.
+pub record JobTold (entry exit : Seen) (job : List Item) (o p : OutputState)
+    (r : Result (Unit {0}) Stop) : Type 0 where
+  pub device : DeviceState
+  pub at_entry : IsUncounted entry device
+  pub disk : Disk
+  pub items : ItemsTold (without_pages device) job disk o p r
+  pub at_exit : Shows exit disk.device
 
 -- ---- texts
 
--- what came of a text that was run
-abbrev pub TextEnds : List ℕ → Option (List ℕ) → Option (List ℕ) → Status → Type 0
-TextEnds bytes before after statuses.Done = IsTextRun (Appends before after) false bytes
-TextEnds bytes before after statuses.Refused = IsTextRun (Appends before after) true bytes
-TextEnds bytes before after statuses.Words = ⊥
-TextEnds bytes before after statuses.Job = IsNoJob (Appends before after) bytes
-TextEnds bytes before after statuses.ReadFault = ⊥
-TextEnds bytes before after statuses.WriteFault = ⊥
-TextEnds bytes before after statuses.NoMemory = ⊥
+-- what came of a text that was run, where it may have left the device untouched
+module _ (bytes : List ℕ) (Untouched : Type 0) (entry exit : Seen) where
+  abbrev pub TextEnds : Option (List ℕ) → Option (List ℕ) → Status → Type 0
+  TextEnds before after statuses.Done = IsTextRun entry exit (Appends before after) false bytes
+  TextEnds before after statuses.Refused = IsTextRun entry exit (Appends before after) true bytes
+  TextEnds before after statuses.Words = ⊥
+  TextEnds before after statuses.Job = IsNoJob (Appends before after) bytes × Untouched
+  TextEnds before after statuses.ReadFault = ⊥
+  TextEnds before after statuses.WriteFault = ⊥
+  TextEnds before after statuses.NoMemory = ⊥
+
+  -- what a text that was given up has written: nothing yet, a beginning of the line of its fault, or
+  -- of its job's output
+  abbrev pub TextStops : Option (List ℕ) → Option (List ℕ) → Stop → Type 0
+  TextStops before after stops.Memory = (Appends before after [] × Untouched)
+      ⊎ IsTextCut entry exit (BeginsWith before after) bytes
+  TextStops before after stops.Write = (IsNoJob (BeginsWith before after) bytes × Untouched)
+      ⊎ IsTextCut entry exit (BeginsWith before after) bytes
 
 -- what was written of a line that was given up: nothing yet, or a beginning of it
 abbrev pub LineStops : List ℕ → Option (List ℕ) → Option (List ℕ) → Stop → Type 0
 LineStops line before after stops.Memory = Appends before after []
 LineStops line before after stops.Write = BeginsWith before after line
-
--- what a text that was given up has written: nothing yet, a beginning of its job's output, or of
--- the line of its fault
-abbrev pub TextStops : List ℕ → Option (List ℕ) → Option (List ℕ) → Stop → Type 0
-TextStops bytes before after stops.Memory = Appends before after []
-    ⊎ IsTextCut (BeginsWith before after) bytes
-TextStops bytes before after stops.Write =
-    IsNoJob (BeginsWith before after) bytes ⊎ IsTextCut (BeginsWith before after) bytes
 
 -- the status of a run that was given up
 abbrev pub stop_status : Stop → Status

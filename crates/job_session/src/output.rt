@@ -4,14 +4,17 @@
 //! sink whenever it has 64 KiB or more. What is left at the end is sent by whoever made the output.
 
 ghost use Rattle.std.specs.Prelude.{◌≡◌, false, [], ◌∷◌};
-ghost use Rattle.plain_disk.specs.Output.{ClassLine, ended, is_refusal, op_lines, order_line, memory, calls, class_of};
+ghost use Rattle.plain_disk.specs.Output.{ClassLine, ended, is_refusal, op_lines, order_line, memory, calls, device_calls, refused, class_of};
 ghost use Rattle.plain_disk.specs.Rests.{state_line};
-ghost use Rattle.job_print.specs.Texts.{IsSummary};
+ghost use Rattle.job_print.specs.Texts.{why_of, IsSummary};
 ghost use Rattle.job_session.specs.Telling.{OutputState, Tells};
 
 use crate::io::{PIECE, send};
 use crate::stop::Stop;
-use job_print::{put_calls, put_class, put_memory, put_op, put_order, put_state};
+use backing_dev::BdStat;
+use job_print::{
+    Refusal, put_calls, put_class, put_device, put_memory, put_op, put_order, put_refused, put_state,
+};
 use mem_account::{IoStat, MmStat, Weight};
 use size_class::ClassStat;
 use std::alloc::Global;
@@ -47,7 +50,7 @@ fn is_refused(end: OpEnd) -> bool
 {
     match end {
         OpEnd::Ok | OpEnd::Compacted { .. } => false,
-        OpEnd::Range | OpEnd::AtLimit { .. } | OpEnd::NoMemory { .. } => true,
+        OpEnd::Range | OpEnd::AtLimit { .. } | OpEnd::NoMemory { .. } | OpEnd::Eio { .. } => true,
     }
 }
 
@@ -118,6 +121,23 @@ impl<'a, K: Sink> Output<'a, K> {
         ensures { Tells self.old self.new result (calls stat.now ∷ []) }
     {
         put_calls(&mut self.buffer, stat)?;
+        self.spill()
+    }
+
+    /// Tells the statistics of the backing device.
+    pub(crate) fn tell_device(&mut self, stat: &BdStat) -> Result<(), Stop>
+        ensures { Tells self.old self.new result (device_calls stat.now ∷ []) }
+    {
+        put_device(&mut self.buffer, stat)?;
+        self.spill()
+    }
+
+    /// Tells why an attribute is refused.
+    pub(crate) fn tell_refused(&mut self, refusal: Refusal) -> Result<(), Stop>
+        ensures { Tells self.old self.new result (refused (why_of refusal) ∷ []) }
+    {
+        put_refused(&mut self.buffer, refusal)?;
+        self.refused = true;
         self.spill()
     }
 

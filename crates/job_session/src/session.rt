@@ -1,49 +1,104 @@
 //! The items of a job, one after the other, on one world.
 
-ghost use Rattle.std.specs.Prelude.{◌≡◌, ◌∷◌, [], OnOk};
+ghost use Rattle.std.specs.Prelude.{◌≡◌, ◌∷◌, []};
 ghost use Rattle.zr_core.specs.Rests.{IsAtRest};
+ghost use Rattle.job_text.specs.declared.job.Attr.TheVariants as attrs;
 ghost use Rattle.job_text.specs.declared.job.Item.TheVariants as items;
 ghost use Rattle.job_text.specs.Jobs.{MayFollow, nothing_used};
-ghost use Rattle.job_session.specs.Stepped.{Disk, disk_of, Stepped, without_pages};
-ghost use Rattle.job_session.specs.Telling.{MayStand, ItemsTold};
+ghost use Rattle.job_session.specs.Runs.{seen};
+ghost use Rattle.job_session.specs.Stepped.{disk_of};
+ghost use Rattle.job_session.specs.Telling.{MayStand, ItemsTold, JobTold};
 
+use crate::laws::jobs_are_legal;
 use crate::output::Output;
 use crate::stop::Stop;
 use crate::tell::{tell_phase, tell_report};
+use backing_dev::Backing;
+use job_print::Refusal;
 use job_text::{Attr, Item, PhaseText};
-use std::alloc::{AllocError, Global};
+use std::alloc::Global;
 use zr_base::Sink;
 use zr_core::World;
 
-// Sets an attribute.
-fn set_attr(world: &mut World, attr: Attr) -> Result<(), AllocError>
-    requires may { MayStand world.old.pages (items.Attr attr ∷ []) }
+// The disk's size: it is refused where the disk has one.
+fn set_size<K: Sink, D: Backing>(
+    out: &mut Output<'_, K>,
+    world: &mut World<D>,
+    pages: u32,
+) -> Result<(), Stop>
+    requires may { MayStand world.old.pages (items.Attr (attrs.DiskPages pages) ∷ []) }
     requires rest { IsAtRest world.old.pages world.old.noted.items world.old.row.cells }
-    ensures stepped { OnOk result
-        (Stepped (disk_of world.old) (items.Attr attr ∷ []) [] [] (disk_of world.new)) }
-    ensures rest { OnOk result
-        (IsAtRest world.new.pages world.new.noted.items world.new.row.cells) }
+    ensures item { ItemsTold (disk_of world.old) (items.Attr (attrs.DiskPages pages) ∷ [])
+        (disk_of world.new) out.old out.new result }
+    ensures rest { IsAtRest world.new.pages world.new.noted.items world.new.row.cells }
 {
-    match attr {
-        Attr::DiskPages(pages) => world.set_disk(pages)?,
-        Attr::LimitPages(pages) => world.set_limit(pages),
-        Attr::LowerMax => world.lower_max(),
+    if world.pages() > 0 {
+        return out.tell_refused(Refusal::DisksizeBusy);
     }
+    world.set_disk(pages)?;
     Ok(())
 }
 
-// A phase: it is set up, run by its schedule, and told.
-fn run_phase<K: Sink>(
+// The blocks of the device: they are refused where the disk has its size, and else where the device
+// has fewer.
+fn set_backing<K: Sink, D: Backing>(
     out: &mut Output<'_, K>,
-    world: &mut World,
+    world: &mut World<D>,
+    blocks: u32,
+) -> Result<(), Stop>
+    requires may { MayStand world.old.pages (items.Attr (attrs.Backing blocks) ∷ []) }
+    requires rest { IsAtRest world.old.pages world.old.noted.items world.old.row.cells }
+    ensures item { ItemsTold (disk_of world.old) (items.Attr (attrs.Backing blocks) ∷ [])
+        (disk_of world.new) out.old out.new result }
+    ensures rest { IsAtRest world.new.pages world.new.noted.items world.new.row.cells }
+{
+    if world.pages() > 0 {
+        return out.tell_refused(Refusal::BackingBusy);
+    }
+    if world.device_blocks() < blocks {
+        return out.tell_refused(Refusal::BackingRange);
+    }
+    world.set_backing(blocks)?;
+    Ok(())
+}
+
+// Sets an attribute, or tells why it is refused.
+fn set_attr<K: Sink, D: Backing>(
+    out: &mut Output<'_, K>,
+    world: &mut World<D>,
+    attr: Attr,
+) -> Result<(), Stop>
+    requires may { MayStand world.old.pages (items.Attr attr ∷ []) }
+    requires rest { IsAtRest world.old.pages world.old.noted.items world.old.row.cells }
+    ensures item { ItemsTold (disk_of world.old) (items.Attr attr ∷ []) (disk_of world.new)
+        out.old out.new result }
+    ensures rest { IsAtRest world.new.pages world.new.noted.items world.new.row.cells }
+{
+    match attr {
+        Attr::DiskPages(pages) => set_size(out, world, pages),
+        Attr::LimitPages(pages) => {
+            world.set_limit(pages);
+            Ok(())
+        }
+        Attr::Backing(blocks) => set_backing(out, world, blocks),
+        Attr::LowerMax => {
+            world.lower_max();
+            Ok(())
+        }
+    }
+}
+
+// A phase: it is set up, run by its schedule, and told.
+fn run_phase<K: Sink, D: Backing>(
+    out: &mut Output<'_, K>,
+    world: &mut World<D>,
     text: &PhaseText,
 ) -> Result<(), Stop>
     requires may { MayStand world.old.pages (items.Phase text.now ∷ []) }
     requires rest { IsAtRest world.old.pages world.old.noted.items world.old.row.cells }
     ensures item { ItemsTold (disk_of world.old) (items.Phase text.now ∷ []) (disk_of world.new)
         out.old out.new result }
-    ensures rest { OnOk result
-        (IsAtRest world.new.pages world.new.noted.items world.new.row.cells) }
+    ensures rest { IsAtRest world.new.pages world.new.noted.items world.new.row.cells }
 {
     let actors = text.actors.as_slice();
     let schedule = text.schedule.as_slice();
@@ -53,36 +108,59 @@ fn run_phase<K: Sink>(
 }
 
 // An item, with its lines.
-fn run_item<K: Sink>(out: &mut Output<'_, K>, world: &mut World, item: &Item) -> Result<(), Stop>
+fn run_item<K: Sink, D: Backing>(
+    out: &mut Output<'_, K>,
+    world: &mut World<D>,
+    item: &Item,
+) -> Result<(), Stop>
     requires may { MayStand world.old.pages (item.now ∷ []) }
     requires rest { IsAtRest world.old.pages world.old.noted.items world.old.row.cells }
     ensures item { ItemsTold (disk_of world.old) (item.now ∷ []) (disk_of world.new)
         out.old out.new result }
-    ensures rest { OnOk result
-        (IsAtRest world.new.pages world.new.noted.items world.new.row.cells) }
+    ensures rest { IsAtRest world.new.pages world.new.noted.items world.new.row.cells }
 {
     match item {
-        Item::Attr(attr) => {
-            set_attr(world, *attr)?;
-            Ok(())
-        }
+        Item::Attr(attr) => set_attr(out, world, *attr),
         Item::Report(report) => tell_report(out, world, *report),
         Item::Phase(text) => run_phase(out, world, text),
     }
 }
 
-/// The items of a job, with their lines, from the world without pages on.
-pub(crate) fn run_items<K: Sink>(
+// Items, with their lines.
+fn run_items<K: Sink, D: Backing>(
+    out: &mut Output<'_, K>,
+    world: &mut World<D>,
+    job: &[Item],
+) -> Result<(), Stop>
+    requires may { MayStand world.old.pages job.now }
+    requires rest { IsAtRest world.old.pages world.old.noted.items world.old.row.cells }
+    ensures items { ItemsTold (disk_of world.old) job.now (disk_of world.new)
+        out.old out.new result }
+    ensures rest { IsAtRest world.new.pages world.new.noted.items world.new.row.cells }
+{
+    for item in job {
+        run_item(out, world, item)?;
+    }
+    Ok(())
+}
+
+/// A whole job over a device, with its lines. The device is given back, also where the job is given
+/// up.
+pub(crate) fn run_job<K: Sink, D: Backing>(
     out: &mut Output<'_, K>,
     alloc: Global,
+    dev: &mut D,
     job: &[Item],
 ) -> Result<(), Stop>
     requires { MayFollow nothing_used job.now }
-    ensures { (last : Disk) × ItemsTold without_pages job.now last out.old out.new result }
+    ensures told { JobTold (seen D.block_count D.contents D.fault_count D.calls dev.old)
+        (seen D.block_count D.contents D.fault_count D.calls dev.new)
+        job.now out.old out.new result }
+    ensures same { D.references dev.new ≡ D.references dev.old }
 {
-    let mut world = World::new(alloc);
-    for item in job {
-        run_item(out, &mut world, item)?;
-    }
-    Ok(())
+    jobs_are_legal();
+    let mut world = World::new(alloc, dev);
+    let run = run_items(out, &mut world, job);
+    let _dev = world.close();
+    run
 }

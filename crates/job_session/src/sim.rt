@@ -18,15 +18,16 @@
 ghost use Rattle.std.specs.Prelude.{◌≡◌, ◌⊎◌, ◌<◌, false, true, IsTrue, ◌↔◌, [], Ok, IfOk, OnOk, OnErr, IfErr};
 ghost use Rattle.std.specs.Io.KnownBytes.{Appends};
 ghost use Rattle.job_text.specs.Jobs.{MayFollow, nothing_used};
-ghost use Rattle.job_session.specs.Runs.{status_number, WriteCause, BeginsWith, IsRunWord, IsWritten, IsRun, IsCut, IsCutRun, IsRefused};
+ghost use Rattle.job_session.specs.Runs.{status_number, seen, WriteCause, BeginsWith, IsRunWord, IsWritten, IsRun, IsCut, IsCutRun, IsRefused};
 ghost use Rattle.job_session.specs.Telling.{StopCause, LineStops, TextEnds, TextStops, stop_status};
 ghost use Rattle.job_print.specs.Texts.{usage_text, fault_text};
 
 use crate::io::{read_all, send};
 use crate::laws::jobs_are_legal;
 use crate::output::Output;
-use crate::session::run_items;
+use crate::session::run_job;
 use crate::stop::{NoText, Stop};
+use backing_dev::Backing;
 use job_print::put_fault;
 use job_text::{Cause, Item, JobFault, ReadFault, read_job};
 use std::alloc::Global;
@@ -102,18 +103,28 @@ fn is_run(words: &[&str]) -> bool
 }
 
 // Runs a lawful job: whether something was refused.
-fn run_all<K: Sink>(alloc: Global, sink: &mut K, job: &[Item]) -> Result<bool, Stop>
+fn run_all<K: Sink, D: Backing>(
+    alloc: Global,
+    sink: &mut K,
+    dev: &mut D,
+    job: &[Item],
+) -> Result<bool, Stop>
     requires { MayFollow nothing_used job.now }
-    ensures written { IfOk result
-        (IsWritten job.now (Appends (K.written sink.old) (K.written sink.new))) }
-    ensures cut { OnErr result
-        (IsCut job.now (BeginsWith (K.written sink.old) (K.written sink.new))) }
+    ensures written { IfOk result (IsWritten job.now
+        (seen D.block_count D.contents D.fault_count D.calls dev.old)
+        (seen D.block_count D.contents D.fault_count D.calls dev.new)
+        (Appends (K.written sink.old) (K.written sink.new))) }
+    ensures cut { OnErr result (IsCut job.now
+        (seen D.block_count D.contents D.fault_count D.calls dev.old)
+        (seen D.block_count D.contents D.fault_count D.calls dev.new)
+        (BeginsWith (K.written sink.old) (K.written sink.new))) }
+    ensures same { D.references dev.new ≡ D.references dev.old }
     ensures cause { IfErr result
         (StopCause (K.fault_count sink.old) (K.fault_count sink.new) (K.has_stopped sink.new)) }
 {
     jobs_are_legal();
     let mut out = Output::new(alloc, sink);
-    let run = run_items(&mut out, alloc, job);
+    let run = run_job(&mut out, alloc, dev, job);
     let Output {
         sink,
         buffer,
@@ -142,9 +153,21 @@ fn refuse<K: Sink>(alloc: Global, fault: JobFault, sink: &mut K) -> Result<Statu
 }
 
 // Runs the job that a text is, or writes the line of its fault.
-fn run_text<K: Sink>(alloc: Global, text: &[u8], sink: &mut K) -> Result<Status, Stop>
-    ensures ends { IfOk result (TextEnds text.now (K.written sink.old) (K.written sink.new)) }
-    ensures cut { IfErr result (TextStops text.now (K.written sink.old) (K.written sink.new)) }
+fn run_text<K: Sink, D: Backing>(
+    alloc: Global,
+    text: &[u8],
+    sink: &mut K,
+    dev: &mut D,
+) -> Result<Status, Stop>
+    ensures ends { IfOk result (TextEnds text.now (dev.new ≡ dev.old)
+        (seen D.block_count D.contents D.fault_count D.calls dev.old)
+        (seen D.block_count D.contents D.fault_count D.calls dev.new)
+        (K.written sink.old) (K.written sink.new)) }
+    ensures cut { IfErr result (TextStops text.now (dev.new ≡ dev.old)
+        (seen D.block_count D.contents D.fault_count D.calls dev.old)
+        (seen D.block_count D.contents D.fault_count D.calls dev.new)
+        (K.written sink.old) (K.written sink.new)) }
+    ensures same { D.references dev.new ≡ D.references dev.old }
     ensures cause { IfErr result
         (StopCause (K.fault_count sink.old) (K.fault_count sink.new) (K.has_stopped sink.new)) }
 {
@@ -153,48 +176,55 @@ fn run_text<K: Sink>(alloc: Global, text: &[u8], sink: &mut K) -> Result<Status,
         Err(ReadFault::Bad(fault)) => return refuse(alloc, fault, sink),
         Err(ReadFault::Memory(_)) => return Err(Stop::Memory),
     };
-    match run_all(alloc, sink, job.as_slice())? {
+    match run_all(alloc, sink, dev, job.as_slice())? {
         false => Ok(Status::Done),
         true => Ok(Status::Refused),
     }
 }
 
 /// Does all that `zramsim` does: it takes the words of the command line after the program's name,
-/// reads a job from `job`, runs it and writes its output to `out`. It returns for every source and
-/// sink.
+/// reads a job from `job`, runs it over the backing device `dev` and writes its output to `out`. It
+/// returns for every source, sink and device.
 ///
 /// A job's text has at most 16,777,216 bytes; source and sink are asked for at most 64 KiB at once.
-pub fn sim_main<S: Source, K: Sink>(
+pub fn sim_main<S: Source, K: Sink, D: Backing>(
     alloc: Global,
     words: &[&str],
     job: &mut S,
     out: &mut K,
+    dev: &mut D,
 ) -> Status
     requires { K.has_stopped out.old ≡ false }
 
-    // The job was read to its end, and what it may print was written.
+    // The job was read to its end, and what it may print was written, over the device as it was and
+    // as it is.
     ensures done { result ≡ Status.Done → IsRunWord words.now
         × IsRun (S.left job.old) (S.left job.new)
+        (seen D.block_count D.contents D.fault_count D.calls dev.old)
+        (seen D.block_count D.contents D.fault_count D.calls dev.new)
         (Appends (K.written out.old) (K.written out.new)) false }
     ensures refused { result ≡ Status.Refused → IsRunWord words.now
         × IsRun (S.left job.old) (S.left job.new)
+        (seen D.block_count D.contents D.fault_count D.calls dev.old)
+        (seen D.block_count D.contents D.fault_count D.calls dev.new)
         (Appends (K.written out.old) (K.written out.new)) true }
 
-    // Any other words are answered by the usage line alone, and nothing is read.
+    // Any other words are answered by the usage line alone, nothing is read, and the device is left
+    // alone.
     ensures words { result ≡ Status.Words → ¬ IsRunWord words.now
         × Appends (K.written out.old) (K.written out.new) usage_text }
-    ensures other_words { ¬ IsRunWord words.now
-        → (job.new ≡ job.old) × (result ≡ Status.Words ⊎ result ≡ Status.WriteFault) }
+    ensures other_words { ¬ IsRunWord words.now → (job.new ≡ job.old) × (dev.new ≡ dev.old)
+        × (result ≡ Status.Words ⊎ result ≡ Status.WriteFault) }
 
     // A text that is no job, or too long for one, is answered by the one line of its first fault.
     ensures job { result ≡ Status.Job → IsRunWord words.now
         × IsRefused (S.left job.old) (S.left job.new)
-        (Appends (K.written out.old) (K.written out.new)) }
+        (Appends (K.written out.old) (K.written out.new)) × (dev.new ≡ dev.old) }
 
     // A fault is answered only where the source failed, or the sink failed or stopped.
     ensures read { result ≡ Status.ReadFault → IsRunWord words.now
         × (S.fault_count job.old < S.fault_count job.new)
-        × Appends (K.written out.old) (K.written out.new) [] }
+        × Appends (K.written out.old) (K.written out.new) [] × (dev.new ≡ dev.old) }
     ensures write { result ≡ Status.WriteFault
         → WriteCause (K.fault_count out.old) (K.fault_count out.new) (K.has_stopped out.new) }
 
@@ -203,14 +233,21 @@ pub fn sim_main<S: Source, K: Sink>(
     ensures cut_write { result ≡ Status.WriteFault
         → (¬ IsRunWord words.now × BeginsWith (K.written out.old) (K.written out.new) usage_text)
         ⊎ (IsRunWord words.now
-        × (IsRefused (S.left job.old) (S.left job.new)
-        (BeginsWith (K.written out.old) (K.written out.new))
+        × ((IsRefused (S.left job.old) (S.left job.new)
+        (BeginsWith (K.written out.old) (K.written out.new)) × (dev.new ≡ dev.old))
         ⊎ IsCutRun (S.left job.old) (S.left job.new)
+        (seen D.block_count D.contents D.fault_count D.calls dev.old)
+        (seen D.block_count D.contents D.fault_count D.calls dev.new)
         (BeginsWith (K.written out.old) (K.written out.new)))) }
     ensures cut_memory { result ≡ Status.NoMemory → IsRunWord words.now
-        × (Appends (K.written out.old) (K.written out.new) []
+        × ((Appends (K.written out.old) (K.written out.new) [] × (dev.new ≡ dev.old))
         ⊎ IsCutRun (S.left job.old) (S.left job.new)
+        (seen D.block_count D.contents D.fault_count D.calls dev.old)
+        (seen D.block_count D.contents D.fault_count D.calls dev.new)
         (BeginsWith (K.written out.old) (K.written out.new))) }
+
+    // The device is reached by the same references in every case.
+    ensures same { D.references dev.new ≡ D.references dev.old }
 {
     if !is_run(words) {
         return match send(out, usage()) {
@@ -219,7 +256,7 @@ pub fn sim_main<S: Source, K: Sink>(
         };
     }
     let run = match read_all(alloc, job) {
-        Ok(text) => run_text(alloc, &text, out),
+        Ok(text) => run_text(alloc, &text, out, dev),
         Err(NoText::Long) => refuse(alloc, TOO_LONG, out),
         Err(NoText::Failed) => return Status::ReadFault,
         Err(NoText::Memory) => return Status::NoMemory,

@@ -21,6 +21,7 @@ ghost use Rattle.job_session.specs.Telling.{Tells};
 
 use crate::output::Output;
 use crate::stop::Stop;
+use backing_dev::Backing;
 use disk_rest::pools_count;
 use job_text::Report;
 use mem_account::Weight;
@@ -30,9 +31,9 @@ use zr_base::{ActorOps, PageIx, Sink, Tag};
 use zr_core::{Phase, World};
 
 // The operations of an actor.
-fn tell_actor<K: Sink>(
+fn tell_actor<K: Sink, D: Backing>(
     out: &mut Output<'_, K>,
-    phase: &Phase,
+    phase: &Phase<D>,
     actor: u32,
     ops: u32,
 ) -> Result<(), Stop>
@@ -51,9 +52,9 @@ fn tell_actor<K: Sink>(
 }
 
 // The operations of all actors.
-fn tell_actors<K: Sink>(
+fn tell_actors<K: Sink, D: Backing>(
     out: &mut Output<'_, K>,
-    phase: &Phase,
+    phase: &Phase<D>,
     actors: &[ActorOps],
 ) -> Result<(), Stop>
     requires few { length actors.now ≤ MOST_ACTORS }
@@ -70,7 +71,7 @@ fn tell_actors<K: Sink>(
 }
 
 // The orders of all pages: only those that are noted can have one.
-fn tell_orders<K: Sink>(out: &mut Output<'_, K>, world: &World) -> Result<(), Stop>
+fn tell_orders<K: Sink, D: Backing>(out: &mut Output<'_, K>, world: &World<D>) -> Result<(), Stop>
     requires { IsAtRest world.now.pages world.now.noted.items world.now.row.cells }
     ensures { Tells out.old out.new result
         (order_lines 0 (orders_of world.now.pages world.now.row.cells)) }
@@ -83,10 +84,10 @@ fn tell_orders<K: Sink>(out: &mut Output<'_, K>, world: &World) -> Result<(), St
 }
 
 /// The lines of a phase that was run.
-pub(crate) fn tell_phase<K: Sink>(
+pub(crate) fn tell_phase<K: Sink, D: Backing>(
     out: &mut Output<'_, K>,
-    world: &World,
-    phase: &Phase,
+    world: &World<D>,
+    phase: &Phase<D>,
     actors: &[ActorOps],
 ) -> Result<(), Stop>
     requires few { length actors.now ≤ MOST_ACTORS }
@@ -108,11 +109,12 @@ fn weight(kept: Kept) -> Weight
         Kept::Same(_) => Weight::Same,
         Kept::Obj(object) if object.huge => Weight::Huge,
         Kept::Obj(object) => Weight::Packed(object.len),
+        Kept::Wb(_) => Weight::Back,
     }
 }
 
 // A page, where it isn't empty.
-fn tell_state<K: Sink>(out: &mut Output<'_, K>, world: &World, page: u32) -> Result<(), Stop>
+fn tell_state<K: Sink, D: Backing>(out: &mut Output<'_, K>, world: &World<D>, page: u32) -> Result<(), Stop>
     requires rest { IsAtRest world.now.pages world.now.noted.items world.now.row.cells }
     requires page { page < world.now.pages }
     ensures { Tells out.old out.new result (state_in page (value_at world.now.row.cells page)) }
@@ -122,7 +124,7 @@ fn tell_state<K: Sink>(out: &mut Output<'_, K>, world: &World, page: u32) -> Res
 }
 
 // The pages that aren't empty.
-fn tell_states<K: Sink>(out: &mut Output<'_, K>, world: &World) -> Result<(), Stop>
+fn tell_states<K: Sink, D: Backing>(out: &mut Output<'_, K>, world: &World<D>) -> Result<(), Stop>
     requires { IsAtRest world.now.pages world.now.noted.items world.now.row.cells }
     ensures { Tells out.old out.new result
         (row_report world.now.pages MOST_CHAIN world.now.row.cells states) }
@@ -134,7 +136,7 @@ fn tell_states<K: Sink>(out: &mut Output<'_, K>, world: &World) -> Result<(), St
 }
 
 // A class, where it has zspages.
-fn tell_class<K: Sink>(out: &mut Output<'_, K>, world: &World, class: u8) -> Result<(), Stop>
+fn tell_class<K: Sink, D: Backing>(out: &mut Output<'_, K>, world: &World<D>, class: u8) -> Result<(), Stop>
     requires rest { IsAtRest world.now.pages world.now.noted.items world.now.row.cells }
     requires class { class < 255 }
     ensures { Tells out.old out.new result
@@ -148,7 +150,7 @@ fn tell_class<K: Sink>(out: &mut Output<'_, K>, world: &World, class: u8) -> Res
 }
 
 // The classes that have zspages.
-fn tell_classes<K: Sink>(out: &mut Output<'_, K>, world: &World) -> Result<(), Stop>
+fn tell_classes<K: Sink, D: Backing>(out: &mut Output<'_, K>, world: &World<D>) -> Result<(), Stop>
     requires { IsAtRest world.now.pages world.now.noted.items world.now.row.cells }
     ensures { Tells out.old out.new result
         (row_report world.now.pages MOST_CHAIN world.now.row.cells classes) }
@@ -160,9 +162,9 @@ fn tell_classes<K: Sink>(out: &mut Output<'_, K>, world: &World) -> Result<(), S
 }
 
 /// The lines of a report.
-pub(crate) fn tell_report<K: Sink>(
+pub(crate) fn tell_report<K: Sink, D: Backing>(
     out: &mut Output<'_, K>,
-    world: &World,
+    world: &World<D>,
     report: Report,
 ) -> Result<(), Stop>
     requires { IsAtRest world.now.pages world.now.noted.items world.now.row.cells }
@@ -171,6 +173,7 @@ pub(crate) fn tell_report<K: Sink>(
     match report {
         Report::MmStat => out.tell_memory(&world.mm_stat()),
         Report::IoStat => out.tell_calls(&world.io_stat()),
+        Report::BdStat => out.tell_device(&world.bd_stat()),
         Report::States => tell_states(out, world),
         Report::Classes => tell_classes(out, world),
     }

@@ -1,6 +1,7 @@
 //! Whole jobs over a source and a sink in memory, and what each fault leaves.
 
 use crate::{Status, sim_main};
+use backing_dev::MemBacking;
 use std::alloc::{AllocError, Global};
 use std::test::Fail;
 use zr_base::{MemSink, MemSource};
@@ -11,7 +12,7 @@ const JOB: &str =
 const OUTPUT: &str =
     "op 0 0 ok\nop 0 1 ok\nop 0 2 ok\nfill 0000000000000001\nfill 0000000000000002\nfill 0000000000000000\nop 0 3 range\norder 0 0:0 0:1 0:2\n";
 
-// The status of a run, and whether it wrote this.
+// The status of a run over a device of 4,096 blocks, and whether it wrote this.
 fn ends(
     alloc: Global,
     words: &[&str],
@@ -22,7 +23,8 @@ fn ends(
 ) -> Result<(Status, bool), AllocError> {
     let mut job = MemSource::new(alloc, text.as_bytes(), failing)?;
     let mut out = MemSink::new(alloc, room, &[])?;
-    let status = sim_main(alloc, words, &mut job, &mut out);
+    let mut dev = MemBacking::new(alloc, 4096, &[], &[])?;
+    let status = sim_main(alloc, words, &mut job, &mut out, &mut dev);
     Ok((status, out.bytes() == wanted.as_bytes()))
 }
 
@@ -76,8 +78,9 @@ fn keeps_the_disk_between_phases(rt: HostRuntime) -> Result<(), Fail> {
         "run\ndisksize 8K\nactor\nwrite 8 8 seq 1 1\nrun\nrun\nactor\ndiscard 8 4\nread 7 2\nrun\n";
     let mut out = MemSink::new(rt.alloc(), 10_000, &[])?;
     let mut source = MemSource::new(rt.alloc(), job.as_bytes(), &[])?;
+    let mut dev = MemBacking::new(rt.alloc(), 1, &[], &[])?;
     assert_eq!(rt;
-        sim_main(rt.alloc(), &["run"], &mut source, &mut out),
+        sim_main(rt.alloc(), &["run"], &mut source, &mut out, &mut dev),
         Status::Done
     );
     let first =
@@ -85,6 +88,33 @@ fn keeps_the_disk_between_phases(rt: HostRuntime) -> Result<(), Fail> {
     let last = "order 0 0:1\norder 1 0:1\n";
     assert!(rt; out.bytes().starts_with(first.as_bytes()));
     assert!(rt; out.bytes().ends_with(last.as_bytes()));
+    Ok(())
+}
+
+// Attributes that are refused, and the statistics of the device.
+#[test]
+fn tells_the_device(rt: HostRuntime) -> Result<(), Fail> {
+    let table = [
+        (
+            "bd_stat\nbacking 4\ndisksize 4K\nrun\nbd_stat\n",
+            Status::Done,
+            "bd_stat 0 0 0\nbd_stat 0 0 0\n",
+        ),
+        (
+            "backing 5000\ndisksize 4K\ndisksize 8K\nbacking 1\nrun\n",
+            Status::Refused,
+            "attr backing range\nattr disksize busy\nattr backing busy\n",
+        ),
+        (
+            "backing 4097\nbacking 4096\nbacking 1\ndisksize 4K\nactor\nwrite 8 1 fill 1\nrun\n",
+            Status::Refused,
+            "attr backing range\nop 0 0 range\n",
+        ),
+    ];
+    for (job, status, wanted) in table {
+        let ended = ends(rt.alloc(), &["run"], job, &[], 1000, wanted)?;
+        assert_eq!(rt; ended, (status, true), "at {job}");
+    }
     Ok(())
 }
 

@@ -1,15 +1,20 @@
-//! `zramsim run` reads a job from standard input, runs it and writes its output to standard output.
-//! The exit status is the number of the top call's status; where no memory is found for the words, it is 6.
+//! `zramsim run` reads a job from standard input, runs it over a backing device in memory and writes
+//! its output to standard output. The exit status is the number of the top call's status; where no
+//! memory is found for the words or the device, it is 6.
 #![tactic(auto)]
 
 ghost use Rattle.std.specs.Prelude.{◌≡◌};
 ghost use Rattle.std.specs.Process.{exit_status};
 ghost use Rattle.job_session.specs.Runs.{status_number};
 
+use backing_dev::MemBacking;
 use job_session::{Status, sim_main};
 use std::process::ExitCode;
 use std::{env, io};
 use zr_base::{StdSink, StdSource};
+
+// How many blocks of 4096 bytes the backing device has.
+const BLOCKS: u32 = 4096;
 
 fn run(rt: &HostRuntime) -> io::Result<Status> {
     let mut args = Vec::new(rt.alloc());
@@ -22,7 +27,8 @@ fn run(rt: &HostRuntime) -> io::Result<Status> {
     }
     let mut job = StdSource::new(rt.stdin());
     let mut out = StdSink::new(rt.stdout());
-    Ok(sim_main(rt.alloc(), &words, &mut job, &mut out))
+    let mut dev = MemBacking::new(rt.alloc(), BLOCKS, &[], &[])?;
+    Ok(sim_main(rt.alloc(), &words, &mut job, &mut out, &mut dev))
 }
 
 fn exit_code(status: Status) -> ExitCode

@@ -1,5 +1,4 @@
-use Rattle.std.proofs.Common.{◌<◌, ℕ, arith, subst}
-use Rattle.disk_rest.proofs.Bare.{nothing_counted, no_states, no_classes}
+use Rattle.disk_rest.proofs.Bare.{nothing_counted, none_on_device, no_states, no_classes}
 use Rattle.disk_rest.proofs.Reports.{prints, entry_tells, pool_tells, account_tells}
 use Rattle.disk_rest.proofs.laws.rows_print.Goals as goal
 
@@ -19,10 +18,8 @@ returns-clause-account c r row st = account_tells r row st
 
 pub returns-clause-nothing : goal.returns-clause-nothing
 returns-clause-nothing c r empty unused = (
-  nothing_counted r unused (λ p lt. absurd (not_below p (subst (λ (n : ℕ). p < n) empty lt))),
-  no_states r unused empty,
-  no_classes r unused,
+  nothing_counted r empty unused,
+  none_on_device r empty unused,
+  no_states r empty unused,
+  no_classes r empty unused,
 )
-  where
-    not_below : (p : ℕ) → p < 0 → ⊥
-    not_below p lt = omega arith

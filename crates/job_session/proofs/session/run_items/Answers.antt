@@ -2,8 +2,7 @@ use Rattle.std.proofs.Common.{◌≡◌, ℕ, ◌+◌, ◌<◌, List, [], ◌∷
 use Rattle.std.proofs.lemmas.List.{take-append-drop, take_more, drop_more}
 use Rattle.std.proofs.lemmas.Result.{err_from_is_err_and}
 use Rattle.job_text.specs.declared.job.Item.{Item}
-use Rattle.job_text.specs.Jobs.{nothing_used}
-use Rattle.job_session.specs.Stepped.{Disk, disk_of, without_pages}
+use Rattle.job_session.specs.Stepped.{Disk, disk_of}
 use Rattle.job_session.specs.Telling.{MayStand, ItemsTold}
 use Rattle.job_session.proofs.Jobs.{items_none, items_more, items_cut, item_keeps}
 use Rattle.job_session.proofs.Lawful.{stand_first, stand_on}
@@ -11,20 +10,9 @@ use Rattle.job_session.proofs.session.run_items.Goals as goal
 
 pub loop-item-init : goal.loop-item-init
 loop-item-init g c = record {
-  told = subst (λ (x : Disk). ItemsTold without_pages [] x c.args.out.now c.args.out.now (Ok tt))
-      (λ i. record {
-        size = sym c.new-world.ensures.pages i;
-        limit = sym c.new-world.ensures.limit i;
-        row = sym c.new-world.ensures.cells i;
-      })
-      (items_none without_pages c.args.out.now);
-  may = record {
-    used = nothing_used;
-    bare = λ bare. c.new-world.ensures.pages;
-    sized = λ none. refl;
-    may = c.requires;
-  };
-  rest = c.new-world.ensures.rest;
+  told = items_none (disk_of c.args.world.now) c.args.out.now;
+  may = c.requires.may;
+  rest = c.requires.rest;
 }
 
 -- an item of a job, and what is left of it
@@ -42,12 +30,13 @@ run_item-requires-clause-may g c =
     c.item-item.is)
     c.loop-item.invariant.may)
 
-pub returns-in_err-run_item : goal.returns-in_err-run_item
-returns-in_err-run_item g c =
+pub returns-in_err-run_item-clause-items : goal.returns-in_err-run_item-clause-items
+returns-in_err-run_item-clause-items g c =
     let at : ℕ = c.loop-item.item-index in
     let item : Item = c.item-item.result in
     let front : List Item = take at c.args.job.now in
     let back : List Item = drop (at + 1) c.args.job.now in
+    let first : Disk = disk_of c.args.world.now in
     let d : Disk = disk_of c.loop-item.world in
     let n : Disk = disk_of c.run_item.new.world in
     let whole : front ++ item ∷ [] ++ back ≡ c.args.job.now =
@@ -56,14 +45,12 @@ returns-in_err-run_item g c =
     (sym (left_at c.args.job.now at item c.loop-item-test.true c.item-item.is))
     ∙ take-append-drop at c.args.job.now in
     let p = err_from_is_err_and c.from_residual.result c.from_residual.ensures.1 in
-    rw (p.1, p.2) (
-      n,
-      subst (λ (xs : List Item). ItemsTold without_pages xs n c.args.out.now c.run_item.new.out
-          (Err c.in_err-run_item.field-0.0)) whole
-          (items_cut (front ++ item ∷ []) back without_pages n n _ _ _
-          (items_more front (item ∷ []) without_pages d n _ _ _ _ c.loop-item.invariant.told
-          c.in_err-run_item.ensures.item)),
-    )
+    rw (p.1, p.2)
+    (subst (λ (xs : List Item). ItemsTold first xs n c.args.out.now c.run_item.new.out
+    (Err c.in_err-run_item.field-0.0)) whole
+    (items_cut (front ++ item ∷ []) back first n _ _ _
+    (items_more front (item ∷ []) first d n _ _ _ _ c.loop-item.invariant.told
+    c.in_err-run_item.ensures.item)))
 
 pub loop-item-preserved : goal.loop-item-preserved
 loop-item-preserved g c =
@@ -71,6 +58,7 @@ loop-item-preserved g c =
     let item : Item = c.item-item.result in
     let front : List Item = take at c.args.job.now in
     let back : List Item = drop (at + 1) c.args.job.now in
+    let first : Disk = disk_of c.args.world.now in
     let d : Disk = disk_of c.loop-item.world in
     let n : Disk = disk_of c.run_item.new.world in
     let taken : take (at + 1) c.args.job.now ≡ front ++ item ∷ [] =
@@ -78,9 +66,9 @@ loop-item-preserved g c =
     ∙ ap (λ (x : Item). front ++ x ∷ []) (sym c.item-item.is) in
     let left = left_at c.args.job.now at item c.loop-item-test.true c.item-item.is in
     record {
-      told = subst (λ (xs : List Item). ItemsTold without_pages xs n c.args.out.now
-          c.run_item.new.out (Ok tt)) (sym taken)
-          (items_more front (item ∷ []) without_pages d n _ _ _ _ c.loop-item.invariant.told
+      told = subst (λ (xs : List Item). ItemsTold first xs n c.args.out.now c.run_item.new.out
+          (Ok tt)) (sym taken)
+          (items_more front (item ∷ []) first d n _ _ _ _ c.loop-item.invariant.told
           c.in_ok-run_item.ensures.item);
       may = stand_on d.size n.size item back (item_keeps d n item _ _ c.in_ok-run_item.ensures.item)
           (subst (MayStand c.loop-item.world.pages) left c.loop-item.invariant.may);

@@ -5,6 +5,7 @@ use Rattle.zr_base.specs.declared.op.Turns.{Turns}
 use Rattle.page_steps.specs.Steps.{Terms}
 use Rattle.actor_steps.specs.Places.{IsWork}
 use Rattle.job_session.specs.Stepped.{disk_of}
+use Rattle.job_session.proofs.Devices.{is_run_on}
 use Rattle.job_session.proofs.Jobs.{items_stop, steps_on, phase_told}
 use Rattle.job_session.proofs.Lawful.{work_by, none_without, named}
 use Rattle.job_session.proofs.session.run_phase.Goals as goal
@@ -25,7 +26,7 @@ pub returns-in_err-phase-clause-item : goal.returns-in_err-phase-clause-item
 returns-in_err-phase-clause-item g c =
     let p = err_from_is_err_and c.from_residual.result c.from_residual.ensures.1 in
     rw (p.1, p.2) (items_stop (disk_of c.args.world.now)
-    (disk_of c.prepare.new.self) _ c.args.out.now _ tt)
+    (disk_of c.prepare.new.self) _ c.args.out.now _ tt (sym c.prepare.ensures.device))
 
 pub run-requires-clause-actors : goal.run-requires-clause-actors
 run-requires-clause-actors g c =
@@ -38,14 +39,18 @@ run-requires-clause-actors g c =
 pub returns-clause-item : goal.returns-clause-item
 returns-clause-item g c =
     let d = disk_of c.args.world.now in
+    let m = c.run.new.self in
     let ready = c.in_ok-phase.ensures in
     let steps = c.run.ensures.steps d.row ready.set_up in
     phase_told d (disk_of c.run.new.self) c.args.text.now c.as_slice-actors.result.now
     c.as_slice-schedule.result.now
     _ _ c.args.out.now c.tell_phase.new.out c.tell_phase.result
     c.as_slice-actors.ensures c.as_slice-schedule.ensures
-    (ap (λ (t : Terms). t.size) c.run.ensures.same ∙ ready.pages)
-    (c.run.ensures.limit ∙ ready.limit)
+    (is_run_on c.args.world.now.spare c.prepare.new.self.spare m.spare c.args.world.now.pages
+    c.prepare.new.self.pages m.pages c.args.world.now.limit m.limit d.row
+    c.prepare.new.self.row.cells m.row.cells c.run.ensures.spare
+    (ap (λ (t : Terms). t.size) c.run.ensures.same) ready.pages
+    (c.run.ensures.limit ∙ ready.limit) ready.device ready.blocks m.early c.run.ensures.rest.rests)
     (steps.0, refl)
     (steps_on d _ _ _ _ _ _ ready.pages ready.clock steps.1)
     c.tell_phase.ensures

@@ -14,6 +14,9 @@ end-end-requires-clause-there g c =
     op_there (ends_shown c.args.phase.now.workers.items) c.args.actor c.loop-op.op
     (omega (arith, c.loop-op-test.true, c.requires.ends))
 
+pub end-end-requires-clause-over : goal.end-end-requires-clause-over
+end-end-requires-clause-over g c = c.requires.over c.loop-op.op c.loop-op-test.true
+
 pub sectors-requires-clause-there : goal.sectors-requires-clause-there
 sectors-requires-clause-there g c =
     op_there (sectors_shown c.args.phase.now.workers.items) c.args.actor c.loop-op.op

@@ -1,0 +1,8 @@
+use Rattle.std.proofs.Common.{refl}
+use Rattle.job_session.proofs.Sending.{Tells-line}
+use Rattle.job_session.proofs.output.Output.tell_device.Goals as goal
+
+pub returns : goal.returns
+returns g c =
+    rw (← c.self.view_is)
+    (Tells-line _ _ _ _ _ refl c.in_ok-put_device.ensures refl refl refl refl c.spill.ensures)
