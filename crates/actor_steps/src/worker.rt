@@ -11,8 +11,8 @@ use crate::call::Call;
 use crate::place::{Place, next_place};
 use crate::reply::{Reply, goes_on, keep};
 use crate::work::bring;
-use call_history::histories_go_on;
 use backing_dev::Backing;
+use call_history::histories_go_on;
 use lock_row::{Hand, LockNo};
 use page_steps::{DiskHeld, PageCall, PieceEnd, Progress, Scratch, calls_are_events};
 use post_steps::{CompactCall, compactions_are_events};
@@ -43,7 +43,14 @@ pub struct Worker<D: Backing> {
 }
 
 // The call of the next piece before its first event. The sectors of a write are put into `fresh`.
-fn begun<D: Backing>(size: u32, now: u64, actor: u32, place: Place, ops: &[Op], fresh: &mut Page) -> Call<D>
+fn begun<D: Backing>(
+    size: u32,
+    now: u64,
+    actor: u32,
+    place: Place,
+    ops: &[Op],
+    fresh: &mut Page,
+) -> Call<D>
     requires requests { AreRequests ops.now }
     requires few { length ops.now < 2 ^ 32 }
     requires more { place.nr < length ops.now }

@@ -45,16 +45,6 @@ module _ (places : NamesHavePlaces) (pages : ℕ) (some : 1 ≤ pages) (r : Lock
         pool_some (suc n) le = ap (λ (b : Bool). cond b (pool_in (get_or r.cells (suc n + class) None))
             None) (lt-ltb class 255 low)
 
-  pub device_value : (d : DeviceState) → x ≡ at_home (cell r lock.Device)
-      → device_of d pages r.cells ≡ device_in d x
-  device_value d e = ap (device_in d) (sym (home_is r.cells (pages + 257))
-      ∙ sym (ap at_home (cell_at pages places lock.Device tt r names)) ∙ sym e)
-
-  pub blocks_value : x ≡ at_home (cell r lock.Blocks)
-      → blocks_in (get_or r.cells (pages + 256) None) ≡ blocks_in x
-  blocks_value e = ap blocks_in (sym (home_is r.cells (pages + 256))
-      ∙ sym (ap at_home (cell_at pages places lock.Blocks tt r names)) ∙ sym e)
-
 -- ---- another account
 
 -- the account of a disk with pages is the one in its place

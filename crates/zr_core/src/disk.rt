@@ -10,7 +10,9 @@ ghost use Rattle.joint_rule.specs.Begins.{Begin};
 ghost use Rattle.zr_core.specs.Rests.{names_by, no_blocks, IsEarly, device_by, blocks_by, IsAtRest, RestsAs, new_disk, with_limit, with_lowered};
 ghost use Rattle.zr_core.specs.Rows.{AreNew};
 
-use crate::row::{blocks_in, device_in, device_of, entry_in, new_row, put_account, put_device, set_blocks};
+use crate::row::{
+    blocks_in, device_in, device_of, entry_in, new_row, put_account, put_device, set_blocks,
+};
 use crate::spare::Spare;
 use backing_dev::{Backing, Dev};
 use block_map::{BlockState, Blocks};

@@ -11,10 +11,10 @@ mod stats;
 mod world;
 
 pub use actor_steps::Turn;
+pub use backing_dev::BdStat;
 pub use disk::World;
 pub use limits::MOST_CHAIN;
 pub use page_steps::DiskHeld;
-pub use backing_dev::BdStat;
 pub use phase::Phase;
 pub use spare::Spare;
 

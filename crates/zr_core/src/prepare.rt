@@ -28,7 +28,12 @@ pub(crate) fn noted_pages(
 }
 
 // Empties the order of a page's entry, and makes its room. On Err nothing changed.
-fn reserve<D: Backing>(row: &mut SimRow<DiskHeld<D>>, size: u32, page: u32, count: u32) -> Result<(), AllocError>
+fn reserve<D: Backing>(
+    row: &mut SimRow<DiskHeld<D>>,
+    size: u32,
+    page: u32,
+    count: u32,
+) -> Result<(), AllocError>
     requires names { row.old.names ≡ names_by size }
     requires rest { HasEntries size row.old.cells }
     requires page { page < size }

@@ -73,7 +73,11 @@ fn push_pools<D: Backing>(
 
 /// The row of a new disk of so many pages, with the account at this limit. The map of blocks and the
 /// device are out.
-pub(crate) fn new_row<D: Backing>(alloc: Global, pages: u32, limit: u64) -> Result<SimRow<DiskHeld<D>>, AllocError>
+pub(crate) fn new_row<D: Backing>(
+    alloc: Global,
+    pages: u32,
+    limit: u64,
+) -> Result<SimRow<DiskHeld<D>>, AllocError>
     requires most { pages ≤ MOST_PAGES }
     requires small { limit < 2 ^ 52 }
     ensures names { IfOk result (λ row. row.names ≡ names_of pages) }
