@@ -103,7 +103,7 @@ module _ (legal : (u : Used) (r : Rest) (d : Disk) (job : List Item) (turns : Li
         let q : new ≡ old = cc in q,
       )
 
-  -- and the job was told over what is behind it
+  -- and the job was told over what that reference reaches
   module _ {D : Type 0} (block_count : D → ℕ) (contents : D → Option (List (List ℕ)))
       (faults : D → ℕ) (calls : D → Option ℕ) (dev back final : D) (same : final ≡ back) where
     abbrev seen_at : D → Seen

@@ -92,8 +92,9 @@ pub record JobTold (entry exit : Seen) (job : List Item) (o p : OutputState)
 
 -- ---- texts
 
--- what came of a text that was run, where it may have left the device untouched
 module _ (bytes : List ℕ) (Untouched : Type 0) (entry exit : Seen) where
+  -- what came of a text that was run: over the device as it is seen at entry and at exit, or with the
+  -- device untouched
   abbrev pub TextEnds : Option (List ℕ) → Option (List ℕ) → Status → Type 0
   TextEnds before after statuses.Done = IsTextRun entry exit (Appends before after) false bytes
   TextEnds before after statuses.Refused = IsTextRun entry exit (Appends before after) true bytes

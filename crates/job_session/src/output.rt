@@ -13,7 +13,8 @@ use crate::io::{PIECE, send};
 use crate::stop::Stop;
 use backing_dev::BdStat;
 use job_print::{
-    Refusal, put_calls, put_class, put_device, put_memory, put_op, put_order, put_refused, put_state,
+    Refusal, put_calls, put_class, put_device, put_memory, put_op, put_order, put_refused,
+    put_state,
 };
 use mem_account::{IoStat, MmStat, Weight};
 use size_class::ClassStat;

@@ -114,7 +114,11 @@ fn weight(kept: Kept) -> Weight
 }
 
 // A page, where it isn't empty.
-fn tell_state<K: Sink, D: Backing>(out: &mut Output<'_, K>, world: &World<D>, page: u32) -> Result<(), Stop>
+fn tell_state<K: Sink, D: Backing>(
+    out: &mut Output<'_, K>,
+    world: &World<D>,
+    page: u32,
+) -> Result<(), Stop>
     requires rest { IsAtRest world.now.pages world.now.noted.items world.now.row.cells }
     requires page { page < world.now.pages }
     ensures { Tells out.old out.new result (state_in page (value_at world.now.row.cells page)) }
@@ -136,7 +140,11 @@ fn tell_states<K: Sink, D: Backing>(out: &mut Output<'_, K>, world: &World<D>) -
 }
 
 // A class, where it has zspages.
-fn tell_class<K: Sink, D: Backing>(out: &mut Output<'_, K>, world: &World<D>, class: u8) -> Result<(), Stop>
+fn tell_class<K: Sink, D: Backing>(
+    out: &mut Output<'_, K>,
+    world: &World<D>,
+    class: u8,
+) -> Result<(), Stop>
     requires rest { IsAtRest world.now.pages world.now.noted.items world.now.row.cells }
     requires class { class < 255 }
     ensures { Tells out.old out.new result
