@@ -4,5 +4,7 @@ pub mod Moves
 pub mod Taken
 pub mod Pooled
 pub mod Given
+pub mod Backed
 pub mod Formed
+pub mod DeviceReads
 pub mod Refusals

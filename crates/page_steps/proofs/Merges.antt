@@ -12,10 +12,9 @@ use Rattle.zr_base.specs.Sectors.{page_sector}
 use Rattle.zr_base.specs.Plain.{covers, has_whole, sector_after, stuff_sector}
 use Rattle.zr_base.specs.Pieces.{IsPieceOf}
 use Rattle.call_history.specs.declared.part.Part.{Part}
-use Rattle.slot_entry.specs.declared.kept.Stored.{Stored}
 use Rattle.slot_entry.specs.declared.kept.Kept.{Kept}
 use Rattle.slot_entry.specs.declared.kept.Kept.TheVariants as kept
-use Rattle.slot_entry.specs.Entries.{plain_page}
+use Rattle.slot_entry.specs.Entries.{IsPlain, plain_page}
 use Rattle.page_steps.specs.Pages.{join, page_after, page_in}
 use Rattle.page_steps.specs.Calls.{Frame, IsWork, Asks, Brings, IsBeside, IsWithin, KeepsRest, IsFresh, is_whole}
 use Rattle.page_steps.specs.Turns.{HasOld}
@@ -146,12 +145,17 @@ fresh_rest q fresh (Some page) k few f = f.merged
 fresh_rest q fresh None kept.Empty few f = f.merged
 fresh_rest q fresh None (kept.Same w) few f = f.merged
 fresh_rest q fresh None (kept.Obj o) few f = whole_rest q (page_in None (kept.Obj o)) fresh few f.merged
+fresh_rest q fresh None (kept.Wb b) few f = whole_rest q (page_in None (kept.Wb b)) fresh few f.merged
 
--- a page whose object is gone
-pub fresh_emptied : (q : Piece) (fresh : List ℕ) (page : Option (List ℕ)) (o : Stored)
-    → q.first + q.count ≤ 8 → IsFresh q fresh page (kept.Obj o) → IsFresh q fresh page kept.Empty
-fresh_emptied q fresh (Some page) o few f = record { long = f.long; merged = f.merged }
-fresh_emptied q fresh None o few f =
+-- a page whose object or block is given up
+pub fresh_emptied : (q : Piece) (fresh : List ℕ) (page : Option (List ℕ)) (k : Kept)
+    → q.first + q.count ≤ 8 → (IsPlain k → ⊥) → IsFresh q fresh page k → IsFresh q fresh page kept.Empty
+fresh_emptied q fresh (Some page) k few other f = record { long = f.long; merged = f.merged }
+fresh_emptied q fresh None kept.Empty few other f = absurd (other tt)
+fresh_emptied q fresh None (kept.Same w) few other f = absurd (other tt)
+fresh_emptied q fresh None (kept.Obj o) few other f =
+    record { long = f.long; merged = whole_rest q (page_in None kept.Empty) fresh few f.merged }
+fresh_emptied q fresh None (kept.Wb b) few other f =
     record { long = f.long; merged = whole_rest q (page_in None kept.Empty) fresh few f.merged }
 
 -- the new page of a page that needs no object, or of a whole piece
@@ -163,8 +167,11 @@ merged_fresh q fresh page (kept.Same w) few (inl whole) rest long =
     record { long = long; merged = whole_rest q (plain_page (kept.Same w)) fresh few whole }
 merged_fresh q fresh page (kept.Obj o) few (inl whole) rest long =
     record { long = long; merged = whole }
+merged_fresh q fresh page (kept.Wb b) few (inl whole) rest long =
+    record { long = long; merged = whole }
 merged_fresh q fresh page kept.Empty few (inr (is, plain)) rest long =
     record { long = long; merged = subst (λ (y : List ℕ). KeepsRest q y fresh) is rest }
 merged_fresh q fresh page (kept.Same w) few (inr (is, plain)) rest long =
     record { long = long; merged = subst (λ (y : List ℕ). KeepsRest q y fresh) is rest }
 merged_fresh q fresh page (kept.Obj o) few (inr (is, plain)) rest long = absurd plain
+merged_fresh q fresh page (kept.Wb b) few (inr (is, plain)) rest long = absurd plain

@@ -18,7 +18,7 @@ module _ {X : Type 0} {can_take : X → LockNo → Next → Type 0}
     {takes : X → LockNo → Next → DiskHeld → X → Type 0} {misses : X → LockNo → X → Type 0}
     {can_give : X → LockNo → Next → DiskHeld → Type 0}
     {gives : X → LockNo → Next → DiskHeld → X → Type 0}
-    {c : Head} {r : Scratch} {s : Stage} {h g : X} {k : LockNo} where
+    {D : Type 0} {c : Head} {r : Scratch} {s : Stage D} {h g : X} {k : LockNo} where
   -- its next lock was held
   pub waits : IsReady can_take takes can_give c r s h → IsGoing s → next_event c s ≡ Take k
       → misses h k g → HasAdvanced takes misses gives c r s h r s g (progress.Waits k)
@@ -31,7 +31,7 @@ module _ {X : Type 0} {can_take : X → LockNo → Next → Type 0}
   }
 
   -- it took its next lock
-  pub moves : {f : Next} {v : DiskHeld} {r' : Scratch} {s' : Stage}
+  pub moves : {f : Next} {v : DiskHeld} {r' : Scratch} {s' : Stage D}
       → IsReady can_take takes can_give c r s h → IsGoing s → next_event c s ≡ Take k
       → TakesAs c r s f → takes h k f v g → IsFit c r' s' → IsGoing s'
       → ((x : Frame) → IsWork c r x → IsWork c r' x) → r'.table ≡ r.table
@@ -46,7 +46,7 @@ module _ {X : Type 0} {can_take : X → LockNo → Next → Type 0}
   }
 
   -- it took its next lock, and the scratch is as before
-  pub takes_it : {f : Next} {v : DiskHeld} {s' : Stage}
+  pub takes_it : {f : Next} {v : DiskHeld} {s' : Stage D}
       → IsReady can_take takes can_give c r s h → IsGoing s → next_event c s ≡ Take k
       → TakesAs c r s f → takes h k f v g → IsFit c r s' → IsGoing s'
       → ((x : Frame) → IsWork c r x → here x r s' ≡ took x.terms (here x r s) v)
@@ -55,7 +55,7 @@ module _ {X : Type 0} {can_take : X → LockNo → Next → Type 0}
       moves ready on what so take fit on' (λ x w. w) refl is
 
   -- it gave a lock back
-  pub ends : (f : Next) {v : DiskHeld} {r' : Scratch} {s' : Stage} {p : Progress}
+  pub ends : (f : Next) {v : DiskHeld} {r' : Scratch} {s' : Stage D} {p : Progress}
       → IsReady can_take takes can_give c r s h → IsGoing s → next_event c s ≡ Give k
       → GivesAs c r s f v → gives h k f v g → IsFit c r' s' → IsOnward p s'
       → ((x : Frame) → IsWork c r x → IsWork c r' x) → r'.table ≡ r.table
@@ -72,7 +72,7 @@ module _ {X : Type 0} {can_take : X → LockNo → Next → Type 0}
   }
 
   -- it gave a lock back and goes on, and the scratch is as before
-  pub gives_it : (f : Next) {v : DiskHeld} {s' : Stage}
+  pub gives_it : (f : Next) {v : DiskHeld} {s' : Stage D}
       → IsReady can_take takes can_give c r s h → IsGoing s → next_event c s ≡ Give k
       → GivesAs c r s f v → gives h k f v g → IsFit c r s' → IsGoing s'
       → ((x : Frame) → IsWork c r x → f (here x r s) v ≡ here x r s')
@@ -83,17 +83,17 @@ module _ {X : Type 0} {can_take : X → LockNo → Next → Type 0}
 -- the same turn where the stage is told otherwise
 pub at_stage : {X : Type 0} {takes : X → LockNo → Next → DiskHeld → X → Type 0}
     {misses : X → LockNo → X → Type 0} {gives : X → LockNo → Next → DiskHeld → X → Type 0}
-    {c : Head} {r r' : Scratch} {s s' s'' : Stage} {h g : X} {p : Progress} → s'' ≡ s'
+    {D : Type 0} {c : Head} {r r' : Scratch} {s s' s'' : Stage D} {h g : X} {p : Progress} → s'' ≡ s'
     → HasAdvanced takes misses gives c r s h r' s' g p
     → HasAdvanced takes misses gives c r s h r' s'' g p
-at_stage {takes} {misses} {gives} {c} {r} {r'} {s} {s'} {s''} {h} {g} {p} is adv =
-    subst (λ (y : Stage). HasAdvanced takes misses gives c r s h r' y g p) (sym is) adv
+at_stage {takes} {misses} {gives} {D} {c} {r} {r'} {s} {s'} {s''} {h} {g} {p} is adv =
+    subst (λ (y : Stage D). HasAdvanced takes misses gives c r s h r' y g p) (sym is) adv
 
 -- the same turn where the stage before is told otherwise
 pub from_stage : {X : Type 0} {takes : X → LockNo → Next → DiskHeld → X → Type 0}
     {misses : X → LockNo → X → Type 0} {gives : X → LockNo → Next → DiskHeld → X → Type 0}
-    {c : Head} {r r' : Scratch} {s s' s'' : Stage} {h g : X} {p : Progress} → s ≡ s''
+    {D : Type 0} {c : Head} {r r' : Scratch} {s s' s'' : Stage D} {h g : X} {p : Progress} → s ≡ s''
     → HasAdvanced takes misses gives c r s h r' s' g p
     → HasAdvanced takes misses gives c r s'' h r' s' g p
-from_stage {takes} {misses} {gives} {c} {r} {r'} {s} {s'} {s''} {h} {g} {p} is adv =
-    subst (λ (y : Stage). HasAdvanced takes misses gives c r y h r' s' g p) is adv
+from_stage {takes} {misses} {gives} {D} {c} {r} {r'} {s} {s'} {s''} {h} {g} {p} is adv =
+    subst (λ (y : Stage D). HasAdvanced takes misses gives c r y h r' s' g p) is adv

@@ -1,6 +1,5 @@
 -- What a call knows of its next event is what its actor's plan is.
-use Rattle.std.specs.Prelude.{is_some}
-use Rattle.std.proofs.Common.{◌≡◌, ℕ, false, List, Option, refl, sym, ap, ◌∙◌}
+use Rattle.std.proofs.Common.{◌≡◌, ◌⊎◌, ℕ, true, false, List, Option, refl, sym, ap, ◌∙◌, inl, inr}
 use Rattle.zr_base.specs.declared.op.Op.{Op}
 use Rattle.zr_base.specs.declared.op.Op.TheVariants.{Write, Read, Discard}
 use Rattle.zr_base.specs.declared.op.Piece.{Piece}
@@ -12,8 +11,9 @@ use Rattle.slot_entry.specs.declared.kept.Kept.{Kept}
 use Rattle.slot_entry.specs.Forms.{form_of, class_in, object_class}
 use Rattle.page_steps.specs.Pages.{next_by, next_form, page_in}
 use Rattle.page_steps.specs.Steps.{slot, plan, start_plan, class_by}
-use Rattle.page_steps.specs.Givings.{tells}
-use Rattle.page_steps.specs.Calls.{Frame, here, next_event, IsCallOf, IsWork, IsFit, IsGoing, Asks, IsDue, is_count, form_by, bytes_by, tells_by, page_if}
+use Rattle.call_history.specs.Parts.{is_read}
+use Rattle.page_steps.specs.Givings.{tells, fails_by}
+use Rattle.page_steps.specs.Calls.{Frame, here, next_event, IsCallOf, IsWork, IsFit, IsGoing, Asks, IsDue, is_count, form_by, bytes_by, tells_by, page_if, fails_by as fails_as}
 use Rattle.page_steps.specs.declared.stage.Work.{Work}
 use Rattle.page_steps.specs.declared.stage.Work.TheVariants as work
 use Rattle.page_steps.specs.declared.stage.Head.{Head}
@@ -21,6 +21,11 @@ use Rattle.page_steps.specs.declared.stage.Scratch.{Scratch}
 use Rattle.page_steps.specs.declared.stage.Stage.{Stage}
 use Rattle.page_steps.specs.declared.stage.Stage.TheVariants as stage
 use Rattle.page_steps.proofs.Merges.{page_after_is, fresh_rest}
+
+-- What a call at a stage stands for doesn't depend on the device's type: what holds over this one
+-- holds over any.
+abbrev pub AnyDevice : Type 0
+AnyDevice = Unit {0}
 
 -- ---- by the kind of the call
 
@@ -54,10 +59,35 @@ pub told_is : (c : Head) (r : Scratch) (x : Frame) → IsCallOf c r x → (a : C
     → tells_by c.work a ≡ tells x.part.op a
 told_is c r x of a = tells_is c.work c.piece r.fresh x.part.op of.asks a
 
+fails_is : (w : Work) (q : Piece) (fresh : List ℕ) (op : Op) → Asks w q fresh op → (a : Counters)
+    → fails_as w a ≡ fails_by op a
+fails_is work.Reads q fresh (Read start count) k a = refl
+fails_is work.Writes q fresh (Write start count stuff) k a = refl
+fails_is work.Discards q fresh (Discard start count) k a = refl
+fails_is w q fresh op k a = absurd k
+
+-- what the account counts where the device failed
+pub failed_is : (c : Head) (r : Scratch) (x : Frame) → IsCallOf c r x → (a : Counters)
+    → fails_as c.work a ≡ fails_by x.part.op a
+failed_is c r x of a = fails_is c.work c.piece r.fresh x.part.op of.asks a
+
+reads_is : (w : Work) (q : Piece) (fresh : List ℕ) (op : Op) → Asks w q fresh op
+    → ((w ≡ work.Reads) × (is_read op ≡ true)) ⊎ ((w ≡ work.Reads → ⊥) × (is_read op ≡ false))
+reads_is work.Reads q fresh (Read start count) k = inl (refl, refl)
+reads_is work.Writes q fresh (Write start count stuff) k = inr (λ e. cc, refl)
+reads_is work.Discards q fresh (Discard start count) k = inr (λ e. cc, refl)
+reads_is w q fresh op k = absurd k
+
+-- a call reads exactly where its piece is one of a read
+pub read_is : (c : Head) (r : Scratch) (x : Frame) → IsCallOf c r x
+    → ((c.work ≡ work.Reads) × (is_read x.part.op ≡ true))
+    ⊎ ((c.work ≡ work.Reads → ⊥) × (is_read x.part.op ≡ false))
+read_is c r x of = reads_is c.work c.piece r.fresh x.part.op of.asks
+
 -- ---- plans
 
-pub plan_is : (c : Head) (r : Scratch) (x : Frame) (s : Stage) → IsFit c r s → IsGoing s
-    → IsWork c r x → plan x.terms (here x r s) ≡ next_event c s
+pub plan_is : {D : Type 0} (c : Head) (r : Scratch) (x : Frame) (s : Stage D) → IsFit c r s
+    → IsGoing s → IsWork c r x → plan x.terms (here x r s) ≡ next_event c s
 plan_is c r x stage.Start fit on w =
     (λ i. start_plan (w.request i) ((w.beyond ∙ fit.0) i) x.part)
     ∙ ap (λ n. Take (slot n)) (sym (w.call fit.0).page)
@@ -73,9 +103,14 @@ plan_is c r x (stage.Plain e) fit on w = ap (λ n. Give (slot n)) (sym (w.call f
 plan_is c r x (stage.Leaving e) fit on w = ap (λ n. Give (slot n)) (sym (w.call fit.0).page)
 plan_is c r x (stage.Refused e read end) fit on w =
     ap (λ n. Give (slot n)) (sym (w.call fit.0).page)
+plan_is c r x (stage.Missed e fault) fit on w = ap (λ n. Give (slot n)) (sym (w.call fit.0).page)
+plan_is c r x (stage.Away e b) fit on w = refl
+plan_is c r x (stage.Fetching e b d) fit on w = refl
+plan_is c r x (stage.Failing e fault) fit on w = refl
+plan_is c r x (stage.Counting e fault a) fit on w = refl
 plan_is c r x (stage.Wanting own new) fit on w =
     ap (λ f. Take (lock.Class (class_in x.terms.chain f)))
-    (next_is c r x w fit.0.piece (page_if r (is_some own.lent)) own.entry.kept fit.0.due
+    (next_is c r x w fit.0.piece (page_if r own.read) own.entry.kept fit.0.due
     ∙ fit.1.form)
     ∙ ap (λ n. Take (lock.Class (object_class n (bytes_by r new.huge) new.huge))) (sym w.chain)
     ∙ ap (λ n. Take (lock.Class n)) (sym fit.1.class)
@@ -83,12 +118,14 @@ plan_is c r x (stage.Inside own new q) fit on w = refl
 plan_is c r x (stage.Both own new q a) fit on w = refl
 plan_is c r x (stage.Made own class q y) fit on w =
     ap (λ f. Give (lock.Class (class_in x.terms.chain f)))
-    (next_is c r x w fit.0.piece (page_if r (is_some own.lent)) own.entry.kept fit.0.due)
+    (next_is c r x w fit.0.piece (page_if r own.read) own.entry.kept fit.0.due)
     ∙ ap (λ n. Give (lock.Class (class_in n (form_by c.work r.fresh)))) (sym w.chain)
     ∙ ap (λ n. Give (lock.Class n)) fit.1
 plan_is c r x (stage.Old own o next) fit on w = ap (λ k. Take (lock.Class (class_by k))) fit.1
 plan_is c r x (stage.Freeing own o next q) fit on w =
     ap (λ k. Give (lock.Class (class_by k))) fit.1
+plan_is c r x (stage.Backed own b next) fit on w = refl
+plan_is c r x (stage.Releasing own b next y) fit on w = refl
 plan_is c r x (stage.Owing due frames ahead) fit on w = refl
 plan_is c r x (stage.Giving due frames ahead a) fit on w = refl
 plan_is c r x (stage.Ready due ahead behind) fit on w =

@@ -1,5 +1,6 @@
 -- The events of a refused piece give back what they found.
 use Rattle.std.proofs.Common.{◌≡◌, ◌⊎◌, ℕ, zero, suc, ◌==◌, Bool, true, false, List, [], ◌∷◌, ◌++◌, length, map, Option, Some, None, refl, sym, ap, ◌∙◌, subst, inl, inr, arith, length-append}
+use Rattle.std.proofs.lemmas.Bool.{false≢true}
 use Rattle.std.proofs.lemmas.List.{append_cancel_left, map-append}
 use Rattle.std.specs.Prelude.{⊤, slice_set}
 use Rattle.zspage.specs.Cells.{CellState, UsedCell, entry}
@@ -9,8 +10,14 @@ use Rattle.call_history.specs.declared.part.Part.{Part}
 use Rattle.call_history.specs.declared.part.PartEnd.{PartEnd}
 use Rattle.call_history.specs.declared.part.PartEnd.TheVariants as over
 use Rattle.call_history.specs.declared.part.Done.{Done}
+use Rattle.call_history.specs.Parts.{is_read}
 use Rattle.call_history.specs.Shows.{got_from}
+use Rattle.lock_row.specs.declared.names.Held.TheVariants as holds
+use Rattle.zr_base.specs.declared.op.Op.{Op}
+use Rattle.zr_base.specs.declared.op.Op.TheVariants.{Write, Read, Discard, Compact}
 use Rattle.zr_base.specs.declared.op.OpEnd.TheVariants as ends
+use Rattle.mem_account.specs.Counters.{Counters, counted}
+use Rattle.mem_account.specs.declared.weight.Delta.TheVariants as delta
 use Rattle.lock_row.specs.declared.names.LockNo.{LockNo}
 use Rattle.lock_row.specs.declared.names.At.{At}
 use Rattle.lock_row.specs.declared.names.At.TheVariants as at
@@ -20,9 +27,9 @@ use Rattle.slot_entry.specs.declared.kept.Kept.{Kept}
 use Rattle.slot_entry.specs.declared.kept.Kept.TheVariants as kept
 use Rattle.page_steps.specs.Pools.{Lends, Returns}
 use Rattle.page_steps.specs.Steps.{Terms, DiskHeld, Here, taken_at, settle_at, quit_at, took, entry_or, entry_in}
-use Rattle.page_steps.specs.Givings.{Works, refuses, pins, unpins, charges, limits, starves, stows, quits, frees, repays, puts, reads, fails, compacts}
+use Rattle.page_steps.specs.Givings.{Works, fails_by, refuses, pins, unpins, fetches, misses, counts, charges, limits, starves, stows, quits, frees, releases, repays, puts, reads, fails, errs, leaves, compacts}
 use Rattle.page_steps.specs.Compactions.{Compacts, moves, rests, shrinks, moved_at, with_move, compaction_at, resting_by}
-use Rattle.page_steps.specs.Nexts.{ending_by, failing_by, tail_of, own_entry, pinning}
+use Rattle.page_steps.specs.Nexts.{ending_by, failing_by, tail_of, own_entry, pinning, fetching, missing}
 use Rattle.page_steps.specs.Pages.{page_in}
 use Rattle.page_steps.specs.Refusals.{Event, Takes, Gives, IsRefusedEnd, AreRefused, GivesLast, GiveBack, RefusalsLeaveAll}
 
@@ -86,77 +93,121 @@ abbrev HasSome : Option PartEnd → Type 0
 HasSome None = ⊥
 HasSome (Some end) = ⊤
 
+-- whether the piece in work is one of a read
+abbrev reads_first : List Part → Bool
+reads_first [] = false
+reads_first (p ∷ ps) = is_read p.op
+
+-- a device failed
+abbrev IsFault : Option PartEnd → Type 0
+IsFault (Some (over.Eio fault)) = ⊤
+IsFault f = ⊥
+
+-- a device failed a write, which is refused
+abbrev IsUnread : List Part → Option PartEnd → Type 0
+IsUnread todo f = HasSome f × (reads_first todo ≡ false)
+
+-- a device failed a read, which is noted
+abbrev IsNoted : List Part → Option PartEnd → Type 0
+IsNoted todo f = HasNone f ⊎ (IsFault f × (reads_first todo ≡ true))
+
 -- the piece may still be refused, and has changed nothing
-abbrev IsEarly : At → Option PartEnd → Type 0
-IsEarly at.Start f = HasNone f
-IsEarly at.Refusing f = ⊥
-IsEarly at.Seen f = HasNone f
-IsEarly at.Pinning f = HasNone f
-IsEarly at.Pinned f = ⊤
-IsEarly at.Unpinning f = ⊤
-IsEarly at.Leaving f = ⊤
-IsEarly at.Wanting f = HasNone f
-IsEarly at.Inside f = HasNone f
-IsEarly at.Both f = HasNone f
-IsEarly at.Made f = HasSome f
-IsEarly a f = ⊥
+abbrev IsEarly : At → List Part → Option PartEnd → Type 0
+IsEarly at.Start todo f = HasNone f
+IsEarly at.Refusing todo f = ⊥
+IsEarly at.Seen todo f = HasNone f
+IsEarly at.Pinning todo f = HasNone f
+IsEarly at.Pinned todo f = ⊤
+IsEarly at.Unpinning todo f = ⊤
+IsEarly at.Leaving todo f = ⊤
+IsEarly at.Away todo f = HasNone f
+IsEarly at.Fetching todo f = HasNone f
+IsEarly at.Failing todo f = IsUnread todo f
+IsEarly at.Counting todo f = IsUnread todo f
+IsEarly at.Missed todo f = IsUnread todo f
+IsEarly at.Wanting todo f = HasNone f
+IsEarly at.Inside todo f = HasNone f
+IsEarly at.Both todo f = HasNone f
+IsEarly at.Made todo f = HasSome f
+IsEarly a todo f = ⊥
 
 -- the piece isn't refused any more; a compaction never is
-abbrev IsLate : At → Option PartEnd → Type 0
-IsLate at.Refusing f = ⊤
-IsLate at.Made f = HasNone f
-IsLate at.Old f = ⊤
-IsLate at.Freeing f = ⊤
-IsLate at.Owing f = ⊤
-IsLate at.Giving f = ⊤
-IsLate at.Ready f = ⊤
-IsLate (at.Sweeping x) f = ⊤
-IsLate (at.Moving x) f = ⊤
-IsLate (at.Shrunk x) f = ⊤
-IsLate (at.Shrinking x) f = ⊤
-IsLate a f = ⊥
+abbrev IsLate : At → List Part → Option PartEnd → Type 0
+IsLate at.Refusing todo f = ⊤
+IsLate at.Failing todo f = IsNoted todo f
+IsLate at.Counting todo f = IsNoted todo f
+IsLate at.Missed todo f = IsNoted todo f
+IsLate at.Made todo f = HasNone f
+IsLate at.Old todo f = ⊤
+IsLate at.Freeing todo f = ⊤
+IsLate at.Backed todo f = ⊤
+IsLate at.Releasing todo f = ⊤
+IsLate at.Owing todo f = ⊤
+IsLate at.Giving todo f = ⊤
+IsLate at.Ready todo f = ⊤
+IsLate (at.Sweeping x) todo f = ⊤
+IsLate (at.Moving x) todo f = ⊤
+IsLate (at.Shrunk x) todo f = ⊤
+IsLate (at.Shrinking x) todo f = ⊤
+IsLate a todo f = ⊥
 
 -- without a refusal each stage is one or the other
-split : (a : At) (f : Option PartEnd) → HasNone f → IsEarly a f ⊎ IsLate a f
-split at.Start f none = inl none
-split at.Refusing f none = inr tt
-split at.Seen f none = inl none
-split at.Pinning f none = inl none
-split at.Pinned f none = inl tt
-split at.Unpinning f none = inl tt
-split at.Leaving f none = inl tt
-split at.Wanting f none = inl none
-split at.Inside f none = inl none
-split at.Both f none = inl none
-split at.Made f none = inr none
-split at.Old f none = inr tt
-split at.Freeing f none = inr tt
-split at.Owing f none = inr tt
-split at.Giving f none = inr tt
-split at.Ready f none = inr tt
-split (at.Sweeping x) f none = inr tt
-split (at.Moving x) f none = inr tt
-split (at.Shrunk x) f none = inr tt
-split (at.Shrinking x) f none = inr tt
+split : (a : At) (todo : List Part) (f : Option PartEnd) → HasNone f
+    → IsEarly a todo f ⊎ IsLate a todo f
+split at.Start todo f none = inl none
+split at.Refusing todo f none = inr tt
+split at.Seen todo f none = inl none
+split at.Pinning todo f none = inl none
+split at.Pinned todo f none = inl tt
+split at.Unpinning todo f none = inl tt
+split at.Leaving todo f none = inl tt
+split at.Away todo f none = inl none
+split at.Fetching todo f none = inl none
+split at.Failing todo f none = inr (inl none)
+split at.Counting todo f none = inr (inl none)
+split at.Missed todo f none = inr (inl none)
+split at.Wanting todo f none = inl none
+split at.Inside todo f none = inl none
+split at.Both todo f none = inl none
+split at.Made todo f none = inr none
+split at.Old todo f none = inr tt
+split at.Freeing todo f none = inr tt
+split at.Backed todo f none = inr tt
+split at.Releasing todo f none = inr tt
+split at.Owing todo f none = inr tt
+split at.Giving todo f none = inr tt
+split at.Ready todo f none = inr tt
+split (at.Sweeping x) todo f none = inr tt
+split (at.Moving x) todo f none = inr tt
+split (at.Shrunk x) todo f none = inr tt
+split (at.Shrinking x) todo f none = inr tt
 
 early_take : (size : ℕ) (todo : List Part) (a : At) (page : Option (List ℕ)) (k : Kept)
-    (f : Option PartEnd) → IsEarly a f
-    → IsEarly (taken_at size todo a page k) f ⊎ IsLate (taken_at size todo a page k) f
-early_take size todo a page k None e = split (taken_at size todo a page k) None tt
+    (f : Option PartEnd) → IsEarly a todo f
+    → IsEarly (taken_at size todo a page k) todo f ⊎ IsLate (taken_at size todo a page k) todo f
+early_take size todo a page k None e = split (taken_at size todo a page k) todo None tt
 early_take size [] a page k (Some end) e = inl e
 early_take size (p ∷ ps) at.Pinned page k (Some end) e = inl tt
 early_take size (p ∷ ps) at.Unpinning page k (Some end) e = inl tt
 early_take size (p ∷ ps) at.Leaving page k (Some end) e = inl tt
+early_take size (p ∷ ps) at.Failing page k (Some end) e = inl e
+early_take size (p ∷ ps) at.Counting page k (Some end) e = inl e
+early_take size (p ∷ ps) at.Missed page k (Some end) e = inl e
 early_take size (p ∷ ps) at.Made page k (Some end) e = inl tt
 early_take size (p ∷ ps) a page k (Some end) e = absurd e
 
 late_take : (size : ℕ) (todo : List Part) (a : At) (page : Option (List ℕ)) (k : Kept)
-    (f : Option PartEnd) → IsLate a f → IsLate (taken_at size todo a page k) f
+    (f : Option PartEnd) → IsLate a todo f → IsLate (taken_at size todo a page k) todo f
 late_take size [] a page k f late = late
 late_take size (p ∷ ps) at.Refusing page k f late = tt
+late_take size (p ∷ ps) at.Failing page k f late = late
+late_take size (p ∷ ps) at.Counting page k f late = late
+late_take size (p ∷ ps) at.Missed page k f late = late
 late_take size (p ∷ ps) at.Made page k f late = late
 late_take size (p ∷ ps) at.Old page k f late = tt
 late_take size (p ∷ ps) at.Freeing page k f late = tt
+late_take size (p ∷ ps) at.Backed page k f late = tt
+late_take size (p ∷ ps) at.Releasing page k f late = tt
 late_take size (p ∷ ps) at.Owing page k f late = tt
 late_take size (p ∷ ps) at.Giving page k f late = tt
 late_take size (p ∷ ps) at.Ready page k f late = tt
@@ -177,19 +228,21 @@ held_is : (l : Here) (end : PartEnd) (got : Part → List (List ℕ)) (p : Part)
     → todo ≡ p ∷ rest → (ending_by l end got todo).held ≡ []
 held_is l end got p rest todo e = ap (λ (ts : List Part). (ending_by l end got ts).held) e
 
-settle_late : (k : Kept) (f : Option PartEnd) → IsLate (settle_at k) f
-settle_late kept.Empty f = tt
-settle_late (kept.Same w) f = tt
-settle_late (kept.Obj o) f = tt
+settle_late : (k : Kept) (todo : List Part) (f : Option PartEnd) → IsLate (settle_at k) todo f
+settle_late kept.Empty todo f = tt
+settle_late (kept.Same w) todo f = tt
+settle_late (kept.Obj o) todo f = tt
+settle_late (kept.Wb b) todo f = tt
 
 -- what a giving of a piece leaves that isn't refused any more: it goes on, or it ends without a refusal
 abbrev Goes : Here → Here → Type 0
-Goes l m = (IsLate m.at m.fail × (m.done ≡ l.done))
-    ⊎ ((d : Done) × (m.done ≡ l.done ++ d ∷ []) × (IsRefusedEnd d.end → ⊥))
+Goes l m = (IsLate m.at m.todo m.fail × (m.done ≡ l.done))
+    ⊎ ((d : Done) × (m.done ≡ l.done ++ d ∷ []) × (IsRefusedEnd d.part.op d.end → ⊥))
 
-moved_late : (frames : ℕ) (x : Compaction) (f : Option PartEnd) → IsLate (moved_at frames x) f
-moved_late zero x f = tt
-moved_late (suc n) x f = tt
+moved_late : (frames : ℕ) (x : Compaction) (todo : List Part) (f : Option PartEnd)
+    → IsLate (moved_at frames x) todo f
+moved_late zero x todo f = tt
+moved_late (suc n) x todo f = tt
 
 rest_step : (chain : ℕ) (x : Compaction) (last : Bool) (l : Here) (v : DiskHeld) (p : Part)
     (rest : List Part) → l.todo ≡ p ∷ rest → Goes l (resting_by chain x last l v)
@@ -200,16 +253,32 @@ rest_step chain x false l v p rest todo = inl (tt, refl)
 
 compact_step : (t : Terms) (l : Here) (v : DiskHeld) (m : Here) → Compacts t l v m → Goes l m
 compact_step t l v m (moves p rest x q q' budget frames todo stage held more one give is) =
-    inl (subst (λ (y : Here). IsLate y.at y.fail × (y.done ≡ l.done)) (sym is)
-    (moved_late frames (with_move (compaction_at l.at) budget) l.fail, refl))
+    inl (subst (λ (y : Here). IsLate y.at y.todo y.fail × (y.done ≡ l.done)) (sym is)
+    (moved_late frames (with_move (compaction_at l.at) budget) l.todo l.fail, refl))
 compact_step t l v m (rests p rest x q todo stage held none give is) =
     subst (λ (y : Here). Goes l y) (sym is)
     (rest_step t.chain (compaction_at l.at) ((compaction_at l.at).class == 254) l v p rest todo)
 compact_step t l v m (shrinks p rest x c todo stage held give is) =
-    inl (subst (λ (y : Here). IsLate y.at y.fail × (y.done ≡ l.done)) (sym is) (tt, refl))
+    inl (subst (λ (y : Here). IsLate y.at y.todo y.fail × (y.done ≡ l.done)) (sym is) (tt, refl))
 
-late_step : (t : Terms) (l : Here) (v : DiskHeld) (m : Here) → Works t l v m → IsLate l.at l.fail
-    → Goes l m
+-- the piece in work is no read
+no_read : (p : Part) (rest todo : List Part) → todo ≡ p ∷ rest → reads_first todo ≡ false
+    → is_read p.op ≡ false
+no_read p rest todo e other = sym (ap reads_first e) ∙ other
+
+noted_late : (p : Part) (rest todo : List Part) (f : Option PartEnd) (end : PartEnd)
+    → todo ≡ p ∷ rest → f ≡ Some end → IsNoted todo f → IsRefusedEnd p.op end → ⊥
+noted_late p rest todo f end e is noted refused = by (subst (λ (f : Option PartEnd). IsNoted todo f) is noted) where
+  fault : (end : PartEnd) → IsFault (Some end) → is_read p.op ≡ true → IsRefusedEnd p.op end → ⊥
+  fault (over.Eio n) there read other = false≢true (sym other ∙ read)
+  fault end there read other = absurd there
+
+  by : IsNoted todo (Some end) → ⊥
+  by (inl none) = none
+  by (inr some) = fault end some.0 (sym (ap reads_first e) ∙ some.1) refused
+
+late_step : (t : Terms) (l : Here) (v : DiskHeld) (m : Here) → Works t l v m
+    → IsLate l.at l.todo l.fail → Goes l m
 late_step t l v m (refuses p rest c todo stage held give is) late =
     inr (
       record { part = p; end = over.Whole ends.Range; got = [] },
@@ -217,25 +286,34 @@ late_step t l v m (refuses p rest c todo stage held give is) late =
       λ r. r,
     )
 late_step t l v m (pins p rest e o q q' cell todo stage held kept lends give is) late =
-    absurd (subst (λ (a : At). IsLate a l.fail) stage late)
+    absurd (subst (λ (a : At). IsLate a l.todo l.fail) stage late)
 late_step t l v m (unpins p rest e o q q' todo stage held kept back give is) late =
-    absurd (subst (λ (a : At). IsLate a l.fail) stage late)
+    absurd (subst (λ (a : At). IsLate a l.todo l.fail) stage late)
+late_step t l v m (fetches p rest e b d d' page todo stage held kept read page_is give is) late =
+    absurd (subst (λ (a : At). IsLate a l.todo l.fail) stage late)
+late_step t l v m (misses p rest e b d d' fault todo stage held kept missed give is) late =
+    absurd (subst (λ (a : At). IsLate a l.todo l.fail) stage late)
+late_step t l v m (counts p rest e c todo stage held give is) late =
+    inl (subst (λ (y : Here). IsLate y.at y.todo y.fail × (y.done ≡ l.done)) (sym is)
+    (subst (λ (a : At). IsLate a l.todo l.fail) stage late, refl))
 late_step t l v m (charges p rest e c q q' class handle need bytes huge todo stage held form c_is within adds give is)
-    late = absurd (subst (λ (a : At). IsLate a l.fail) stage late)
+    late = absurd (subst (λ (a : At). IsLate a l.todo l.fail) stage late)
 late_step t l v m (limits p rest e c q class need todo stage held n past give is) late =
-    absurd (subst (λ (a : At). IsLate a l.fail) stage late)
+    absurd (subst (λ (a : At). IsLate a l.todo l.fail) stage late)
 late_step t l v m (starves p rest e c q class todo stage held full within give is) late =
-    absurd (subst (λ (a : At). IsLate a l.fail) stage late)
+    absurd (subst (λ (a : At). IsLate a l.todo l.fail) stage late)
 late_step t l v m (stows p rest e q class todo stage held fail give is) late =
-    inl (subst (λ (y : Here). IsLate y.at y.fail × (y.done ≡ l.done)) (sym is)
-    (settle_late (own_entry l).kept l.fail, refl))
+    inl (subst (λ (y : Here). IsLate y.at y.todo y.fail × (y.done ≡ l.done)) (sym is)
+    (settle_late (own_entry l).kept l.todo l.fail, refl))
 late_step t l v m (quits p rest e q class end todo stage held fail give is) late =
-    absurd (subst (λ (f : Option PartEnd). IsLate at.Made f) fail
-    (subst (λ (a : At). IsLate a l.fail) stage late))
+    absurd (subst (λ (f : Option PartEnd). IsLate at.Made l.todo f) fail
+    (subst (λ (a : At). IsLate a l.todo l.fail) stage late))
 late_step t l v m (frees p rest e o q q' frames todo stage held kept drops give is) late =
-    inl (subst (λ (y : Here). IsLate y.at y.fail × (y.done ≡ l.done)) (sym is) (tt, refl))
+    inl (subst (λ (y : Here). IsLate y.at y.todo y.fail × (y.done ≡ l.done)) (sym is) (tt, refl))
+late_step t l v m (releases p rest e b x todo stage held kept give is) late =
+    inl (subst (λ (y : Here). IsLate y.at y.todo y.fail × (y.done ≡ l.done)) (sym is) (tt, refl))
 late_step t l v m (repays p rest e c todo stage held give is) late =
-    inl (subst (λ (y : Here). IsLate y.at y.fail × (y.done ≡ l.done)) (sym is) (tt, refl))
+    inl (subst (λ (y : Here). IsLate y.at y.todo y.fail × (y.done ≡ l.done)) (sym is) (tt, refl))
 late_step t l v m (puts p rest e f todo stage held notes give is) late =
     inr (
       record { part = p; end = over.Carried; got = [] },
@@ -243,29 +321,53 @@ late_step t l v m (puts p rest e f todo stage held notes give is) late =
       λ r. r,
     )
 late_step t l v m (reads p rest e f todo stage held fail notes give is) late =
-    absurd (subst (λ (a : At). IsLate a l.fail) stage late)
+    absurd (subst (λ (a : At). IsLate a l.todo l.fail) stage late)
 late_step t l v m (fails p rest e end todo stage held fail give is) late =
-    absurd (subst (λ (a : At). IsLate a l.fail) stage late)
+    absurd (subst (λ (a : At). IsLate a l.todo l.fail) stage late)
+late_step t l v m (errs p rest e f end todo stage held fail read notes give is) late =
+    inr (
+      record { part = p; end = end; got = [] },
+      ap (λ (y : Here). y.done) (is ∙ ap (failing_by l) fail)
+          ∙ over_is l end (λ p. []) p rest l.todo todo,
+      noted_late p rest l.todo l.fail end todo fail
+          (subst (λ (a : At). IsLate a l.todo l.fail) stage late),
+    )
+late_step t l v m (leaves p rest e end todo stage held fail other give is) late =
+    inr (
+      record { part = p; end = end; got = [] },
+      ap (λ (y : Here). y.done) (is ∙ ap (failing_by l) fail)
+          ∙ over_is l end (λ p. []) p rest l.todo todo,
+      noted_late p rest l.todo l.fail end todo fail
+          (subst (λ (a : At). IsLate a l.todo l.fail) stage late),
+    )
 late_step t l v m (compacts c) late = compact_step t l v m c
 
 -- What a giving of a piece leaves that may still be refused: it goes on with what it took, or it is
 -- past a refusal, or it ends.
 data Step (l m : Here) (v : DiskHeld) : Type 0 where
-  stays : GivesLast l.held v → m.held ≡ tail_of l.held → IsEarly m.at m.fail → Step l m v
-  passes : IsLate m.at m.fail → m.done ≡ l.done → Step l m v
+  stays : GivesLast l.held v → m.held ≡ tail_of l.held → IsEarly m.at m.todo m.fail → Step l m v
+  passes : IsLate m.at m.todo m.fail → m.done ≡ l.done → Step l m v
   ended : (d : Done) → m.done ≡ l.done ++ d ∷ []
-      → (IsRefusedEnd d.end → GivesLast l.held v × (m.held ≡ tail_of l.held)) → Step l m v
+      → (IsRefusedEnd d.part.op d.end → GivesLast l.held v × (m.held ≡ tail_of l.held)) → Step l m v
 
 pin_step : (l n : Here) (v : DiskHeld) → HasNone l.fail → n.fail ≡ l.fail → n.done ≡ l.done
     → GivesLast l.held v → n.held ≡ tail_of l.held → Step l n v
-pin_step l n v none fail done last held = by (split n.at n.fail (subst HasNone (sym fail) none)) where
-  by : IsEarly n.at n.fail ⊎ IsLate n.at n.fail → Step l n v
+pin_step l n v none fail done last held = by (split n.at n.todo n.fail (subst HasNone (sym fail) none)) where
+  by : IsEarly n.at n.todo n.fail ⊎ IsLate n.at n.todo n.fail → Step l n v
   by (inl early) = stays last held early
   by (inr late) = passes late done
 
-quit_early : (pin : Option Pin) (f : Option PartEnd) → IsEarly (quit_at pin) f
-quit_early None f = tt
-quit_early (Some x) f = tt
+quit_early : (pin : Option Pin) (todo : List Part) (f : Option PartEnd)
+    → IsEarly (quit_at pin) todo f
+quit_early None todo f = tt
+quit_early (Some x) todo f = tt
+
+fails_write : (op : Op) (c : Counters) → is_read op ≡ false
+    → fails_by op c ≡ counted c delta.FailedWrite
+fails_write (Write start count stuff) c e = refl
+fails_write (Read start count) c e = absurd (false≢true (sym e))
+fails_write (Discard start count) c e = refl
+fails_write Compact c e = refl
 
 -- the value that was held last
 last_is : (l : Here) (v : DiskHeld) (held : List (LockNo × DiskHeld)) → l.held ≡ held
@@ -273,36 +375,52 @@ last_is : (l : Here) (v : DiskHeld) (held : List (LockNo × DiskHeld)) → l.hel
 last_is l v held is last = subst (λ (h : List (LockNo × DiskHeld)). GivesLast h v) (sym is) last
 
 early_step : (t : Terms) (l : Here) (v : DiskHeld) (m : Here) → Works t l v m
-    → IsEarly l.at l.fail → Step l m v
+    → IsEarly l.at l.todo l.fail → Step l m v
 early_step t l v m (refuses p rest c todo stage held give is) early =
-    absurd (subst (λ (a : At). IsEarly a l.fail) stage early)
+    absurd (subst (λ (a : At). IsEarly a l.todo l.fail) stage early)
 early_step t l v m (pins p rest e o q q' cell todo stage held kept lends give is) early =
     subst (λ (y : Here). Step l y v) (sym is)
-    (pin_step l (pinning o cell l v) v (subst (λ (a : At). IsEarly a l.fail) stage early) refl refl
+    (pin_step l (pinning o cell l v) v (subst (λ (a : At). IsEarly a l.todo l.fail) stage early) refl refl
     (last_is l v _ held (q', give, objects_lent q q' o.handle.0 cell lends)) refl)
 early_step t l v m (unpins p rest e o q q' todo stage held kept back give is) early =
     subst (λ (y : Here). Step l y v) (sym is)
     (stays (last_is l v _ held (q', give, objects_back q q' o.handle.0 back)) refl tt)
+early_step t l v m (fetches p rest e b d d' page todo stage held kept read page_is give is) early =
+    subst (λ (y : Here). Step l y v) (sym is)
+    (pin_step l (fetching page l v) v (subst (λ (a : At). IsEarly a l.todo l.fail) stage early) refl
+    refl (last_is l v _ held (d', give, read.contents)) refl)
+early_step t l v m (misses p rest e b d d' fault todo stage held kept missed give is) early =
+    subst (λ (y : Here). Step l y v) (sym is) (by (reads_first l.todo) refl) where
+      by : (b : Bool) → reads_first l.todo ≡ b → Step l (missing fault l v) v
+      by true e = passes (inr (tt, e)) refl
+      by false e = stays (last_is l v _ held (d', give, missed.contents)) refl (tt, e)
+early_step t l v m (counts p rest e c todo stage held give is) early =
+    let unread = subst (λ (a : At). IsEarly a l.todo l.fail) stage early in
+    subst (λ (y : Here). Step l y v) (sym is)
+    (stays (last_is l v _ held (give ∙ ap (λ y. holds.Account y)
+    (fails_write p.op c (no_read p rest l.todo todo unread.1)))) refl unread)
 early_step t l v m (charges p rest e c q q' class handle need bytes huge todo stage held form c_is within adds give is)
     early =
     subst (λ (y : Here). Step l y v) (sym is)
-    (passes (subst (λ (a : At). IsEarly a l.fail) stage early) refl)
+    (passes (subst (λ (a : At). IsEarly a l.todo l.fail) stage early) refl)
 early_step t l v m (limits p rest e c q class need todo stage held n past give is) early =
     subst (λ (y : Here). Step l y v) (sym is) (stays (last_is l v _ held give) refl tt)
 early_step t l v m (starves p rest e c q class todo stage held full within give is) early =
     subst (λ (y : Here). Step l y v) (sym is) (stays (last_is l v _ held give) refl tt)
 early_step t l v m (stows p rest e q class todo stage held fail give is) early =
-    absurd (subst (λ (f : Option PartEnd). IsEarly at.Made f) fail
-    (subst (λ (a : At). IsEarly a l.fail) stage early))
+    absurd (subst (λ (f : Option PartEnd). IsEarly at.Made l.todo f) fail
+    (subst (λ (a : At). IsEarly a l.todo l.fail) stage early))
 early_step t l v m (quits p rest e q class end todo stage held fail give is) early =
     subst (λ (y : Here). Step l y v) (sym is)
-    (stays (last_is l v _ held (q, give, refl)) refl (quit_early l.pin l.fail))
+    (stays (last_is l v _ held (q, give, refl)) refl (quit_early l.pin l.todo l.fail))
 early_step t l v m (frees p rest e o q q' frames todo stage held kept drops give is) early =
-    absurd (subst (λ (a : At). IsEarly a l.fail) stage early)
+    absurd (subst (λ (a : At). IsEarly a l.todo l.fail) stage early)
+early_step t l v m (releases p rest e b x todo stage held kept give is) early =
+    absurd (subst (λ (a : At). IsEarly a l.todo l.fail) stage early)
 early_step t l v m (repays p rest e c todo stage held give is) early =
-    absurd (subst (λ (a : At). IsEarly a l.fail) stage early)
+    absurd (subst (λ (a : At). IsEarly a l.todo l.fail) stage early)
 early_step t l v m (puts p rest e f todo stage held notes give is) early =
-    absurd (subst (λ (a : At). IsEarly a l.fail) stage early)
+    absurd (subst (λ (a : At). IsEarly a l.todo l.fail) stage early)
 early_step t l v m (reads p rest e f todo stage held fail notes give is) early =
     ended (record {
       part = p;
@@ -321,14 +439,26 @@ early_step t l v m (fails p rest e end todo stage held fail give is) early =
       ap (λ (y : Here). y.held) so ∙ held_is l end (λ p. []) p rest l.todo todo
           ∙ sym (ap tail_of held),
     ))
+early_step t l v m (errs p rest e f end todo stage held fail read notes give is) early =
+    let unread = subst (λ (a : At). IsEarly a l.todo l.fail) stage early in
+    absurd (false≢true (sym (no_read p rest l.todo todo unread.1) ∙ read))
+early_step t l v m (leaves p rest e end todo stage held fail other give is) early =
+    let so = is ∙ ap (failing_by l) fail in
+    ended (record { part = p; end = end; got = [] })
+    (ap (λ (y : Here). y.done) so ∙ over_is l end (λ p. []) p rest l.todo todo)
+    (λ r. (
+      last_is l v _ held give,
+      ap (λ (y : Here). y.held) so ∙ held_is l end (λ p. []) p rest l.todo todo
+          ∙ sym (ap tail_of held),
+    ))
 early_step t l v m (compacts c) early = absurd (by c) where
   by : Compacts t l v m → ⊥
   by (moves p rest x q q' budget frames todo stage held more one give is) =
-      subst (λ (a : At). IsEarly a l.fail) stage early
+      subst (λ (a : At). IsEarly a l.todo l.fail) stage early
   by (rests p rest x q todo stage held none give is) =
-      subst (λ (a : At). IsEarly a l.fail) stage early
+      subst (λ (a : At). IsEarly a l.todo l.fail) stage early
   by (shrinks p rest x c todo stage held give is) =
-      subst (λ (a : At). IsEarly a l.fail) stage early
+      subst (λ (a : At). IsEarly a l.todo l.fail) stage early
 
 -- ---- a refused piece
 
@@ -344,7 +474,7 @@ last_done : (done done' : List Done) (d d' : Done) → done' ≡ done ++ d ∷ [
 last_done done done' d d' e e' =
     let same = append_cancel_left done (d ∷ []) (d' ∷ []) (sym e ∙ e') in cc
 
-never_late : (t : Terms) (es : List Event) (l : Here) → IsLate l.at l.fail → AreRefused t es l → ⊥
+never_late : (t : Terms) (es : List Event) (l : Here) → IsLate l.at l.todo l.fail → AreRefused t es l → ⊥
 never_late t [] l late refused = refused
 never_late t (Takes v ∷ es) l late (k, what, refused) =
     never_late t es (took t l v)
@@ -352,7 +482,7 @@ never_late t (Takes v ∷ es) l late (k, what, refused) =
 never_late t (Gives v m ∷ []) l late (k, what, works, (d, done, refused)) =
     elim (late_step t l v m works late) [
       | inl goes ↦ one_more l.done m.done d goes.1 done
-      | inr other ↦ other.2 (subst (λ (y : Done). IsRefusedEnd y.end)
+      | inr other ↦ other.2 (subst (λ (y : Done). IsRefusedEnd y.part.op y.end)
           (last_done l.done m.done d other.0 done other.1) refused)
     ]
 never_late t (Gives v m ∷ e ∷ es) l late (k, what, works, same, refused) =
@@ -361,7 +491,7 @@ never_late t (Gives v m ∷ e ∷ es) l late (k, what, works, same, refused) =
       | inr other ↦ one_more l.done m.done other.0 same other.1
     ]
 
-gives_back : (t : Terms) (es : List Event) (l : Here) → IsEarly l.at l.fail → AreRefused t es l
+gives_back : (t : Terms) (es : List Event) (l : Here) → IsEarly l.at l.todo l.fail → AreRefused t es l
     → GiveBack t es l
 gives_back t [] l early refused = tt
 gives_back t (Takes v ∷ es) l early (k, what, refused) =
@@ -374,7 +504,7 @@ gives_back t (Gives v m ∷ []) l early (k, what, works, (d, done, refused)) =
       | stays last held soon ↦ (last, held, tt)
       | passes late same ↦ absurd (one_more l.done m.done d same done)
       | ended d' done' so ↦
-          let r = so (subst (λ (y : Done). IsRefusedEnd y.end)
+          let r = so (subst (λ (y : Done). IsRefusedEnd y.part.op y.end)
           (last_done l.done m.done d d' done done') refused) in
           (r.0, r.1, tt)
     ]
@@ -388,5 +518,5 @@ gives_back t (Gives v m ∷ e ∷ es) l early (k, what, works, same, refused) =
 pub leaves_all : RefusalsLeaveAll
 leaves_all t es l start fail refused =
     gives_back t es l
-    (subst (λ (a : At). IsEarly a l.fail) (sym start)
-    (subst (λ (f : Option PartEnd). IsEarly at.Start f) (sym fail) tt)) refused
+    (subst (λ (a : At). IsEarly a l.todo l.fail) (sym start)
+    (subst (λ (f : Option PartEnd). IsEarly at.Start l.todo f) (sym fail) tt)) refused

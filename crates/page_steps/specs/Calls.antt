@@ -595,6 +595,16 @@ skips w p = false
 abbrev pub is_skipped : Head → Bool
 is_skipped c = skips c.work c.piece
 
+-- whether the next event gives the device
+abbrev pub is_fetching : {D : Type 0} → Stage D → Bool
+is_fetching (stage.Fetching e b d) = true
+is_fetching s = false
+
+-- whether the device has just failed
+abbrev pub is_failing : {D : Type 0} → Stage D → Bool
+is_failing (stage.Failing e fault) = true
+is_failing s = false
+
 -- whether the page was read from the device, after a turn from one stage to another
 abbrev pub has_fetched : {D : Type 0} → Bool → Stage D → Stage D → Bool
 has_fetched read (stage.Fetching e b d) (stage.Failing f fault) = read

@@ -1,5 +1,5 @@
 -- The turns of a call: what its hand has to allow, and what a turn leaves.
-use Rattle.std.specs.Prelude.{◌≡◌, ◌⊎◌, ℕ, ⊤, true, length, List, [], ◌∷◌, Option, Some, None}
+use Rattle.std.specs.Prelude.{◌≡◌, ◌⊎◌, ℕ, ⊤, true, false, length, List, [], ◌∷◌, Option, Some, None}
 use Rattle.zr_base.specs.declared.op.Piece.{Piece}
 use Rattle.lock_row.specs.declared.names.LockNo.{LockNo}
 use Rattle.lock_row.specs.declared.names.LockNo.TheVariants as lock

@@ -1,9 +1,9 @@
 //! The calls of a page: reads, writes and discards of a piece, one event at a time.
 
-ghost use Rattle.std.specs.Prelude.{◌≡◌};
+ghost use Rattle.std.specs.Prelude.{◌≡◌, ◌||◌, ◌&&◌, not};
 ghost use Rattle.page_steps.specs.declared.stage.Stage.TheVariants as stage;
 ghost use Rattle.page_steps.specs.declared.stage.Work.TheVariants as work;
-ghost use Rattle.page_steps.specs.Calls.{Frame, IsFit, IsGoing, IsWork, has_fetched, is_skipped, started, counting};
+ghost use Rattle.page_steps.specs.Calls.{Frame, IsFit, IsGoing, IsWork, has_fetched, is_failing, is_fetching, is_skipped, started, counting};
 ghost use Rattle.page_steps.specs.Turns.{Allows, IsReady, Advanced, HasAdvanced, IsOnward};
 
 use crate::enter::{beyond, refuse_request, start};
@@ -136,12 +136,33 @@ impl<D: Backing> PageCall<D> {
             ≡ has_fetched self.old.fetched self.old.stage self.new.stage }
     {
         let at = mem::replace(&mut self.stage, Stage::Over);
-        let reads = matches!(&at, Stage::Fetching(_, _, _));
+        let fetches = is_fetching(&at);
         let (next, progress) = step(self.head, at, hand, scratch);
-        self.fetched = self.fetched || reads && !matches!(&next, Stage::Failing(_, _));
+        self.fetched = has_read(self.fetched, fetches, is_failing(&next));
         self.stage = next;
         progress
     }
+}
+
+// Whether the next event gives the device.
+fn is_fetching<D: Backing>(at: &Stage<D>) -> bool
+    ensures { result ≡ is_fetching at.now }
+{
+    matches!(at, Stage::Fetching(_, _, _))
+}
+
+// Whether the device has just failed.
+fn is_failing<D: Backing>(at: &Stage<D>) -> bool
+    ensures { result ≡ is_failing at.now }
+{
+    matches!(at, Stage::Failing(_, _))
+}
+
+// Whether a read of the device succeeded, now or before.
+fn has_read(before: bool, fetches: bool, fails: bool) -> bool
+    ensures { result ≡ before || (fetches && not fails) }
+{
+    before || fetches && !fails
 }
 
 // One event, or a miss, of a call that isn't over.

@@ -1,7 +1,8 @@
 //! The events of a page that is on the device: its block is read, or the device fails, which is
 //! counted; and a change of the page frees the block.
 
-ghost use Rattle.std.specs.Prelude.{◌≡◌};
+ghost use Rattle.std.specs.Prelude.{◌≡◌, ◌<◌, All};
+ghost use Rattle.bdi_page.specs.Packing.{IsPage};
 ghost use Rattle.page_steps.specs.declared.stage.Stage.TheVariants as stage;
 ghost use Rattle.page_steps.specs.Calls.{IsAway, fails_by};
 ghost use Rattle.page_steps.specs.Turns.{IsReady, HasAdvanced, HasFetched};
@@ -16,6 +17,7 @@ use lock_row::{Hand, Held, LockNo};
 use mem_account::{Account, Delta};
 use slot_entry::{Entry, Kept};
 use std::marker::Brand;
+use zr_base::Page;
 
 /// Takes the device.
 pub(crate) fn away<D: Backing, H: Hand<Value = DiskHeld<D>>>(
@@ -25,7 +27,7 @@ pub(crate) fn away<D: Backing, H: Hand<Value = DiskHeld<D>>>(
     hand: &mut H,
     scratch: &Scratch,
 ) -> (Stage<D>, Progress)
-    requires { IsReady H.can_take H.takes H.can_give head scratch.now (stage.Away entry block)
+    requires { IsReady H.can_take H.takes H.can_give {D = D} head scratch.now (stage.Away entry block)
         hand.old }
     ensures { HasAdvanced H.takes H.misses H.gives head scratch.now (stage.Away entry block)
         hand.old scratch.now result.0 hand.new result.1 }
@@ -38,6 +40,21 @@ pub(crate) fn away<D: Backing, H: Hand<Value = DiskHeld<D>>>(
             Progress::Moved,
         ),
     }
+}
+
+// A page has bytes.
+#[inline]
+fn is_page(page: &Page)
+    ensures { IsPage page.now }
+{
+    are_bytes(page.bytes());
+}
+
+#[inline]
+fn are_bytes(bytes: &[u8])
+    ensures { All (λ b. b < 256) bytes.now }
+{
+    let _count = bytes.len();
 }
 
 // The page was read from the device.
@@ -70,7 +87,7 @@ pub(crate) fn fetch<D: Backing, H: Hand<Value = DiskHeld<D>>>(
     hand: &mut H,
     scratch: &mut Scratch,
 ) -> (Stage<D>, Progress)
-    requires { IsReady H.can_take H.takes H.can_give head scratch.old (stage.Fetching entry block
+    requires { IsReady H.can_take H.takes H.can_give {D = D} head scratch.old (stage.Fetching entry block
         device) hand.old }
     ensures { HasAdvanced H.takes H.misses H.gives head scratch.old (stage.Fetching entry block
         device) hand.old scratch.new result.0 hand.new result.1 }
@@ -79,6 +96,7 @@ pub(crate) fn fetch<D: Backing, H: Hand<Value = DiskHeld<D>>>(
     let lock = LockNo::Device;
     match reader.read(block, &mut scratch.page) {
         Ok(()) => {
+            is_page(&scratch.page);
             give_by::<D, H, Brand, Scratch, LockNo, LockNo>(
                 hand,
                 lock,
@@ -111,7 +129,7 @@ pub(crate) fn fail<D: Backing, H: Hand<Value = DiskHeld<D>>>(
     hand: &mut H,
     scratch: &Scratch,
 ) -> (Stage<D>, Progress)
-    requires { IsReady H.can_take H.takes H.can_give head scratch.now (stage.Failing entry fault)
+    requires { IsReady H.can_take H.takes H.can_give {D = D} head scratch.now (stage.Failing entry fault)
         hand.old }
     ensures { HasAdvanced H.takes H.misses H.gives head scratch.now (stage.Failing entry fault)
         hand.old scratch.now result.0 hand.new result.1 }
@@ -147,7 +165,7 @@ pub(crate) fn count<D: Backing, H: Hand<Value = DiskHeld<D>>>(
     hand: &mut H,
     scratch: &Scratch,
 ) -> (Stage<D>, Progress)
-    requires { IsReady H.can_take H.takes H.can_give head scratch.now (stage.Counting entry fault
+    requires { IsReady H.can_take H.takes H.can_give {D = D} head scratch.now (stage.Counting entry fault
         account) hand.old }
     ensures { HasAdvanced H.takes H.misses H.gives head scratch.now (stage.Counting entry fault
         account) hand.old scratch.now result.0 hand.new result.1 }
@@ -168,7 +186,7 @@ pub(crate) fn backed<D: Backing, H: Hand<Value = DiskHeld<D>>>(
     hand: &mut H,
     scratch: &Scratch,
 ) -> (Stage<D>, Progress)
-    requires { IsReady H.can_take H.takes H.can_give head scratch.now (stage.Backed own block next)
+    requires { IsReady H.can_take H.takes H.can_give {D = D} head scratch.now (stage.Backed own block next)
         hand.old }
     ensures { HasAdvanced H.takes H.misses H.gives head scratch.now (stage.Backed own block next)
         hand.old scratch.now result.0 hand.new result.1 }
@@ -193,7 +211,7 @@ pub(crate) fn release<D: Backing, H: Hand<Value = DiskHeld<D>>>(
     hand: &mut H,
     scratch: &Scratch,
 ) -> (Stage<D>, Progress)
-    requires { IsReady H.can_take H.takes H.can_give head scratch.now (stage.Releasing own block
+    requires { IsReady H.can_take H.takes H.can_give {D = D} head scratch.now (stage.Releasing own block
         next blocks) hand.old }
     ensures { HasAdvanced H.takes H.misses H.gives head scratch.now (stage.Releasing own block next
         blocks) hand.old scratch.now result.0 hand.new result.1 }

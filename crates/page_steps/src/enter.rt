@@ -121,7 +121,7 @@ pub(crate) fn start<D: Backing, H: Hand<Value = DiskHeld<D>>>(
     hand: &mut H,
     scratch: &mut Scratch,
 ) -> (Stage<D>, Progress)
-    requires { IsReady H.can_take H.takes H.can_give head scratch.old stage.Start hand.old }
+    requires { IsReady H.can_take H.takes H.can_give {D = D} head scratch.old stage.Start hand.old }
     ensures { HasAdvanced H.takes H.misses H.gives head scratch.old stage.Start hand.old
         scratch.new result.0 hand.new result.1 }
 {
@@ -138,7 +138,7 @@ pub(crate) fn beyond<D: Backing, H: Hand<Value = DiskHeld<D>>>(
     hand: &mut H,
     scratch: &Scratch,
 ) -> (Stage<D>, Progress)
-    requires { IsReady H.can_take H.takes H.can_give head scratch.now stage.Beyond hand.old }
+    requires { IsReady H.can_take H.takes H.can_give {D = D} head scratch.now stage.Beyond hand.old }
     ensures { HasAdvanced H.takes H.misses H.gives head scratch.now stage.Beyond hand.old
         scratch.now result.0 hand.new result.1 }
 {
@@ -156,7 +156,7 @@ pub(crate) fn refuse_request<D: Backing, H: Hand<Value = DiskHeld<D>>>(
     hand: &mut H,
     scratch: &Scratch,
 ) -> (Stage<D>, Progress)
-    requires { IsReady H.can_take H.takes H.can_give head scratch.now (stage.Refusing account)
+    requires { IsReady H.can_take H.takes H.can_give {D = D} head scratch.now (stage.Refusing account)
         hand.old }
     ensures { HasAdvanced H.takes H.misses H.gives head scratch.now (stage.Refusing account)
         hand.old scratch.now result.0 hand.new result.1 }

@@ -8,10 +8,12 @@ ghost use Rattle.page_steps.specs.Steps.{plan};
 ghost use Rattle.page_steps.specs.Calls.{Frame, here, next_event, IsFit, IsGoing, IsWork};
 ghost use Rattle.page_steps.specs.Refusals.{RefusalsLeaveAll};
 
-/// Between two events, what a call does next is what the plan of each actor says whose piece it does.
+use backing_dev::Backing;
+
+/// Over any device, between two events, what a call does next is what the plan of each actor says whose piece it does.
 #[inline]
-pub fn calls_are_events()
-    ensures plan { (D : Type 0) (c : Head) (r : Scratch) (s : Stage D) (x : Frame)
+pub fn calls_are_events<D: Backing>()
+    ensures plan { (c : Head) (r : Scratch) (s : Stage D) (x : Frame)
         → IsFit c r s → IsGoing s → IsWork c r x → plan x.terms (here x r s) ≡ next_event c s }
 {}
 

@@ -43,7 +43,7 @@ pub(crate) fn leave_plain<D: Backing, H: Hand<Value = DiskHeld<D>>>(
     hand: &mut H,
     scratch: &mut Scratch,
 ) -> (Stage<D>, Progress)
-    requires { IsReady H.can_take H.takes H.can_give head scratch.old (stage.Plain entry) hand.old }
+    requires { IsReady H.can_take H.takes H.can_give {D = D} head scratch.old (stage.Plain entry) hand.old }
     ensures { HasAdvanced H.takes H.misses H.gives head scratch.old (stage.Plain entry) hand.old
         scratch.new result.0 hand.new result.1 }
 {
@@ -63,7 +63,7 @@ pub(crate) fn leave<D: Backing, H: Hand<Value = DiskHeld<D>>>(
     hand: &mut H,
     scratch: &Scratch,
 ) -> (Stage<D>, Progress)
-    requires { IsReady H.can_take H.takes H.can_give head scratch.now (stage.Leaving entry)
+    requires { IsReady H.can_take H.takes H.can_give {D = D} head scratch.now (stage.Leaving entry)
         hand.old }
     ensures { HasAdvanced H.takes H.misses H.gives head scratch.now (stage.Leaving entry) hand.old
         scratch.now result.0 hand.new result.1 }
@@ -84,7 +84,7 @@ pub(crate) fn miss<D: Backing, H: Hand<Value = DiskHeld<D>>>(
     hand: &mut H,
     scratch: &Scratch,
 ) -> (Stage<D>, Progress)
-    requires { IsReady H.can_take H.takes H.can_give head scratch.now (stage.Missed entry fault)
+    requires { IsReady H.can_take H.takes H.can_give {D = D} head scratch.now (stage.Missed entry fault)
         hand.old }
     ensures { HasAdvanced H.takes H.misses H.gives head scratch.now (stage.Missed entry fault)
         hand.old scratch.now result.0 hand.new result.1 }
@@ -105,7 +105,7 @@ pub(crate) fn refuse<D: Backing, H: Hand<Value = DiskHeld<D>>>(
     hand: &mut H,
     scratch: &Scratch,
 ) -> (Stage<D>, Progress)
-    requires { IsReady H.can_take H.takes H.can_give head scratch.now (stage.Refused entry read
+    requires { IsReady H.can_take H.takes H.can_give {D = D} head scratch.now (stage.Refused entry read
         end) hand.old }
     ensures { HasAdvanced H.takes H.misses H.gives head scratch.now (stage.Refused entry read end)
         hand.old scratch.now result.0 hand.new result.1 }

@@ -12,6 +12,8 @@ mod objects;
 mod pins;
 mod settle;
 mod stage;
+#[cfg(test)]
+mod tests;
 mod values;
 
 pub use call::PageCall;

@@ -36,7 +36,7 @@ pub(crate) fn want<D: Backing, H: Hand<Value = DiskHeld<D>>>(
     hand: &mut H,
     scratch: &Scratch,
 ) -> (Stage<D>, Progress)
-    requires { IsReady H.can_take H.takes H.can_give head scratch.now (stage.Wanting own new)
+    requires { IsReady H.can_take H.takes H.can_give {D = D} head scratch.now (stage.Wanting own new)
         hand.old }
     ensures { HasAdvanced H.takes H.misses H.gives head scratch.now (stage.Wanting own new)
         hand.old scratch.now result.0 hand.new result.1 }
@@ -57,7 +57,7 @@ pub(crate) fn ask<D: Backing, H: Hand<Value = DiskHeld<D>>>(
     hand: &mut H,
     scratch: &Scratch,
 ) -> (Stage<D>, Progress)
-    requires { IsReady H.can_take H.takes H.can_give head scratch.now (stage.Inside own new pool)
+    requires { IsReady H.can_take H.takes H.can_give {D = D} head scratch.now (stage.Inside own new pool)
         hand.old }
     ensures { HasAdvanced H.takes H.misses H.gives head scratch.now (stage.Inside own new pool)
         hand.old scratch.now result.0 hand.new result.1 }
@@ -116,10 +116,10 @@ fn deny<D: Backing, H: Hand<Value = DiskHeld<D>>>(
     hand: &mut H,
     scratch: &Scratch,
 ) -> (Stage<D>, Progress)
-    requires ready { IsReady H.can_take H.takes H.can_give head scratch.now (stage.Both own new
+    requires ready { IsReady H.can_take H.takes H.can_give {D = D} head scratch.now (stage.Both own new
         pool account) hand.old }
     requires refusal { IsRefusal end }
-    requires gives { GivesAs head scratch.now (stage.Both own new pool account) (denying (end_of
+    requires gives { GivesAs {D = D} head scratch.now (stage.Both own new pool account) (denying (end_of
         end))
         (holds.Account (counted account delta.FailedWrite)) }
     ensures { HasAdvanced H.takes H.misses H.gives head scratch.now (stage.Both own new pool
@@ -154,7 +154,7 @@ pub(crate) fn charge<D: Backing, H: Hand<Value = DiskHeld<D>>>(
     hand: &mut H,
     scratch: &Scratch,
 ) -> (Stage<D>, Progress)
-    requires { IsReady H.can_take H.takes H.can_give head scratch.now (stage.Both own new pool
+    requires { IsReady H.can_take H.takes H.can_give {D = D} head scratch.now (stage.Both own new pool
         account) hand.old }
     ensures { HasAdvanced H.takes H.misses H.gives head scratch.now (stage.Both own new pool
         account) hand.old scratch.now result.0 hand.new result.1 }
@@ -209,7 +209,7 @@ fn stow<D: Backing, H: Hand<Value = DiskHeld<D>>>(
     hand: &mut H,
     scratch: &Scratch,
 ) -> (Stage<D>, Progress)
-    requires { IsReady H.can_take H.takes H.can_give head scratch.now (stage.Made own class pool
+    requires { IsReady H.can_take H.takes H.can_give {D = D} head scratch.now (stage.Made own class pool
         (outcome.Object object)) hand.old }
     ensures { HasAdvanced H.takes H.misses H.gives head scratch.now (stage.Made own class pool
         (outcome.Object object)) hand.old scratch.now result.0 hand.new result.1 }
@@ -238,7 +238,7 @@ fn quit<D: Backing, H: Hand<Value = DiskHeld<D>>>(
     hand: &mut H,
     scratch: &Scratch,
 ) -> (Stage<D>, Progress)
-    requires { IsReady H.can_take H.takes H.can_give head scratch.now (stage.Made own class pool
+    requires { IsReady H.can_take H.takes H.can_give {D = D} head scratch.now (stage.Made own class pool
         (outcome.Refused end)) hand.old }
     ensures { HasAdvanced H.takes H.misses H.gives head scratch.now (stage.Made own class pool
         (outcome.Refused end)) hand.old scratch.now result.0 hand.new result.1 }
@@ -258,7 +258,7 @@ pub(crate) fn made<D: Backing, H: Hand<Value = DiskHeld<D>>>(
     hand: &mut H,
     scratch: &Scratch,
 ) -> (Stage<D>, Progress)
-    requires { IsReady H.can_take H.takes H.can_give head scratch.now (stage.Made own class pool
+    requires { IsReady H.can_take H.takes H.can_give {D = D} head scratch.now (stage.Made own class pool
         outcome) hand.old }
     ensures { HasAdvanced H.takes H.misses H.gives head scratch.now (stage.Made own class pool
         outcome) hand.old scratch.now result.0 hand.new result.1 }

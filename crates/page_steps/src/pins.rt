@@ -29,7 +29,7 @@ pub(crate) fn seen<D: Backing, H: Hand<Value = DiskHeld<D>>>(
     hand: &mut H,
     scratch: &Scratch,
 ) -> (Stage<D>, Progress)
-    requires { IsReady H.can_take H.takes H.can_give head scratch.now (stage.Seen entry object)
+    requires { IsReady H.can_take H.takes H.can_give {D = D} head scratch.now (stage.Seen entry object)
         hand.old }
     ensures { HasAdvanced H.takes H.misses H.gives head scratch.now (stage.Seen entry object)
         hand.old scratch.now result.0 hand.new result.1 }
@@ -111,7 +111,7 @@ pub(crate) fn pin<D: Backing, H: Hand<Value = DiskHeld<D>>>(
     hand: &mut H,
     scratch: &mut Scratch,
 ) -> (Stage<D>, Progress)
-    requires { IsReady H.can_take H.takes H.can_give head scratch.old (stage.Pinning entry object
+    requires { IsReady H.can_take H.takes H.can_give {D = D} head scratch.old (stage.Pinning entry object
         pool) hand.old }
     ensures { HasAdvanced H.takes H.misses H.gives head scratch.old (stage.Pinning entry object
         pool) hand.old scratch.new result.0 hand.new result.1 }
@@ -141,7 +141,7 @@ pub(crate) fn pinned<D: Backing, H: Hand<Value = DiskHeld<D>>>(
     hand: &mut H,
     scratch: &Scratch,
 ) -> (Stage<D>, Progress)
-    requires { IsReady H.can_take H.takes H.can_give head scratch.now (stage.Pinned entry lent end)
+    requires { IsReady H.can_take H.takes H.can_give {D = D} head scratch.now (stage.Pinned entry lent end)
         hand.old }
     ensures { HasAdvanced H.takes H.misses H.gives head scratch.now (stage.Pinned entry lent end)
         hand.old scratch.now result.0 hand.new result.1 }
@@ -176,7 +176,7 @@ pub(crate) fn unpin<D: Backing, H: Hand<Value = DiskHeld<D>>>(
     hand: &mut H,
     scratch: &Scratch,
 ) -> (Stage<D>, Progress)
-    requires { IsReady H.can_take H.takes H.can_give head scratch.now (stage.Unpinning entry lent
+    requires { IsReady H.can_take H.takes H.can_give {D = D} head scratch.now (stage.Unpinning entry lent
         end pool) hand.old }
     ensures { HasAdvanced H.takes H.misses H.gives head scratch.now (stage.Unpinning entry lent end
         pool) hand.old scratch.now result.0 hand.new result.1 }

@@ -32,7 +32,7 @@ pub(crate) fn old<D: Backing, H: Hand<Value = DiskHeld<D>>>(
     hand: &mut H,
     scratch: &Scratch,
 ) -> (Stage<D>, Progress)
-    requires { IsReady H.can_take H.takes H.can_give head scratch.now (stage.Old own object next)
+    requires { IsReady H.can_take H.takes H.can_give {D = D} head scratch.now (stage.Old own object next)
         hand.old }
     ensures { HasAdvanced H.takes H.misses H.gives head scratch.now (stage.Old own object next)
         hand.old scratch.now result.0 hand.new result.1 }
@@ -70,7 +70,7 @@ pub(crate) fn free<D: Backing, H: Hand<Value = DiskHeld<D>>>(
     hand: &mut H,
     scratch: &Scratch,
 ) -> (Stage<D>, Progress)
-    requires { IsReady H.can_take H.takes H.can_give head scratch.now (stage.Freeing own object
+    requires { IsReady H.can_take H.takes H.can_give {D = D} head scratch.now (stage.Freeing own object
         next pool) hand.old }
     ensures { HasAdvanced H.takes H.misses H.gives head scratch.now (stage.Freeing own object next
         pool) hand.old scratch.now result.0 hand.new result.1 }
@@ -106,7 +106,7 @@ pub(crate) fn owe<D: Backing, H: Hand<Value = DiskHeld<D>>>(
     hand: &mut H,
     scratch: &Scratch,
 ) -> (Stage<D>, Progress)
-    requires { IsReady H.can_take H.takes H.can_give head scratch.now (stage.Owing due frames
+    requires { IsReady H.can_take H.takes H.can_give {D = D} head scratch.now (stage.Owing due frames
         ahead) hand.old }
     ensures { HasAdvanced H.takes H.misses H.gives head scratch.now (stage.Owing due frames ahead)
         hand.old scratch.now result.0 hand.new result.1 }
@@ -154,7 +154,7 @@ pub(crate) fn repay<D: Backing, H: Hand<Value = DiskHeld<D>>>(
     hand: &mut H,
     scratch: &Scratch,
 ) -> (Stage<D>, Progress)
-    requires { IsReady H.can_take H.takes H.can_give head scratch.now (stage.Giving due frames
+    requires { IsReady H.can_take H.takes H.can_give {D = D} head scratch.now (stage.Giving due frames
         ahead account) hand.old }
     ensures { HasAdvanced H.takes H.misses H.gives head scratch.now (stage.Giving due frames ahead
         account) hand.old scratch.now result.0 hand.new result.1 }
@@ -213,7 +213,7 @@ pub(crate) fn put<D: Backing, H: Hand<Value = DiskHeld<D>>>(
     hand: &mut H,
     scratch: &Scratch,
 ) -> (Stage<D>, Progress)
-    requires { IsReady H.can_take H.takes H.can_give head scratch.now (stage.Ready due ahead
+    requires { IsReady H.can_take H.takes H.can_give {D = D} head scratch.now (stage.Ready due ahead
         behind) hand.old }
     ensures { HasAdvanced H.takes H.misses H.gives head scratch.now (stage.Ready due ahead behind)
         hand.old scratch.now result.0 hand.new result.1 }

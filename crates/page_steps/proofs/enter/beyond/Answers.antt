@@ -4,6 +4,7 @@ use Rattle.lock_row.specs.declared.names.LockNo.TheVariants as lock
 use Rattle.page_steps.specs.Steps.{with_lock}
 use Rattle.page_steps.specs.Calls.{here}
 use Rattle.page_steps.specs.declared.stage.Stage.TheVariants as stage
+use Rattle.page_steps.proofs.Plans.{AnyDevice}
 use Rattle.page_steps.proofs.Moves.{waits, takes_it}
 use Rattle.page_steps.proofs.Taken.{fits_beyond, account_in, asks}
 use Rattle.page_steps.proofs.enter.beyond.Goals as goal
@@ -26,5 +27,5 @@ returns-in-Some g c =
     let a = c.args in
     let so = asks a.head a.scratch.now c.requires.fit in
     takes_it c.requires tt refl so c.in-Some.ensures.outcome c.requires.fit tt
-    (λ x w. ap (with_lock (here x a.scratch.now stage.Beyond) at.Refusing lock.Account)
+    (λ x w. ap (with_lock (here {D = AnyDevice} x a.scratch.now stage.Beyond) at.Refusing lock.Account)
     (sym c.account_of.ensures) ∙ so x c.in-Some.value w)

@@ -1,21 +1,16 @@
-use Rattle.std.proofs.Common.{sym, subst}
-use Rattle.page_steps.specs.Turns.{HasEntered}
-use Rattle.page_steps.specs.declared.stage.Stage.{Stage}
-use Rattle.page_steps.proofs.Formed.{entered_reads, entered_discards}
+use Rattle.page_steps.proofs.Formed.{entered_as, entered_reads, entered_discards}
 use Rattle.page_steps.proofs.enter.entered.Goals as goal
 
 pub returns-in-Reads : goal.returns-in-Reads
-returns-in-Reads c =
+returns-in-Reads g c =
     let a = c.args in
-    subst (λ (s : Stage). HasEntered a.head a.scratch.now a.entry a.scratch.now s)
-    (sym c.entered_read.ensures.is)
+    entered_as c.entered_read.ensures.is
     (entered_reads a.head a.scratch.now a.entry c.in-Reads.is c.requires.piece c.requires.within
     c.requires.place)
 
 pub returns-in-Discards : goal.returns-in-Discards
-returns-in-Discards c =
+returns-in-Discards g c =
     let a = c.args in
-    subst (λ (s : Stage). HasEntered a.head a.scratch.now a.entry a.scratch.now s)
-    (sym c.entered_discard.ensures.is)
+    entered_as c.entered_discard.ensures.is
     (entered_discards a.head a.scratch.now a.entry c.in-Discards.is c.requires.piece c.requires.within
     c.requires.place)

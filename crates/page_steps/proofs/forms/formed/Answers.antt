@@ -1,14 +1,13 @@
-use Rattle.std.proofs.Common.{refl, sym, ap, ◌∙◌, subst, arith}
+use Rattle.std.proofs.Common.{refl, sym, ap, ◌∙◌, arith}
 use Rattle.std.specs.Prelude.{true, false}
 use Rattle.slot_entry.specs.Forms.{class_for}
-use Rattle.page_steps.specs.Turns.{IsFormed, Keeps}
+use Rattle.page_steps.specs.Turns.{Keeps}
 use Rattle.page_steps.specs.declared.stage.Scratch.{Scratch}
-use Rattle.page_steps.specs.declared.stage.Stage.{Stage}
-use Rattle.page_steps.proofs.Formed.{own_kept, formed_same, formed_new}
+use Rattle.page_steps.proofs.Formed.{own_kept, formed_as, formed_same, formed_new}
 use Rattle.page_steps.proofs.forms.formed.Goals as goal
 
 pub returns-in-Same-clause-formed : goal.returns-in-Same-clause-formed
-returns-in-Same-clause-formed c =
+returns-in-Same-clause-formed g c =
     let a = c.args in
     let r : Scratch = record {
       page = a.scratch.now.page;
@@ -17,12 +16,12 @@ returns-in-Same-clause-formed c =
       table = a.scratch.now.table;
     } in
     let keeps : Keeps a.scratch.now r = record { page = refl; fresh = refl; table = refl } in
-    subst (λ (s : Stage). IsFormed a.head a.own r s) (sym c.settled.ensures.is)
+    formed_as c.settled.ensures.is
     (formed_same a.head r a.own c.in-Same.word (own_kept a.head a.scratch.now r a.own keeps c.requires.own)
     c.requires.write c.in-Same.ensures.is)
 
 pub returns-in-Packed-clause-formed : goal.returns-in-Packed-clause-formed
-returns-in-Packed-clause-formed c =
+returns-in-Packed-clause-formed g c =
     let a = c.args in
     let r : Scratch = record {
       page = a.scratch.now.page;
@@ -42,7 +41,7 @@ returns-in-Packed-clause-formed c =
     (omega (arith, len.1))
 
 pub returns-in-Huge-clause-formed : goal.returns-in-Huge-clause-formed
-returns-in-Huge-clause-formed c =
+returns-in-Huge-clause-formed g c =
     let a = c.args in
     let r : Scratch = record {
       page = a.scratch.now.page;

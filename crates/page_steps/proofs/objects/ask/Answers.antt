@@ -5,6 +5,7 @@ use Rattle.page_steps.specs.Steps.{with_lock}
 use Rattle.page_steps.specs.Fits.{AsAccount, CanCharge}
 use Rattle.page_steps.specs.Calls.{here}
 use Rattle.page_steps.specs.declared.stage.Stage.TheVariants as stage
+use Rattle.page_steps.proofs.Plans.{AnyDevice}
 use Rattle.page_steps.proofs.Moves.{waits, takes_it}
 use Rattle.page_steps.proofs.Taken.{fits_inside, account_in}
 use Rattle.page_steps.proofs.objects.ask.Goals as goal
@@ -30,5 +31,5 @@ returns-in-Some g c =
       c.requires.fit.2,
       subst (AsAccount (CanCharge a.scratch.now.table)) c.account_of.ensures fits,
     ) tt
-    (λ x w. ap (with_lock (here x a.scratch.now (stage.Inside a.own a.new a.pool)) at.Both lock.Account)
+    (λ x w. ap (with_lock (here {D = AnyDevice} x a.scratch.now (stage.Inside a.own a.new a.pool)) at.Both lock.Account)
     (sym c.account_of.ensures))

@@ -8,6 +8,7 @@ use Rattle.page_steps.specs.Calls.{bytes_by, end_of}
 use Rattle.page_steps.specs.Turns.{GivesAs}
 use Rattle.page_steps.specs.declared.stage.PieceEnd.TheVariants as piece
 use Rattle.page_steps.specs.declared.stage.Stage.TheVariants as stage
+use Rattle.page_steps.proofs.Plans.{AnyDevice}
 use Rattle.page_steps.proofs.Moves.{gives_it}
 use Rattle.page_steps.proofs.Given.{can_limit, can_starve, can_charge, made_next, new_class_is}
 use Rattle.page_steps.proofs.objects.charge.Goals as goal
@@ -21,7 +22,7 @@ deny-requires-clause-gives g c =
 pub deny-requires-in-Err-clause-gives : goal.deny-requires-in-Err-clause-gives
 deny-requires-in-Err-clause-gives g c =
     let a = c.args in
-    subst (λ (q : PoolState). GivesAs a.head a.scratch.now (stage.Both a.own a.new q a.account)
+    subst (λ (q : PoolState). GivesAs {D = AnyDevice} a.head a.scratch.now (stage.Both a.own a.new q a.account)
     (denying (end_of piece.NoMemory)) (holds.Account (counted a.account delta.FailedWrite)))
     (sym c.in-Err.ensures.same)
     (can_starve a.head a.scratch.now a.own a.new a.pool a.account c.need_of.result c.in-Err.ensures.full

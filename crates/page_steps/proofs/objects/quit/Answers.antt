@@ -16,7 +16,8 @@ returns g c =
     at_stage c.quitted.ensures
     (gives_it quitting c.requires tt refl (can_quit a.head a.scratch.now a.own a.class a.pool a.end)
     c.give.ensures
-    (quitted_fit a.head a.scratch.now a.own.entry a.own.lent a.end c.requires.fit.0 c.requires.fit.2)
-    (quitted_going a.own.entry a.own.lent a.end)
-    (λ x w. quitted_here x a.scratch.now a.own.entry a.own.lent a.class a.pool a.end
-    (holds.Class a.pool)))
+    (quitted_fit _ a.head a.scratch.now a.own.entry a.own.read a.own.lent a.end c.requires.fit.0
+    c.requires.fit.2)
+    (quitted_going _ a.own.entry a.own.read a.own.lent a.end)
+    (λ x w. quitted_here _ x a.scratch.now a.own.entry a.own.read a.own.lent a.class a.pool a.end
+    (holds.Class a.pool) c.requires.fit.0.seen))

@@ -16,8 +16,8 @@ returns g c =
     at_stage c.settled.ensures.is
     (gives_it stowing c.requires tt refl (can_stow a.head a.scratch.now a.own a.class a.pool a.object)
     c.give.ensures
-    (settled_fit a.head a.scratch.now a.own (kept.Obj a.object) a.own.entry.kept refl c.requires.fit.0
+    (settled_fit _ a.head a.scratch.now a.own (kept.Obj a.object) a.own.entry.kept refl c.requires.fit.0
     c.requires.fit.2)
-    (settled_going a.own (kept.Obj a.object) a.own.entry.kept)
-    (λ x w. sym (settled_here x a.scratch.now a.own (kept.Obj a.object) a.own.entry.kept
+    (settled_going _ a.own (kept.Obj a.object) a.own.entry.kept)
+    (λ x w. sym (settled_here _ x a.scratch.now a.own (kept.Obj a.object) a.own.entry.kept
     c.requires.fit.0.lent)))

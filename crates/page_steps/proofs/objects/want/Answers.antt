@@ -6,6 +6,7 @@ use Rattle.page_steps.specs.Steps.{with_lock}
 use Rattle.page_steps.specs.Fits.{AsPool, CanStore}
 use Rattle.page_steps.specs.Calls.{here, bytes_by}
 use Rattle.page_steps.specs.declared.stage.Stage.TheVariants as stage
+use Rattle.page_steps.proofs.Plans.{AnyDevice}
 use Rattle.page_steps.proofs.Moves.{waits, takes_it}
 use Rattle.page_steps.proofs.Taken.{fits_wanting, pool_in, wants}
 use Rattle.page_steps.proofs.objects.want.Goals as goal
@@ -38,5 +39,5 @@ returns-in-Some g c =
       subst (AsPool (CanStore a.scratch.now.table (length (bytes_by a.scratch.now a.new.huge))))
           c.pool_of.ensures fits,
     ) tt
-    (λ x w. ap (with_lock (here x a.scratch.now (stage.Wanting a.own a.new)) at.Inside (lock.Class a.new.class))
+    (λ x w. ap (with_lock (here {D = AnyDevice} x a.scratch.now (stage.Wanting a.own a.new)) at.Inside (lock.Class a.new.class))
     (sym c.pool_of.ensures) ∙ so x c.in-Some.value w)

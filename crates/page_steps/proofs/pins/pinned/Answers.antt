@@ -4,6 +4,7 @@ use Rattle.lock_row.specs.declared.names.At.TheVariants as at
 use Rattle.page_steps.specs.Fits.{AsPool}
 use Rattle.page_steps.specs.Calls.{here}
 use Rattle.page_steps.specs.declared.stage.Stage.TheVariants as stage
+use Rattle.page_steps.proofs.Plans.{AnyDevice}
 use Rattle.page_steps.proofs.Moves.{waits, takes_it}
 use Rattle.page_steps.proofs.Taken.{fits_pinned, took_old}
 use Rattle.page_steps.proofs.pins.pinned.Goals as goal
@@ -21,5 +22,5 @@ returns-in-Some g c =
       c.requires.fit.1,
       subst (AsPool (λ q. IsLent q a.lent.object.handle.0 a.lent.cell)) c.pool_of.ensures fits,
     ) tt
-    (λ x w. took_old (here x a.scratch.now (stage.Pinned a.entry a.lent a.end)) at.Unpinning a.entry.kept
+    (λ x w. took_old (here {D = AnyDevice} x a.scratch.now (stage.Pinned a.entry a.lent a.end)) at.Unpinning a.entry.kept
     a.lent.object c.in-Some.value c.pool_of.result c.requires.fit.0.kept c.pool_of.ensures)

@@ -1,10 +1,10 @@
-use Rattle.std.proofs.Common.{refl, sym, ◌∙◌}
+use Rattle.std.proofs.Common.{Some, refl, sym, ◌∙◌}
 use Rattle.page_steps.specs.declared.stage.Scratch.{Scratch}
-use Rattle.page_steps.proofs.Formed.{own_read, read_pinned, read_written}
+use Rattle.page_steps.proofs.Formed.{own_seen, read_pinned, read_written}
 use Rattle.page_steps.proofs.pins.read_stage.Goals as goal
 
 pub formed-requires-clause-own : goal.formed-requires-clause-own
-formed-requires-clause-own c =
+formed-requires-clause-own g c =
     let a = c.args in
     let m : Scratch = record {
       page = a.scratch.now.page;
@@ -12,11 +12,11 @@ formed-requires-clause-own c =
       packed = a.scratch.now.packed;
       table = a.scratch.now.table;
     } in
-    own_read a.head a.scratch.now m a.entry a.lent (sym c.is_write.ensures ∙ c.if-is_write.true) c.requires refl
-    (record { sectors = c.merge.ensures.merged }) c.merge.ensures.long
+    own_seen a.head a.scratch.now m a.entry (Some a.lent) (sym c.is_write.ensures ∙ c.if-is_write.true)
+    c.requires.within c.requires.place c.requires.kept refl (record { sectors = c.merge.ensures.merged }) c.merge.ensures.long
 
 pub returns-then-is_write : goal.returns-then-is_write
-returns-then-is_write c =
+returns-then-is_write g c =
     let a = c.args in
     let m : Scratch = record {
       page = a.scratch.now.page;
@@ -25,13 +25,13 @@ returns-then-is_write c =
       table = a.scratch.now.table;
     } in
     let write = sym c.is_write.ensures ∙ c.if-is_write.true in
-    read_written a.head a.scratch.now m c.formed.new.scratch a.entry a.lent c.formed.result write c.requires
+    read_written a.head a.scratch.now m c.formed.new.scratch a.entry a.lent c.formed.result write
     c.merge.ensures.kept refl refl
-    (own_read a.head a.scratch.now m a.entry a.lent write c.requires refl
-    (record { sectors = c.merge.ensures.merged }) c.merge.ensures.long)
+    (own_seen a.head a.scratch.now m a.entry (Some a.lent) write c.requires.within c.requires.place
+    c.requires.kept refl (record { sectors = c.merge.ensures.merged }) c.merge.ensures.long)
     c.formed.ensures.same c.formed.ensures.formed
 
 pub returns-else-is_write : goal.returns-else-is_write
-returns-else-is_write c =
+returns-else-is_write g c =
     let a = c.args in
     read_pinned a.head a.scratch.now a.entry a.lent (sym c.is_write.ensures ∙ c.if-is_write.false) c.requires

@@ -3,6 +3,7 @@ use Rattle.lock_row.specs.declared.names.At.TheVariants as at
 use Rattle.page_steps.specs.Fits.{AsPool, CanPin}
 use Rattle.page_steps.specs.Calls.{here}
 use Rattle.page_steps.specs.declared.stage.Stage.TheVariants as stage
+use Rattle.page_steps.proofs.Plans.{AnyDevice}
 use Rattle.page_steps.proofs.Moves.{waits, takes_it}
 use Rattle.page_steps.proofs.Taken.{fits_seen, took_old}
 use Rattle.page_steps.proofs.pins.seen.Goals as goal
@@ -17,5 +18,5 @@ returns-in-Some g c =
     (c.requires.allows.fits _ _ _ _ refl (λ x v w. refl) c.in-Some.ensures.outcome) in
     takes_it c.requires tt refl (λ x v w. refl) c.in-Some.ensures.outcome
     (c.requires.fit, subst (AsPool (CanPin a.object)) c.pool_of.ensures fits) tt
-    (λ x w. took_old (here x a.scratch.now (stage.Seen a.entry a.object)) at.Pinning a.entry.kept a.object
+    (λ x w. took_old (here {D = AnyDevice} x a.scratch.now (stage.Seen a.entry a.object)) at.Pinning a.entry.kept a.object
     c.in-Some.value c.pool_of.result c.requires.fit.kept c.pool_of.ensures)

@@ -21,6 +21,6 @@ returns g c =
     (can_unpin a.head a.scratch.now a.entry a.lent a.end a.pool c.unpin.new.self c.requires.fit.0.kept
     (gives_back a.pool c.unpin.new.self a.lent.object.handle.0 c.unpin.ensures.cell c.unpin.ensures.pool))
     c.give.ensures
-    (unpinned_fit a.head a.scratch.now a.entry a.lent a.end c.requires.fit.0 c.requires.fit.1)
-    (unpinned_going a.entry a.end)
-    (λ x w. unpinned_here x a.scratch.now a.entry a.lent a.end a.pool (holds.Class c.unpin.new.self)))
+    (unpinned_fit _ a.head a.scratch.now a.entry a.lent a.end c.requires.fit.0 c.requires.fit.1)
+    (unpinned_going _ a.entry a.end)
+    (λ x w. unpinned_here _ x a.scratch.now a.entry a.lent a.end a.pool (holds.Class c.unpin.new.self)))

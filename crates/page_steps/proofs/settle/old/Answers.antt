@@ -3,6 +3,7 @@ use Rattle.lock_row.specs.declared.names.At.TheVariants as at
 use Rattle.page_steps.specs.Fits.{AsPool}
 use Rattle.page_steps.specs.Calls.{here, CanFree}
 use Rattle.page_steps.specs.declared.stage.Stage.TheVariants as stage
+use Rattle.page_steps.proofs.Plans.{AnyDevice}
 use Rattle.page_steps.proofs.Moves.{waits, takes_it}
 use Rattle.page_steps.proofs.Taken.{fits_old, took_old, pool_in}
 use Rattle.page_steps.proofs.settle.old.Goals as goal
@@ -28,5 +29,5 @@ returns-in-Some g c =
       c.requires.fit.2,
       subst (AsPool (CanFree a.own.lent a.object)) c.pool_of.ensures fits,
     ) tt
-    (λ x w. took_old (here x a.scratch.now (stage.Old a.own a.object a.next)) at.Freeing a.own.entry.kept
+    (λ x w. took_old (here {D = AnyDevice} x a.scratch.now (stage.Old a.own a.object a.next)) at.Freeing a.own.entry.kept
     a.object c.in-Some.value c.pool_of.result c.requires.fit.1 c.pool_of.ensures)

@@ -7,6 +7,7 @@ use Rattle.page_steps.specs.Givings.{old_weight}
 use Rattle.page_steps.specs.Fits.{AsAccount, CanPay}
 use Rattle.page_steps.specs.Calls.{here}
 use Rattle.page_steps.specs.declared.stage.Stage.TheVariants as stage
+use Rattle.page_steps.proofs.Plans.{AnyDevice}
 use Rattle.page_steps.proofs.Moves.{waits, takes_it}
 use Rattle.page_steps.proofs.Taken.{fits_owing, account_in}
 use Rattle.page_steps.proofs.settle.owe.Goals as goal
@@ -31,5 +32,5 @@ returns-in-Some g c =
       subst (AsAccount (CanPay a.frames (old_weight a.ahead a.due.entry.kept) (weight_of a.due.next)))
           c.account_of.ensures fits,
     ) tt
-    (λ x w. ap (with_lock (here x a.scratch.now (stage.Owing a.due a.frames a.ahead)) at.Giving lock.Account)
+    (λ x w. ap (with_lock (here {D = AnyDevice} x a.scratch.now (stage.Owing a.due a.frames a.ahead)) at.Giving lock.Account)
     (sym c.account_of.ensures))
