@@ -237,10 +237,6 @@ charged_refusals FailedReads c need = refl
 charged_refusals FailedWrites c need = refl
 charged_refusals OutOfRange c need = refl
 
-none_fail : (x : Option PartEnd) → NoneOf x → x ≡ None
-none_fail None i = refl
-none_fail (Some x) i = absurd i
-
 -- which count of faults a failure of the device tells
 pub fault_of : (g : Begin) (p : Part) (x : Option PartEnd) → IsFault g p x
     → (fault : ℕ) × (x ≡ Some (Eio fault))

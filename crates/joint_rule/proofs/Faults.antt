@@ -1,6 +1,6 @@
 -- The device's counts of faults: a failure's is above all that were told before, so each is told
 -- once.
-use Rattle.std.proofs.Common.{◌≡◌, ◌+◌, ◌≤◌, ◌<◌, ◌∷◌, ◌∙◌, ℕ, zero, suc, Bool, cond, eqb, List, [], Option, Some, None, slice_get, slice_set, refl, sym, ap, subst, arith, inl, inr}
+use Rattle.std.proofs.Common.{◌≡◌, ◌+◌, ◌≤◌, ◌<◌, ◌∷◌, ℕ, zero, suc, Bool, cond, eqb, List, [], Option, Some, None, slice_get, refl, sym, ap, subst, arith, inl, inr}
 use Rattle.backing_dev.specs.Dev.{DeviceState}
 use Rattle.call_history.specs.Parts.{EndsSo, Follows, KeepsTo, done_sum, left_by, piece_gives, program}
 use Rattle.call_history.specs.declared.part.Done.{Done}

@@ -1,11 +1,11 @@
 -- The reads of the device: a giving raises their count by one at most, and then for a piece that
 -- hasn't read it before; a piece that is over tells that in its page's order or by its end.
-use Rattle.std.proofs.Common.{◌≡◌, ◌+◌, ◌≤◌, ◌∷◌, ◌++◌, ◌∙◌, ℕ, zero, suc, Bool, List, [], Option, Some, None, slice_get, refl, sym, ap, subst, arith}
+use Rattle.std.proofs.Common.{◌≡◌, ◌+◌, ◌≤◌, ◌∷◌, ◌++◌, ℕ, List, [], Option, Some, None, slice_get, refl, sym, ap, subst, arith}
 use Rattle.call_history.specs.Parts.{done_sum, left_by, piece_gives}
 use Rattle.call_history.specs.Shows.{tag_by}
 use Rattle.call_history.specs.declared.part.Part.{Part}
 use Rattle.call_history.specs.declared.part.PartEnd.{PartEnd}
-use Rattle.call_history.specs.declared.part.PartEnd.TheVariants.{AtLimit, Carried, Eio, NoMemory, Whole}
+use Rattle.call_history.specs.declared.part.PartEnd.TheVariants.{AtLimit, Carried, NoMemory, Whole}
 use Rattle.joint_rule.proofs.Events.{Event}
 use Rattle.joint_rule.proofs.Facts.{Known}
 use Rattle.joint_rule.proofs.Gifts.{is_named, stage}
@@ -17,7 +17,7 @@ use Rattle.joint_rule.specs.Joint.{Joint}
 use Rattle.joint_rule.specs.Rule.{FewFetches}
 use Rattle.joint_rule.specs.Stages.{FailBy, Looks}
 use Rattle.joint_rule.specs.Weights.{device_reads, fetched_by, fetched_now, fetches_noted, fetches_told, looks, none}
-use Rattle.lock_row.specs.Totals.{held_sum, locals_sum, mass, total}
+use Rattle.lock_row.specs.Totals.{held_sum, mass}
 use Rattle.lock_row.specs.declared.names.At.{At}
 use Rattle.lock_row.specs.declared.names.At.TheVariants.{Both, Counting, Fetching, Freeing, Giving, Leaving, Made, Missed, Moving, Pinning, Ready, Refusing, Releasing, Shrinking, Start, Unpinning}
 use Rattle.lock_row.specs.declared.names.LockNo.{LockNo}
@@ -38,7 +38,6 @@ use Rattle.zr_base.specs.declared.op.Op.{Op}
 use Rattle.zr_base.specs.declared.op.Op.TheVariants.{Compact, Discard, Read, Write}
 use Rattle.zr_base.specs.declared.op.Tag.{Tag}
 use Rattle.joint_rule.proofs.Events as event
-use Rattle.lock_row.specs.declared.names.LockNo.TheVariants as lock
 use Rattle.lock_row.specs.declared.names.Held.TheVariants as holds
 use Rattle.slot_entry.specs.declared.kept.Kept.TheVariants as kept
 use Rattle.zr_base.specs.declared.op.OpEnd.TheVariants as ends

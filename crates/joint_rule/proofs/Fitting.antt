@@ -561,6 +561,7 @@ module _ (g : Begin) (ok : Known g) (w : State DiskHeld) (r : Rule g w) (a : ℕ
               fits = (let z = s.1.size in omega arith);
               chain_fits = chain_low g.chain q s.1 ok.proper.least;
             })
+
       -- ---- the device and the blocks
 
       fetch_fits : k ≡ lock.Device → (x : Kept) → e.kept ≡ x → FetchFits x v

@@ -368,16 +368,16 @@ module _ (g : Begin) (ok : Known g) (w : State DiskHeld) (j : Joint g w) (a : �
     -- the slot is given from a stage at which nothing is told
     module _ (at : At) (at_is : l.at ≡ at) (quiet : (q : News) → told_at q at l.todo l.ahead ≡ 0)
       where
-      back_news : (q : News) (end : PartEnd) (got : List (List ℕ)) → k ≡ slot p.page
-          → order_news g q p.page f.order ≡ order_news g q p.page e.order
-          → Announces q (holds.Slot f) (piece_over l p end got rest)
-      back_news q end got k_is same = quietly q (holds.Slot f) (piece_over l p end got rest)
-          (let x = ap (held_sum (spot n) (noted g q)) held in
-          let y = silent q at at_is (quiet q) in
-          let z : noted g q (spot n k) (holds.Slot f) ≡ order_news g q p.page f.order =
-          ap (λ (i : LockNo). order_news g q (spot n i) f.order) k_is in
-          let u = told_quiet q Start (left_by end p.nr rest) in omega arith)
-          (let x = ap (held_sum (spot n) (news_counter q)) held in omega arith)
+        back_news : (q : News) (end : PartEnd) (got : List (List ℕ)) → k ≡ slot p.page
+            → order_news g q p.page f.order ≡ order_news g q p.page e.order
+            → Announces q (holds.Slot f) (piece_over l p end got rest)
+        back_news q end got k_is same = quietly q (holds.Slot f) (piece_over l p end got rest)
+            (let x = ap (held_sum (spot n) (noted g q)) held in
+            let y = silent q at at_is (quiet q) in
+            let z : noted g q (spot n k) (holds.Slot f) ≡ order_news g q p.page f.order =
+            ap (λ (i : LockNo). order_news g q (spot n i) f.order) k_is in
+            let u = told_quiet q Start (left_by end p.nr rest) in omega arith)
+            (let x = ap (held_sum (spot n) (news_counter q)) held in omega arith)
 
   module _ (what : plan (terms g) l ≡ Give k) where
     pub news_gives : (q : News) → Event g l v m → Announces q v m

@@ -22,7 +22,7 @@ use Rattle.joint_rule.specs.Joint.{AtHome, IsActor, Joint, KeepsDevice, Sound}
 use Rattle.joint_rule.specs.Rule.{FailKeeps, OfOrder, Rule, ShowsOrder, done_by, dones, owed, owed_by, reach_at}
 use Rattle.joint_rule.specs.Stages.{StageBy, locks_by}
 use Rattle.joint_rule.specs.Starts.{IsStart}
-use Rattle.joint_rule.specs.Weights.{HeldAll, News, Refusal, ahead, at_place, behind, block_claims, chains, claims, compactions, counters, device_reads, device_size, each_one, ever_at, fails_so, faults_told, fixed, fixed_count, freed_at, freed_by, fresh_claim, lies_at, loose_pools, map_size, measure, mosts, news_count, news_counter, none, noted, nothing, object_weight, on_account, on_blocks, on_device, order_news, outs, owing, pages, pinned, refusal_count, refusal_counter, refusal_of, refusals, refused_by, same, shown, some_of, stored, stored_at, told_ahead, told_at, used_blocks}
+use Rattle.joint_rule.specs.Weights.{HeldAll, News, ahead, at_place, behind, block_claims, chains, claims, compactions, counters, device_reads, device_size, each_one, ever_at, fails_so, faults_told, fixed, fixed_count, freed_at, freed_by, fresh_claim, lies_at, loose_pools, map_size, measure, mosts, news_count, news_counter, none, noted, nothing, object_weight, on_account, on_blocks, on_device, order_news, outs, owing, pages, pinned, refusal_count, refusal_counter, refusal_of, refusals, refused_by, same, shown, some_of, stored, stored_at, told_ahead, told_at, used_blocks}
 use Rattle.lock_row.specs.Totals.{by_option, held_sum, locals_sum, mass, row_sum, total}
 use Rattle.lock_row.specs.declared.names.At.{At}
 use Rattle.lock_row.specs.declared.names.At.TheVariants.{Start}
