@@ -11,7 +11,7 @@ use Rattle.bench_lock_table.specs.declared.rows.Job.{Job}
 use Rattle.bench_lock_table.specs.declared.rows.Made.{Made}
 use Rattle.bench_lock_table.specs.Tagging.{spot, idle}
 use Rattle.bench_lock_table.specs.Ready.{Mine}
-use Rattle.bench_lock_table.specs.Made.{start_of, IsOwn, IsSeat, IsMade, CanServe, IsServed}
+use Rattle.bench_lock_table.specs.Made.{start_of, IsOwn, IsSeat, IsMade, IsServed}
 
 same_ends : {A : Type 0} (xs ys : List A) (x y : A) → xs ++ x ∷ [] ≡ ys ++ y ∷ []
     → (xs ≡ ys) × (x ≡ y)

@@ -388,10 +388,9 @@ module _ (t : Ground) (b : Bounds) where
         whole got e c =
             let n = pages_some op some in
             subst (λ (end : OpEnd). shown op end (got_of nr front) ≡ read_by op end (R nr)) (sym e)
-            (got ∙ (λ i. map (R nr)
-            (range_with_len ((let q : max start (8 * (start / 8)) ≡ start = omega arith in q) i)
-            ((let q : min (start + count) (8 * (start / 8 + carried front)) - max start
-            (8 * (start / 8)) ≡ count = omega arith in q) i))))
+            (got ∙ read_before start count (carried front) (R nr)
+            ∙ ap (λ (k : ℕ). map (R nr) (range_with_len start k))
+            (let q : sectors_before start count (carried front) ≡ count = omega arith in q))
 
         -- a piece of a read is refused only where the device has failed
         refused : is_single t.size op ≡ false
