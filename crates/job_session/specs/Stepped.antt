@@ -70,8 +70,8 @@ report_of d reports.Classes = row_report d.size MOST_CHAIN d.row classes
 
 -- ---- attributes
 
--- A new disk of so many pages, with the limit of the disk before. Its row has the device and the map of
--- the blocks.
+-- A new disk of so many pages, with the limit of the disk before. Its row has the device and the map
+-- of the blocks.
 pub record IsNewDisk (d : Disk) (pages : ℕ) (m : Disk) : Type 0 where
   pub size : m.size ≡ pages
   pub limit : m.limit ≡ d.limit
@@ -139,8 +139,8 @@ abbrev pub map_of : BlockMap → ℕ → List (Option DiskHeld) → BlockMap
 map_of x zero row = x
 map_of x (suc n) row = blocks_in (value_at row (suc n + 256))
 
--- What a run of a phase leaves beside its row: the pages, the limit, and the device and the map of the
--- row, if there is one.
+-- What a run of a phase leaves beside its row: the pages, the limit, and the device and the map of
+-- the row, if there is one.
 pub record IsRunOn (d m : Disk) : Type 0 where
   pub size : m.size ≡ d.size
   pub limit : m.limit ≡ d.limit
@@ -149,8 +149,8 @@ pub record IsRunOn (d m : Disk) : Type 0 where
 
 -- ---- jobs
 
--- A job's lines by one list of turns for each phase. An attribute prints where it is refused, a report
--- changes nothing, and a phase begins on the disk that the items before it left.
+-- A job's lines by one list of turns for each phase. An attribute prints where it is refused, a
+-- report changes nothing, and a phase begins on the disk that the items before it left.
 abbrev pub Stepped : Disk → List Item → List (List ℕ) → List OutLine → Disk → Type 0
 Stepped d [] turns lines last = (turns ≡ []) × (lines ≡ []) × (last ≡ d)
 Stepped d (items.Attr attr ∷ more) turns lines last =

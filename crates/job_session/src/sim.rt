@@ -10,6 +10,8 @@
 //! | 5 `WriteFault` | the sink failed, or took nothing | a beginning of what 0 to 3 would write |
 //! | 6 `NoMemory` | there was no memory left | nothing, or a beginning of what 0 or 1 would write |
 //!
+//! The backing device is used where the text is a job, and is untouched else.
+//!
 //! Of the lines at 0 and 1 the contract says two facts. They are *legal*: by each page's order,
 //! each read tells what the plain disk holds (`Legal`), which can be checked without knowing of
 //! locks and turns. They are *stepped*: the machine prints them where each phase makes the turns of

@@ -276,6 +276,7 @@ impl<D: Backing> World<D> {
         ensures pages { self.new.pages ≡ self.old.pages }
         ensures noted { self.new.noted.items ≡ self.old.noted.items }
         ensures limit { self.new.limit ≡ pages }
+        ensures spare { self.new.spare ≡ self.old.spare }
         ensures none { self.old.pages ≡ 0 → self.new.row ≡ self.old.row }
         ensures cells { (c : Counters) → slice_get self.old.row.cells (self.old.pages + 255) ≡ Some (Some (holds.Account c))
             → self.new.row.cells ≡ slice_set self.old.row.cells (self.old.pages + 255)
@@ -302,6 +303,7 @@ impl<D: Backing> World<D> {
         ensures pages { self.new.pages ≡ self.old.pages }
         ensures noted { self.new.noted.items ≡ self.old.noted.items }
         ensures limit { self.new.limit ≡ self.old.limit }
+        ensures spare { self.new.spare ≡ self.old.spare }
         ensures none { self.old.pages ≡ 0 → self.new.row ≡ self.old.row }
         ensures cells { (c : Counters) → slice_get self.old.row.cells (self.old.pages + 255) ≡ Some (Some (holds.Account c))
             → self.new.row.cells ≡ slice_set self.old.row.cells (self.old.pages + 255)

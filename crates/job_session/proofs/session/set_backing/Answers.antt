@@ -3,7 +3,7 @@ use Rattle.std.specs.Prelude.{nat_lt}
 use Rattle.std.proofs.lemmas.Bool.Decides.{nat_tests}
 use Rattle.std.proofs.lemmas.Result.{err_from_is_err_and}
 use Rattle.job_text.specs.declared.job.Attr.TheVariants.{Backing}
-use Rattle.job_session.specs.Stepped.{disk_of}
+use Rattle.job_session.specs.Stepped.{disk_of, backed}
 use Rattle.job_session.proofs.Jobs.{items_stop, backing_busy_now, backing_past, backing_given, attr_told}
 use Rattle.job_session.proofs.Sending.{Tells-none}
 use Rattle.job_session.proofs.session.set_backing.Goals as goal
@@ -42,12 +42,13 @@ returns-clause-item g c =
     let fits : c.args.blocks ≤ d.device.blocks =
     omega (arith, c.if-device_blocks-blocks.false, c.device_blocks.ensures) in
     let past : nat_lt d.device.blocks c.args.blocks ≡ false = grind (arith, nat_tests, fits) in
-    attr_told d m (Backing c.args.blocks) _ c.args.out.now _ (Ok tt)
-    (backing_given d.size (nat_lt d.device.blocks c.args.blocks) d m c.args.blocks none past (λ i. record {
+    let same : m ≡ backed d c.args.blocks = λ i. record {
       size = set.pages i;
       limit = set.limit i;
       row = (set.row i).cells;
       device = set.device i;
       blocks = set.blocks i;
-    }))
+    } in
+    attr_told d m (Backing c.args.blocks) _ c.args.out.now _ (Ok tt)
+    (backing_given d.size (nat_lt d.device.blocks c.args.blocks) d m c.args.blocks none past same)
     (Tells-none c.args.out.now)
