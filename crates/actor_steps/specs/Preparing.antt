@@ -1,7 +1,7 @@
 -- What setting a phase up makes of its actors: workers before their first turns.
 use Rattle.std.specs.Prelude.{◌≡◌, ℕ, ◌≤◌, List, [], length, None, Some, slice_get, vec_len, vec_capacity, if◌then◌else◌}
 use Rattle.zr_base.specs.declared.op.Op.{Op}
-use Rattle.zr_base.specs.declared.op.Op.TheVariants.{Write, Read, Discard, Compact}
+use Rattle.zr_base.specs.declared.op.Op.TheVariants.{Write, Read, Discard, Idle, Compact}
 use Rattle.zr_base.specs.declared.op.OpEnd.TheVariants as ends
 use Rattle.plain_disk.specs.Ends.{is_single}
 use Rattle.call_history.specs.Parts.{program}
@@ -15,6 +15,7 @@ abbrev pub sectors_due : ℕ → Op → ℕ
 sectors_due size (Write start count stuff) = 0
 sectors_due size (Read start count) = if is_single size (Read start count) then 0 else count
 sectors_due size (Discard start count) = 0
+sectors_due size (Idle age) = 0
 sectors_due size Compact = 0
 
 -- A reply before the first turn, with room for what its operation reads.

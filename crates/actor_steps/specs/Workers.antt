@@ -2,7 +2,7 @@
 -- stands for.
 use Rattle.std.specs.Prelude.{◌≡◌, ℕ, ◌+◌, ◌-◌, ◌*◌, ◌<◌, ◌≤◌, ◌^◌, ◌==◌, max, true, false, List, [], ◌∷◌, length, Option, Some, None, slice_get, vec_len, vec_capacity, if◌then◌else◌, ⊤}
 use Rattle.zr_base.specs.declared.op.Op.{Op}
-use Rattle.zr_base.specs.declared.op.Op.TheVariants.{Write, Read, Discard, Compact}
+use Rattle.zr_base.specs.declared.op.Op.TheVariants.{Write, Read, Discard, Idle, Compact}
 use Rattle.plain_disk.specs.Ends.{is_single}
 use Rattle.call_history.specs.declared.part.Part.{Part}
 use Rattle.call_history.specs.declared.part.Done.{Done}
@@ -23,6 +23,7 @@ use Rattle.page_steps.specs.declared.stage.Scratch.{Scratch}
 use Rattle.zr_base.specs.declared.op.Tag.{Tag}
 use Rattle.call_history.specs.Shows.{tag_by}
 use Rattle.page_steps.specs.Calls.{here as page_here, end_of as ending, got_of as got_of_piece}
+use Rattle.post_steps.specs.Idle.{at_of as idle_at, held_of as idle_held}
 use Rattle.post_steps.specs.Compact.{at_of as compact_at, held_of as compact_held, owed_of as compact_owed}
 use Rattle.page_steps.specs.declared.stage.PieceEnd.{PieceEnd}
 use Rattle.page_steps.specs.declared.stage.Progress.{Progress}
@@ -46,18 +47,21 @@ use Rattle.actor_steps.specs.Replies.{HasRoomFor, HasMore}
 abbrev pub at_by : {D : Type 0} → Option (Call D) → At
 at_by None = at.Start
 at_by (Some (call.Page c)) = at_of c.stage
+at_by (Some (call.Idle c)) = idle_at c.stage
 at_by (Some (call.Compact c)) = compact_at c.stage
 
 -- the locks that are held with their values, for a piece of this page
 abbrev pub held_by : {D : Type 0} → ℕ → Option (Call D) → List (LockNo × DiskHeld)
 held_by page None = []
 held_by page (Some (call.Page c)) = held_of page c.stage
+held_by page (Some (call.Idle c)) = idle_held c.stage
 held_by page (Some (call.Compact c)) = compact_held c.stage
 
 -- the frames that are owed
 abbrev pub owed_by : {D : Type 0} → Option (Call D) → ℕ
 owed_by None = 0
 owed_by (Some (call.Page c)) = owed_of c.stage
+owed_by (Some (call.Idle c)) = 0
 owed_by (Some (call.Compact c)) = compact_owed c.stage
 
 -- the stage of a page's call, by which the rest of the local goes: all that is a page's alone, of
@@ -65,6 +69,7 @@ owed_by (Some (call.Compact c)) = compact_owed c.stage
 abbrev pub stage_of : {D : Type 0} → Option (Call D) → Stage D
 stage_of None = stage.Start
 stage_of (Some (call.Page c)) = c.stage
+stage_of (Some (call.Idle c)) = stage.Start
 stage_of (Some (call.Compact c)) = stage.Start
 
 -- the local, where these pieces are over
@@ -141,6 +146,7 @@ ReplyFits size pl k (Read start count) r =
     ReadFits size pl k start count (vec_len r.sectors) (vec_capacity r.sectors)
     × (is_single size (Read start count) ≡ true → r.sectors.items ≡ [])
 ReplyFits size pl k (Discard start count) r = r.sectors.items ≡ []
+ReplyFits size pl k (Idle age) r = r.sectors.items ≡ []
 ReplyFits size pl k Compact r = r.sectors.items ≡ []
 
 -- what the call in work doesn't know of its actor, where these pieces follow and these are over
@@ -165,8 +171,10 @@ abbrev pub HasCall : {D : Type 0} → Terms → List Op → Worker D → Option 
 HasCall t ops w None = ⊤
 HasCall t ops w (Some c) = IsCallOf t ops w c
 
--- The worker is at a piece with events, or past all of them, with room for what is left to do.
+-- The worker is at a piece with events, or past all of them, with room for what is left to do, on a
+-- disk that has a page.
 pub record IsFit {D : Type 0} (t : Terms) (ops : List Op) (w : Worker D) : Type 0 where
+  pub some : 0 < t.size
   pub requests : AreRequests ops
   pub few : length ops < 2 ^ 32
   pub place : IsPlace ops w.place

@@ -8,13 +8,15 @@ ghost use Rattle.actor_steps.specs.Calls.{Does, local, next_event, IsFit, IsGoin
 use backing_dev::Backing;
 use lock_row::Hand;
 use page_steps::{DiskHeld, PageCall, Progress, Scratch};
-use post_steps::CompactCall;
+use post_steps::{CompactCall, IdleCall};
 
 /// The call of a piece in work.
 #[derive(Drop)]
 pub enum Call<D: Backing> {
     /// A piece of a page, or the count of a request beyond the disk.
     Page(PageCall<D>),
+    /// A scan that marks pages.
+    Idle(IdleCall),
     /// A compaction.
     Compact(CompactCall),
 }
@@ -39,6 +41,7 @@ impl<D: Backing> Call<D> {
     {
         match self {
             Call::Page(call) => call.advance(hand, scratch),
+            Call::Idle(call) => call.advance(hand),
             Call::Compact(call) => call.advance(&scratch.table, hand),
         }
     }

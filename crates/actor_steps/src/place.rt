@@ -23,7 +23,7 @@ pub(crate) fn is_single(size: u32, op: &Op) -> bool
     requires { IsRequest op.now }
     ensures { result ≡ is_single size op.now }
 {
-    matches!(op, Op::Compact) || op.is_beyond(size)
+    matches!(op, Op::Idle { .. } | Op::Compact) || op.is_beyond(size)
 }
 
 // How many pages an operation has pieces on: one that is over in one piece has one.

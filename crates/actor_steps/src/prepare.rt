@@ -53,6 +53,7 @@ fn push_worker<D: Backing>(
 ) -> Result<(), AllocError>
     requires requests { AreRequests ops.now }
     requires few { length ops.now < 2 ^ 32 }
+    requires some { 0 < size }
     requires low { 4 ≤ chain }
     requires high { chain ≤ 16 }
     requires room { vec_len workers.old < vec_capacity workers.old }
@@ -91,6 +92,7 @@ pub fn new_workers<D: Backing>(
     ops: &[ActorOps],
 ) -> Result<Vec<Worker<D>>, AllocError>
     requires work { IsWork ops.now }
+    requires some { 0 < length ops.now → 0 < size }
     requires low { 4 ≤ chain }
     requires high { chain ≤ 16 }
     ensures { IfOk result (λ workers. AreNewWorkers size chain ops.now workers.items) }

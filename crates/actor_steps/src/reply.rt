@@ -1,7 +1,7 @@
 //! What an operation has told so far.
 
 ghost use Rattle.std.specs.Prelude.{◌≡◌, ℕ, ◌+◌, ◌-◌, ◌*◌, ◌<◌, ◌≤◌, false, Some, ◌++◌, slice_get, vec_len, vec_capacity};
-ghost use Rattle.zr_base.specs.Plain.{is_compaction};
+ghost use Rattle.zr_base.specs.Plain.{is_maintenance};
 ghost use Rattle.call_history.specs.declared.part.Part.{Part};
 ghost use Rattle.call_history.specs.Parts.{is_carried, op_end};
 ghost use Rattle.page_steps.specs.Calls.{end_of, got_of};
@@ -40,6 +40,7 @@ fn op_end(end: PieceEnd, carried: u32) -> OpEnd
             fault,
             done: carried,
         },
+        PieceEnd::Marked(pages) => OpEnd::Marked(pages),
         PieceEnd::Compacted { moves, frames } => OpEnd::Compacted { moves, frames },
     }
 }
@@ -57,13 +58,14 @@ pub(crate) fn goes_on(end: PieceEnd) -> bool
         | PieceEnd::AtLimit { .. }
         | PieceEnd::NoMemory
         | PieceEnd::Eio { .. }
+        | PieceEnd::Marked(_)
         | PieceEnd::Compacted { .. } => false,
     }
 }
 
 // Appends what a piece has read from its page.
 fn keep_sectors(op: &Op, page: u32, end: PieceEnd, read: &Page, sectors: &mut Vec<[u8; 512]>)
-    requires touched { is_compaction op.now ≡ false → Touches op.now page }
+    requires touched { is_maintenance op.now ≡ false → Touches op.now page }
     requires room { HasRoomFor end (vec_len sectors.old + reads op.now page) (vec_capacity sectors.old) }
     ensures got { (p : Part) → p.op ≡ op.now → p.page ≡ page
         → sectors.new.items ≡ sectors.old.items ++ got_of end read.now p }
@@ -90,7 +92,7 @@ pub(crate) fn keep(
     read: &Page,
 )
     requires there { nr < vec_len replies.old }
-    requires touched { is_compaction op.now ≡ false → Touches op.now page }
+    requires touched { is_maintenance op.now ≡ false → Touches op.now page }
     requires room { (r : Reply) → slice_get replies.old.items nr ≡ Some r
         → HasRoomFor end (vec_len r.sectors + reads op.now page) (vec_capacity r.sectors) }
     ensures { (p : Part) → p.op ≡ op.now → p.page ≡ page

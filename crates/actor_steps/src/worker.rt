@@ -15,7 +15,7 @@ use backing_dev::Backing;
 use call_history::histories_go_on;
 use lock_row::{Hand, LockNo};
 use page_steps::{DiskHeld, PageCall, PieceEnd, Progress, Scratch, calls_are_events};
-use post_steps::{CompactCall, compactions_are_events};
+use post_steps::{CompactCall, IdleCall, compactions_are_events, scans_are_events};
 use zr_base::{Op, Page, Tag};
 
 /// What a turn was.
@@ -51,6 +51,7 @@ fn begun<D: Backing>(
     ops: &[Op],
     fresh: &mut Page,
 ) -> Call<D>
+    requires some { 0 < size }
     requires requests { AreRequests ops.now }
     requires few { length ops.now < 2 ^ 32 }
     requires more { place.nr < length ops.now }
@@ -80,6 +81,7 @@ fn begun<D: Backing>(
         }
         Op::Read { .. } => Call::Page(PageCall::read(op.piece_on(page), tag, now)),
         Op::Discard { .. } => Call::Page(PageCall::discard(op.piece_on(page), tag, now)),
+        Op::Idle { age } => Call::Idle(IdleCall::new(size, now, *age)),
         Op::Compact => Call::Compact(CompactCall::new()),
     }
 }
@@ -143,6 +145,7 @@ impl<D: Backing> Worker<D> {
     {
         calls_are_events::<D>();
         compactions_are_events();
+        scans_are_events();
         histories_go_on();
         match &mut self.call {
             Some(call) => match call.advance(hand, &mut self.scratch) {

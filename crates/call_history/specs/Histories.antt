@@ -5,7 +5,7 @@ use Rattle.std.specs.List.{AllByRecursion}
 use Rattle.zr_base.specs.declared.op.Tag.{Tag}
 use Rattle.zr_base.specs.declared.op.Op.{Op}
 use Rattle.zr_base.specs.declared.op.OpEnd.{OpEnd}
-use Rattle.zr_base.specs.Plain.{count_of, is_compaction}
+use Rattle.zr_base.specs.Plain.{count_of, is_maintenance}
 use Rattle.plain_disk.specs.Ends.{Ground, Bounds, tells_fault}
 use Rattle.plain_disk.specs.Phases.{Given, nth_order}
 use Rattle.call_history.specs.declared.part.Done.{Done}
@@ -28,9 +28,9 @@ told_each (ops ∷ more) (done ∷ dones) = told_from 0 ops done ∷ told_each m
 abbrev pub history : List (List Done) → ℕ → List Done
 history dones a = get_or dones a []
 
--- the operation is a request with a sector at least, or a compaction
+-- the operation is a request with a sector at least, or no request
 abbrev pub HasSome : Op → Type 0
-HasSome op = is_compaction op ≡ false → 1 ≤ count_of op
+HasSome op = is_maintenance op ≡ false → 1 ≤ count_of op
 
 -- each request has a sector at least
 abbrev pub SomeEach : List Op → Type 0

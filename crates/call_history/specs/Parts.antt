@@ -3,7 +3,7 @@ use Rattle.std.specs.Prelude.{◌≡◌, ℕ, zero, suc, ◌+◌, ◌-◌, ◌*�
 use Rattle.std.specs.List.{range_with_len}
 use Rattle.zr_base.specs.declared.op.Tag.{Tag}
 use Rattle.zr_base.specs.declared.op.Op.{Op}
-use Rattle.zr_base.specs.declared.op.Op.TheVariants.{Write, Read, Discard, Compact}
+use Rattle.zr_base.specs.declared.op.Op.TheVariants.{Write, Read, Discard, Idle, Compact}
 use Rattle.zr_base.specs.declared.op.OpEnd.{OpEnd}
 use Rattle.zr_base.specs.declared.op.OpEnd.TheVariants as ends
 use Rattle.call_history.specs.declared.part.Part.{Part}
@@ -47,6 +47,7 @@ abbrev pub is_read : Op → Bool
 is_read (Write start count stuff) = false
 is_read (Read start count) = true
 is_read (Discard start count) = false
+is_read (Idle age) = false
 is_read Compact = false
 
 -- whether its tag was noted: that of a read also where the device failed

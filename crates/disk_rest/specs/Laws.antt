@@ -59,11 +59,13 @@ PrintsNothing = (r : Rest) → r.size ≡ 0 → IsUnused r
     }) ∷ [])
     × (report page_weight r states ≡ []) × (report page_weight r classes ≡ [])
 
--- an entry keeps its page as the rest says, and was touched when it says
+-- an entry keeps its page and is marked as the rest says, and was touched when it says, which isn't
+-- after the time that is set
 abbrev pub EntriesTell : Type 0
 EntriesTell = (r : Rest) (row : Row) (p : ℕ) → StandsFor r row → p < r.size
     → (e : EntryState) × (slice_get row p ≡ Some (Some (holds.Slot e)))
-    × (weight_of e.kept ≡ kept_at page_weight r p) × (e.touched ≡ r.touched p)
+    × (weight_of e.kept ≡ kept_at page_weight r p) × (e.idle ≡ r.idle p)
+    × (e.touched ≡ r.touched p) × (e.touched ≤ r.set.clock)
 
 -- a class has a pool of its numbers, which has the used cells of the rest
 abbrev pub PoolsTell : Type 0
@@ -94,6 +96,7 @@ abbrev pub BeginsProper : Type 0
 BeginsProper = (r : Rest) (actors : List (List Op)) (row : Row) → StandsFor r row
     → ((a : ℕ) (ops : List Op) (k : ℕ) (op : Op) → slice_get actors a ≡ Some ops
     → slice_get ops k ≡ Some op → IsRequest op)
+    → (0 < length actors → 0 < r.size)
     → r.size + length actors < 2 ^ 32 - 1
     → sum_by (λ (ops : List Op). length ops) actors < 2 ^ 32
     → Proper (begin_at r actors)
@@ -119,6 +122,11 @@ SetsLimit = (r : Rest) (row : Row) (n : ℕ) (c : Counters) → StandsFor r row
     → slice_get row (r.size + 255) ≡ Some (Some (holds.Account c))
     → StandsFor (sets r (record r.set { limit = n }))
     (slice_set row (r.size + 255) (Some (holds.Account (record c { limit = n }))))
+
+-- where the time isn't before, the row stands for the rest with this time
+abbrev pub SetsClock : Type 0
+SetsClock = (r : Rest) (row : Row) (n : ℕ) → StandsFor r row → r.set.clock ≤ n
+    → StandsFor (sets r (record r.set { clock = n })) row
 
 -- where the account's maximum is lowered to its frames, the row stands for the rest whose greatest
 -- number of frames is lowered

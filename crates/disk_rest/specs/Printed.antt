@@ -13,7 +13,7 @@ use Rattle.disk_rest.specs.Rows.{Row, used_at}
 -- the line of page p, by its entry
 abbrev pub state_in : ℕ → Option DiskHeld → List OutLine
 state_in p None = []
-state_in p (Some (holds.Slot e)) = state_line p (weight_of e.kept) e.touched
+state_in p (Some (holds.Slot e)) = state_line p (weight_of e.kept) e.idle e.touched
 state_in p (Some (holds.Class x)) = []
 state_in p (Some (holds.Account x)) = []
 state_in p (Some (holds.Blocks x)) = []

@@ -14,10 +14,12 @@ use Rattle.joint_rule.specs.Starts.{AtRest, Starts}
 use Rattle.joint_rule.specs.Ends.{begin_at, account_of}
 use Rattle.disk_rest.specs.Rows.{Row, used_at, without_orders, KeepsValues}
 
--- Each sector has 512 bytes, a blank page has zeros, and chains have a limit that classes know.
+-- Each sector has 512 bytes, a blank page has zeros, no page was touched after the time that is set,
+-- and chains have a limit that classes know.
 pub record IsPlain (r : Rest) : Type 0 where
   pub sectors : (s : ℕ) → IsSector (r.holds s)
   pub blanks : (p k : ℕ) → k < 8 → r.blank p ≡ true → r.holds (8 * p + k) ≡ zero_sector
+  pub times : (p : ℕ) → p < r.size → r.touched p ≤ r.set.clock
   pub least : 4 ≤ r.set.chain
   pub most : r.set.chain ≤ 16
 

@@ -23,7 +23,7 @@ used_at size row k = used_in (value_at row (size + k))
 -- a value of which an entry's order is taken as empty
 abbrev pub without_calls : DiskHeld → DiskHeld
 without_calls (holds.Slot e) =
-    holds.Slot (record { kept = e.kept; order = []; room = 0; touched = e.touched })
+    holds.Slot (record e { order = []; room = 0 })
 without_calls (holds.Class x) = holds.Class x
 without_calls (holds.Account x) = holds.Account x
 without_calls (holds.Blocks x) = holds.Blocks x
@@ -54,7 +54,7 @@ pub record AreOrders (size : ℕ) (row : Row) (orders : List (List Tag)) : Type 
 -- the value is as before, but for an entry's order
 abbrev pub IsKept : DiskHeld → DiskHeld → Type 0
 IsKept (holds.Slot e) u =
-    (f : EntryState) × (u ≡ holds.Slot f) × (f.kept ≡ e.kept) × (f.touched ≡ e.touched)
+    (f : EntryState) × (u ≡ holds.Slot f) × (f ≡ record e { order = f.order; room = f.room })
 IsKept (holds.Class x) u = u ≡ holds.Class x
 IsKept (holds.Account x) u = u ≡ holds.Account x
 IsKept (holds.Blocks x) u = u ≡ holds.Blocks x

@@ -1,7 +1,7 @@
 //! What the row of a disk tells between two items of a job. Each law is a function whose body calls
 //! the laws that it rests on: who wants it calls it, and has its clauses.
 
-ghost use Rattle.disk_rest.specs.Laws.{PrintsPhase, LeavesRest, PrintsReports, PrintsNothing, EntriesTell, PoolsTell, AccountTells, CountsTell, BeginsPhase, BeginsProper, BeginsDisk, StandsStill, SetsLimit, LowersMax};
+ghost use Rattle.disk_rest.specs.Laws.{PrintsPhase, LeavesRest, PrintsReports, PrintsNothing, EntriesTell, PoolsTell, AccountTells, CountsTell, BeginsPhase, BeginsProper, BeginsDisk, StandsStill, SetsLimit, SetsClock, LowersMax};
 
 use call_history::histories_tell;
 use joint_rule::phases_go_on;
@@ -47,11 +47,12 @@ pub fn disks_begin()
     joint_rule::disks_begin();
 }
 
-/// Orders are no part of a rest; another limit of the account is another limit of the rest; and a
-/// lowered maximum is its greatest number of frames.
+/// Orders are no part of a rest; another limit of the account is another limit of the rest; a later
+/// time is one of the rest; and a lowered maximum is its greatest number of frames.
 pub fn rows_stand()
     ensures kept { StandsStill }
     ensures limit { SetsLimit }
+    ensures clock { SetsClock }
     ensures max { LowersMax }
 {
     phases_go_on();

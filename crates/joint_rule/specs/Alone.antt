@@ -1,24 +1,29 @@
--- What the rule says of a phase's only actor: what its compactions have done, and where the one in
--- work stands.
+-- What the rule says of a phase's only actor: what its compactions have done and which pages are
+-- marked, and where the operation in work stands.
 use Rattle.std.specs.Prelude.{◌≡◌, ℕ, ◌+◌, ◌<◌, ◌≤◌, Bool, true, false, nat_lt, if◌then◌else◌, List, [], ◌∷◌, Option, Some, None, slice_get, ⊤}
 use Rattle.zr_base.specs.declared.op.Op.{Op}
 use Rattle.zr_base.specs.declared.op.Op.TheVariants.{Read}
+use Rattle.zr_base.specs.declared.op.OpEnd.TheVariants as ends
 use Rattle.class_pool.specs.Pool.{PoolState}
 use Rattle.class_pool.specs.Compaction.{MayMove}
 use Rattle.plain_disk.specs.Compactions.{loose}
 use Rattle.call_history.specs.declared.part.Part.{Part}
 use Rattle.call_history.specs.declared.part.Done.{Done}
-use Rattle.call_history.specs.Alone.{tight_over, AreIdleOver, moves_over}
+use Rattle.plain_disk.specs.Idles.{Aged, passed, IsMarked}
+use Rattle.call_history.specs.Alone.{tight_over, MoveNoneOver, moves_over, pages_over, AreMarkedOver}
 use Rattle.lock_row.specs.declared.names.LockNo.TheVariants as lock
 use Rattle.lock_row.specs.declared.names.Held.TheVariants as holds
 use Rattle.lock_row.specs.declared.names.At.{At}
-use Rattle.lock_row.specs.declared.names.At.TheVariants.{Start, Sweeping, Moving, Shrunk, Shrinking}
+use Rattle.lock_row.specs.declared.names.At.TheVariants.{Start, Scanning, Marking, Sweeping, Moving, Shrunk, Shrinking}
 use Rattle.lock_row.specs.declared.names.Compaction.{Compaction}
 use Rattle.lock_row.specs.declared.names.State.{State}
 use Rattle.lock_row.specs.Totals.{total}
 use Rattle.page_steps.specs.Steps.{DiskHeld, Here, spot}
-use Rattle.joint_rule.specs.Begins.{Begin}
-use Rattle.joint_rule.specs.Weights.{none, Weigh, each_one, stored, used_each, loose_pools}
+use Rattle.slot_entry.specs.Forms.{page_weight}
+use Rattle.slot_entry.specs.Entries.{EntryState}
+use Rattle.page_steps.specs.Scans.{scan_at}
+use Rattle.joint_rule.specs.Begins.{Begin, found, found_after, back_at}
+use Rattle.joint_rule.specs.Weights.{HeldAll, none, Weigh, each_one, stored, used_each, loose_pools}
 
 -- ---- stages
 
@@ -30,6 +35,8 @@ is_read _ = false
 -- whether a stage is one of no write and no discard, by the operation
 abbrev pub is_calm_at : At → Op → Bool
 is_calm_at Start op = true
+is_calm_at (Scanning x) op = true
+is_calm_at (Marking x) op = true
 is_calm_at (Sweeping x) op = true
 is_calm_at (Moving x) op = true
 is_calm_at (Shrunk x) op = true
@@ -89,7 +96,7 @@ Within (Some b) q = (n : ℕ) → MayMove q n → n ≤ b
 pub record Sweeps (g : Begin) (w : State DiskHeld) (l : Here) (x : Compaction) : Type 0 where
   pub tight : (k : ℕ) (p : PoolState) → slice_get w.row k ≡ Some (Some (holds.Class p))
       → p.class < x.class → loose p.per (used_each p.zspages) ≡ 0
-  pub idle : tight_over g.tight l.done ≡ true → x.moves ≡ 0
+  pub still : tight_over g.tight l.done ≡ true → x.moves ≡ 0
   pub moves : x.moves + spare x.budget
       ≤ total (spot g.given.size) (stored (below (reached x.budget x.class))) none w
   pub home : (q : PoolState) → slice_get w.row (g.given.size + x.class)
@@ -97,12 +104,61 @@ pub record Sweeps (g : Begin) (w : State DiskHeld) (l : Here) (x : Compaction) :
   pub hand : (q : PoolState) → l.held ≡ (lock.Class x.class, holds.Class q) ∷ []
       → Within x.budget q
 
+-- ---- marks
+
+-- page p as the phase finds it
+abbrev pub aged_at : Begin → ℕ → Aged
+aged_at g p =
+    record { found = found g p; back = g.back p; touched = g.touched p; idle = g.idle p }
+
+-- it by its entry
+abbrev pub aged_in : Begin → ℕ → EntryState → Aged
+aged_in g p e = record {
+  found = found_after g p e.order;
+  back = back_at g p e.order;
+  touched = e.touched;
+  idle = e.idle;
+}
+
+-- it after the pieces that are over
+abbrev pub aged_done : Begin → List Done → ℕ → Aged
+aged_done g done = pages_over page_weight g.clock (aged_at g) done
+
+-- the scan in work has passed the pages below the one that it is at
+abbrev pub scanned_by : Begin → List Part → At → ℕ → Aged → Aged
+scanned_by g [] at p s = s
+scanned_by g (q ∷ qs) at p s =
+    if nat_lt p (scan_at at).page then passed page_weight g.clock p q.op s else s
+
+-- page p as the pieces that are over and the scan in work leave it
+abbrev pub aged_now : Begin → Here → ℕ → Aged
+aged_now g l p = scanned_by g l.todo l.at p (aged_done g l.done p)
+
+-- the scan in work has counted the marks that are new, among the pages below the one that it is at
+abbrev pub CountsSo : Begin → List Part → At → List Done → Type 0
+CountsSo g [] at done = ⊤
+CountsSo g (q ∷ qs) at done = IsMarked page_weight g.clock (scan_at at).page (aged_done g done) q.op
+    (ends.Marked (scan_at at).marked)
+
+-- an entry is as the actor has left its page
+abbrev pub IsAged : Begin → Here → ℕ → DiskHeld → Type 0
+IsAged g l p (holds.Slot e) = aged_in g p e ≡ aged_now g l p
+IsAged g l p v = ⊤
+
+-- Each mark that was new was counted, and each page is as the actor has left it, at home or in hand.
+pub record Ages (g : Begin) (w : State DiskHeld) (l : Here) : Type 0 where
+  pub marks : AreMarkedOver page_weight g.clock g.given.size (aged_at g) l.done
+  pub counts : CountsSo g l.todo l.at l.done
+  pub home : (p : ℕ) (v : DiskHeld) → slice_get w.row p ≡ Some (Some v) → IsAged g l p v
+  pub hand : HeldAll g.given.size (IsAged g l) l.held
+
 -- ---- the only actor
 
 -- What its pieces that are over say, and what stands while it is at this one.
 pub record IsOnly (g : Begin) (w : State DiskHeld) (l : Here) : Type 0 where
-  pub idle : AreIdleOver g.tight l.done
+  pub still : MoveNoneOver g.tight l.done
   pub calm : is_calm l.todo l.at ≡ true → IsCalm g w l.done
+  pub ages : Ages g w l
   pub sweeps : (x : Compaction) → compacting l.todo l.at ≡ Some x → Sweeps g w l x
 
 -- where an actor is the only one of its phase

@@ -16,13 +16,14 @@ use Rattle.slot_entry.specs.Forms.{PageForm, Blank, form_of, bytes_in, page_weig
 use Rattle.page_steps.specs.Steps.{Terms}
 
 -- What a phase begins with: a plain disk and its calls; the pages on which no write stands; those that
--- are on the device; when each page was touched; the most frames of a chain; the time; the account's
+-- are on the device; those that are marked idle; when each page was touched; the most frames of a chain; the time; the account's
 -- counters, the limit among them; the device; and whether each class is known to have at most one
 -- zspage with a free cell.
 pub record Begin : Type 0 where
   pub given : Given
   pub blank : ℕ → Bool
   pub back : ℕ → Bool
+  pub idle : ℕ → Bool
   pub touched : ℕ → ℕ
   pub chain : ℕ
   pub clock : ℕ
@@ -111,8 +112,10 @@ pieces_each size (ops ∷ more) page =
 abbrev pub AreRequests : List (List Op) → Type 0
 AreRequests actors = (t : Tag) (op : Op) → named actors t ≡ Some op → IsRequest op
 
--- Chains have a limit that classes know, and there aren't too many pages, actors and pieces.
+-- Chains have a limit that classes know, there aren't too many pages, actors and pieces, and where
+-- there are actors there is a page.
 pub record IsRoomy (g : Begin) : Type 0 where
+  pub some : 0 < length g.given.actors → 0 < g.given.size
   pub least : 4 ≤ g.chain
   pub most : g.chain ≤ 16
   pub few : g.given.size + length g.given.actors < 2 ^ 32 - 1
@@ -122,9 +125,12 @@ pub record IsRoomy (g : Begin) : Type 0 where
 abbrev pub IsSector : List ℕ → Type 0
 IsSector s = (length s ≡ 512) × All (λ b. b < 256) s
 
--- Each sector has 512 bytes, whatever the order of the calls, and a blank page has zeros; chains
--- have a limit that classes know; and there aren't too many pages, actors and pieces.
+-- Each sector has 512 bytes, whatever the order of the calls, and a blank page has zeros; no page was
+-- touched after the phase's time; chains have a limit that classes know; there aren't too many pages,
+-- actors and pieces; and where there are actors there is a page.
 pub record Proper (g : Begin) : Type 0 where
+  pub some : 0 < length g.given.actors → 0 < g.given.size
+  pub times : (p : ℕ) → p < g.given.size → g.touched p ≤ g.clock
   pub blanks : (p k : ℕ) → k < 8 → g.blank p ≡ true → g.given.before (8 * p + k) ≡ zero_sector
   pub sectors : (order : List Tag) (s : ℕ) → IsSector (held_after g.given order s)
   pub least : 4 ≤ g.chain

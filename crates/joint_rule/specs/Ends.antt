@@ -1,6 +1,6 @@
 -- What a finished phase leaves: the orders of its pages, the histories of its actors, and the rest
 -- of the plain disk.
-use Rattle.std.specs.Prelude.{◌≡◌, ℕ, ◌+◌, ◌/◌, ◌&&◌, true, false, List, [], map, get_or, Option, Some, None, slice_get}
+use Rattle.std.specs.Prelude.{◌≡◌, ℕ, ◌+◌, ◌/◌, Bool, ◌&&◌, true, false, List, [], map, get_or, Option, Some, None, slice_get}
 use Rattle.std.specs.List.{range_with_len}
 use Rattle.zr_base.specs.declared.op.Tag.{Tag}
 use Rattle.zr_base.specs.declared.op.Op.{Op}
@@ -26,6 +26,7 @@ begin_at r actors = record {
   given = begun r actors;
   blank = r.blank;
   back = r.back;
+  idle = r.idle;
   touched = r.touched;
   chain = r.set.chain;
   clock = r.set.clock;
@@ -42,6 +43,11 @@ AllFinished g w = (a : ℕ) (l : Here) → slice_get w.locals a ≡ Some l → p
 abbrev pub order_in : Option DiskHeld → List Tag
 order_in (Some (holds.Slot e)) = e.order
 order_in _ = []
+
+-- whether the page of the entry at a place is marked idle
+abbrev pub idle_in : Option DiskHeld → Bool
+idle_in (Some (holds.Slot e)) = e.idle
+idle_in _ = false
 
 -- the value at home at a place
 abbrev pub value_at : List (Option DiskHeld) → ℕ → Option DiskHeld
@@ -78,14 +84,15 @@ device_in d _ = d
 abbrev pub device_of : DeviceState → ℕ → List (Option DiskHeld) → DeviceState
 device_of d size row = device_in d (value_at row (size + 257))
 
--- The rest of the plain disk after a phase with these orders: pages by the calls, pools, counters and
--- the device by the row.
+-- The rest of the plain disk after a phase with these orders: pages by the calls, marks, pools,
+-- counters and the device by the row.
 abbrev pub rest_by : Rest → List (List Op) → List (List Tag) → List (Option DiskHeld) → Rest
 rest_by r actors orders row = record {
   size = r.size;
   holds = λ s. held_after (begun r actors) (nth_order orders (s / 8)) s;
   blank = λ p. (after_all actors (page_of r p) (nth_order orders p)).blank;
   back = λ p. r.back p && leave_page actors (nth_order orders p);
+  idle = λ p. idle_in (value_at row p);
   touched = λ p. touched_by (nth_order orders p) r.set.clock (r.touched p);
   used = λ k. used_in (value_at row (r.size + k));
   most = (account_of r.size row).most;
@@ -105,6 +112,7 @@ new_rest n set device = record {
   holds = λ s. zero_sector;
   blank = λ p. true;
   back = λ p. false;
+  idle = λ p. false;
   touched = λ p. 0;
   used = λ k. [];
   most = 0;

@@ -1,10 +1,11 @@
 -- The joint rule of pages, pools and the account: what each value and each actor is, and the sums
 -- over them all.
-use Rattle.std.specs.Prelude.{◌≡◌, ℕ, ◌+◌, ◌^◌, ◌<◌, ◌≤◌, List, map, length, sum_by, Some, slice_get, ⊤}
+use Rattle.std.specs.Prelude.{◌≡◌, ℕ, ◌+◌, ◌^◌, ◌<◌, ◌≤◌, true, false, List, [], map, length, sum_by, None, Some, slice_get, ⊤}
 use Rattle.zr_base.specs.declared.op.Op.{Op}
 use Rattle.size_class.specs.Classes.{class_size, chain_of, per_of}
 use Rattle.backing_dev.specs.Dev.{DeviceState, IsHonestDevice}
 use Rattle.class_pool.specs.Pool.{PoolState, used_cells, IsPool}
+use Rattle.plain_disk.specs.Idles.{is_marked_in}
 use Rattle.plain_disk.specs.Phases.{touched_by}
 use Rattle.call_history.specs.Parts.{program, EndsSo, Follows}
 use Rattle.lock_row.specs.declared.names.LockNo.{LockNo}
@@ -16,7 +17,7 @@ use Rattle.page_steps.specs.Pages.{new_class}
 use Rattle.page_steps.specs.Steps.{DiskHeld, Here, spot, class_by, entry_in}
 use Rattle.joint_rule.specs.Begins.{Begin, ground_of, form_at, back_at, AreCarried}
 use Rattle.joint_rule.specs.Weights.{HeldAll, Each, nothing, none, at_place, Weigh, each_one, claims, fresh_claim, BlockWeigh, block_claims, used_blocks, map_size, device_size, lies_at, stored_at, cell_weight, stored, names, PinWeigh, outs, pinned, pages, chains, owing, ever_at, leaning, Fixed, fixed, fixed_count, Count, counters, shown, ahead, behind}
-use Rattle.joint_rule.specs.Stages.{IsForm, is_wb, IsSmall, StageBy, locks_by}
+use Rattle.joint_rule.specs.Stages.{IsForm, is_wb, MayIdle, IsSmall, StageBy, locks_by}
 
 -- ---- each value by itself
 
@@ -29,12 +30,21 @@ pub record PoolFits (chain : ℕ) (p : PoolState) : Type 0 where
   pub pool : IsPool p
   pub once : (h : ℕ) → sum_by (cell_weight (names h)) (used_cells p.zspages) ≤ 1
 
+-- An entry isn't under writeback. Its page stays idle where it was before the phase and no call stands
+-- in its order; and where no operation marks pages, no other page is idle.
+pub record MarkFits (g : Begin) (j : ℕ) (e : EntryState) : Type 0 where
+  pub under : e.under ≡ None
+  pub stays : e.order ≡ [] → g.idle j ≡ true → e.idle ≡ true
+  pub only : is_marked_in g.given.actors ≡ false → e.idle ≡ true
+      → (e.order ≡ []) × (g.idle j ≡ true)
+
 -- An entry is that of a page, the calls of its order are carried out there, it was touched when it
--- was last, and its object is small.
+-- was last, its mark is one of the phase, and its object is small.
 pub record EntryFits (g : Begin) (j : ℕ) (e : EntryState) : Type 0 where
   pub page : j < g.given.size
   pub calls : AreCarried g j e.order
   pub touched : e.touched ≡ touched_by e.order g.clock (g.touched j)
+  pub mark : MarkFits g j e
   pub small : IsSmall (weight_of e.kept)
 
 -- The device is the one with which the phase began, with as many blocks, honest where it was. Its
@@ -72,11 +82,20 @@ Backs g j (holds.Account c) = ⊤
 Backs g j (holds.Blocks x) = ⊤
 Backs g j (holds.Device x) = ⊤
 
--- A value at home fits its place, and its page is kept as it has to be.
+-- an entry that is marked idle has its page in the pool
+abbrev pub Marks : DiskHeld → Type 0
+Marks (holds.Slot e) = MayIdle e.kept e.idle
+Marks (holds.Class p) = ⊤
+Marks (holds.Account c) = ⊤
+Marks (holds.Blocks x) = ⊤
+Marks (holds.Device x) = ⊤
+
+-- A value at home fits its place, and its page is kept and marked as it has to be.
 pub record AtHome (g : Begin) (j : ℕ) (v : DiskHeld) : Type 0 where
   pub sound : Sound g j v
   pub stands : Stands g j v
   pub backs : Backs g j v
+  pub marks : Marks v
 
 -- ---- each actor by itself
 

@@ -147,15 +147,15 @@ EntryGoesOn = (r : Rest) (actors more : List (List Op)) (set : Settings) (w : St
     (j : ℕ) (e f : EntryState)
     → Proper (begin_at r actors) → Rule (begin_at r actors) w → AllFinished (begin_at r actors) w
     → slice_get w.row j ≡ Some (Some (holds.Slot e)) → f.kept ≡ e.kept → f.order ≡ []
-    → f.touched ≡ e.touched
+    → f.under ≡ e.under → f.idle ≡ e.idle → f.touched ≡ e.touched
     → IsRenewed (begin_at r actors) (begin_at (sets (rest_after r actors w.row) set) more) j e f
 
--- and what is known of a phase is known of the phase after
+-- and what is known of a phase is known of the phase after, where its time isn't before
 abbrev pub NextIsProper : Type 0
 NextIsProper = (r : Rest) (actors more : List (List Op)) (set : Settings) (w : State DiskHeld)
     → Proper (begin_at r actors) → Rule (begin_at r actors) w → AllFinished (begin_at r actors) w
     → AreRequests more → IsRoomy (begin_at (sets (rest_after r actors w.row) set) more)
-    → Proper (begin_at (sets (rest_after r actors w.row) set) more)
+    → r.set.clock ≤ set.clock → Proper (begin_at (sets (rest_after r actors w.row) set) more)
 
 -- ---- new disks
 
@@ -166,12 +166,13 @@ NewIsAtRest = (g : Begin) (row : List (Option DiskHeld)) → length row ≡ g.gi
     → ((k : ℕ) (v : DiskHeld) → slice_get row k ≡ Some (Some v) → IsNew g k v)
     → AtRest g row
 
--- what is known of a phase comes from what its sectors hold before it and from its requests
+-- what is known of a phase comes from what its sectors hold before it, from when its pages were
+-- touched, and from its requests
 abbrev pub RequestsAreProper : Type 0
 RequestsAreProper = (g : Begin) → AreRequests g.given.actors
     → ((s : ℕ) → IsSector (g.given.before s))
     → ((p k : ℕ) → k < 8 → g.blank p ≡ true → g.given.before (8 * p + k) ≡ zero_sector)
-    → IsRoomy g → Proper g
+    → ((p : ℕ) → p < g.given.size → g.touched p ≤ g.clock) → IsRoomy g → Proper g
 
 -- the first phase on a new disk
 abbrev pub NewIsProper : Type 0

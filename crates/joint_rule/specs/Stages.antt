@@ -1,11 +1,12 @@
 -- What the stage of an actor's piece says of the actor's parts and of the entry that it holds.
 use Rattle.std.specs.Prelude.{◌≡◌, ℕ, ◌+◌, ◌*◌, ◌<◌, ◌≤◌, ◌⊎◌, Bool, true, false, List, [], ◌∷◌, length, Option, Some, None, ⊤}
 use Rattle.zr_base.specs.declared.op.Op.{Op}
-use Rattle.zr_base.specs.declared.op.Op.TheVariants.{Write, Read, Discard, Compact}
-use Rattle.zr_base.specs.Plain.{is_beyond, is_compaction, has_whole}
+use Rattle.zr_base.specs.declared.op.Op.TheVariants.{Write, Read, Discard, Idle, Compact}
+use Rattle.zr_base.specs.Plain.{is_beyond, has_whole}
 use Rattle.mem_account.specs.declared.weight.Weight.{Weight}
 use Rattle.mem_account.specs.Tally.{packed_bytes_of}
 use Rattle.plain_disk.specs.Ends.{is_single}
+use Rattle.plain_disk.specs.Idles.{is_marking}
 use Rattle.call_history.specs.declared.part.Part.{Part}
 use Rattle.call_history.specs.declared.part.PartEnd.{PartEnd}
 use Rattle.call_history.specs.declared.part.PartEnd.TheVariants.{Carried, AtLimit, NoMemory, Eio, Whole}
@@ -13,7 +14,8 @@ use Rattle.call_history.specs.Parts.{EndsSo}
 use Rattle.lock_row.specs.declared.names.LockNo.{LockNo}
 use Rattle.lock_row.specs.declared.names.LockNo.TheVariants as lock
 use Rattle.lock_row.specs.declared.names.At.{At}
-use Rattle.lock_row.specs.declared.names.At.TheVariants.{Start, Refusing, Seen, Pinning, Pinned, Unpinning, Leaving, Away, Fetching, Failing, Counting, Missed, Wanting, Inside, Both, Made, Old, Freeing, Backed, Releasing, Owing, Giving, Ready, Sweeping, Moving, Shrunk, Shrinking}
+use Rattle.lock_row.specs.declared.names.At.TheVariants.{Start, Refusing, Seen, Pinning, Pinned, Unpinning, Leaving, Away, Fetching, Failing, Counting, Missed, Wanting, Inside, Both, Made, Old, Freeing, Backed, Releasing, Owing, Giving, Ready, Scanning, Marking, Sweeping, Moving, Shrunk, Shrinking}
+use Rattle.lock_row.specs.declared.names.Scan.{Scan}
 use Rattle.lock_row.specs.declared.names.Compaction.{Compaction}
 use Rattle.lock_row.specs.declared.names.Object.{Object}
 use Rattle.lock_row.specs.declared.names.Pin.{Pin}
@@ -21,7 +23,7 @@ use Rattle.lock_row.specs.Totals.{by_option}
 use Rattle.slot_entry.specs.declared.kept.Kept.{Kept}
 use Rattle.slot_entry.specs.declared.kept.Kept.TheVariants as kept
 use Rattle.slot_entry.specs.declared.limits.TheConstants.{MOST_PACKED}
-use Rattle.slot_entry.specs.Entries.{EntryState, weight_of}
+use Rattle.slot_entry.specs.Entries.{EntryState, weight_of, is_obj}
 use Rattle.slot_entry.specs.Forms.{PageForm, Blank, Word, Pooled, object_class, form_weight}
 use Rattle.page_steps.specs.Pages.{page_in, next_form}
 use Rattle.page_steps.specs.Steps.{slot}
@@ -74,12 +76,14 @@ IsWrite _ = ⊥
 -- an operation that changes pages
 abbrev pub Changes : Op → Type 0
 Changes (Read start count) = ⊥
+Changes (Idle age) = ⊥
 Changes Compact = ⊥
 Changes _ = ⊤
 
 -- an operation that looks at pages
 abbrev pub Looks : Op → Type 0
 Looks (Discard start count) = ⊥
+Looks (Idle age) = ⊥
 Looks Compact = ⊥
 Looks _ = ⊤
 
@@ -154,6 +158,7 @@ module _ (g : Begin) (p : Part) where
   FailBy (Write start count stuff) x = HasFailed x
   FailBy (Read start count) x = NoneOf x
   FailBy (Discard start count) x = ⊥
+  FailBy (Idle age) x = ⊥
   FailBy Compact x = ⊥
 
   -- the refusal, by the stage
@@ -194,6 +199,8 @@ KindAt Releasing op k f = Changes op × IsWb k
 KindAt Owing op k f = Changes op × NoObj k
 KindAt Giving op k f = Changes op × NoObj k
 KindAt Ready op k f = Changes op × NoObj k
+KindAt (Scanning x) op k f = ⊤
+KindAt (Marking x) op k f = ⊤
 KindAt (Sweeping x) op k f = ⊤
 KindAt (Moving x) op k f = ⊤
 KindAt (Shrunk x) op k f = ⊤
@@ -243,6 +250,8 @@ StandAt chain Refusing f k = ⊤
 StandAt chain Owing f k = ⊤
 StandAt chain Giving f k = ⊤
 StandAt chain Ready f k = ⊤
+StandAt chain (Scanning x) f k = ⊤
+StandAt chain (Marking x) f k = ⊤
 StandAt chain (Sweeping x) f k = ⊤
 StandAt chain (Moving x) f k = ⊤
 StandAt chain (Shrunk x) f k = ⊤
@@ -257,11 +266,32 @@ BackAt Refusing k back = ⊤
 BackAt Owing k back = ⊤
 BackAt Giving k back = ⊤
 BackAt Ready k back = ⊤
+BackAt (Scanning x) k back = ⊤
+BackAt (Marking x) k back = ⊤
 BackAt (Sweeping x) k back = ⊤
 BackAt (Moving x) k back = ⊤
 BackAt (Shrunk x) k back = ⊤
 BackAt (Shrinking x) k back = ⊤
 BackAt at k back = is_wb k ≡ back
+
+-- a page that is marked idle is in the pool
+abbrev pub MayIdle : Kept → Bool → Type 0
+MayIdle k idle = idle ≡ true → is_obj k ≡ true
+
+-- a page that is marked idle is in the pool, until its object is given up
+abbrev pub MarkAt : At → Kept → Bool → Type 0
+MarkAt Start k idle = ⊤
+MarkAt Refusing k idle = ⊤
+MarkAt Owing k idle = ⊤
+MarkAt Giving k idle = ⊤
+MarkAt Ready k idle = ⊤
+MarkAt (Scanning x) k idle = ⊤
+MarkAt (Marking x) k idle = ⊤
+MarkAt (Sweeping x) k idle = ⊤
+MarkAt (Moving x) k idle = ⊤
+MarkAt (Shrunk x) k idle = ⊤
+MarkAt (Shrinking x) k idle = ⊤
+MarkAt at k idle = MayIdle k idle
 
 -- a write that reads the device has only a part of its page
 abbrev pub IsPartly : Op → ℕ → Type 0
@@ -279,6 +309,7 @@ abbrev pub IsRight : Op → ℕ → List ℕ → List ℕ → Type 0
 IsRight (Write start count stuff) p page was = (has_whole start count p ≡ true) ⊎ (page ≡ was)
 IsRight (Read start count) p page was = page ≡ was
 IsRight (Discard start count) p page was = ⊤
+IsRight (Idle age) p page was = ⊤
 IsRight Compact p page was = ⊤
 
 -- nothing was read yet, or the page that the actor sees is right
@@ -292,6 +323,8 @@ RightAt Fetching op p x page was = NoneOf x
 RightAt Failing op p x page was = NoneOf x
 RightAt Counting op p x page was = NoneOf x
 RightAt Missed op p x page was = NoneOf x
+RightAt (Scanning y) op p x page was = NoneOf x
+RightAt (Marking y) op p x page was = NoneOf x
 RightAt (Sweeping y) op p x page was = NoneOf x
 RightAt (Moving y) op p x page was = NoneOf x
 RightAt (Shrunk y) op p x page was = NoneOf x
@@ -345,10 +378,12 @@ BlankAt at op x blank = ⊤
 abbrev pub BeginAt : ℕ → At → Part → Type 0
 BeginAt size Start p = ⊤
 BeginAt size Refusing p = is_beyond size p.op ≡ true
-BeginAt size (Sweeping x) p = is_compaction p.op ≡ true
-BeginAt size (Moving x) p = is_compaction p.op ≡ true
-BeginAt size (Shrunk x) p = is_compaction p.op ≡ true
-BeginAt size (Shrinking x) p = is_compaction p.op ≡ true
+BeginAt size (Scanning x) p = is_marking p.op ≡ true
+BeginAt size (Marking x) p = is_marking p.op ≡ true
+BeginAt size (Sweeping x) p = p.op ≡ Compact
+BeginAt size (Moving x) p = p.op ≡ Compact
+BeginAt size (Shrunk x) p = p.op ≡ Compact
+BeginAt size (Shrinking x) p = p.op ≡ Compact
 BeginAt size at p = is_single size p.op ≡ false
 
 -- A compaction is at a class, and has freed at most a chain's frames with each move.
@@ -364,6 +399,24 @@ CompactAt chain (Shrunk x) n = IsCompacting chain n x
 CompactAt chain (Shrinking x) n = IsCompacting chain n x
 CompactAt chain at n = ⊤
 
+-- A scan that marks pages is at a page of the disk, and has marked at most those before it.
+pub record IsScan (size : ℕ) (x : Scan) : Type 0 where
+  pub page : x.page < size
+  pub marked : x.marked ≤ x.page
+
+-- It holds the page's entry, which is kept and marked as it has to be.
+pub record Scans (g : Begin) (x : Scan) (e : EntryState) : Type 0 where
+  pub scan : IsScan g.given.size x
+  pub stands : IsForm g.chain (form_at g x.page e.order) e.kept
+  pub backs : is_wb e.kept ≡ back_at g x.page e.order
+  pub marks : MayIdle e.kept e.idle
+
+-- where a scan stands
+abbrev pub ScanAt : Begin → At → EntryState → Type 0
+ScanAt g (Scanning x) e = IsScan g.given.size x
+ScanAt g (Marking x) e = Scans g x e
+ScanAt g at e = ⊤
+
 -- An actor at a piece, with the entry that it holds.
 pub record Stage (g : Begin) (p : Part) (e : EntryState) (at : At) (fresh : Option Object)
     (pin : Option Pin) (owed : ℕ) (ahead behind : Option Weight) (page : Option (List ℕ))
@@ -374,12 +427,14 @@ pub record Stage (g : Begin) (p : Part) (e : EntryState) (at : At) (fresh : Opti
   pub owes : OweAt g.chain at owed
   pub stands : StandAt g.chain at (form_at g p.page e.order) e.kept
   pub backs : BackAt at e.kept (back_at g p.page e.order)
+  pub marks : MarkAt at e.kept e.idle
   pub partly : PartlyAt at p.op p.page
   pub right : RightAt at p.op p.page page (page_in page e.kept) (content g p.page e.order)
   pub counts : CountAt at ahead behind (next_form p page e.kept) e.kept
   pub blank : BlankAt at p.op ahead (found_after g p.page e.order).blank
   pub fails : FailAt g p at p.op fail
   pub begun : BeginAt g.given.size at p
+  pub scans : ScanAt g at e
   pub compacts : CompactAt g.chain at owed
 
 -- An actor between two pieces, or finished.
@@ -428,6 +483,8 @@ locks_at Releasing p c d = lock.Blocks ∷ slot p.page ∷ []
 locks_at Owing p c d = slot p.page ∷ []
 locks_at Giving p c d = lock.Account ∷ slot p.page ∷ []
 locks_at Ready p c d = slot p.page ∷ []
+locks_at (Scanning x) p c d = []
+locks_at (Marking x) p c d = slot x.page ∷ []
 locks_at (Sweeping x) p c d = []
 locks_at (Moving x) p c d = lock.Class x.class ∷ []
 locks_at (Shrunk x) p c d = []

@@ -81,6 +81,9 @@ pub record IsStart (g : Begin) (w : State DiskHeld) : Type 0 where
 pub record IsRenewed (g h : Begin) (j : ℕ) (e f : EntryState) : Type 0 where
   pub kept : f.kept ≡ e.kept
   pub order : f.order ≡ []
+  pub under : f.under ≡ e.under
+  pub idle : f.idle ≡ e.idle
+  pub mark : h.idle j ≡ e.idle
   pub touched : f.touched ≡ e.touched
   pub time : h.touched j ≡ e.touched
   pub blank : h.blank j ≡ (found_after g j e.order).blank
@@ -127,7 +130,8 @@ AreFree states = (b : ℕ) (s : BlockState) → slice_get states b ≡ Some s �
 -- a value of a disk on which nothing was ever written
 abbrev pub IsNew : Begin → ℕ → DiskHeld → Type 0
 IsNew g j (holds.Slot e) = (j < g.given.size) × (e.kept ≡ kept.Empty) × (e.order ≡ [])
-    × (e.touched ≡ g.touched j) × (g.blank j ≡ true) × (g.back j ≡ false)
+    × (e.under ≡ None) × (e.idle ≡ false) × (e.touched ≡ g.touched j) × (g.blank j ≡ true)
+    × (g.back j ≡ false) × (g.idle j ≡ false)
 IsNew g j (holds.Class p) = (j ≡ g.given.size + p.class) × (p.class < 255)
     × (p ≡ record {
       class = p.class;

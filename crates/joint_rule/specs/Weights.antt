@@ -3,7 +3,7 @@ use Rattle.std.specs.Prelude.{◌≡◌, ℕ, zero, suc, ◌+◌, ◌==◌, ◌&
 use denote.RawPtr.{Ptr, block_ptr, null_ptr}
 use Rattle.zr_base.specs.declared.op.Tag.{Tag}
 use Rattle.zr_base.specs.declared.op.Op.{Op}
-use Rattle.zr_base.specs.declared.op.Op.TheVariants.{Write, Read, Discard, Compact}
+use Rattle.zr_base.specs.declared.op.Op.TheVariants.{Write, Read, Discard, Idle, Compact}
 use Rattle.zr_base.specs.declared.op.OpEnd.{OpEnd}
 use Rattle.zspage.specs.Cells.{UsedCell, used_of}
 use Rattle.class_pool.specs.Zspages.{Cells}
@@ -25,7 +25,7 @@ use Rattle.call_history.specs.Parts.{piece_gives, done_sum}
 use Rattle.lock_row.specs.declared.names.LockNo.{LockNo}
 use Rattle.lock_row.specs.declared.names.Held.TheVariants as holds
 use Rattle.lock_row.specs.declared.names.At.{At}
-use Rattle.lock_row.specs.declared.names.At.TheVariants.{Start, Refusing, Away, Fetching, Failing, Counting, Missed, Ready, Sweeping, Moving, Shrunk, Shrinking}
+use Rattle.lock_row.specs.declared.names.At.TheVariants.{Start, Refusing, Away, Fetching, Failing, Counting, Missed, Ready, Scanning, Marking, Sweeping, Moving, Shrunk, Shrinking}
 use Rattle.lock_row.specs.declared.names.State.{State}
 use Rattle.lock_row.specs.declared.names.Object.{Object}
 use Rattle.lock_row.specs.declared.names.Pin.{Pin}
@@ -285,6 +285,7 @@ abbrev pub looks : Op → ℕ
 looks (Write start count stuff) = 1
 looks (Read start count) = 1
 looks (Discard start count) = 0
+looks (Idle age) = 0
 looks Compact = 0
 
 -- 1 for a piece at a stage that may have read the device
@@ -296,6 +297,8 @@ fetched_by Fetching op = 0
 fetched_by Failing op = 0
 fetched_by Counting op = 0
 fetched_by Missed op = 0
+fetched_by (Scanning x) op = 0
+fetched_by (Marking x) op = 0
 fetched_by (Sweeping x) op = 0
 fetched_by (Moving x) op = 0
 fetched_by (Shrunk x) op = 0
@@ -492,6 +495,7 @@ told_by HugeWrites op x = by_option huge_of x
 told_by FreedPages (Write start count stuff) x = 0
 told_by FreedPages (Read start count) x = 0
 told_by FreedPages (Discard start count) x = cond (is_some x) 1 0
+told_by FreedPages (Idle age) x = 0
 told_by FreedPages Compact x = 0
 
 -- what a piece at a stage gives that the account has counted, and the order hasn't got yet

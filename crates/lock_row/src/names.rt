@@ -39,8 +39,8 @@ pub enum Plan {
 
 /// The stage of an actor's piece, by its next event.
 pub enum At {
-    /// It takes the page's slot, or the account for a request beyond the disk, or the first class
-    /// for a compaction.
+    /// It takes the page's slot, the account for a request beyond the disk, the first page's slot
+    /// to mark pages, or the first class for a compaction.
     Start,
     /// It gives the account, which counted a request beyond the disk.
     Refusing,
@@ -86,6 +86,10 @@ pub enum At {
     Giving,
     /// It gives the slot, with the page's new form.
     Ready,
+    /// It takes the slot of the next page that may be marked idle.
+    Scanning(Scan),
+    /// It gives that slot, with the mark where it may be marked.
+    Marking(Scan),
     /// It takes the next class of a compaction.
     Sweeping(Compaction),
     /// It gives that class, where it has moved one object or none.
@@ -94,6 +98,13 @@ pub enum At {
     Shrunk(Compaction),
     /// It gives the account.
     Shrinking(Compaction),
+}
+
+/// Where a scan that marks pages stands: the page that it is at, and how many marks are new so far.
+#[derive(Clone, Copy, PartialEq, Eq, Debug)]
+pub struct Scan {
+    pub page: u32,
+    pub marked: u32,
 }
 
 /// Where a compaction stands: the class that it is at; how many objects it may still move there,

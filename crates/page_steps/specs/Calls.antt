@@ -7,7 +7,7 @@ use Rattle.zr_base.specs.declared.op.Piece.{Piece}
 use Rattle.zr_base.specs.declared.op.Tag.{Tag}
 use Rattle.zr_base.specs.declared.op.Stuff.{Stuff}
 use Rattle.zr_base.specs.Sectors.{page_sector}
-use Rattle.zr_base.specs.Plain.{is_beyond, is_compaction, covers, stuff_sector}
+use Rattle.zr_base.specs.Plain.{is_beyond, is_maintenance, covers, stuff_sector}
 use Rattle.zr_base.specs.Pieces.{IsPieceOf}
 use Rattle.class_pool.specs.Pool.{PoolState, IsAtHome, IsLent}
 use Rattle.mem_account.specs.Counters.{Counters, counted}
@@ -65,6 +65,7 @@ end_of piece.Range = over.Whole ends.Range
 end_of (piece.AtLimit pages need limit) = over.AtLimit pages need limit
 end_of piece.NoMemory = over.NoMemory
 end_of (piece.Eio fault) = over.Eio fault
+end_of (piece.Marked pages) = over.Whole (ends.Marked pages)
 end_of (piece.Compacted moves frames) = over.Whole (ends.Compacted moves frames)
 
 -- the sectors that a piece with such an end has read, where its page is this one
@@ -362,7 +363,7 @@ pub record IsCallOf (c : Head) (r : Scratch) (x : Frame) : Type 0 where
 -- The call does an actor's work: its piece, or the count of a request beyond the disk.
 pub record IsWork (c : Head) (r : Scratch) (x : Frame) : Type 0 where
   pub chain : r.table ≡ x.terms.chain
-  pub request : is_compaction x.part.op ≡ false
+  pub request : is_maintenance x.part.op ≡ false
   pub beyond : is_beyond x.terms.size x.part.op ≡ is_count c.work
   pub call : is_count c.work ≡ false → IsCallOf c r x
 

@@ -1,6 +1,8 @@
 -- What a value has to be for an actor to go on with it, by the stage at which the actor takes it.
 use Rattle.std.specs.Prelude.{◌≡◌, ℕ, ◌+◌, ◌-◌, ◌<◌, ◌≤◌, ◌^◌, ⊤, Bool, true, false, Contains, List, [], ◌∷◌, length, Option, Some, None, slice_get}
-use Rattle.zr_base.specs.Plain.{is_beyond, is_compaction}
+use Rattle.zr_base.specs.declared.op.Op.{Op}
+use Rattle.zr_base.specs.declared.op.Op.TheVariants.{Idle}
+use Rattle.zr_base.specs.Plain.{is_beyond, is_maintenance}
 use Rattle.zspage.specs.Cells.{CellState, UsedCell}
 use Rattle.zspage.specs.Cells.{Fits as CellFits}
 use Rattle.class_pool.specs.Pool.{PoolState, used_cells, IsAtHome, IsLent, IsPool}
@@ -94,12 +96,21 @@ cell_of x = record { chain = x.chain; number = x.number; size = x.size; bytes = 
 abbrev pub SweepFits : ℕ → DiskHeld → Type 0
 SweepFits chain v = AsPool (λ q. q.chain ≤ chain) v
 
--- the first value of a piece: a compaction's first pool, the account for a request beyond the disk, or
+-- the entry of a page that may be marked: it was touched at this time or before
+abbrev pub ScanFits : ℕ → DiskHeld → Type 0
+ScanFits clock v = AsSlot (λ e. e.touched ≤ clock) v
+
+-- the first value of what is no request
+abbrev pub FirstFits : Terms → Op → DiskHeld → Type 0
+FirstFits t (Idle age) v = ScanFits t.clock v
+FirstFits t _ v = SweepFits t.chain v
+
+-- the first value of a piece: that of what is no request, the account for a request beyond the disk, or
 -- else the page's entry
-abbrev pub StartFits : ℕ → Bool → Bool → DiskHeld → Type 0
-StartFits chain true beyond v = SweepFits chain v
-StartFits chain false true v = AsAccount (λ c. ⊤) v
-StartFits chain false false v = AsSlot HasPlace v
+abbrev pub StartFits : Terms → Op → Bool → Bool → DiskHeld → Type 0
+StartFits t op true beyond v = FirstFits t op v
+StartFits t op false true v = AsAccount (λ c. ⊤) v
+StartFits t op false false v = AsSlot HasPlace v
 
 -- the pool of an object that is to be pinned
 abbrev pub PinFits : Kept → DiskHeld → Type 0
@@ -136,7 +147,7 @@ StoreFits chain _ v = ⊤
 abbrev pub FitsAt : Terms → At → Part → EntryState → Option Pin → ℕ → Option Weight
     → Option (List ℕ) → DiskHeld → Type 0
 FitsAt t at.Start p e pin owed ahead page v =
-    StartFits t.chain (is_compaction p.op) (is_beyond t.size p.op) v
+    StartFits t p.op (is_maintenance p.op) (is_beyond t.size p.op) v
 FitsAt t at.Seen p e pin owed ahead page v = PinFits e.kept v
 FitsAt t at.Pinned p e pin owed ahead page v = PinnedFits pin v
 FitsAt t at.Away p e pin owed ahead page v = FetchFits e.kept v
@@ -147,6 +158,7 @@ FitsAt t at.Old p e pin owed ahead page v = FreeFits e.kept pin v
 FitsAt t at.Backed p e pin owed ahead page v = ReleaseFits e.kept v
 FitsAt t at.Owing p e pin owed ahead page v =
     AsAccount (CanPay owed (old_weight ahead e.kept) (form_weight (next_form p page e.kept))) v
+FitsAt t (at.Scanning x) p e pin owed ahead page v = ScanFits t.clock v
 FitsAt t (at.Sweeping x) p e pin owed ahead page v = SweepFits t.chain v
 FitsAt t (at.Shrunk x) p e pin owed ahead page v = AsAccount (λ c. owed ≤ c.pages) v
 FitsAt t _ p e pin owed ahead page v = ⊤

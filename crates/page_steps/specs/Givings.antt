@@ -2,7 +2,7 @@
 use Rattle.std.specs.Prelude.{◌≡◌, ℕ, ◌+◌, ◌≤◌, Bool, true, false, length, List, [], ◌∷◌, ◌++◌, Option, Some, None}
 use Rattle.zr_base.specs.declared.op.Tag.{Tag}
 use Rattle.zr_base.specs.declared.op.Op.{Op}
-use Rattle.zr_base.specs.declared.op.Op.TheVariants.{Write, Read, Discard, Compact}
+use Rattle.zr_base.specs.declared.op.Op.TheVariants.{Write, Read, Discard, Idle, Compact}
 use Rattle.zspage.specs.Cells.{CellState}
 use Rattle.class_pool.specs.Pool.{PoolState, PoolHasRoom}
 use Rattle.mem_account.specs.Counters.{Counters, charged, counted, IsPastLimit, IsWithinLimit}
@@ -29,6 +29,7 @@ use Rattle.slot_entry.specs.Forms.{PageForm, Blank, Word, Pooled, object_class, 
 use Rattle.page_steps.specs.Pages.{next_form}
 use Rattle.page_steps.specs.Pools.{IsNeed, Adds, Lends, Returns, DropsPinned}
 use Rattle.page_steps.specs.Steps.{Terms, DiskHeld, Here, slot}
+use Rattle.page_steps.specs.Scans.{Marks}
 use Rattle.page_steps.specs.Compactions.{repaid, Compacts}
 use Rattle.page_steps.specs.Nexts.{refusing, reading, putting, failing, fetching, missing, counting_failure, pinning, unpinning, charging, denying, stowing, quitting, freeing, repaying}
 
@@ -50,11 +51,13 @@ abbrev pub old_weight : Option Weight → Kept → Weight
 old_weight None k = weight_of k
 old_weight (Some w) k = w
 
--- The entry has one more tag, and was touched at this time.
+-- The entry has one more tag, was touched at this time, and has no mark.
 pub record Notes (clock : ℕ) (e f : EntryState) (k : Kept) (t : Tag) : Type 0 where
   pub kept : f.kept ≡ k
   pub order : f.order ≡ e.order ++ t ∷ []
   pub room : e.room ≤ f.room + 1
+  pub under : f.under ≡ None
+  pub idle : f.idle ≡ false
   pub touched : f.touched ≡ clock
 
 -- a discard is counted beside
@@ -62,6 +65,7 @@ abbrev pub tells : Op → Counters → Counters
 tells (Write start count stuff) c = c
 tells (Read start count) c = c
 tells (Discard start count) c = counted c delta.NotifyFree
+tells (Idle age) c = c
 tells Compact c = c
 
 -- a failure of the device is counted
@@ -69,6 +73,7 @@ abbrev pub fails_by : Op → Counters → Counters
 fails_by (Write start count stuff) c = counted c delta.FailedWrite
 fails_by (Read start count) c = counted c delta.FailedRead
 fails_by (Discard start count) c = counted c delta.FailedWrite
+fails_by (Idle age) c = counted c delta.FailedWrite
 fails_by Compact c = counted c delta.FailedWrite
 
 -- the account once a page is counted: frames are given back, and the page has a new weight
@@ -189,5 +194,7 @@ pub data Works (t : Terms) (l : Here) (v : DiskHeld) (m : Here) : Type 0 where
       → l.at ≡ at.Missed
       → l.held ≡ (slot p.page, holds.Slot e) ∷ [] → l.fail ≡ Some end → is_read p.op ≡ false
       → v ≡ holds.Slot e → m ≡ failing l v → Works t l v m
+  -- an event of a scan that marks pages
+  marks : Marks t l v m → Works t l v m
   -- an event of a compaction
   compacts : Compacts t l v m → Works t l v m

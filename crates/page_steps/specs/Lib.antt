@@ -2,6 +2,7 @@ pub mod Pages
 pub mod Pools
 pub mod Steps
 pub mod Nexts
+pub mod Scans
 pub mod Compactions
 pub mod Givings
 pub mod Fits

@@ -1,8 +1,8 @@
 -- What an actor does next on a page, and what a taking does to its local.
 use Rattle.std.specs.Prelude.{ℕ, ◌+◌, Bool, true, false, List, [], ◌∷◌, ◌++◌, Option, Some, None}
 use Rattle.zr_base.specs.declared.op.Op.{Op}
-use Rattle.zr_base.specs.declared.op.Op.TheVariants.{Write, Read, Discard, Compact}
-use Rattle.zr_base.specs.Plain.{is_beyond, is_compaction, has_whole}
+use Rattle.zr_base.specs.declared.op.Op.TheVariants.{Write, Read, Discard, Idle, Compact}
+use Rattle.zr_base.specs.Plain.{is_beyond, is_maintenance, has_whole}
 use Rattle.class_pool.specs.Pool.{PoolState}
 use Rattle.mem_account.specs.Counters.{Counters}
 use Rattle.mem_account.specs.declared.weight.Weight.{Weight}
@@ -16,7 +16,8 @@ use Rattle.lock_row.specs.declared.names.LockNo.TheVariants as lock
 use Rattle.lock_row.specs.declared.names.Held.{Held}
 use Rattle.lock_row.specs.declared.names.Held.TheVariants as holds
 use Rattle.lock_row.specs.declared.names.At.{At}
-use Rattle.lock_row.specs.declared.names.At.TheVariants.{Start, Refusing, Seen, Pinning, Pinned, Unpinning, Leaving, Away, Fetching, Failing, Counting, Missed, Wanting, Inside, Both, Made, Old, Freeing, Backed, Releasing, Owing, Giving, Ready, Sweeping, Moving, Shrunk, Shrinking}
+use Rattle.lock_row.specs.declared.names.At.TheVariants.{Start, Refusing, Seen, Pinning, Pinned, Unpinning, Leaving, Away, Fetching, Failing, Counting, Missed, Wanting, Inside, Both, Made, Old, Freeing, Backed, Releasing, Owing, Giving, Ready, Scanning, Marking, Sweeping, Moving, Shrunk, Shrinking}
+use Rattle.lock_row.specs.declared.names.Scan.{Scan}
 use Rattle.lock_row.specs.declared.names.Compaction.{Compaction}
 use Rattle.lock_row.specs.declared.names.Plan.{Plan}
 use Rattle.lock_row.specs.declared.names.Plan.TheVariants.{Finished, Take, Give}
@@ -69,16 +70,24 @@ class_by (kept.Wb b) = 0
 abbrev pub first_class : Compaction
 first_class = record { class = 0; budget = None; moves = 0; frames = 0 }
 
--- the first event of a piece: a compaction takes its first class, and a request beyond the disk the
--- account
+-- a scan that marks pages before its first event: it begins with page 0
+abbrev pub first_scan : Scan
+first_scan = record { page = 0; marked = 0 }
+
+-- the first lock of what is no request: the slot of the first page, or the first class
+abbrev pub first_lock : Op → LockNo
+first_lock (Idle age) = slot first_scan.page
+first_lock _ = lock.Class first_class.class
+
+-- the first event of a piece: a request beyond the disk takes the account
 abbrev pub start_plan : Bool → Bool → Part → Plan
-start_plan true beyond p = Take (lock.Class first_class.class)
+start_plan true beyond p = Take (first_lock p.op)
 start_plan false true p = Take lock.Account
 start_plan false false p = Take (slot p.page)
 
 -- c is the class of the old object, d that of the new one
 abbrev pub plan_at : ℕ → At → Part → ℕ → ℕ → Plan
-plan_at size Start p c d = start_plan (is_compaction p.op) (is_beyond size p.op) p
+plan_at size Start p c d = start_plan (is_maintenance p.op) (is_beyond size p.op) p
 plan_at size Refusing p c d = Give lock.Account
 plan_at size Seen p c d = Take (lock.Class c)
 plan_at size Pinning p c d = Give (lock.Class c)
@@ -101,6 +110,8 @@ plan_at size Releasing p c d = Give lock.Blocks
 plan_at size Owing p c d = Take lock.Account
 plan_at size Giving p c d = Give lock.Account
 plan_at size Ready p c d = Give (slot p.page)
+plan_at size (Scanning x) p c d = Take (slot x.page)
+plan_at size (Marking x) p c d = Give (slot x.page)
 plan_at size (Sweeping x) p c d = Take (lock.Class x.class)
 plan_at size (Moving x) p c d = Give (lock.Class x.class)
 plan_at size (Shrunk x) p c d = Take lock.Account
@@ -121,7 +132,14 @@ entry_or (holds.Device x) d = d
 
 -- the entry that an actor holds
 abbrev pub entry_in : List (LockNo × DiskHeld) → EntryState
-entry_in [] = record { kept = kept.Empty; order = []; room = 0; touched = 0 }
+entry_in [] = record {
+  kept = kept.Empty;
+  order = [];
+  room = 0;
+  under = None;
+  idle = false;
+  touched = 0;
+}
 entry_in (x ∷ xs) = entry_or x.1 (entry_in xs)
 
 -- the next event of an actor
@@ -169,22 +187,28 @@ discard_at (kept.Same w) = Owing
 discard_at (kept.Obj o) = Old
 discard_at (kept.Wb b) = Backed
 
--- a piece has its page's slot; a compaction takes none
+-- a piece has its page's slot; what is no request has no page
 abbrev pub entered_at : Op → ℕ → PageForm → Kept → At
 entered_at (Write start count stuff) page f k = write_at (has_whole start count page) f k
 entered_at (Read start count) page f k = seen_at k
 entered_at (Discard start count) page f k = discard_at k
+entered_at (Idle age) page f k = Leaving
 entered_at Compact page f k = Leaving
+
+-- what is no request has its first lock
+abbrev pub first_at : Op → At
+first_at (Idle age) = Marking first_scan
+first_at _ = Moving first_class
 
 -- a piece has its first lock
 abbrev pub begun_at : Bool → Bool → Part → PageForm → Kept → At
-begun_at true beyond p f k = Moving first_class
+begun_at true beyond p f k = first_at p.op
 begun_at false true p f k = Refusing
 begun_at false false p f k = entered_at p.op p.page f k
 
 -- a piece has the lock that it takes next
 abbrev pub after_take : ℕ → At → Part → PageForm → Kept → At
-after_take size Start p f k = begun_at (is_compaction p.op) (is_beyond size p.op) p f k
+after_take size Start p f k = begun_at (is_maintenance p.op) (is_beyond size p.op) p f k
 after_take size Refusing p f k = Refusing
 after_take size Seen p f k = Pinning
 after_take size Pinning p f k = Pinning
@@ -207,6 +231,8 @@ after_take size Releasing p f k = Releasing
 after_take size Owing p f k = Giving
 after_take size Giving p f k = Giving
 after_take size Ready p f k = Ready
+after_take size (Scanning x) p f k = Marking x
+after_take size (Marking x) p f k = Marking x
 after_take size (Sweeping x) p f k = Moving x
 after_take size (Moving x) p f k = Moving x
 after_take size (Shrunk x) p f k = Shrinking x
@@ -222,6 +248,7 @@ abbrev pub pinned_at : Op → PageForm → Kept → At
 pinned_at (Write start count stuff) f k = made_at f k
 pinned_at (Read start count) f k = Pinned
 pinned_at (Discard start count) f k = Pinned
+pinned_at (Idle age) f k = Pinned
 pinned_at Compact f k = Pinned
 
 -- a page was read from the device
@@ -229,6 +256,7 @@ abbrev pub fetched_at : Op → PageForm → Kept → At
 fetched_at (Write start count stuff) f k = made_at f k
 fetched_at (Read start count) f k = Leaving
 fetched_at (Discard start count) f k = Leaving
+fetched_at (Idle age) f k = Leaving
 fetched_at Compact f k = Leaving
 
 -- a refused piece has nothing in the pool

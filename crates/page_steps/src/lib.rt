@@ -20,4 +20,4 @@ pub use nexts::{Chosen, Takes, Told, give_by, take_by};
 pub use stage::{
     DiskHeld, Due, Head, Lent, New, Outcome, Own, PieceEnd, Progress, Scratch, Stage, Work,
 };
-pub use values::{account_of, pool_of};
+pub use values::{account_of, entry_of, pool_of};

@@ -75,6 +75,8 @@ pub enum PieceEnd {
     NoMemory,
     /// A read of the device failed: the device's count of faults after it.
     Eio { fault: u64 },
+    /// It was a scan that marks pages: how many marks are new.
+    Marked(u32),
     /// It was a compaction: the objects that it moved, and the frames that it freed.
     Compacted { moves: u64, frames: u64 },
 }

@@ -13,7 +13,7 @@ use mem_account::{Account, Weight};
 use slot_entry::{Entry, Kept};
 
 /// The entry of a page's slot.
-pub(crate) fn entry_of<D: Backing>(value: DiskHeld<D>) -> Entry
+pub fn entry_of<D: Backing>(value: DiskHeld<D>) -> Entry
     requires { (e : _) × (value ≡ holds.Slot e) }
     ensures { value ≡ holds.Slot result }
 {

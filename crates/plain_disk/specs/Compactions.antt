@@ -1,17 +1,19 @@
--- What a phase of one actor says of its compactions: after the last of them, where no write and no
--- discard follows, each class has as few zspages as its objects need; it has moved no more objects than
--- there are; and one that finds the classes so does nothing.
+-- What a phase of one actor says of its compactions and of its marks: after the last compaction, where
+-- no write and no discard follows, each class has as few zspages as its objects need; it has moved no
+-- more objects than there are; one that finds the classes so moves nothing; and a page is marked idle
+-- exactly where it may be.
 use Rattle.std.specs.Prelude.{◌≡◌, ℕ, ◌<◌, ◌≤◌, ◌==◌, nat_lt, nat_le, max, Bool, true, false, List, [], ◌∷◌, length, sum_by, if◌then◌else◌, ⊤}
 use Rattle.std.specs.List.{range_with_len}
 use Rattle.std.specs.Int.{div_ceil}
 use Rattle.zr_base.specs.declared.op.Op.{Op}
-use Rattle.zr_base.specs.declared.op.Op.TheVariants.{Read, Compact}
+use Rattle.zr_base.specs.declared.op.Op.TheVariants.{Read, Idle, Compact}
 use Rattle.zr_base.specs.declared.op.OpEnd.{OpEnd}
 use Rattle.zr_base.specs.declared.op.OpEnd.TheVariants as ends
 use Rattle.mem_account.specs.declared.weight.Weight.{Weight}
 use Rattle.size_class.specs.Classes.{per_of}
 use Rattle.plain_disk.specs.Forms.{is_pooled}
 use Rattle.plain_disk.specs.Rests.{Rest, kept_pages}
+use Rattle.plain_disk.specs.Idles.{pages_at, pages_after, AreMarked}
 
 -- ---- classes
 
@@ -39,6 +41,7 @@ pub record IsLeast (per : ℕ) (used : List ℕ) : Type 0 where
 -- whether the classes are tight after an operation, by whether they are before it
 abbrev pub tight_by : Op → Bool → Bool
 tight_by (Read start count) tight = tight
+tight_by (Idle age) tight = tight
 tight_by Compact tight = true
 tight_by _ tight = false
 
@@ -47,20 +50,22 @@ abbrev pub tight_after : Bool → List Op → Bool
 tight_after tight [] = tight
 tight_after tight (op ∷ ops) = tight_after (tight_by op tight) ops
 
--- a compaction with this end did nothing
-abbrev pub IsIdle : OpEnd → Type 0
-IsIdle (ends.Compacted moves frames) = (moves ≡ 0) × (frames ≡ 0)
-IsIdle _ = ⊤
+-- a compaction with this end moved nothing
+abbrev pub MovesNone : OpEnd → Type 0
+MovesNone (ends.Compacted moves frames) = (moves ≡ 0) × (frames ≡ 0)
+MovesNone _ = ⊤
 
--- each compaction that finds the classes tight does nothing
-abbrev pub AreIdle : Bool → List Op → List OpEnd → Type 0
-AreIdle tight [] es = ⊤
-AreIdle tight (op ∷ ops) [] = ⊤
-AreIdle tight (op ∷ ops) (end ∷ es) = (tight ≡ true → IsIdle end) × AreIdle (tight_by op tight) ops es
+-- each compaction that finds the classes tight moves nothing
+abbrev pub MoveNone : Bool → List Op → List OpEnd → Type 0
+MoveNone tight [] es = ⊤
+MoveNone tight (op ∷ ops) [] = ⊤
+MoveNone tight (op ∷ ops) (end ∷ es) =
+    (tight ≡ true → MovesNone end) × MoveNone (tight_by op tight) ops es
 
 -- the most moves of a compaction since the last write or discard, after an operation with this end
 abbrev pub moves_by : Op → OpEnd → ℕ → ℕ
 moves_by (Read start count) end n = n
+moves_by (Idle age) end n = n
 moves_by Compact (ends.Compacted moves frames) n = max n moves
 moves_by _ end n = 0
 
@@ -77,7 +82,10 @@ pooled_pages form r = sum_by (λ w. if is_pooled w then 1 else 0) (kept_pages fo
 -- What the operations of a phase's only actor leave, with these ends.
 pub record IsAlone (form : List ℕ → Weight) (r : Rest) (ops : List Op) (es : List OpEnd)
     (m : Rest) : Type 0 where
-  pub idle : AreIdle (are_tight r.set.chain r.used) ops es
+  pub still : MoveNone (are_tight r.set.chain r.used) ops es
   pub least : tight_after (are_tight r.set.chain r.used) ops ≡ true
       → (k : ℕ) → k < 255 → IsLeast (per_of m.set.chain k) (m.used k)
   pub few : moves_after 0 ops es ≤ pooled_pages form m
+  -- each mark is counted where it is new, and these pages are idle after the last operation
+  pub marks : AreMarked form r (pages_at r) ops es
+  pub idle : (p : ℕ) → p < r.size → m.idle p ≡ (pages_after form r (pages_at r) ops es p).idle

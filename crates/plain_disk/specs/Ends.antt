@@ -4,11 +4,11 @@ use Rattle.std.specs.Prelude.{◌≡◌, ◌⊎◌, ℕ, ◌+◌, ◌-◌, ◌*�
 use Rattle.std.specs.List.{flat_map, range_with_len}
 use Rattle.zr_base.specs.declared.op.Stuff.{Stuff}
 use Rattle.zr_base.specs.declared.op.Op.{Op}
-use Rattle.zr_base.specs.declared.op.Op.TheVariants.{Write, Read}
+use Rattle.zr_base.specs.declared.op.Op.TheVariants.{Write, Read, Idle, Compact}
 use Rattle.zr_base.specs.declared.op.OpEnd.{OpEnd}
 use Rattle.zr_base.specs.declared.op.OpEnd.TheVariants as ends
 use Rattle.zr_base.specs.Pieces.{first_page, pages_of}
-use Rattle.zr_base.specs.Plain.{stuff_sector, has_whole, is_beyond, is_compaction}
+use Rattle.zr_base.specs.Plain.{stuff_sector, has_whole, is_beyond, is_maintenance}
 use Rattle.mem_account.specs.declared.weight.Weight.{Weight}
 use Rattle.size_class.specs.Classes.{chain_of}
 use Rattle.plain_disk.specs.Forms.{is_pooled, in_class}
@@ -35,10 +35,10 @@ pub record Bounds : Type 0 where
 
 -- ---- the ends of an operation
 
--- whether an operation on a disk of so many pages is over in one piece, which stands in no order: a
--- compaction, or one beyond the disk
+-- whether an operation on a disk of so many pages is over in one piece, which stands in no order: it
+-- is no request, or one beyond the disk
 abbrev pub is_single : ℕ → Op → Bool
-is_single pages op = is_compaction op || is_beyond pages op
+is_single pages op = is_maintenance op || is_beyond pages op
 
 -- the bytes that a write of all sectors of a page puts there
 abbrev pub page_put : ℕ → Stuff → ℕ → List ℕ
@@ -85,13 +85,17 @@ MayFault t (Write start count stuff) page fault =
 MayFault t (Read start count) page fault = IsFaultAt t page fault
 MayFault t _ page fault = ⊥
 
--- the ends of an operation that is over in one piece: `range` where it lies beyond the disk, and a
--- compaction's numbers, which frees at most a chain's frames with each move
+-- the ends of what is no request: an operation that marks pages marks at most those of the disk, and
+-- a compaction frees at most a chain's frames with each move
+abbrev pub MayEndSo : Ground → Op → OpEnd → Type 0
+MayEndSo t (Idle age) (ends.Marked pages) = pages ≤ t.size
+MayEndSo t Compact (ends.Compacted moves frames) = frames ≤ t.chain * moves
+MayEndSo t op end = ⊥
+
+-- the ends of an operation that is over in one piece: `range` where it lies beyond the disk
 abbrev pub MayBeSingle : Ground → Op → OpEnd → Type 0
 MayBeSingle t op ends.Range = is_beyond t.size op ≡ true
-MayBeSingle t op (ends.Compacted moves frames) =
-    (is_compaction op ≡ true) × (frames ≤ t.chain * moves)
-MayBeSingle t op _ = ⊥
+MayBeSingle t op end = MayEndSo t op end
 
 -- so many pieces of an operation on the disk were carried out, and not all
 abbrev pub IsCutAt : ℕ → Op → ℕ → Type 0

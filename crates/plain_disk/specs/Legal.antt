@@ -18,6 +18,8 @@ pub data Item : Type 0 where
   limit_to : ℕ → Item
   -- the greatest number of frames so far is from now on what the disk takes now
   lower_most : Item
+  -- the time is this from now on, in seconds
+  clock_to : ℕ → Item
   -- the lines of a report
   asks : Report → Item
   -- the operations of the actors of a phase
@@ -47,6 +49,7 @@ pub record IsNew (r : Rest) (n : ℕ) (m : Rest) : Type 0 where
   pub holds : (s : ℕ) → s < 8 * n → m.holds s ≡ zero_sector
   pub blank : (p : ℕ) → p < n → m.blank p ≡ true
   pub back : (p : ℕ) → p < n → m.back p ≡ false
+  pub idle : (p : ℕ) → p < n → m.idle p ≡ false
   pub touched : (p : ℕ) → p < n → m.touched p ≡ 0
   pub unused : IsUnused m
   pub device : m.device ≡ r.device
@@ -87,6 +90,8 @@ ItemIsLegal form r (backing n) lines m =
     GivesBacking r.size (nat_lt r.device.blocks n) r n lines m
 ItemIsLegal form r (limit_to n) lines m =
     (lines ≡ []) × (m ≡ sets r (record r.set { limit = n }))
+ItemIsLegal form r (clock_to n) lines m =
+    (lines ≡ []) × (m ≡ sets r (record r.set { clock = n }))
 ItemIsLegal form r lower_most lines m = (lines ≡ []) × (m ≡ lowered r)
 ItemIsLegal form r (asks q) lines m = (lines ≡ report form r q) × (m ≡ r)
 ItemIsLegal form r (phase actors) lines m = IsPhase form r actors lines m

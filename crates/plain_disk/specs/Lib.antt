@@ -3,6 +3,7 @@ pub mod Ends
 pub mod Output
 pub mod Calls
 pub mod Rests
+pub mod Idles
 pub mod Compactions
 pub mod Phases
 pub mod Legal

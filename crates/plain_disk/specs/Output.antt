@@ -8,10 +8,12 @@ use Rattle.mem_account.specs.declared.account.IoStat.{IoStat}
 use Rattle.backing_dev.specs.declared.stat.BdStat.{BdStat}
 use Rattle.mem_account.specs.declared.weight.Weight.{Weight}
 
--- a page that isn't empty: its number, how it is kept, and when it was touched
+-- a page that isn't empty: its number, how it is kept, whether it is marked idle, and when it was
+-- touched
 pub record StateLine : Type 0 where
   pub page : ℕ
   pub kept : Weight
+  pub idle : Bool
   pub touched : ℕ
 
 -- a class that has zspages: its number, the most frames of a chain, and how many cells of each
@@ -87,6 +89,7 @@ phase_lines es gots orders = actors_lines 0 es gots ++ order_lines 0 orders
 -- whether an operation with this end was refused
 abbrev pub is_refused : OpEnd → Bool
 is_refused ends.Ok = false
+is_refused (ends.Marked pages) = false
 is_refused (ends.Compacted moves frames) = false
 is_refused _ = true
 

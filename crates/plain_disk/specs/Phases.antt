@@ -13,7 +13,9 @@ use Rattle.plain_disk.specs.Ends.{Ground, Bounds, MayEndEach, due_from, ends_sum
 use Rattle.plain_disk.specs.Output.{OutLine, phase_lines}
 use Rattle.plain_disk.specs.Calls.{Found, leave_page, after_all, ever_pooled, calls_sum, made_huge, freed, may_fetch}
 use Rattle.plain_disk.specs.Compactions.{IsAlone}
-use Rattle.plain_disk.specs.Rests.{SoFar, Rest, page_of, kept_pages, frames_of, AreUsed}
+use Rattle.plain_disk.specs.Idles.{is_marked_in, KeepsMark}
+use Rattle.plain_disk.specs.Forms.{is_pooled}
+use Rattle.plain_disk.specs.Rests.{SoFar, Rest, page_of, kept_at, kept_pages, frames_of, AreUsed}
 
 -- ---- orders and contents
 
@@ -140,6 +142,8 @@ pub record LeavesPages (form : List ℕ → Weight) (r : Rest) (actors : List (L
       → m.blank p ≡ (after_all actors (page_of r p) (nth_order orders p)).blank
   pub back : (p : ℕ) → p < r.size
       → m.back p ≡ (r.back p && leave_page actors (nth_order orders p))
+  pub idle : (p : ℕ) → p < r.size → KeepsMark
+      (is_pooled (kept_at form m p)) (r.idle p) (is_marked_in actors) (nth_order orders p) (m.idle p)
   pub touched : (p : ℕ) → p < r.size
       → m.touched p ≡ touched_by (nth_order orders p) r.set.clock (r.touched p)
   pub used : AreUsed r.set.chain (kept_pages form m) m.used

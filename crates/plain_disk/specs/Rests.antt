@@ -50,14 +50,15 @@ pub record Settings : Type 0 where
   pub backing : ℕ
 
 -- A disk between two items of a job: its pages, none before its size is given; what each sector
--- holds; which pages are blank; which are on the backing device; when each was touched; for each
--- class, how many cells of each of its zspages are used; the greatest number of frames so far, since
+-- holds; which pages are blank; which are on the backing device; which are marked idle; when each was
+-- touched; for each class, how many cells of each of its zspages are used; the greatest number of frames so far, since
 -- it was last lowered; the backing device; what is set; and what has happened so far.
 pub record Rest : Type 0 where
   pub size : ℕ
   pub holds : ℕ → List ℕ
   pub blank : ℕ → Bool
   pub back : ℕ → Bool
+  pub idle : ℕ → Bool
   pub touched : ℕ → ℕ
   pub used : ℕ → List ℕ
   pub most : ℕ
@@ -126,9 +127,10 @@ so_far_of c = record {
 -- ---- reports
 
 -- the line of a page that isn't empty
-abbrev pub state_line : ℕ → Weight → ℕ → List OutLine
-state_line p Empty touched = []
-state_line p kept touched = state (record { page = p; kept = kept; touched = touched }) ∷ []
+abbrev pub state_line : ℕ → Weight → Bool → ℕ → List OutLine
+state_line p Empty idle touched = []
+state_line p kept idle touched =
+    state (record { page = p; kept = kept; idle = idle; touched = touched }) ∷ []
 
 -- the line of a class that has zspages
 abbrev pub class_line : ℕ → ℕ → List ℕ → List OutLine
@@ -159,6 +161,6 @@ report form r bd_stat = device_calls (record {
   writes = r.device.writes;
 }) ∷ []
 report form r states =
-    flat_map (λ p. state_line p (kept_at form r p) (r.touched p)) (range_with_len 0 r.size)
+    flat_map (λ p. state_line p (kept_at form r p) (r.idle p) (r.touched p)) (range_with_len 0 r.size)
 report form r classes =
     flat_map (λ k. class_line r.set.chain k (r.used k)) (range_with_len 0 255)

@@ -1,6 +1,6 @@
 -- A compaction: what it stands for as an actor's local, and what its values are.
 use Rattle.std.specs.Prelude.{◌≡◌, ℕ, zero, suc, ◌+◌, ◌*◌, ◌^◌, ◌<◌, ◌≤◌, ⊤, true, List, [], ◌∷◌, Option, Some, None}
-use Rattle.zr_base.specs.Plain.{is_compaction}
+use Rattle.zr_base.specs.declared.op.Op.TheVariants.{Compact}
 use Rattle.lock_row.specs.declared.names.LockNo.{LockNo}
 use Rattle.lock_row.specs.declared.names.LockNo.TheVariants as lock
 use Rattle.lock_row.specs.declared.names.Held.TheVariants as holds
@@ -78,7 +78,7 @@ next_event stage.Over = Finished
 -- The call does an actor's work: a compaction, of the classes for these chains.
 pub record IsWork (chain : ℕ) (x : Frame) : Type 0 where
   pub chain_is : chain ≡ x.terms.chain
-  pub op : is_compaction x.part.op ≡ true
+  pub op : x.part.op ≡ Compact
 
 -- ---- what its values are
 

@@ -5,7 +5,10 @@ ghost use Rattle.size_class.specs.Classes.{stands_of};
 ghost use Rattle.page_steps.specs.Steps.{plan};
 ghost use Rattle.page_steps.specs.Calls.{Frame};
 ghost use Rattle.post_steps.specs.declared.compact.CompactStage.{CompactStage};
+ghost use Rattle.post_steps.specs.declared.idle.IdleHead.{IdleHead};
+ghost use Rattle.post_steps.specs.declared.idle.IdleStage.{IdleStage};
 ghost use Rattle.post_steps.specs.Compact.{IsGoing, IsWork, here, next_event};
+ghost use Rattle.post_steps.specs.Idle.{IsGoing as IsIdleGoing, IsWork as IsIdleWork, here as idle_here, next_event as idle_event};
 
 /// Between two events, what a compaction does next is what the plan of each actor says whose work it
 /// does.
@@ -13,6 +16,13 @@ ghost use Rattle.post_steps.specs.Compact.{IsGoing, IsWork, here, next_event};
 pub fn compactions_are_events()
     ensures plan { (chain : ℕ) (s : CompactStage) (x : Frame)
         → IsGoing s → IsWork chain x → plan x.terms (here x s) ≡ next_event s }
+{}
+
+/// The same of a call that marks pages.
+#[inline]
+pub fn scans_are_events()
+    ensures plan { (c : IdleHead) (s : IdleStage) (x : Frame)
+        → IsIdleGoing s → IsIdleWork c x → plan x.terms (idle_here x s) ≡ idle_event s }
 {}
 
 /// The classes of a compaction, one after the other: class 0 stands for itself, and each other class

@@ -3,9 +3,11 @@
 #![tactic(auto)]
 
 mod compact;
+mod idle;
 mod laws;
 mod nexts;
 mod sweep;
 
 pub use compact::{CompactCall, CompactStage};
-pub use laws::{classes_come_in_turn, compactions_are_events};
+pub use idle::{IdleCall, IdleHead, IdleStage};
+pub use laws::{classes_come_in_turn, compactions_are_events, scans_are_events};

@@ -1,8 +1,17 @@
-//! The locals that follow a compaction's events, where its hand is told them.
+//! The locals that follow events of these calls, where their hand is told them.
 
 use backing_dev::Backing;
 use lock_row::NextLocal;
 use page_steps::DiskHeld;
+
+/// A call that marks pages takes the first one.
+pub(crate) struct Enters;
+
+impl<D: Backing> NextLocal<DiskHeld<D>> for Enters {
+    ghost use Rattle.post_steps.specs.Idle.{entering};
+
+    ghost next = { entering };
+}
 
 /// A compaction takes its first class.
 pub(crate) struct Begins;

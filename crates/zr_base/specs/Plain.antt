@@ -8,7 +8,7 @@ use Rattle.zr_base.specs.declared.op.Tag.{Tag}
 use Rattle.zr_base.specs.declared.op.Stuff.{Stuff}
 use Rattle.zr_base.specs.declared.op.Stuff.TheVariants.{Fill, Seq, Hex}
 use Rattle.zr_base.specs.declared.op.Op.{Op}
-use Rattle.zr_base.specs.declared.op.Op.TheVariants.{Write, Read, Discard, Compact}
+use Rattle.zr_base.specs.declared.op.Op.TheVariants.{Write, Read, Discard, Idle, Compact}
 use Rattle.zr_base.specs.declared.op.OpEnd.{OpEnd}
 use Rattle.zr_base.specs.declared.op.OpEnd.TheVariants as ends
 
@@ -60,6 +60,7 @@ abbrev pub start_of : Op → ℕ
 start_of (Write start count stuff) = start
 start_of (Read start count) = start
 start_of (Discard start count) = start
+start_of (Idle age) = 0
 start_of Compact = 0
 
 -- how many sectors it has; what is no request has none
@@ -67,25 +68,28 @@ abbrev pub count_of : Op → ℕ
 count_of (Write start count stuff) = count
 count_of (Read start count) = count
 count_of (Discard start count) = count
+count_of (Idle age) = 0
 count_of Compact = 0
 
--- whether an operation is a compaction
-abbrev pub is_compaction : Op → Bool
-is_compaction (Write start count stuff) = false
-is_compaction (Read start count) = false
-is_compaction (Discard start count) = false
-is_compaction Compact = true
+-- whether an operation is no request: it marks pages, or compacts the pools
+abbrev pub is_maintenance : Op → Bool
+is_maintenance (Write start count stuff) = false
+is_maintenance (Read start count) = false
+is_maintenance (Discard start count) = false
+is_maintenance (Idle age) = true
+is_maintenance Compact = true
 
 -- a request begins below sector 2 ^ 32, and has one sector at least and at most so many
 abbrev pub InBounds : ℕ → ℕ → Type 0
 InBounds start count = (start < 2 ^ 32) × (1 ≤ count) × (count ≤ MOST_SECTORS)
 
--- what an operation asks for lies in these bounds; a write has its bytes, and a compaction asks for
--- nothing
+-- what an operation asks for lies in these bounds; a write has its bytes, and what is no request
+-- asks for nothing
 abbrev pub IsRequest : Op → Type 0
 IsRequest (Write start count stuff) = InBounds start count × HasSectors stuff count × HasBytes stuff
 IsRequest (Read start count) = InBounds start count
 IsRequest (Discard start count) = InBounds start count
+IsRequest (Idle age) = Unit {0}
 IsRequest Compact = Unit {0}
 
 -- whether a request lies beyond a disk of so many pages
@@ -93,12 +97,20 @@ abbrev pub is_beyond : ℕ → Op → Bool
 is_beyond pages op = nat_lt (8 * pages) (start_of op + count_of op)
 
 -- whether an operation's piece on a page is carried out: that of a discard only where it has the
--- whole page; a compaction has none
+-- whole page; what is no request has none
 abbrev pub has_event : Op → ℕ → Bool
 has_event (Write start count stuff) page = true
 has_event (Read start count) page = true
 has_event (Discard start count) page = has_whole start count page
+has_event (Idle age) page = false
 has_event Compact page = false
+
+-- ---- ages
+
+-- whether a page was last accessed more than so many seconds ago, where they are given
+abbrev pub is_older : ℕ → Option ℕ → ℕ → Bool
+is_older now None touched = true
+is_older now (Some age) touched = nat_lt age (now - touched)
 
 -- ---- contents
 
@@ -109,6 +121,7 @@ sector_after (Write start count stuff) s old =
 sector_after (Read start count) s old = old
 sector_after (Discard start count) s old =
     if has_whole start count (s / 8) then zero_sector else old
+sector_after (Idle age) s old = old
 sector_after Compact s old = old
 
 -- the operation that a tag names
@@ -138,6 +151,7 @@ abbrev pub pieces_noted : Op → ℕ → ℕ
 pieces_noted (Write start count stuff) done = done
 pieces_noted (Read start count) done = done + 1
 pieces_noted (Discard start count) done = done
+pieces_noted (Idle age) done = done
 pieces_noted Compact done = done
 
 -- whether an operation with its end stands in the order of a page: with all its pieces, or with
@@ -148,6 +162,7 @@ stands_on op ends.Range page = false
 stands_on op (ends.AtLimit pages need limit done) page = is_among (start_of op / 8) done page
 stands_on op (ends.NoMemory done) page = is_among (start_of op / 8) done page
 stands_on op (ends.Eio fault done) page = is_among (start_of op / 8) (pieces_noted op done) page
+stands_on op (ends.Marked pages) page = false
 stands_on op (ends.Compacted moves frames) page = false
 
 -- whether the operation that is named stands in the order of a page with its end, where there are both

@@ -14,7 +14,7 @@ mod walk;
 
 pub use limits::{MOST_ACTORS, MOST_OPERATIONS, MOST_PAGES, MOST_SECTORS};
 pub use list::List;
-pub use op::{ActorOps, Bytes, Op, OpEnd, Piece, Stuff, Tag, Turns};
+pub use op::{ActorOps, Bytes, Mode, Op, OpEnd, Piece, Stuff, Tag, Turns};
 pub use page::{Failed, Handle, Page, PageIx};
 pub use sink::{MemSink, Sink, StdSink};
 pub use source::{MemSource, Source, StdSource};

@@ -55,6 +55,8 @@ pub enum OpEnd {
         fault: u64,
         done: u32,
     },
+    /// Pages were marked idle: how many marks are new.
+    Marked(u32),
     /// A compaction was carried out: how many objects it moved, and how many frames of 4096 bytes
     /// it freed.
     Compacted {
@@ -119,6 +121,15 @@ fn put_bytes(bytes: &[u8], from: usize, out: &mut [u8; 512])
     out.copy_from_slice(&bytes[from..from + 512]);
 }
 
+/// Which pages of the pool a writeback takes: those that are idle, those that are huge, or those
+/// that are both.
+#[derive(Clone, Copy, PartialEq, Eq, Debug)]
+pub enum Mode {
+    Idle,
+    Huge,
+    HugeIdle,
+}
+
 /// An operation of an actor. A request has `count` sectors of 512 bytes, from sector `start` on.
 /// What is no request has no sector.
 #[derive(Drop)]
@@ -136,6 +147,11 @@ pub enum Op {
     Discard {
         start: u64,
         count: u32,
+    },
+    /// Marks pages of the pool idle: all of them, or those that weren't accessed for more than `age`
+    /// seconds.
+    Idle {
+        age: Option<u64>,
     },
     /// Compacts the pools: objects move out of the zspages that have few, which are then given up.
     Compact,

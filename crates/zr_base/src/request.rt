@@ -15,7 +15,7 @@ impl Op {
     {
         match self {
             Op::Write { start, .. } | Op::Read { start, .. } | Op::Discard { start, .. } => *start,
-            Op::Compact => 0,
+            Op::Idle { .. } | Op::Compact => 0,
         }
     }
 
@@ -25,7 +25,7 @@ impl Op {
     {
         match self {
             Op::Write { count, .. } | Op::Read { count, .. } | Op::Discard { count, .. } => *count,
-            Op::Compact => 0,
+            Op::Idle { .. } | Op::Compact => 0,
         }
     }
 
@@ -78,7 +78,7 @@ impl Op {
                 let first = 8 * page as u64;
                 *start <= first && first + 8 <= self.end()
             }
-            Op::Compact => false,
+            Op::Idle { .. } | Op::Compact => false,
         }
     }
 

@@ -61,7 +61,7 @@ orders_of size row = map (order_at row) (range_with_len 0 size)
 -- a value of which an entry's order is taken as empty
 abbrev pub without_calls : DiskHeld → DiskHeld
 without_calls (holds.Slot e) =
-    holds.Slot (record { kept = e.kept; order = []; room = 0; touched = e.touched })
+    holds.Slot (record e { order = []; room = 0 })
 without_calls (holds.Class q) = holds.Class q
 without_calls (holds.Account c) = holds.Account c
 without_calls (holds.Blocks x) = holds.Blocks x
@@ -79,7 +79,7 @@ without_orders row = map cell_without_calls row
 -- the value is as before, but for an entry's order
 abbrev pub IsKept : DiskHeld → DiskHeld → Type 0
 IsKept (holds.Slot e) u =
-    (f : EntryState) × (u ≡ holds.Slot f) × (f.kept ≡ e.kept) × (f.touched ≡ e.touched)
+    (f : EntryState) × (u ≡ holds.Slot f) × (f ≡ record e { order = f.order; room = f.room })
 IsKept (holds.Class q) u = u ≡ holds.Class q
 IsKept (holds.Account c) u = u ≡ holds.Account c
 IsKept (holds.Blocks x) u = u ≡ holds.Blocks x

@@ -14,8 +14,7 @@ pub record IsReserved (page n : ℕ) (old new : List (Option DiskHeld)) : Type 0
   pub is : EntryState
   pub before : slice_get old page ≡ Some (Some (holds.Slot was))
   pub after : slice_get new page ≡ Some (Some (holds.Slot is))
-  pub kept : is.kept ≡ was.kept
-  pub touched : is.touched ≡ was.touched
+  pub kept : is ≡ record was { order = is.order; room = is.room }
   pub order : is.order ≡ []
   pub room : n ≤ is.room
 
@@ -27,8 +26,7 @@ pub record KeepsPage (done : ℕ → Bool) (counts : BTreeMap ℕ ℕ) (page : �
   pub is : EntryState
   pub before : slice_get old page ≡ Some (Some (holds.Slot was))
   pub after : slice_get new page ≡ Some (Some (holds.Slot is))
-  pub kept : is.kept ≡ was.kept
-  pub touched : is.touched ≡ was.touched
+  pub kept : is ≡ record was { order = is.order; room = is.room }
   pub order : done page ≡ true → is.order ≡ []
   pub room : done page ≡ true → count_at counts page ≤ is.room
   pub same : done page ≡ false → is ≡ was

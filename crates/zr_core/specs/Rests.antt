@@ -15,7 +15,7 @@ use Rattle.slot_entry.specs.Entries.{EntryState}
 use Rattle.page_steps.specs.Steps.{DiskHeld, slot}
 use Rattle.joint_rule.specs.Begins.{Begin, found_after, back_at, Proper}
 use Rattle.joint_rule.specs.Starts.{AtRest, AreFree}
-use Rattle.joint_rule.specs.Ends.{device_of}
+use Rattle.joint_rule.specs.Ends.{idle_in, device_of}
 use Rattle.zr_base.specs.declared.limits.TheConstants.{MOST_PAGES}
 use Rattle.zr_core.specs.declared.limits.TheConstants.{MOST_CHAIN}
 use Rattle.zr_core.specs.declared.spare.Spare.{Spare}
@@ -138,6 +138,11 @@ pub record RestsAs (g : Begin) (pages : ℕ) (cells : List (Option DiskHeld)) : 
   pub account : slice_get cells (pages + 255) ≡ Some (Some (holds.Account g.was))
   pub device : slice_get cells (pages + 257) ≡ Some (Some (holds.Device g.device))
 
+-- no page was touched after this time
+abbrev pub IsTime : ℕ → List (Option DiskHeld) → Type 0
+IsTime now cells = (p : ℕ) (e : EntryState) → slice_get cells p ≡ Some (Some (holds.Slot e))
+    → e.touched ≤ now
+
 -- Each page has its entry at home.
 pub record HasEntries (pages : ℕ) (cells : List (Option DiskHeld)) : Type 0 where
   pub size : pages ≤ length cells
@@ -162,6 +167,7 @@ new_disk pages limit device = record {
   given = record { size = pages; actors = []; before = λ s. zero_sector };
   blank = λ p. true;
   back = λ p. false;
+  idle = λ p. false;
   touched = λ p. 0;
   chain = MOST_CHAIN;
   clock = 0;
@@ -176,6 +182,7 @@ with_account g c = record {
   given = g.given;
   blank = g.blank;
   back = g.back;
+  idle = g.idle;
   touched = g.touched;
   chain = g.chain;
   clock = g.clock;
@@ -198,6 +205,7 @@ begun g actors now = record {
   given = record { size = g.given.size; actors = actors; before = g.given.before };
   blank = g.blank;
   back = g.back;
+  idle = g.idle;
   touched = g.touched;
   chain = g.chain;
   clock = now;
@@ -225,6 +233,7 @@ left g row = record {
   };
   blank = λ p. (found_after g p (order_at row p)).blank;
   back = λ p. back_at g p (order_at row p);
+  idle = λ p. idle_in (get_or row p None);
   touched = λ p. touched_in (get_or row p None);
   chain = g.chain;
   clock = g.clock;

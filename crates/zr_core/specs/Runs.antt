@@ -3,7 +3,7 @@ use Rattle.std.specs.Prelude.{◌≡◌, ◌⊎◌, ◌≢◌, ℕ, ◌+◌, ◌
 use Rattle.std.specs.List.{flat_map, range_with_len}
 use Rattle.zr_base.specs.declared.op.Op.{Op}
 use Rattle.zr_base.specs.declared.op.Turns.{Turns}
-use Rattle.zr_base.specs.Plain.{is_compaction}
+use Rattle.zr_base.specs.declared.op.Op.TheVariants.{Idle, Compact}
 use Rattle.call_history.specs.declared.part.Part.{Part}
 use Rattle.call_history.specs.declared.part.Done.{Done}
 use Rattle.class_pool.specs.Pool.{PoolState, objects}
@@ -11,7 +11,8 @@ use Rattle.lock_row.specs.declared.names.LockNo.{LockNo}
 use Rattle.lock_row.specs.declared.names.LockNo.TheVariants as lock
 use Rattle.lock_row.specs.declared.names.Held.TheVariants as holds
 use Rattle.lock_row.specs.declared.names.At.{At}
-use Rattle.lock_row.specs.declared.names.At.TheVariants.{Start, Refusing, Seen, Pinning, Pinned, Unpinning, Leaving, Away, Fetching, Failing, Counting, Missed, Wanting, Inside, Both, Made, Old, Freeing, Backed, Releasing, Owing, Giving, Ready, Sweeping, Moving, Shrunk, Shrinking}
+use Rattle.lock_row.specs.declared.names.At.TheVariants.{Start, Refusing, Seen, Pinning, Pinned, Unpinning, Leaving, Away, Fetching, Failing, Counting, Missed, Wanting, Inside, Both, Made, Old, Freeing, Backed, Releasing, Owing, Giving, Ready, Scanning, Marking, Sweeping, Moving, Shrunk, Shrinking}
+use Rattle.lock_row.specs.declared.names.Scan.{Scan}
 use Rattle.lock_row.specs.declared.names.Compaction.{Compaction}
 use Rattle.lock_row.specs.declared.names.Plan.TheVariants.{Finished, Take}
 use Rattle.lock_row.specs.declared.names.State.{State}
@@ -68,53 +69,62 @@ class_left n = 4 * n + 2
 abbrev pub compaction_left : ℕ → Compaction → ℕ
 compaction_left n x = class_left (unwrap_or x.budget n) + (254 - x.class) * class_left n
 
--- the most events of a piece: twelve, or those of a compaction of all classes
-abbrev pub piece_left : ℕ → Part → ℕ
-piece_left n p = if is_compaction p.op then 255 * class_left n else 12
+-- the events that a scan of so many pages has left from the taking of its page on: two for each page
+abbrev pub scan_left : ℕ → Scan → ℕ
+scan_left size x = 2 * (size - x.page)
+
+-- the most events of a piece, on a disk of so many pages: twelve, or those of a scan of all pages, or
+-- of a compaction of all classes
+abbrev pub op_left : ℕ → ℕ → Op → ℕ
+op_left size n (Idle age) = 2 * size
+op_left size n Compact = 255 * class_left n
+op_left size n op = 12
 
 -- those of some pieces
-abbrev pub pieces_left : ℕ → List Part → ℕ
-pieces_left n [] = 0
-pieces_left n (p ∷ ps) = piece_left n p + pieces_left n ps
+abbrev pub pieces_left : ℕ → ℕ → List Part → ℕ
+pieces_left size n [] = 0
+pieces_left size n (p ∷ ps) = op_left size n p.op + pieces_left size n ps
 
 -- the most events that a piece at a stage has left
-abbrev pub stage_left : ℕ → Part → At → ℕ
-stage_left n p Start = piece_left n p
-stage_left n p Seen = 11
-stage_left n p Pinning = 10
-stage_left n p Away = 11
-stage_left n p Fetching = 10
-stage_left n p Failing = 3
-stage_left n p Counting = 2
-stage_left n p Missed = 1
-stage_left n p Wanting = 9
-stage_left n p Inside = 8
-stage_left n p Both = 7
-stage_left n p Made = 6
-stage_left n p Old = 5
-stage_left n p Freeing = 4
-stage_left n p Backed = 5
-stage_left n p Releasing = 4
-stage_left n p Owing = 3
-stage_left n p Pinned = 3
-stage_left n p Giving = 2
-stage_left n p Unpinning = 2
-stage_left n p Ready = 1
-stage_left n p Leaving = 1
-stage_left n p Refusing = 1
-stage_left n p (Sweeping x) = compaction_left n x
-stage_left n p (Moving x) = compaction_left n x - 1
-stage_left n p (Shrunk x) = compaction_left n x + 2
-stage_left n p (Shrinking x) = compaction_left n x + 1
+abbrev pub stage_left : ℕ → ℕ → Part → At → ℕ
+stage_left size n p Start = op_left size n p.op
+stage_left size n p Seen = 11
+stage_left size n p Pinning = 10
+stage_left size n p Away = 11
+stage_left size n p Fetching = 10
+stage_left size n p Failing = 3
+stage_left size n p Counting = 2
+stage_left size n p Missed = 1
+stage_left size n p Wanting = 9
+stage_left size n p Inside = 8
+stage_left size n p Both = 7
+stage_left size n p Made = 6
+stage_left size n p Old = 5
+stage_left size n p Freeing = 4
+stage_left size n p Backed = 5
+stage_left size n p Releasing = 4
+stage_left size n p Owing = 3
+stage_left size n p Pinned = 3
+stage_left size n p Giving = 2
+stage_left size n p Unpinning = 2
+stage_left size n p Ready = 1
+stage_left size n p Leaving = 1
+stage_left size n p Refusing = 1
+stage_left size n p (Scanning x) = scan_left size x
+stage_left size n p (Marking x) = scan_left size x - 1
+stage_left size n p (Sweeping x) = compaction_left n x
+stage_left size n p (Moving x) = compaction_left n x - 1
+stage_left size n p (Shrunk x) = compaction_left n x + 2
+stage_left size n p (Shrinking x) = compaction_left n x + 1
 
 -- the most events that are left: those of the piece in work, and those of each later one
-abbrev pub left_at : ℕ → List Part → At → ℕ
-left_at n [] at = 0
-left_at n (p ∷ ps) at = stage_left n p at + pieces_left n ps
+abbrev pub left_at : ℕ → ℕ → List Part → At → ℕ
+left_at size n [] at = 0
+left_at size n (p ∷ ps) at = stage_left size n p at + pieces_left size n ps
 
 -- those that an actor has left
-abbrev pub left_by : ℕ → Here → ℕ
-left_by n l = left_at n l.todo l.at
+abbrev pub left_by : ℕ → ℕ → Here → ℕ
+left_by size n l = left_at size n l.todo l.at
 
 -- a compaction in hand is at a class, and the class hasn't more than n objects
 abbrev pub Few : ℕ → Here → Type 0
@@ -123,15 +133,20 @@ Few n l = (p : Part) (rest : List Part) (x : Compaction) (q : PoolState)
     → l.held ≡ (lock.Class x.class, holds.Class q) ∷ []
     → (x.class < 255) × (length (objects q) ≤ n)
 
--- no class has more objects than there are pages and actors
+-- a scan in hand is at a page of the disk
+abbrev pub IsOnDisk : ℕ → Here → Type 0
+IsOnDisk size l = (p : Part) (rest : List Part) (x : Scan) → l.todo ≡ p ∷ rest
+    → l.at ≡ Marking x → x.page < size
+
+-- no class has more objects than there are pages and actors, and scans are at pages of the disk
 abbrev pub AreFew : ℕ → State DiskHeld → Type 0
 AreFew size w = (a : ℕ) (l : Here) → slice_get w.locals a ≡ Some l
-    → Few (size + length w.locals) l
+    → Few (size + length w.locals) l × IsOnDisk size l
 
 -- those that all actors of a disk of so many pages have left: no class has more objects than there
 -- are pages and actors
 abbrev pub all_left : ℕ → State DiskHeld → ℕ
-all_left size w = locals_sum (left_by (size + length w.locals)) w.locals
+all_left size w = locals_sum (left_by size (size + length w.locals)) w.locals
 
 -- before the first turn no piece is over
 abbrev pub nothing_over : {D : Type 0} → List (Worker D) → List (List Done)

@@ -14,7 +14,7 @@ ghost use Rattle.actor_steps.specs.Places.{IsWork};
 ghost use Rattle.joint_rule.specs.Begins.{Begin};
 ghost use Rattle.zr_core.specs.Machines.{rounds_of, KeepsValues, PhaseSteps};
 ghost use Rattle.zr_core.specs.Playing.{playing, lines_shown, HasEndedAs};
-ghost use Rattle.zr_core.specs.Rests.{device_by, blocks_by, IsAtRest, RestsAs, begun};
+ghost use Rattle.zr_core.specs.Rests.{device_by, blocks_by, IsTime, IsAtRest, RestsAs, begun};
 ghost use Rattle.zr_core.specs.Runs.{turns_of, Plays, RunsOut, IsBusy, AllOver, left_of};
 ghost use Rattle.zr_core.specs.States.{AreKept, CanGoOn, HasRule, IsPrepared, IsReachedFrom, IsSetUpOn, TurnsOnce};
 
@@ -31,13 +31,14 @@ use std::alloc::AllocError;
 use zr_base::{ActorOps, Turns};
 
 impl<D: Backing> World<D> {
-    /// Sets a phase up, at this time: empties the orders, makes their room for the phase's calls, and
+    /// Sets a phase up, at this time, which isn't before the last access of any page: empties the orders, makes their room for the phase's calls, and
     /// takes the memory for what its reads will tell. On Err every order is unspecified until a call
     /// that succeeds, and all else is as before.
     pub fn prepare(&mut self, actors: &[ActorOps], now: u64) -> Result<Phase<D>, AllocError>
         requires rest { IsAtRest self.old.pages self.old.noted.items self.old.row.cells }
         requires work { IsWork actors.now }
         requires none { self.old.pages ≡ 0 → actors.now ≡ [] }
+        requires time { IsTime now self.old.row.cells }
         ensures device { device_by self.new.spare self.new.pages self.new.row.cells
             ≡ device_by self.old.spare self.old.pages self.old.row.cells }
         ensures blocks { blocks_by self.new.spare self.new.pages self.new.row.cells

@@ -1,0 +1,102 @@
+-- Idle pages: what the operations of a phase's only actor say of them, and what any phase leaves of
+-- them.
+use Rattle.std.specs.Prelude.{◌≡◌, ℕ, ◌<◌, Bool, true, false, ◌&&◌, ◌||◌, not, List, [], ◌∷◌, Option, Some, sum_by, if◌then◌else◌, ⊤}
+use Rattle.std.specs.List.{range_with_len}
+use Rattle.zr_base.specs.declared.op.Tag.{Tag}
+use Rattle.zr_base.specs.declared.op.Op.{Op}
+use Rattle.zr_base.specs.declared.op.Op.TheVariants.{Idle}
+use Rattle.zr_base.specs.declared.op.OpEnd.{OpEnd}
+use Rattle.zr_base.specs.declared.op.OpEnd.TheVariants as ends
+use Rattle.zr_base.specs.Plain.{is_older, stands_on}
+use Rattle.mem_account.specs.declared.weight.Weight.{Weight}
+use Rattle.plain_disk.specs.Forms.{is_pooled}
+use Rattle.plain_disk.specs.Calls.{Found, kept_as, after, leaves_page}
+use Rattle.plain_disk.specs.Rests.{Rest, page_of, kept_at}
+
+-- ---- the pages of a phase's only actor
+
+-- A page between two operations: what calls find there, whether it is on the device, when it was
+-- touched last, and whether it is idle.
+pub record Aged : Type 0 where
+  pub found : Found
+  pub back : Bool
+  pub touched : ℕ
+  pub idle : Bool
+
+-- whether page p may be marked: it is in the pool, and its last access is more than so many seconds ago
+abbrev pub may_mark : (List ℕ → Weight) → ℕ → ℕ → Option ℕ → Aged → Bool
+may_mark form clock p age s =
+    is_pooled (kept_as form p s.found) && (not s.back && is_older clock age s.touched)
+
+-- 1 where the mark is new
+abbrev pub new_mark : (List ℕ → Weight) → ℕ → ℕ → Option ℕ → Aged → ℕ
+new_mark form clock p age s = if may_mark form clock p age s && not s.idle then 1 else 0
+
+-- the page after a call that stands in its order
+abbrev pub accessed : ℕ → Op → Aged → Aged
+accessed clock op s = record {
+  found = after (Some op) s.found;
+  back = s.back && leaves_page (Some op);
+  touched = clock;
+  idle = false;
+}
+
+-- the page after an operation that doesn't: it may be marked
+abbrev pub passed : (List ℕ → Weight) → ℕ → ℕ → Op → Aged → Aged
+passed form clock p (Idle age) s = record s { idle = s.idle || may_mark form clock p age s }
+passed form clock p _ s = s
+
+-- the page after an operation with this end
+abbrev pub aged_by : (List ℕ → Weight) → ℕ → Op → OpEnd → ℕ → Aged → Aged
+aged_by form clock op end p s =
+    if stands_on op end p then accessed clock op s else passed form clock p op s
+
+-- the pages after some operations
+abbrev pub pages_after : (List ℕ → Weight) → Rest → (ℕ → Aged) → List Op → List OpEnd → ℕ → Aged
+pages_after form r pages [] es p = pages p
+pages_after form r pages (op ∷ ops) [] p = pages p
+pages_after form r pages (op ∷ ops) (end ∷ es) p =
+    pages_after form r (λ q. aged_by form r.set.clock op end q (pages q)) ops es p
+
+-- an operation that marks has counted the marks that are new, on a disk of so many pages
+abbrev pub IsMarked : (List ℕ → Weight) → ℕ → ℕ → (ℕ → Aged) → Op → OpEnd → Type 0
+IsMarked form clock size pages (Idle age) (ends.Marked n) =
+    n ≡ sum_by (λ p. new_mark form clock p age (pages p)) (range_with_len 0 size)
+IsMarked form clock size pages op end = ⊤
+
+-- and so has each
+abbrev pub AreMarked : (List ℕ → Weight) → Rest → (ℕ → Aged) → List Op → List OpEnd → Type 0
+AreMarked form r pages [] es = ⊤
+AreMarked form r pages (op ∷ ops) [] = ⊤
+AreMarked form r pages (op ∷ ops) (end ∷ es) = IsMarked form r.set.clock r.size pages op end
+    × AreMarked form r (λ p. aged_by form r.set.clock op end p (pages p)) ops es
+
+-- the pages as a phase finds them
+abbrev pub pages_at : Rest → ℕ → Aged
+pages_at r p =
+    record { found = page_of r p; back = r.back p; touched = r.touched p; idle = r.idle p }
+
+-- ---- any phase
+
+-- whether an operation marks pages
+abbrev pub is_marking : Op → Bool
+is_marking (Idle age) = true
+is_marking _ = false
+
+-- whether some operation of an actor does
+abbrev pub marks_some : List Op → Bool
+marks_some [] = false
+marks_some (op ∷ ops) = is_marking op || marks_some ops
+
+-- whether some actor's does
+abbrev pub is_marked_in : List (List Op) → Bool
+is_marked_in [] = false
+is_marked_in (ops ∷ more) = marks_some ops || is_marked_in more
+
+-- What a page's mark may be after a phase with this order: only a page of the pool is idle; a page
+-- that was idle stays so where no call stands in its order; and where no operation marks pages, no
+-- other page is idle.
+pub record KeepsMark (pooled was : Bool) (marks : Bool) (order : List Tag) (is : Bool) : Type 0 where
+  pub pooled_one : is ≡ true → pooled ≡ true
+  pub stays : order ≡ [] → was ≡ true → is ≡ true
+  pub only : marks ≡ false → is ≡ true → (order ≡ []) × (was ≡ true)
