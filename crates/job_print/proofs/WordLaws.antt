@@ -18,7 +18,7 @@ use Rattle.job_print.specs.declared.line.Refusal.{Refusal}
 use Rattle.job_print.specs.declared.line.Refusal.TheVariants as refusals
 use Rattle.job_print.specs.Texts.{tag_word, end_words, cause_word, refusal_words}
 use Rattle.job_print.specs.Proper.{IsProperTag, IsProperEnd, AreLong, IsLetter, AreLetters}
-use Rattle.job_print.specs.Reading.{all_in, number_in, short_in, tag_at, tag_in, limit_end_in, memory_end_in, eio_in, fault_end_in, compacted_in, triple_end_in, plain_end_in, end_in, is_letter, letters_in, cause_in, refusal_in}
+use Rattle.job_print.specs.Reading.{all_in, number_in, short_in, tag_at, tag_in, limit_end_in, memory_end_in, eio_in, fault_end_in, compacted_in, triple_end_in, marked_end_in, plain_end_in, end_in, is_letter, letters_in, cause_in, refusal_in}
 use Rattle.job_print.proofs.Numbers.{number-decimal, number_some, short-decimal, short_some, decimal_digits}
 use Rattle.job_print.proofs.Marks.{is_word, position-marked, position_marks, digits_word, digits_lack}
 
@@ -131,7 +131,7 @@ tag_is_word tag is =
 -- ---- ends
 
 pub end-words : (end : OpEnd) → IsProperEnd end → end_in (end_words end) ≡ Some end
-unfolding end_in plain_end_in memory_end_in fault_end_in triple_end_in limit_end_in
+unfolding end_in plain_end_in memory_end_in fault_end_in marked_end_in triple_end_in limit_end_in
 end-words ends.Ok is = refl
 end-words ends.Range is = refl
 end-words (ends.AtLimit pages need limit done) is =
@@ -147,6 +147,7 @@ end-words (ends.Eio fault done) is =
     (λ d. Some (ends.Eio f d)) (short_in (decimal done))) o) (number-decimal fault is.0)
     ∙ ap (λ (o : Option ℕ). option_and_then (λ d. Some (ends.Eio fault d)) o)
     (short-decimal done is.1)
+end-words (ends.Marked pages) is = ap (option_map ends.Marked) (short-decimal pages is)
 end-words (ends.Compacted moves frames) is =
     ap (λ (o : Option ℕ). option_and_then (λ m. option_and_then
     (λ f. Some (ends.Compacted m f)) (number_in (decimal frames))) o) (number-decimal moves is.0)
@@ -235,6 +236,20 @@ compacted_some word moves frames end is e =
       (p.1, q.1),
     )))
 
+marked_some : (word pages : List ℕ) (end : OpEnd) → marked_end_in word pages ≡ Some end
+    → IsEnd end (word ∷ pages ∷ [])
+unfolding marked_end_in
+marked_some word pages end e =
+    chosen (bytes_eq word (codes "marked")) _ _ end e
+    (λ is told. option_and_then_some (λ n. Some (ends.Marked n)) (short_in pages) end told
+    (λ n one last.
+    let p = short_some pages n one in
+    let a = same_bytes word (codes "marked") is in
+    let same : ends.Marked n ≡ end = cc in
+    let P : OpEnd → Type 0 = λ x. IsEnd x (word ∷ pages ∷ []) in
+    subst P same (ap (λ w. w ∷ decimal n ∷ []) (sym a) ∙ ap (λ w. word ∷ w ∷ []) p.0, p.1)))
+    (λ none. cc)
+
 triple_some : (word second third : List ℕ) (end : OpEnd) → triple_end_in word second third ≡ Some end
     → IsEnd end (word ∷ second ∷ third ∷ [])
 unfolding triple_end_in
@@ -282,6 +297,7 @@ limit_some word pages need limit name done end e =
 pub end_some : (words : List (List ℕ)) (end : OpEnd) → end_in words ≡ Some end → IsEnd end words
 unfolding end_in
 end_some (word ∷ []) end e = plain_some word end e
+end_some (word ∷ pages ∷ []) end e = marked_some word pages end e
 end_some (word ∷ second ∷ third ∷ []) end e = triple_some word second third end e
 end_some (word ∷ fault ∷ name ∷ done ∷ []) end e = fault_some word fault name done end e
 end_some (word ∷ pages ∷ need ∷ limit ∷ name ∷ done ∷ []) end e =
@@ -301,6 +317,7 @@ end_is_words (ends.NoMemory done) is = ap (λ b. b && true) (short_word done is)
 end_is_words (ends.Eio fault done) is =
     ap (λ b. b && (is_word (decimal done) && true)) (long_word fault is.0)
     ∙ ap (λ b. b && true) (short_word done is.1)
+end_is_words (ends.Marked pages) is = ap (λ b. b && true) (short_word pages is)
 end_is_words (ends.Compacted moves frames) is =
     ap (λ b. b && (is_word (decimal frames) && true)) (long_word moves is.0)
     ∙ ap (λ b. b && true) (long_word frames is.1)

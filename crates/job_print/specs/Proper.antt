@@ -25,6 +25,7 @@ IsProperEnd (ends.AtLimit pages need limit done) =
     (pages < 2 ^ 64) × (need < 2 ^ 64) × (limit < 2 ^ 64) × (done < 2 ^ 32)
 IsProperEnd (ends.NoMemory done) = done < 2 ^ 32
 IsProperEnd (ends.Eio fault done) = (fault < 2 ^ 64) × (done < 2 ^ 32)
+IsProperEnd (ends.Marked pages) = pages < 2 ^ 32
 IsProperEnd (ends.Compacted moves frames) = (moves < 2 ^ 64) × (frames < 2 ^ 64)
 
 -- the numbers of a tag are of their types

@@ -173,9 +173,15 @@ triple_end_in word second third =
     if bytes_eq word (codes "compacted") then compacted_in second third
     else memory_end_in word second third
 
+-- the end of an operation that has marked pages, if the words say so
+unfoldable pub marked_end_in : List ℕ → List ℕ → Option OpEnd
+marked_end_in word pages =
+    if bytes_eq word (codes "marked") then option_map ends.Marked (short_in pages) else None
+
 -- the end of an operation, by its words
 unfoldable pub end_in : List (List ℕ) → Option OpEnd
 end_in (word ∷ []) = plain_end_in word
+end_in (word ∷ pages ∷ []) = marked_end_in word pages
 end_in (word ∷ second ∷ third ∷ []) = triple_end_in word second third
 end_in (word ∷ fault ∷ name ∷ done ∷ []) = fault_end_in word fault name done
 end_in (word ∷ pages ∷ need ∷ limit ∷ name ∷ done ∷ []) =

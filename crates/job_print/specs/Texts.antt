@@ -50,6 +50,7 @@ end_words (ends.AtLimit pages need limit done) =
     codes "limit" ∷ decimal pages ∷ decimal need ∷ decimal limit ∷ codes "done" ∷ decimal done ∷ []
 end_words (ends.NoMemory done) = codes "nomem" ∷ codes "done" ∷ decimal done ∷ []
 end_words (ends.Eio fault done) = codes "eio" ∷ decimal fault ∷ codes "done" ∷ decimal done ∷ []
+end_words (ends.Marked pages) = codes "marked" ∷ decimal pages ∷ []
 end_words (ends.Compacted moves frames) = codes "compacted" ∷ decimal moves ∷ decimal frames ∷ []
 
 -- the nine numbers of `mm_stat`, in zram's order
@@ -155,14 +156,14 @@ unfoldable pub sector_line : List ℕ → OutLine
 sector_line bytes =
     if is_filled bytes then lines.Fill (from_le_bytes w64 (take 8 bytes)) else lines.Hex bytes
 
--- the letters of a page: `s` same-filled, `w` on the device, `h` huge; `.` in the place of each
--- other
-abbrev pub letters_of : Weight → List ℕ
-letters_of weights.Empty = codes "...."
-letters_of weights.Same = codes "s..."
-letters_of (weights.Packed bytes) = codes "...."
-letters_of weights.Huge = codes "..h."
-letters_of weights.Back = codes ".w.."
+-- the letters of a page: `s` same-filled, `w` on the device, `h` huge, `i` idle, which only a page of
+-- the pool can be; `.` in the place of each other
+abbrev pub letters_of : Weight → Bool → List ℕ
+letters_of weights.Empty idle = codes "...."
+letters_of weights.Same idle = codes "s..."
+letters_of (weights.Packed bytes) idle = if idle then codes "...i" else codes "...."
+letters_of weights.Huge idle = if idle then codes "..hi" else codes "..h."
+letters_of weights.Back idle = codes ".w.."
 
 -- how many zspages with so many cells, of which these are used, are in a fullness group
 abbrev pub in_group : ℕ → List ℕ → ℕ → ℕ
@@ -201,7 +202,7 @@ shown (memory stat) = lines.Mm stat
 shown (calls stat) = lines.Io stat
 shown (device_calls stat) = lines.Bd stat
 shown (refused why) = lines.Refused (refusal_of why)
-shown (state s) = lines.State s.page (letters_of s.kept) s.touched
+shown (state s) = lines.State s.page (letters_of s.kept s.idle) s.touched
 shown (class_of c) = lines.Class (stat_of c)
 
 -- the text of a line

@@ -108,6 +108,7 @@ fn put_end(out: &mut Vec<u8>, end: OpEnd) -> Result<(), AllocError>
             put_next(out, fault)?;
             put_named(out, b"done", done)
         }
+        OpEnd::Marked(pages) => put_named(out, b"marked", pages),
         OpEnd::Compacted { moves, frames } => {
             put_word(out, b"compacted")?;
             put_numbers(out, &[moves, frames])
@@ -315,13 +316,14 @@ pub fn put_refused(out: &mut Vec<u8>, refusal: Refusal) -> Result<(), AllocError
     put_refusal(out, refusal)
 }
 
-fn letters(kept: Weight) -> [u8; 4]
-    ensures { result ≡ letters_of kept }
+fn letters(kept: Weight, idle: bool) -> [u8; 4]
+    ensures { result ≡ letters_of kept idle }
 {
     match kept {
-        Weight::Empty | Weight::Packed(_) => *b"....",
+        Weight::Empty => *b"....",
         Weight::Same => *b"s...",
-        Weight::Huge => *b"..h.",
+        Weight::Packed(_) => if idle { *b"...i" } else { *b"...." },
+        Weight::Huge => if idle { *b"..hi" } else { *b"..h." },
         Weight::Back => *b".w..",
     }
 }
@@ -345,12 +347,19 @@ pub(crate) fn put_letters(
     Ok(())
 }
 
-/// The line of a page that isn't empty: how it is kept, and when it was touched.
-pub fn put_state(out: &mut Vec<u8>, page: u32, kept: Weight, touched: u64) -> Result<(), AllocError>
-    ensures { let s : StateLine = record { page = page; kept = kept; touched = touched } in
+/// The line of a page that isn't empty: how it is kept, whether it is marked idle, and when it was
+/// touched.
+pub fn put_state(
+    out: &mut Vec<u8>,
+    page: u32,
+    kept: Weight,
+    idle: bool,
+    touched: u64,
+) -> Result<(), AllocError>
+    ensures { let s : StateLine = record { page = page; kept = kept; idle = idle; touched = touched } in
         OnOk result (out.new.items ≡ out.old.items ++ line_text (state s)) }
 {
-    put_letters(out, page, &letters(kept), touched)
+    put_letters(out, page, &letters(kept, idle), touched)
 }
 
 // How many zspages each fullness group has, each number after a space.

@@ -55,12 +55,14 @@ fn prints_what_it_read(rt: HostRuntime) -> Result<(), Fail> {
         "op 0 0 eio 1 done 0\nop 0 1 eio 18446744073709551615 done 4294967295\n",
         "op 0 0 eio 12 done 1\nfill 00000000000000aa\norder 0 0:0\n",
         "op 1 2 compacted 0 0\nop 0 0 compacted 18446744073709551615 10\n",
+        "op 0 0 marked 0\nop 3 1 marked 262144\nop 0 0 marked 4294967295\n",
         "fill 00000000000000aa\nfill 0123456789abcdef\n",
         "order 0 0:0 1:0\norder 262143 4294967295:4294967295\n",
         "mm_stat 4096 74 12288 0 18446744073709551615 0 0 0 1\nio_stat 0 10 100 99\n",
         "attr disksize busy\nattr backing range\nattr backing busy\nbd_stat 0 0 0\n",
         "bd_stat 3 18446744073709551615 10\nmm_stat 0 0 0 0 0 0 0 0 0\n",
         "state 0 s... 0\nstate 1 .w.. 5\nstate 2 ..hi 18446744073709551615\nstate 3 .... 7\n",
+        "state 0 ...i 0\nstate 262143 ..h. 18446744073709551615\n",
         "class 71 1168 pages 2 per 7 used 1 zspages 1 groups 0 1 0 0 0 0 0 0 0 0 0\n",
     ];
     for text in table {
@@ -91,6 +93,11 @@ fn tells_the_first_faulty_end(rt: HostRuntime) -> Result<(), Fail> {
         ("op 0 0 compacted 01 0\n", 1),
         ("op 0 0 compacted 0 18446744073709551616\n", 1),
         ("op 0 0 compacted 1\n", 1),
+        ("op 0 0 marked\n", 1),
+        ("op 0 0 marked 01\n", 1),
+        ("op 0 0 marked 4294967296\n", 1),
+        ("op 0 0 marked 1 2\n", 1),
+        ("op 0 0 marks 1\n", 1),
         ("op 0 0 compacted 1 2\nop 0 1 compacted 1 2 3\n", 2),
     ];
     for (text, number) in table {
@@ -121,6 +128,8 @@ fn tells_the_first_faulty_line(rt: HostRuntime) -> Result<(), Fail> {
         ("attr mem_limit busy\n", 1),
         ("attr  backing range\n", 1),
         ("state 0 .s.. 0\n", 1),
+        ("state 0 ..ih 0\n", 1),
+        ("state 0 ...I 0\n", 1),
         (
             "class 256 32 pages 1 per 1 used 0 zspages 0 groups 0 0 0 0 0 0 0 0 0 0 0\n",
             1,
@@ -164,10 +173,12 @@ fn tells_sectors_by_their_words(rt: HostRuntime) -> Result<(), Fail> {
 fn prints_parts(rt: HostRuntime) -> Result<(), Fail> {
     let mut out = Vec::new(rt.alloc());
     put_order(&mut out, 5, &[])?;
-    put_state(&mut out, 1, Weight::Same, 0)?;
-    put_state(&mut out, 2, Weight::Packed(120), 0)?;
-    put_state(&mut out, 3, Weight::Huge, 12)?;
-    put_state(&mut out, 4, Weight::Back, 0)?;
+    put_state(&mut out, 1, Weight::Same, false, 0)?;
+    put_state(&mut out, 2, Weight::Packed(120), false, 0)?;
+    put_state(&mut out, 3, Weight::Huge, false, 12)?;
+    put_state(&mut out, 4, Weight::Back, false, 0)?;
+    put_state(&mut out, 5, Weight::Packed(3256), true, 1)?;
+    put_state(&mut out, 6, Weight::Huge, true, 0)?;
     let device = BdStat {
         count: 1,
         reads: 0,
@@ -188,7 +199,7 @@ fn prints_parts(rt: HostRuntime) -> Result<(), Fail> {
     };
     put_class(&mut out, &stat)?;
     let text = b"state 1 s... 0\nstate 2 .... 0\nstate 3 ..h. 12\n\
-        state 4 .w.. 0\nbd_stat 1 0 12\n\
+        state 4 .w.. 0\nstate 5 ...i 1\nstate 6 ..hi 0\nbd_stat 1 0 12\n\
         attr disksize busy\nattr backing busy\nattr backing range\n\
         class 254 4096 pages 1 per 1 used 3 zspages 3 groups 0 0 0 0 0 0 0 0 0 0 3\n";
     assert!(rt; out.as_slice() == text.as_slice());

@@ -1,7 +1,7 @@
 //! The words of a line, read back.
 
 ghost use Rattle.std.specs.Prelude.{◌≡◌, ◌+◌, ◌*◌, ◌++◌, [], ◌∷◌, ◌==◌, length, map, position, Some, None, OnOk, IfOk, if◌then◌else◌};
-ghost use Rattle.job_print.specs.Reading.{digit_in, byte_in, bytes_in, tag_in, all_in, limit_in, limit_end_in, memory_end_in, eio_in, fault_end_in, compacted_in, triple_end_in, plain_end_in, end_in, letters_in, is_letter, cause_in, refusal_in};
+ghost use Rattle.job_print.specs.Reading.{digit_in, byte_in, bytes_in, tag_in, all_in, limit_in, limit_end_in, memory_end_in, eio_in, fault_end_in, compacted_in, triple_end_in, marked_end_in, plain_end_in, end_in, letters_in, is_letter, cause_in, refusal_in};
 
 use crate::line::{Refusal, TagList};
 use crate::number::{number, numbers, short};
@@ -173,6 +173,17 @@ fn plain_end(word: &[u8]) -> Option<OpEnd>
     }
 }
 
+#[tactic(auto, unfolding(crate::specs::Reading::marked_end_in))]
+fn marked_end(word: &[u8], pages: &[u8]) -> Option<OpEnd>
+    ensures { result ≡ marked_end_in word.now pages.now }
+{
+    if word == b"marked".as_slice() {
+        Some(OpEnd::Marked(short(pages)?))
+    } else {
+        None
+    }
+}
+
 /// The end of an operation.
 #[tactic(auto, unfolding(crate::specs::Reading::end_in))]
 pub(crate) fn end(words: &[&[u8]]) -> Option<OpEnd>
@@ -180,6 +191,7 @@ pub(crate) fn end(words: &[&[u8]]) -> Option<OpEnd>
 {
     match words {
         [word] => plain_end(word),
+        [word, pages] => marked_end(word, pages),
         [word, second, third] => triple_end(word, second, third),
         [word, fault, name, done] => fault_end(word, fault, name, done),
         [word, pages, need, limit, name, done] => {

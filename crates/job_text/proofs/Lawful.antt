@@ -1,5 +1,5 @@
 -- What a line says is in its range.
-use Rattle.std.proofs.Common.{◌≡◌, ℕ, suc, ◌+◌, ◌*◌, ◌/◌, ◌<◌, ◌≤◌, Bool, true, false, not, ◌&&◌, ◌||◌, ◌==◌, nat_le, nat_lt, cond, List, [], ◌∷◌, length, map, get_or, IfOk, Option, Some, None, Result, Ok, Err, refl, sym, ap, ◌∙◌, subst, arith, codes, inl, inr}
+use Rattle.std.proofs.Common.{◌≡◌, ℕ, suc, ◌+◌, ◌*◌, ◌/◌, ◌^◌, ◌<◌, ◌≤◌, Bool, true, false, not, ◌&&◌, ◌||◌, ◌==◌, nat_le, nat_lt, cond, List, [], ◌∷◌, length, map, get_or, IfOk, Option, Some, None, Result, Ok, Err, refl, sym, ap, ◌∙◌, subst, arith, codes, inl, inr}
 use Rattle.std.specs.List.{list_all, concat}
 use Rattle.std.specs.Str.{bytes_eq}
 use Rattle.std.proofs.lemmas.Bool.{and_parts, not-false, eqb-true, le-leb, leb-true, ltb-true, true_from_ne_false, both_ways, cases_lt}
@@ -17,7 +17,7 @@ use Rattle.job_text.specs.declared.fault.Cause.TheVariants as causes
 use Rattle.job_text.specs.declared.fault.NotTaken.{NotTaken}
 use Rattle.job_text.specs.declared.line.Line.{Line}
 use Rattle.job_text.specs.Numbers.{digit_value, byte_at, is_number, size_pages, number_of, are_digits, bytes_by, turn_of}
-use Rattle.job_text.specs.Lines.{Form, blank_form, disk_form, limit_form, backing_form, max_form, report_form, actor_form, fill_form, seq_form, hex_form, read_form, discard_form, compact_form, schedule_form, run_form, alone, with_word, report_named, report_in, read_in, discard_in, fill_in, seq_in, hex_in, stuff_in, write_in, schedule_in, named_in, form_of, fill_sectors, is_malformed, meaning, are_bounds, may_give, is_out_of_range, line_with, line_of}
+use Rattle.job_text.specs.Lines.{Form, blank_form, disk_form, limit_form, backing_form, clock_form, max_form, report_form, actor_form, fill_form, seq_form, hex_form, read_form, discard_form, idle_all_form, idle_form, compact_form, schedule_form, run_form, alone, with_word, report_named, report_in, read_in, discard_in, idle_with, idle_in, fill_in, seq_in, hex_in, stuff_in, write_in, schedule_in, named_in, form_of, fill_sectors, is_malformed, meaning, are_bounds, may_give, is_out_of_range, line_with, line_of}
 use Rattle.job_text.specs.Jobs.{MayTurn}
 use Rattle.job_text.specs.Answers.{Answers, IsInRange}
 
@@ -32,6 +32,7 @@ HasWords blank_form = Unit {0}
 HasWords (disk_form size) = Unit {0}
 HasWords (limit_form size) = Unit {0}
 HasWords (backing_form number) = Unit {0}
+HasWords (clock_form number) = Unit {0}
 HasWords (max_form number) = Unit {0}
 HasWords (report_form report) = Unit {0}
 HasWords actor_form = Unit {0}
@@ -40,6 +41,8 @@ HasWords (seq_form start count base step) = Unit {0}
 HasWords (hex_form start count digits) = Unit {0}
 HasWords (read_form start count) = Unit {0}
 HasWords (discard_form start count) = Unit {0}
+HasWords idle_all_form = Unit {0}
+HasWords (idle_form number) = Unit {0}
 HasWords compact_form = Unit {0}
 HasWords (schedule_form turns) = 1 ≤ length turns
 HasWords run_form = Unit {0}
@@ -109,6 +112,8 @@ form-lawful (disk_form size) has well good = sized (size_pages size) MOST_PAGES 
 form-lawful (limit_form size) has well good =
     leb-true (size_pages size) MOST_LIMIT_PAGES (not-false _ good)
 form-lawful (backing_form number) has well good = sized (number_of number) MOST_BLOCKS good
+form-lawful (clock_form number) has well good =
+    ltb-true (number_of number) (2 ^ 64) (not-false _ good)
 form-lawful (max_form number) has well good = tt
 form-lawful (report_form report) has well good = tt
 form-lawful actor_form has well good = tt
@@ -129,6 +134,8 @@ form-lawful (hex_form start count digits) has well good =
 form-lawful (read_form start count) has well good = bounds (number_of start) (number_of count) good
 form-lawful (discard_form start count) has well good =
     bounds (number_of start) (number_of count) good
+form-lawful idle_all_form has well good = tt
+form-lawful (idle_form number) has well good = tt
 form-lawful compact_form has well good = tt
 form-lawful (schedule_form turns) has well good = (
   omega (arith, length-map turns turn_of),
@@ -173,6 +180,19 @@ discard-words (a ∷ []) = tt
 discard-words (a ∷ b ∷ []) = tt
 discard-words (a ∷ b ∷ c ∷ more) = tt
 
+idle-word : (word : List ℕ) → HasWords (idle_with word)
+unfolding idle_with
+idle-word word = by (bytes_eq word (codes "all"))
+  where
+    by : (b : Bool) → HasWords (cond b idle_all_form (idle_form word))
+    by true = tt
+    by false = tt
+
+idle-words : (words : List (List ℕ)) → IfForm (idle_in words)
+idle-words [] = tt
+idle-words (a ∷ []) = idle-word a
+idle-words (a ∷ b ∷ more) = tt
+
 fill-words : (start count : List ℕ) (words : List (List ℕ)) → IfForm (fill_in start count words)
 fill-words start count [] = tt
 fill-words start count (a ∷ []) = tt
@@ -209,15 +229,17 @@ form-words (name ∷ words) =
     when (bytes_eq name (codes "disksize")) _ _ (one-word disk_form words (λ size. tt))
     (when (bytes_eq name (codes "mem_limit")) _ _ (one-word limit_form words (λ size. tt))
     (when (bytes_eq name (codes "backing")) _ _ (one-word backing_form words (λ number. tt))
+    (when (bytes_eq name (codes "clock")) _ _ (one-word clock_form words (λ number. tt))
     (when (bytes_eq name (codes "mem_used_max")) _ _ (one-word max_form words (λ number. tt))
     (when (bytes_eq name (codes "actor")) _ _ (alone-words actor_form words tt)
     (when (bytes_eq name (codes "write")) _ _ (write-words words)
     (when (bytes_eq name (codes "read")) _ _ (read-words words)
     (when (bytes_eq name (codes "discard")) _ _ (discard-words words)
+    (when (bytes_eq name (codes "idle")) _ _ (idle-words words)
     (when (bytes_eq name (codes "compact")) _ _ (alone-words compact_form words tt)
     (when (bytes_eq name (codes "schedule")) _ _ (schedule-words words)
     (when (bytes_eq name (codes "run")) _ _ (alone-words run_form words tt)
-    (report-words (report_named name) words)))))))))))
+    (report-words (report_named name) words)))))))))))))
 
 line-lawful-by : (form : Form) → HasWords form → (m b : Bool) → is_malformed form ≡ m
     → is_out_of_range form ≡ b

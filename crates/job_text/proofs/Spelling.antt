@@ -2,17 +2,28 @@
 use Rattle.std.proofs.Common.{◌≡◌, ℕ, suc, ◌+◌, ◌<◌, ◌≤◌, true, false, not, ◌&&◌, nat_lt, nat_le, List, [], ◌∷◌, ◌++◌, length, map, Some, None, option_map, refl, sym, ap, ◌∙◌, subst, append_assoc, arith}
 use Rattle.std.specs.List.{flat_map, list_all}
 use Rattle.std.proofs.lemmas.List.{append-nil, length_push}
-use Rattle.std.proofs.lemmas.Bool.{and_from, cond-true, leb-true, le-leb, lt-ltb}
+use Rattle.std.proofs.lemmas.Bool.{and_from, cond-true, leb-true, le-leb, le-ltb, lt-ltb}
 use Rattle.zr_base.specs.declared.op.Op.{Op}
 use Rattle.zr_base.specs.declared.op.Turns.{Turns}
 use Rattle.zr_base.specs.declared.limits.TheConstants.{MOST_ACTORS}
 use Rattle.job_text.specs.declared.limits.TheConstants.{MOST_TURNS}
+use Rattle.job_text.specs.declared.job.Attr.{Attr}
+use Rattle.job_text.specs.declared.job.Attr.TheVariants.{DiskPages, LimitPages, Backing, Clock, LowerMax}
 use Rattle.job_text.specs.declared.job.Item.{Item}
 use Rattle.job_text.specs.declared.job.Item.TheVariants as items
 use Rattle.job_text.specs.declared.begun.Begun.{Begun}
-use Rattle.job_text.specs.Jobs.{Saying, says_actor, says_operation, says_turns, says_run, actor_sayings, item_sayings, Used, with_attr, with_phase, with_op, with_ops, with_actors, with_turns, with_text, has_turns_left, MayOperate, MayAct, MayTurn, MayRun, MayFollow}
+use Rattle.job_text.specs.Jobs.{Saying, says_actor, says_operation, says_turns, says_run, actor_sayings, item_sayings, Used, with_attr, with_phase, with_op, with_ops, with_actors, with_turns, with_text, has_turns_left, MayOperate, MayAct, MayTurn, MayRun, is_set_back, KeepsTime, MayFollow}
 use Rattle.job_text.specs.Reading.{is_scheduled, all_actors, text_of, fresh, with_actor, with_operation, items_from}
 use Rattle.job_text.proofs.Steps.{turns_step}
+
+-- ---- the time
+
+not_back : (u : Used) (attr : Attr) → KeepsTime u attr → is_set_back u attr ≡ false
+not_back u (DiskPages pages) keeps = refl
+not_back u (LimitPages pages) keeps = refl
+not_back u (Backing blocks) keeps = refl
+not_back u (Clock seconds) keeps = le-ltb _ _ keeps
+not_back u LowerMax keeps = refl
 
 -- ---- what operations leave as it was
 
@@ -146,8 +157,9 @@ pub spelled_read : (u : Used) (job : List Item) → u.turns ≤ MOST_TURNS → M
     → items_from u None (flat_map item_sayings job) ≡ Some job
 spelled_read u [] fits may = refl
 spelled_read u (items.Attr attr ∷ more) fits may =
-    ap (option_map (λ later. items.Attr attr ∷ later))
-    (spelled_read (with_attr u attr) more fits may.1)
+    cond-true _ _ _ (ap not (not_back u attr may.1))
+    ∙ ap (option_map (λ later. items.Attr attr ∷ later))
+    (spelled_read (with_attr u attr) more fits may.2)
 spelled_read u (items.Report report ∷ more) fits may =
     ap (option_map (λ later. items.Report report ∷ later)) (spelled_read u more fits may)
 spelled_read u (items.Phase text ∷ more) fits may =

@@ -1,5 +1,5 @@
 -- What a line does to the items that are read, by its cause.
-use Rattle.std.proofs.Common.{◌≡◌, ℕ, ◌+◌, ◌<◌, ◌≤◌, Bool, true, false, not, ◌&&◌, nat_lt, nat_le, cond, List, [], ◌∷◌, ◌++◌, length, map, Option, Some, None, option_map, option_and_then, Result, Ok, Err, refl, sym, ap, ◌∙◌, subst, append_assoc, arith}
+use Rattle.std.proofs.Common.{◌≡◌, ℕ, ◌+◌, ◌<◌, ◌≤◌, Bool, true, false, not, ◌&&◌, ◌||◌, nat_lt, nat_le, cond, List, [], ◌∷◌, ◌++◌, length, map, Option, Some, None, option_map, option_and_then, Result, Ok, Err, refl, sym, ap, ◌∙◌, subst, append_assoc, arith}
 use Rattle.std.specs.List.{list_all}
 use Rattle.std.proofs.lemmas.List.{append-nil, length_push, length-append}
 use Rattle.std.proofs.lemmas.Bool.{leb-true, leb-false, lt-leb, le-leb, ne_eqb}
@@ -16,7 +16,7 @@ use Rattle.job_text.specs.declared.line.Line.TheVariants.{Blank, Attribute, Tell
 use Rattle.job_text.specs.declared.begun.Begun.{Begun}
 use Rattle.job_text.specs.declared.reading.Reading.{Reading}
 use Rattle.job_text.specs.Lines.{Form, words_of, form_of, is_malformed, meaning, is_out_of_range, line_with, line_of}
-use Rattle.job_text.specs.Jobs.{Saying, says_turns, said_by, said_before, sayings, Used, with_phase, turns_in, with_turns, has_phase_left, has_left_for, has_turns_left}
+use Rattle.job_text.specs.Jobs.{Saying, says_turns, said_by, said_before, sayings, Used, with_attr, is_set_back, with_phase, turns_in, with_turns, has_phase_left, has_left_for, has_turns_left}
 use Rattle.job_text.specs.Faults.{Phase, said_in, cause_in, cause_of, used_with, phase_with, fault_at, first_fault_from}
 use Rattle.job_text.specs.Answers.{IsInRange}
 use Rattle.job_text.specs.Reading.{used_by, is_scheduled, phase_at, phase_of, all_actors, text_of, with_schedule, place_cause, begun_with, items_by, IsNext, items_from, items_with, items_after, fault_after}
@@ -40,6 +40,16 @@ module _ (x : Option (List Item)) where
   limited : (left : Bool) → cond left x None ≡ unless (cond (not left) (Some causes.TooMany) None) x
   limited true = refl
   limited false = refl
+
+  timed : (back : Bool) → cond (not back) x None
+      ≡ unless (cond (back || false) (Some causes.Range) None) x
+  timed true = refl
+  timed false = refl
+
+  misplaced : (back : Bool) → None ≡ unless (cond (back || false) (Some causes.Range)
+      (Some causes.Order)) x
+  misplaced true = refl
+  misplaced false = refl
 
   acted : (at disk left : Bool) → cond (not at && disk && left) x None
       ≡ unless (cond at (Some causes.Order)
@@ -136,8 +146,12 @@ pub line_step : (u : Used) (begun : Option Begun) (first : ℕ) (line : Line) (r
     (items_from (used_with u (phase_at first begun) line) (begun_with begun line) rest))
 line_step u None first Blank rest is fits = same (items_from u None rest)
 line_step u (Some begun) first Blank rest is fits = same (items_from u (Some begun) rest)
-line_step u None first (Attribute attr) rest is fits = refl
-line_step u (Some begun) first (Attribute attr) rest is fits = refl
+line_step u None first (Attribute attr) rest is fits =
+    timed (option_map (λ later. items.Attr attr ∷ later) (items_from (with_attr u attr) None rest))
+    (is_set_back u attr)
+line_step u (Some begun) first (Attribute attr) rest is fits =
+    misplaced (option_map (λ later. items.Attr attr ∷ later)
+    (items_from (with_attr u attr) (Some begun) rest)) (is_set_back u attr)
 line_step u None first (Tell report) rest is fits = refl
 line_step u (Some begun) first (Tell report) rest is fits = refl
 line_step u None first Actor rest is fits = acted _ false u.disk (has_phase_left u)
@@ -243,6 +257,15 @@ causes_agree u phase words = by (form_of words) refl
     by : (form : Option Form) → form_of words ≡ form → HasCause u phase words (line_with form)
     by None is = ap (cause_in u phase) is
     by (Some form) is = tests form is (is_malformed form) (is_out_of_range form) refl refl
+
+-- a line whose words have no cause has that of its place
+pub cause_is : (u : Used) (phase : Option Phase) (text : List ℕ) (line : Line)
+    → line_of (words_of text) ≡ Ok line
+    → cause_of u phase (words_of text) ≡ place_cause u phase line
+cause_is u phase text line said =
+    let has = subst (HasCause u phase (words_of text)) said
+    (causes_agree u phase (words_of text)) in
+    has.0
 
 -- ---- a text with a fault gives no items
 

@@ -6,11 +6,12 @@ use Rattle.std.proofs.lemmas.List.Sums.{sum_by-cons}
 use Rattle.zr_base.specs.declared.op.Op.{Op}
 use Rattle.zr_base.specs.declared.limits.TheConstants.{MOST_OPERATIONS}
 use Rattle.zr_base.specs.Pieces.{pages_of}
-use Rattle.job_text.specs.declared.limits.TheConstants.{MOST_PHASES, MOST_PIECES, MOST_SECTORS_READ, MOST_TURNS}
+use Rattle.job_text.specs.declared.limits.TheConstants.{MOST_PHASES, MOST_PIECES, MOST_SCANNED, MOST_SECTORS_READ, MOST_TURNS}
 use Rattle.job_text.specs.declared.job.Item.{Item}
 use Rattle.job_text.specs.declared.job.Item.TheVariants as items
-use Rattle.job_text.specs.Jobs.{Used, nothing_used, with_attr, with_phase, with_op, with_ops, with_actors, with_text, sectors_to_read, MayOperate, MayAct, MayFollow, IsJob}
+use Rattle.job_text.specs.Jobs.{Used, nothing_used, with_attr, with_phase, with_op, with_ops, with_actors, with_text, sectors_to_read, pages_to_scan, MayOperate, MayAct, MayFollow, IsJob}
 use Rattle.job_text.specs.Totals.{phases_in, sum_in, scheduled_in, IsWithinLimits}
+use Rattle.job_text.proofs.Scans.{job_scans}
 
 -- what is used is within the limits, with so much more
 record Fits (u : Used) (phases operations pieces sectors turns : ℕ) : Type 0 where
@@ -89,7 +90,9 @@ ops_within u (op ∷ ops) may is =
     let operations = nat_le (u.operations + 1) MOST_OPERATIONS in
     let pieces = nat_le (u.pieces + pages_of op) MOST_PIECES in
     let sectors = nat_le (u.sectors + sectors_to_read op) MOST_SECTORS_READ in
-    let left = and_parts (operations && pieces) sectors may.1 in
+    let scanned = nat_le (u.scanned + pages_to_scan u.pages op) MOST_SCANNED in
+    let few = and_parts (operations && pieces && sectors) scanned may.1 in
+    let left = and_parts (operations && pieces) sectors few.0 in
     let first = and_parts operations pieces left.0 in
     let o : u.operations + 1 ≤ MOST_OPERATIONS = leb-true _ _ first.0 in
     let p : u.pieces + pages_of op ≤ MOST_PIECES = leb-true _ _ first.1 in
@@ -138,7 +141,7 @@ items_fit u [] may is = is
 items_fit u (items.Attr attr ∷ more) may is =
     with_first u (with_attr u attr) (items.Attr attr) more
     (omega arith) (omega arith) (omega arith) (omega arith) (omega arith)
-    (items_fit (with_attr u attr) more may.1 (record {
+    (items_fit (with_attr u attr) more may.2 (record {
       phases_fit = is.phases_fit;
       operations_fit = is.operations_fit;
       pieces_fit = is.pieces_fit;
@@ -186,5 +189,6 @@ job_fits bytes job is =
       operations = omega (arith, all.operations_fit);
       pieces = omega (arith, all.pieces_fit);
       sectors = omega (arith, all.sectors_fit);
+      scanned = job_scans job is.lawful;
       turns = omega (arith, all.turns_fit);
     }

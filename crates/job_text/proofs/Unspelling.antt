@@ -3,16 +3,18 @@ use Rattle.std.proofs.Common.{◌≡◌, ℕ, ◌+◌, ◌<◌, ◌≤◌, Bool,
 use Rattle.std.specs.List.{flat_map, AllByRecursion}
 use Rattle.std.proofs.lemmas.List.{append-nil, map-append, length_push, nil_from_length}
 use Rattle.std.proofs.lemmas.List.Concat.{flat_map-append}
-use Rattle.std.proofs.lemmas.Bool.{leb-true, le-leb, ltb-true, eqb-true, and_parts, not-true, not-false}
+use Rattle.std.proofs.lemmas.Bool.{leb-true, le-leb, ltb-true, ltb-false, eqb-true, and_parts, not-true, not-false}
 use Rattle.zr_base.specs.Plain.{IsRequest}
 use Rattle.zr_base.specs.declared.op.Op.{Op}
 use Rattle.zr_base.specs.declared.op.Turns.{Turns}
 use Rattle.zr_base.specs.declared.limits.TheConstants.{MOST_ACTORS}
 use Rattle.job_text.specs.declared.limits.TheConstants.{MOST_TURNS}
+use Rattle.job_text.specs.declared.job.Attr.{Attr}
+use Rattle.job_text.specs.declared.job.Attr.TheVariants.{DiskPages, LimitPages, Backing, Clock, LowerMax}
 use Rattle.job_text.specs.declared.job.Item.{Item}
 use Rattle.job_text.specs.declared.job.Item.TheVariants as items
 use Rattle.job_text.specs.declared.begun.Begun.{Begun}
-use Rattle.job_text.specs.Jobs.{Saying, says_attr, says_report, says_actor, says_operation, says_turns, says_run, actor_sayings, item_sayings, Used, with_attr, with_phase, with_op, with_ops, with_actors, turns_in, with_turns, with_text, has_phase_left, has_left_for, has_turns_left, MayOperate, MayAct, MaySet, MayTurn, HasDisk, MayRun, MayFollow}
+use Rattle.job_text.specs.Jobs.{Saying, says_attr, says_report, says_actor, says_operation, says_turns, says_run, actor_sayings, item_sayings, Used, with_attr, with_phase, with_op, with_ops, with_actors, turns_in, with_turns, with_text, has_phase_left, has_left_for, has_turns_left, MayOperate, MayAct, MaySet, MayTurn, HasDisk, MayRun, is_set_back, KeepsTime, MayFollow}
 use Rattle.job_text.specs.Reading.{is_scheduled, all_actors, text_of, fresh, with_actor, with_operation, with_schedule, items_from}
 
 -- a saying's values are in their range
@@ -23,6 +25,15 @@ IsSaid says_actor = Unit {0}
 IsSaid (says_operation op) = IsRequest op
 IsSaid (says_turns turns) = (1 ≤ turns.times) × (turns.times ≤ MOST_TURNS)
 IsSaid says_run = Unit {0}
+
+-- ---- the time
+
+keeps_time : (u : Used) (attr : Attr) → is_set_back u attr ≡ false → KeepsTime u attr
+keeps_time u (DiskPages pages) off = tt
+keeps_time u (LimitPages pages) off = tt
+keeps_time u (Backing blocks) off = tt
+keeps_time u (Clock seconds) off = ltb-false _ _ off
+keeps_time u LowerMax off = tt
 
 -- ---- one more
 
@@ -278,12 +289,15 @@ unspelled before u None [] job at are e =
 unspelled before u (Some begun) [] job at are e = cc
 unspelled before u None (says_attr attr ∷ said) job at are e =
     let v = with_attr u attr in
-    let more = mapped (λ later. items.Attr attr ∷ later) (items_from v None said) job e in
+    let kept = kept_by (not (is_set_back u attr)) _ job e in
+    let more = mapped (λ later. items.Attr attr ∷ later) (items_from v None said) job kept.1 in
     let rest = unspelled v v None said more.0 (refl, at.1) are.1 more.1 in
     let P : List Item → Type 0 = λ j. Spelled u None (says_attr attr ∷ said) j in
     let Q : Used → Type 0 = λ b. Spelled b None (says_attr attr ∷ said) job in
-    subst Q at.0 (subst P more.2
-    (ap (λ (xs : List Saying). says_attr attr ∷ xs) rest.0, (are.0, rest.1)))
+    subst Q at.0 (subst P more.2 (
+      ap (λ (xs : List Saying). says_attr attr ∷ xs) rest.0,
+      (are.0, keeps_time u attr (not-true _ kept.0), rest.1),
+    ))
 unspelled before u (Some begun) (says_attr attr ∷ said) job at are e = cc
 unspelled before u None (says_report report ∷ said) job at are e =
     let more = mapped (λ later. items.Report report ∷ later) (items_from u None said) job e in

@@ -1,5 +1,5 @@
 -- How the reader answers for words.
-use Rattle.std.specs.Prelude.{◌≡◌, ℕ, ◌+◌, ◌-◌, ◌/◌, ◌^◌, ◌==◌, ◌≤◌, min, List, length, map, position, Option, Result, Ok, Err, if◌then◌else◌}
+use Rattle.std.specs.Prelude.{◌≡◌, ℕ, ◌+◌, ◌-◌, ◌*◌, ◌/◌, ◌^◌, ◌==◌, ◌≤◌, nat_lt, min, List, length, map, position, Option, Result, Ok, Err, if◌then◌else◌}
 use Rattle.std.specs.List.{list_all}
 use Rattle.zr_base.specs.declared.op.Turns.{Turns}
 use Rattle.zr_base.specs.declared.limits.TheConstants.{MOST_ACTORS}
@@ -10,7 +10,7 @@ use Rattle.job_text.specs.declared.fault.NotTaken.TheVariants as untaken
 use Rattle.zr_base.specs.Plain.{IsRequest}
 use Rattle.job_text.specs.declared.line.Line.{Line}
 use Rattle.job_text.specs.declared.line.Line.TheVariants.{Blank, Attribute, Tell, Actor, Operation, Schedule, Run}
-use Rattle.job_text.specs.Numbers.{turn_of}
+use Rattle.job_text.specs.Numbers.{is_number, number_of, turn_of}
 use Rattle.job_text.specs.Lines.{may_give}
 use Rattle.job_text.specs.Jobs.{MaySet, MayTurn}
 
@@ -19,6 +19,21 @@ use Rattle.job_text.specs.Jobs.{MaySet, MayTurn}
 -- a number as the reader keeps it: one that is too great for 8 bytes stands for the greatest
 abbrev pub saturated : ℕ → ℕ
 saturated n = min n (2 ^ 64 - 1)
+
+-- a number with one more digit, where it is one that 8 bytes hold
+abbrev pub with_last : ℕ → ℕ → Result ℕ Cause
+with_last value digit =
+    if nat_lt digit 10
+    then (if nat_lt (value * 10 + digit) (2 ^ 64) then Ok (value * 10 + digit)
+    else Err causes.Range)
+    else Err causes.Number
+
+-- the number of a word, where it is one that 8 bytes hold
+abbrev pub exact_of : List ℕ → Result ℕ Cause
+exact_of word =
+    if is_number word
+    then (if nat_lt (number_of word) (2 ^ 64) then Ok (number_of word) else Err causes.Range)
+    else Err causes.Number
 
 -- the pages of a size, as far as they are counted
 abbrev pub saturated_pages : ℕ → ℕ

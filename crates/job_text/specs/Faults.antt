@@ -9,7 +9,7 @@ use Rattle.job_text.specs.declared.fault.JobFault.{JobFault}
 use Rattle.job_text.specs.declared.line.Line.{Line}
 use Rattle.job_text.specs.declared.line.Line.TheVariants.{Blank, Attribute, Tell, Actor, Operation, Schedule, Run}
 use Rattle.job_text.specs.Lines.{Form, words_of, form_of, is_malformed, meaning, is_out_of_range}
-use Rattle.job_text.specs.Jobs.{Used, nothing_used, with_attr, with_phase, with_op, with_turns, has_phase_left, has_left_for, has_turns_left, text_lines}
+use Rattle.job_text.specs.Jobs.{Used, nothing_used, is_set_back, with_attr, with_phase, with_op, with_turns, has_phase_left, has_left_for, has_turns_left, text_lines}
 
 -- A phase that has begun: the line of its first `actor`, its actors so far, and whether it has a
 -- `schedule` already.
@@ -31,6 +31,16 @@ names_no_actor None (Schedule turns) = true
 names_no_actor (Some phase) (Schedule turns) =
     not (list_all (λ t. nat_lt t.actor phase.actors) turns)
 names_no_actor phase Run = false
+
+-- the clock is set to a time before the last
+abbrev pub sets_back : Used → Line → Bool
+sets_back u Blank = false
+sets_back u (Attribute attr) = is_set_back u attr
+sets_back u (Tell report) = false
+sets_back u Actor = false
+sets_back u (Operation op) = false
+sets_back u (Schedule turns) = false
+sets_back u Run = false
 
 -- Attributes and reports stand outside a phase. Operations and turns belong to a phase that has
 -- begun, and after a `schedule` come only more of it and the `run`.
@@ -83,7 +93,7 @@ abbrev pub cause_in : Used → Option Phase → Option Form → Option Cause
 cause_in u phase None = Some causes.Word
 cause_in u phase (Some form) =
     if is_malformed form then Some causes.Number
-    else if is_out_of_range form || names_no_actor phase (meaning form)
+    else if is_out_of_range form || (sets_back u (meaning form) || names_no_actor phase (meaning form))
     then Some causes.Range
     else if is_misplaced phase (meaning form) then Some causes.Order
     else if lacks_disk u (meaning form) then Some causes.NoDisk

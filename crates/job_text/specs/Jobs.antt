@@ -1,16 +1,16 @@
 -- The job that a text is.
-use Rattle.std.specs.Prelude.{◌≡◌, ℕ, ◌+◌, ◌<◌, ◌≤◌, Bool, true, false, ◌==◌, ◌&&◌, ◌||◌, nat_le, List, [], ◌∷◌, ◌++◌, length, map, Option, Some, None, Result, Ok, Err, ⊤}
+use Rattle.std.specs.Prelude.{◌≡◌, ℕ, ◌+◌, ◌^◌, ◌<◌, ◌≤◌, Bool, true, false, ◌==◌, ◌&&◌, ◌||◌, nat_lt, nat_le, List, [], ◌∷◌, ◌++◌, length, map, Option, Some, None, Result, Ok, Err, if◌then◌else◌, ⊤}
 use Rattle.std.specs.List.{slice_split, flat_map}
 use Rattle.zr_base.specs.Plain.{IsRequest}
 use Rattle.zr_base.specs.Pieces.{pages_of}
 use Rattle.zr_base.specs.declared.op.Op.{Op}
-use Rattle.zr_base.specs.declared.op.Op.TheVariants.{Write, Read, Discard, Compact}
+use Rattle.zr_base.specs.declared.op.Op.TheVariants.{Write, Read, Discard, Idle, Compact}
 use Rattle.zr_base.specs.declared.op.Turns.{Turns}
 use Rattle.zr_base.specs.declared.limits.TheConstants.{MOST_PAGES, MOST_ACTORS, MOST_OPERATIONS}
-use Rattle.job_text.specs.declared.limits.TheConstants.{MOST_BLOCKS, MOST_BYTES, MOST_LIMIT_PAGES, MOST_PHASES, MOST_PIECES, MOST_SECTORS_READ, MOST_TURNS}
+use Rattle.job_text.specs.declared.limits.TheConstants.{MOST_BLOCKS, MOST_BYTES, MOST_LIMIT_PAGES, MOST_PHASES, MOST_PIECES, MOST_SCANNED, MOST_SECTORS_READ, MOST_TURNS}
 use Rattle.job_text.specs.declared.fault.Cause.{Cause}
 use Rattle.job_text.specs.declared.job.Attr.{Attr}
-use Rattle.job_text.specs.declared.job.Attr.TheVariants.{DiskPages, LimitPages, Backing, LowerMax}
+use Rattle.job_text.specs.declared.job.Attr.TheVariants.{DiskPages, LimitPages, Backing, Clock, LowerMax}
 use Rattle.job_text.specs.declared.job.Report.{Report}
 use Rattle.job_text.specs.declared.job.Item.{Item}
 use Rattle.job_text.specs.declared.job.Item.TheVariants as items
@@ -67,24 +67,31 @@ item_sayings (items.Phase text) =
 
 -- ---- the limits
 
--- What of a job's limits is used: whether the disk's size was given, how many phases have begun,
--- and how many operations, pieces of requests, sectors to read and turns there were.
+-- What of a job's limits is used: whether the disk's size was given, the pages that were given
+-- first, the time, how many phases have begun, and how many operations, pieces of requests, sectors
+-- to read, pages to scan and turns there were.
 pub record Used : Type 0 where
   pub disk : Bool
+  pub pages : ℕ
+  pub clock : ℕ
   pub phases : ℕ
   pub operations : ℕ
   pub pieces : ℕ
   pub sectors : ℕ
+  pub scanned : ℕ
   pub turns : ℕ
 
 -- the start of a job
 abbrev pub nothing_used : Used
 nothing_used = record {
   disk = false;
+  pages = 0;
+  clock = 0;
   phases = 0;
   operations = 0;
   pieces = 0;
   sectors = 0;
+  scanned = 0;
   turns = 0;
 }
 
@@ -93,7 +100,16 @@ abbrev pub sectors_to_read : Op → ℕ
 sectors_to_read (Write start count stuff) = 0
 sectors_to_read (Read start count) = count
 sectors_to_read (Discard start count) = 0
+sectors_to_read (Idle age) = 0
 sectors_to_read Compact = 0
+
+-- the pages that an operation scans, on a disk of so many
+abbrev pub pages_to_scan : ℕ → Op → ℕ
+pages_to_scan pages (Write start count stuff) = 0
+pages_to_scan pages (Read start count) = 0
+pages_to_scan pages (Discard start count) = 0
+pages_to_scan pages (Idle age) = pages
+pages_to_scan pages Compact = 0
 
 -- the sum of the turns that a schedule gives
 abbrev pub turns_in : List Turns → ℕ
@@ -105,11 +121,32 @@ abbrev pub is_disk_size : Attr → Bool
 is_disk_size (DiskPages pages) = true
 is_disk_size (LimitPages pages) = false
 is_disk_size (Backing blocks) = false
+is_disk_size (Clock seconds) = false
 is_disk_size LowerMax = false
+
+-- the pages of a disk that were given first, after an attribute
+abbrev pub pages_with : Used → Attr → ℕ
+pages_with u (DiskPages pages) = if u.disk then u.pages else pages
+pages_with u (LimitPages pages) = u.pages
+pages_with u (Backing blocks) = u.pages
+pages_with u (Clock seconds) = u.pages
+pages_with u LowerMax = u.pages
+
+-- the time after an attribute
+abbrev pub clock_with : Used → Attr → ℕ
+clock_with u (DiskPages pages) = u.clock
+clock_with u (LimitPages pages) = u.clock
+clock_with u (Backing blocks) = u.clock
+clock_with u (Clock seconds) = seconds
+clock_with u LowerMax = u.clock
 
 -- after an attribute
 abbrev pub with_attr : Used → Attr → Used
-with_attr u attr = record u { disk = is_disk_size attr || u.disk }
+with_attr u attr = record u {
+  disk = is_disk_size attr || u.disk;
+  pages = pages_with u attr;
+  clock = clock_with u attr;
+}
 
 -- with one phase more
 abbrev pub with_phase : Used → Used
@@ -121,6 +158,7 @@ with_op u op = record u {
   operations = u.operations + 1;
   pieces = u.pieces + pages_of op;
   sectors = u.sectors + sectors_to_read op;
+  scanned = u.scanned + pages_to_scan u.pages op;
 }
 
 -- with the operations of an actor
@@ -141,12 +179,14 @@ with_turns u turns = record u { turns = u.turns + turns_in turns }
 abbrev pub has_phase_left : Used → Bool
 has_phase_left u = nat_le (u.phases + 1) MOST_PHASES
 
--- the limits on operations, on pieces of requests and on sectors to read leave an operation
+-- the limits on operations, on pieces of requests, on sectors to read and on pages to scan leave an
+-- operation
 abbrev pub has_left_for : Used → Op → Bool
 has_left_for u op =
     nat_le (u.operations + 1) MOST_OPERATIONS
     && nat_le (u.pieces + pages_of op) MOST_PIECES
     && nat_le (u.sectors + sectors_to_read op) MOST_SECTORS_READ
+    && nat_le (u.scanned + pages_to_scan u.pages op) MOST_SCANNED
 
 -- the limit on turns leaves those of a schedule
 abbrev pub has_turns_left : Used → List Turns → Bool
@@ -155,12 +195,29 @@ has_turns_left u turns = nat_le (u.turns + turns_in turns) MOST_TURNS
 -- ---- the order of items
 
 -- an attribute in its range: a disk of one page at least, any limit on memory, one block at least of
--- a backing device, and none too great
+-- a backing device, any time, and none too great
 abbrev pub MaySet : Attr → Type 0
 MaySet (DiskPages pages) = (1 ≤ pages) × (pages ≤ MOST_PAGES)
 MaySet (LimitPages pages) = pages ≤ MOST_LIMIT_PAGES
 MaySet (Backing blocks) = (1 ≤ blocks) × (blocks ≤ MOST_BLOCKS)
+MaySet (Clock seconds) = seconds < 2 ^ 64
 MaySet LowerMax = ⊤
+
+-- whether an attribute sets the clock to a time before that which was counted
+abbrev pub is_set_back : Used → Attr → Bool
+is_set_back u (DiskPages pages) = false
+is_set_back u (LimitPages pages) = false
+is_set_back u (Backing blocks) = false
+is_set_back u (Clock seconds) = nat_lt seconds u.clock
+is_set_back u LowerMax = false
+
+-- an attribute after what was counted: the time doesn't fall
+abbrev pub KeepsTime : Used → Attr → Type 0
+KeepsTime u (DiskPages pages) = ⊤
+KeepsTime u (LimitPages pages) = ⊤
+KeepsTime u (Backing blocks) = ⊤
+KeepsTime u (Clock seconds) = u.clock ≤ seconds
+KeepsTime u LowerMax = ⊤
 
 -- operations after those that were counted
 abbrev pub MayOperate : Used → List Op → Type 0
@@ -196,10 +253,12 @@ pub record MayRun (u : Used) (actors : List (List Op)) (schedule : List Turns) :
   pub may_turn : MayTurn (length actors) schedule
   pub turns_left : has_turns_left (with_actors (with_phase u) actors) schedule ≡ true
 
--- the items of a job after others: attributes in their range, reports, and phases within the limits
+-- the items of a job after others: attributes in their range with no time before the last, reports,
+-- and phases within the limits
 abbrev pub MayFollow : Used → List Item → Type 0
 MayFollow u [] = ⊤
-MayFollow u (items.Attr attr ∷ more) = MaySet attr × MayFollow (with_attr u attr) more
+MayFollow u (items.Attr attr ∷ more) =
+    MaySet attr × KeepsTime u attr × MayFollow (with_attr u attr) more
 MayFollow u (items.Report report ∷ more) = MayFollow u more
 MayFollow u (items.Phase text ∷ more) =
     MayRun u text.actors text.schedule × MayFollow (with_text u text.actors text.schedule) more

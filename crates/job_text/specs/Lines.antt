@@ -3,13 +3,13 @@ use Rattle.std.specs.Prelude.{ℕ, ◌-◌, ◌*◌, ◌^◌, Bool, true, false,
 use Rattle.std.specs.List.{slice_split, position_or_len, list_all, concat}
 use Rattle.std.specs.Str.{bytes_eq}
 use Rattle.zr_base.specs.declared.op.Op.{Op}
-use Rattle.zr_base.specs.declared.op.Op.TheVariants.{Write, Read, Discard, Compact}
+use Rattle.zr_base.specs.declared.op.Op.TheVariants.{Write, Read, Discard, Idle, Compact}
 use Rattle.zr_base.specs.declared.op.Stuff.TheVariants.{Fill, Seq, Hex}
 use Rattle.zr_base.specs.declared.op.Turns.{Turns}
 use Rattle.zr_base.specs.declared.limits.TheConstants.{MOST_PAGES, MOST_SECTORS, MOST_ACTORS}
 use Rattle.job_text.specs.declared.limits.TheConstants.{MOST_BLOCKS, MOST_LIMIT_PAGES, MOST_TURNS}
 use Rattle.job_text.specs.declared.job.Attr.{Attr}
-use Rattle.job_text.specs.declared.job.Attr.TheVariants.{DiskPages, LimitPages, Backing, LowerMax}
+use Rattle.job_text.specs.declared.job.Attr.TheVariants.{DiskPages, LimitPages, Backing, Clock, LowerMax}
 use Rattle.job_text.specs.declared.job.Report.{Report}
 use Rattle.job_text.specs.declared.job.Report.TheVariants.{MmStat, IoStat, BdStat, States, Classes}
 use Rattle.job_text.specs.declared.line.Line.{Line}
@@ -47,6 +47,7 @@ pub data Form : Type 0 where
   disk_form : (size : List ℕ) → Form
   limit_form : (size : List ℕ) → Form
   backing_form : (number : List ℕ) → Form
+  clock_form : (number : List ℕ) → Form
   max_form : (number : List ℕ) → Form
   report_form : Report → Form
   actor_form : Form
@@ -55,6 +56,8 @@ pub data Form : Type 0 where
   hex_form : (start count : List ℕ) (digits : List (List ℕ)) → Form
   read_form : (start count : List ℕ) → Form
   discard_form : (start count : List ℕ) → Form
+  idle_all_form : Form
+  idle_form : (number : List ℕ) → Form
   compact_form : Form
   schedule_form : (turns : List (List ℕ)) → Form
   run_form : Form
@@ -93,6 +96,15 @@ read_in words = None
 abbrev pub discard_in : List (List ℕ) → Option Form
 discard_in (start ∷ count ∷ []) = Some (discard_form start count)
 discard_in words = None
+
+-- `idle` with this word: `all`, or a number
+unfoldable pub idle_with : List ℕ → Form
+idle_with word = if bytes_eq word (codes "all") then idle_all_form else idle_form word
+
+-- what stands after `idle`
+abbrev pub idle_in : List (List ℕ) → Option Form
+idle_in (word ∷ []) = Some (idle_with word)
+idle_in words = None
 
 -- what stands after `write START COUNT fill`
 abbrev pub fill_in : List ℕ → List ℕ → List (List ℕ) → Option Form
@@ -133,11 +145,13 @@ named_in name words =
     if bytes_eq name (codes "disksize") then with_word disk_form words
     else if bytes_eq name (codes "mem_limit") then with_word limit_form words
     else if bytes_eq name (codes "backing") then with_word backing_form words
+    else if bytes_eq name (codes "clock") then with_word clock_form words
     else if bytes_eq name (codes "mem_used_max") then with_word max_form words
     else if bytes_eq name (codes "actor") then alone actor_form words
     else if bytes_eq name (codes "write") then write_in words
     else if bytes_eq name (codes "read") then read_in words
     else if bytes_eq name (codes "discard") then discard_in words
+    else if bytes_eq name (codes "idle") then idle_in words
     else if bytes_eq name (codes "compact") then alone compact_form words
     else if bytes_eq name (codes "schedule") then schedule_in words
     else if bytes_eq name (codes "run") then alone run_form words
@@ -162,6 +176,7 @@ is_malformed blank_form = false
 is_malformed (disk_form size) = not (is_size size)
 is_malformed (limit_form size) = not (is_size size)
 is_malformed (backing_form number) = not (is_number number)
+is_malformed (clock_form number) = not (is_number number)
 is_malformed (max_form number) = not (is_number number)
 is_malformed (report_form report) = false
 is_malformed actor_form = false
@@ -173,6 +188,8 @@ is_malformed (hex_form start count digits) =
     && fill_sectors (length (concat digits)) (number_of count))
 is_malformed (read_form start count) = not (is_number start && is_number count)
 is_malformed (discard_form start count) = not (is_number start && is_number count)
+is_malformed idle_all_form = false
+is_malformed (idle_form number) = not (is_number number)
 is_malformed compact_form = false
 is_malformed (schedule_form turns) = not (list_all is_turn turns)
 is_malformed run_form = false
@@ -183,6 +200,7 @@ meaning blank_form = Blank
 meaning (disk_form size) = Attribute (DiskPages (size_pages size))
 meaning (limit_form size) = Attribute (LimitPages (size_pages size))
 meaning (backing_form number) = Attribute (Backing (number_of number))
+meaning (clock_form number) = Attribute (Clock (number_of number))
 meaning (max_form number) = Attribute LowerMax
 meaning (report_form report) = Tell report
 meaning actor_form = Actor
@@ -194,28 +212,38 @@ meaning (hex_form start count digits) =
     Operation (Write (number_of start) (number_of count) (Hex (bytes_by (concat digits))))
 meaning (read_form start count) = Operation (Read (number_of start) (number_of count))
 meaning (discard_form start count) = Operation (Discard (number_of start) (number_of count))
+meaning idle_all_form = Operation (Idle None)
+meaning (idle_form number) = Operation (Idle (Some (number_of number)))
 meaning compact_form = Operation Compact
 meaning (schedule_form turns) = Schedule (map turn_of turns)
 meaning run_form = Run
 
 -- a disk's size of one page at least and of no more than the most, a limit on memory up to the
--- greatest, one block at least of a backing device and no more than the most, or a maximum that is
--- lowered
+-- greatest, one block at least of a backing device and no more than the most, seconds that 8 bytes
+-- hold, or a maximum that is lowered
 abbrev pub may_set : Attr → Bool
 may_set (DiskPages pages) = nat_le 1 pages && nat_le pages MOST_PAGES
 may_set (LimitPages pages) = nat_le pages MOST_LIMIT_PAGES
 may_set (Backing blocks) = nat_le 1 blocks && nat_le blocks MOST_BLOCKS
+may_set (Clock seconds) = nat_lt seconds (2 ^ 64)
 may_set LowerMax = true
 
 -- a request's sectors begin below 2 ^ 32, and are 1 to the most that a request has
 abbrev pub are_bounds : ℕ → ℕ → Bool
 are_bounds start count = nat_lt start (2 ^ 32) && nat_le 1 count && nat_le count MOST_SECTORS
 
--- an operation's sectors are those that a request may have; a compaction asks for none
+-- the seconds of an age are such that 8 bytes hold, where they are given
+abbrev pub may_age : Option ℕ → Bool
+may_age None = true
+may_age (Some age) = nat_lt age (2 ^ 64)
+
+-- an operation's sectors are those that a request may have, and its age is one that may be given; a
+-- compaction asks for nothing
 abbrev pub may_ask : Op → Bool
 may_ask (Write start count stuff) = are_bounds start count
 may_ask (Read start count) = are_bounds start count
 may_ask (Discard start count) = are_bounds start count
+may_ask (Idle age) = may_age age
 may_ask Compact = true
 
 -- a turn of an actor that a phase may have, given once at least and no more often than a job's

@@ -1,5 +1,5 @@
 -- How far the reading of a job has come.
-use Rattle.std.specs.Prelude.{◌≡◌, ℕ, ◌+◌, ◌==◌, Bool, false, not, ◌&&◌, nat_lt, nat_le, List, [], ◌∷◌, ◌++◌, length, Option, Some, None, Result, Ok, Err, if◌then◌else◌, option_map, option_and_then}
+use Rattle.std.specs.Prelude.{◌≡◌, ℕ, ◌+◌, ◌==◌, Bool, false, not, ◌&&◌, ◌||◌, nat_lt, nat_le, List, [], ◌∷◌, ◌++◌, length, Option, Some, None, Result, Ok, Err, if◌then◌else◌, option_map, option_and_then}
 use Rattle.std.specs.Borrow.{Bor}
 use Rattle.zr_base.specs.declared.op.Op.{Op}
 use Rattle.zr_base.specs.declared.op.Turns.{Turns}
@@ -18,8 +18,8 @@ use Rattle.job_text.specs.declared.line.Line.TheVariants.{Blank, Attribute, Tell
 use Rattle.job_text.specs.declared.begun.Begun.{Begun}
 use Rattle.job_text.specs.declared.reading.Reading.{Reading}
 use Rattle.job_text.specs.Lines.{words_of}
-use Rattle.job_text.specs.Jobs.{Saying, says_attr, says_report, says_actor, says_operation, says_turns, says_run, text_lines, sayings, Used, nothing_used, with_attr, with_phase, with_op, with_turns, has_phase_left, has_left_for, has_turns_left}
-use Rattle.job_text.specs.Faults.{Phase, names_no_actor, is_misplaced, lacks_disk, passes_limit, cause_of, used_with, phase_with, first_fault_from}
+use Rattle.job_text.specs.Jobs.{Saying, says_attr, says_report, says_actor, says_operation, says_turns, says_run, text_lines, sayings, Used, nothing_used, is_set_back, with_attr, with_phase, with_op, with_turns, has_phase_left, has_left_for, has_turns_left}
+use Rattle.job_text.specs.Faults.{Phase, names_no_actor, sets_back, is_misplaced, lacks_disk, passes_limit, cause_of, used_with, phase_with, first_fault_from}
 
 -- ---- a reader's state
 
@@ -27,10 +27,13 @@ use Rattle.job_text.specs.Faults.{Phase, names_no_actor, is_misplaced, lacks_dis
 abbrev pub used_by : Reading → Used
 used_by r = record {
   disk = r.has_disk;
+  pages = r.pages;
+  clock = r.clock;
   phases = r.phases;
   operations = r.operations;
   pieces = r.pieces;
   sectors = r.sectors;
+  scanned = r.scanned;
   turns = r.turns;
 }
 
@@ -73,7 +76,7 @@ text_of (Some begun) = record { actors = all_actors begun; schedule = begun.sche
 -- the first of the causes that a line has by its place
 abbrev pub place_cause : Used → Option Phase → Line → Option Cause
 place_cause u phase line =
-    if names_no_actor phase line then Some causes.Range
+    if sets_back u line || names_no_actor phase line then Some causes.Range
     else if is_misplaced phase line then Some causes.Order
     else if lacks_disk u line then Some causes.NoDisk
     else if passes_limit u phase line then Some causes.TooMany
@@ -149,7 +152,9 @@ abbrev pub items_from : Used → Option Begun → List Saying → Option (List I
 items_from u None [] = Some []
 items_from u (Some begun) [] = None
 items_from u None (says_attr attr ∷ more) =
-    option_map (λ later. items.Attr attr ∷ later) (items_from (with_attr u attr) None more)
+    if not (is_set_back u attr)
+    then option_map (λ later. items.Attr attr ∷ later) (items_from (with_attr u attr) None more)
+    else None
 items_from u (Some begun) (says_attr attr ∷ more) = None
 items_from u None (says_report report ∷ more) =
     option_map (λ later. items.Report report ∷ later) (items_from u None more)

@@ -2,15 +2,15 @@
 
 ghost use Rattle.std.specs.Prelude.{◌≡◌, ℕ, List, map, IfOk, if◌then◌else◌};
 ghost use Rattle.job_text.specs.Lines.{without_return, before_comment, words_of, line_by, line_with, line_of, report_named, are_bounds, fill_sectors};
-ghost use Rattle.job_text.specs.Lines.{Form, disk_form, limit_form, backing_form, max_form, report_form, actor_form, fill_form, seq_form, hex_form, read_form, discard_form, compact_form, schedule_form, run_form};
-ghost use Rattle.job_text.specs.Lines.{alone, with_word, report_in, read_in, discard_in, fill_in, seq_in, hex_in, stuff_in, write_in, schedule_in, named_in};
+ghost use Rattle.job_text.specs.Lines.{Form, disk_form, limit_form, backing_form, clock_form, max_form, report_form, actor_form, fill_form, seq_form, hex_form, read_form, discard_form, idle_all_form, idle_form, compact_form, schedule_form, run_form};
+ghost use Rattle.job_text.specs.Lines.{alone, with_word, report_in, read_in, discard_in, idle_with, idle_in, fill_in, seq_in, hex_in, stuff_in, write_in, schedule_in, named_in};
 ghost use Rattle.job_text.specs.Answers.{Answers, IsInRange, hash_in};
 
 use crate::fault::{Cause, NotTaken};
 use crate::job::{Attr, Report, TurnList};
 use crate::joined::{are_hex, bytes, joined};
 use crate::limits::{MOST_BLOCKS, MOST_LIMIT_PAGES};
-use crate::number::{number, pages, word64};
+use crate::number::{exact, number, pages, word64};
 use crate::turns::{are_turns, turns};
 use std::alloc::{AllocError, Global};
 use zr_base::{MOST_PAGES, MOST_SECTORS, Op, Stuff};
@@ -121,6 +121,13 @@ fn backing(word: &[u8]) -> Result<Line, Cause>
 }
 
 #[tactic(auto, unfolding(crate::specs::Lines::is_malformed, crate::specs::Lines::meaning))]
+fn clock(word: &[u8]) -> Result<Line, Cause>
+    ensures { result ≡ line_by (clock_form word.now) }
+{
+    Ok(Line::Attribute(Attr::Clock(exact(word)?)))
+}
+
+#[tactic(auto, unfolding(crate::specs::Lines::is_malformed, crate::specs::Lines::meaning))]
 fn lowered_max(word: &[u8]) -> Result<Line, Cause>
     ensures { result ≡ line_by (max_form word.now) }
 {
@@ -149,6 +156,32 @@ fn discard(start: &[u8], count: &[u8]) -> Result<Line, Cause>
     let count = number(count)?;
     let count = in_bounds(start, count)?;
     Ok(Line::Operation(Op::Discard { start, count }))
+}
+
+#[tactic(auto, unfolding(crate::specs::Lines::is_malformed, crate::specs::Lines::meaning))]
+fn idle_all() -> Result<Line, Cause>
+    ensures { result ≡ line_by idle_all_form }
+{
+    Ok(Line::Operation(Op::Idle { age: None }))
+}
+
+#[tactic(auto, unfolding(crate::specs::Lines::is_malformed, crate::specs::Lines::meaning))]
+fn idle(word: &[u8]) -> Result<Line, Cause>
+    ensures { result ≡ line_by (idle_form word.now) }
+{
+    let age = Some(exact(word)?);
+    Ok(Line::Operation(Op::Idle { age }))
+}
+
+#[tactic(auto, unfolding(crate::specs::Lines::idle_with))]
+fn idle_by(word: &[u8]) -> Result<Line, Cause>
+    ensures { result ≡ line_by (idle_with word.now) }
+{
+    if word == b"all".as_slice() {
+        idle_all()
+    } else {
+        idle(word)
+    }
 }
 
 #[tactic(auto, unfolding(crate::specs::Lines::is_malformed, crate::specs::Lines::meaning))]
@@ -271,6 +304,15 @@ fn backing_line(words: &[&[u8]]) -> Result<Line, NotTaken>
     }
 }
 
+fn clock_line(words: &[&[u8]]) -> Result<Line, NotTaken>
+    ensures { Answers (line_with (with_word clock_form (map (λ word. word.now) words.now))) result }
+{
+    match words {
+        [word] => Ok(clock(word)?),
+        _ => Err(NotTaken::Faulty(Cause::Word)),
+    }
+}
+
 fn max_line(words: &[&[u8]]) -> Result<Line, NotTaken>
     ensures { Answers (line_with (with_word max_form (map (λ word. word.now) words.now))) result }
 {
@@ -322,6 +364,15 @@ fn discard_line(words: &[&[u8]]) -> Result<Line, NotTaken>
 {
     match words {
         [start, count] => Ok(discard(start, count)?),
+        _ => Err(NotTaken::Faulty(Cause::Word)),
+    }
+}
+
+fn idle_line(words: &[&[u8]]) -> Result<Line, NotTaken>
+    ensures { Answers (line_with (idle_in (map (λ word. word.now) words.now))) result }
+{
+    match words {
+        [word] => Ok(idle_by(word)?),
         _ => Err(NotTaken::Faulty(Cause::Word)),
     }
 }
@@ -406,6 +457,8 @@ fn named_line(alloc: Global, name: &[u8], words: &[&[u8]]) -> Result<Line, NotTa
         limit_line(words)
     } else if name == b"backing".as_slice() {
         backing_line(words)
+    } else if name == b"clock".as_slice() {
+        clock_line(words)
     } else if name == b"mem_used_max".as_slice() {
         max_line(words)
     } else if name == b"actor".as_slice() {
@@ -416,6 +469,8 @@ fn named_line(alloc: Global, name: &[u8], words: &[&[u8]]) -> Result<Line, NotTa
         read_line(words)
     } else if name == b"discard".as_slice() {
         discard_line(words)
+    } else if name == b"idle".as_slice() {
+        idle_line(words)
     } else if name == b"compact".as_slice() {
         compact_line(words)
     } else if name == b"schedule".as_slice() {

@@ -1,9 +1,9 @@
 //! The words of numbers: decimal, hexadecimal, sizes with a suffix, and turns.
-//! A number of `2^64` or more is read as `2^64 - 1`, which no line allows.
+//! A number of `2^64` or more is read as `2^64 - 1`, which the lines that read it so don't allow.
 
 ghost use Rattle.std.specs.Prelude.{◌≡◌, ℕ, ◌≤◌, ◌==◌, if◌then◌else◌, position};
 ghost use Rattle.job_text.specs.Numbers.{digit_value, are_digits, value_from, is_number, number_of, is_word, word_of, is_size, bytes_of, star_in, is_turn, turn_of};
-ghost use Rattle.job_text.specs.Answers.{saturated, saturated_pages, saturated_turn};
+ghost use Rattle.job_text.specs.Answers.{saturated, with_last, exact_of, saturated_pages, saturated_turn};
 
 use crate::fault::Cause;
 
@@ -46,6 +46,35 @@ pub(crate) fn number(word: &[u8]) -> Result<u64, Cause>
         return Err(Cause::Number);
     }
     digits(10, word)
+}
+
+// A number with one more decimal digit.
+fn with_last(value: u64, digit: u64) -> Result<u64, Cause>
+    ensures { result ≡ with_last value digit }
+{
+    if digit >= 10 {
+        return Err(Cause::Number);
+    }
+    match value.checked_mul(10) {
+        None => Err(Cause::Range),
+        Some(tens) => match tens.checked_add(digit) {
+            None => Err(Cause::Range),
+            Some(value) => Ok(value),
+        },
+    }
+}
+
+/// A number of decimal digits that 8 bytes hold.
+pub(crate) fn exact(word: &[u8]) -> Result<u64, Cause>
+    ensures { result ≡ exact_of word.now }
+{
+    match word {
+        [] => Err(Cause::Number),
+        [front @ .., last] => match digits(10, front) {
+            Ok(value) => with_last(value, digit(*last)),
+            Err(cause) => Err(cause),
+        },
+    }
 }
 
 /// A word of 8 bytes, by one to sixteen hexadecimal digits.

@@ -233,6 +233,8 @@ fn op_shown(alloc: Global, op: &Op) -> Result<String, AllocError> {
         }
         Op::Read { start, count } => format!(in alloc; "read {start} {count}; "),
         Op::Discard { start, count } => format!(in alloc; "discard {start} {count}; "),
+        Op::Idle { age: None } => format!(in alloc; "idle all; "),
+        Op::Idle { age: Some(age) } => format!(in alloc; "idle {age}; "),
         Op::Compact => format!(in alloc; "compact; "),
     }
 }
@@ -287,6 +289,7 @@ fn attr_shown(alloc: Global, attr: Attr) -> Result<String, AllocError> {
         Attr::DiskPages(pages) => format!(in alloc; "pages {pages}; "),
         Attr::LimitPages(pages) => format!(in alloc; "limit {pages}; "),
         Attr::Backing(blocks) => format!(in alloc; "backing {blocks}; "),
+        Attr::Clock(seconds) => format!(in alloc; "clock {seconds}; "),
         Attr::LowerMax => format!(in alloc; "lower; "),
     }
 }
