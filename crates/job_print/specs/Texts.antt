@@ -15,7 +15,7 @@ use Rattle.mem_account.specs.declared.weight.Weight.TheVariants as weights
 use Rattle.size_class.specs.declared.stat.ClassStat.{ClassStat}
 use Rattle.size_class.specs.Classes.{class_size, chain_of, per_of}
 use Rattle.size_class.specs.Groups.{group_of}
-use Rattle.plain_disk.specs.Output.{OutLine as PlainLine, ClassLine, AttrRefusal, disksize_busy, backing_busy, backing_range, ended, sector, ordered, memory, calls, device_calls, refused, state, class_of}
+use Rattle.plain_disk.specs.Output.{OutLine as PlainLine, StateLine, ClassLine, AttrRefusal, disksize_busy, backing_busy, backing_range, ended, sector, ordered, memory, calls, device_calls, refused, state, class_of}
 use Rattle.job_text.specs.declared.fault.Cause.{Cause}
 use Rattle.job_text.specs.declared.fault.Cause.TheVariants as causes
 use Rattle.job_text.specs.declared.fault.JobFault.{JobFault}
@@ -220,6 +220,12 @@ fault_text fault = out_line (lines.Job fault)
 -- the usage line
 abbrev pub usage_text : List ℕ
 usage_text = out_line lines.Usage
+
+-- a page's line has this number, these letters and this time
+pub record IsStateOf (s : StateLine) (p : ℕ) (ls : List ℕ) (t : ℕ) : Type 0 where
+  pub page : s.page ≡ p
+  pub letters : letters_of s.kept s.idle ≡ ls
+  pub touched : s.touched ≡ t
 
 -- a class's statistics sum up the used cells of its zspages
 pub record IsSummary (c : ClassLine) (stat : ClassStat) : Type 0 where

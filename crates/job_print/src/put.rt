@@ -4,14 +4,14 @@ ghost use Rattle.std.specs.Prelude.{◌≡◌, ℕ, ◌*◌, ◌≤◌, ◌++◌
 ghost use Rattle.std.specs.List.{flat_map};
 ghost use Rattle.std.specs.Fmt.{decimal};
 ghost use Rattle.plain_disk.specs.Output.{sector, ClassLine, StateLine, memory, calls, device_calls, refused, state, class_of, op_lines, order_line};
-ghost use Rattle.job_print.specs.Texts.{hex_digit, hex_byte, word_digits, tag_word, end_words, cell_words, use_words, cause_word, refusal_words, why_of, letters_of, spaced, out_line, is_filled, sector_line, shown, line_text, text, fault_text, usage_text, IsSummary};
+ghost use Rattle.job_print.specs.Texts.{hex_digit, hex_byte, word_digits, tag_word, end_words, cell_words, use_words, cause_word, refusal_words, why_of, spaced, out_line, is_filled, sector_line, shown, line_text, text, fault_text, usage_text, IsStateOf, IsSummary};
 ghost use Rattle.job_print.specs.declared.line.OutLine.TheVariants as lines;
 
 use crate::line::Refusal;
 use crate::number::put_number;
 use backing_dev::BdStat;
 use job_text::{Cause, JobFault};
-use mem_account::{IoStat, MmStat, Weight};
+use mem_account::{IoStat, MmStat};
 use size_class::ClassStat;
 use std::alloc::AllocError;
 use zr_base::{OpEnd, Tag};
@@ -316,21 +316,9 @@ pub fn put_refused(out: &mut Vec<u8>, refusal: Refusal) -> Result<(), AllocError
     put_refusal(out, refusal)
 }
 
-fn letters(kept: Weight, idle: bool) -> [u8; 4]
-    ensures { result ≡ letters_of kept idle }
-{
-    match kept {
-        Weight::Empty => *b"....",
-        Weight::Same => *b"s...",
-        Weight::Packed(_) => if idle { *b"...i" } else { *b"...." },
-        Weight::Huge => if idle { *b"..hi" } else { *b"..h." },
-        Weight::Back => *b".w..",
-    }
-}
-
-/// The line of a page with these letters.
+// The line of a page with these letters.
 #[tactic(auto, unfolding(crate::specs::Texts::name_of, crate::specs::Texts::words_of))]
-pub(crate) fn put_letters(
+fn put_letters(
     out: &mut Vec<u8>,
     page: u32,
     letters: &[u8; 4],
@@ -347,19 +335,19 @@ pub(crate) fn put_letters(
     Ok(())
 }
 
-/// The line of a page that isn't empty: how it is kept, whether it is marked idle, and when it was
-/// touched.
+/// The line of a page that isn't empty: its letters, and when it was touched.
 pub fn put_state(
     out: &mut Vec<u8>,
     page: u32,
-    kept: Weight,
-    idle: bool,
+    letters: &[u8; 4],
     touched: u64,
 ) -> Result<(), AllocError>
-    ensures { let s : StateLine = record { page = page; kept = kept; idle = idle; touched = touched } in
-        OnOk result (out.new.items ≡ out.old.items ++ line_text (state s)) }
+    ensures letters { OnOk result (out.new.items ≡ out.old.items
+        ++ out_line (lines.State page letters.now touched)) }
+    ensures line { (s : StateLine) → IsStateOf s page letters.now touched
+        → OnOk result (out.new.items ≡ out.old.items ++ line_text (state s)) }
 {
-    put_letters(out, page, &letters(kept, idle), touched)
+    put_letters(out, page, letters, touched)
 }
 
 // How many zspages each fullness group has, each number after a space.

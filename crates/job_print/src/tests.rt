@@ -9,7 +9,6 @@ use crate::{
     put_state, read_output,
 };
 use backing_dev::BdStat;
-use mem_account::Weight;
 use size_class::ClassStat;
 use std::alloc::{AllocError, Global};
 use std::test::Fail;
@@ -173,12 +172,12 @@ fn tells_sectors_by_their_words(rt: HostRuntime) -> Result<(), Fail> {
 fn prints_parts(rt: HostRuntime) -> Result<(), Fail> {
     let mut out = Vec::new(rt.alloc());
     put_order(&mut out, 5, &[])?;
-    put_state(&mut out, 1, Weight::Same, false, 0)?;
-    put_state(&mut out, 2, Weight::Packed(120), false, 0)?;
-    put_state(&mut out, 3, Weight::Huge, false, 12)?;
-    put_state(&mut out, 4, Weight::Back, false, 0)?;
-    put_state(&mut out, 5, Weight::Packed(3256), true, 1)?;
-    put_state(&mut out, 6, Weight::Huge, true, 0)?;
+    put_state(&mut out, 1, b"s...", 0)?;
+    put_state(&mut out, 2, b"....", 0)?;
+    put_state(&mut out, 3, b"..h.", 12)?;
+    put_state(&mut out, 4, b".w..", 0)?;
+    put_state(&mut out, 5, b"...i", 1)?;
+    put_state(&mut out, 6, b"..hi", 0)?;
     let device = BdStat {
         count: 1,
         reads: 0,

@@ -6,8 +6,8 @@ ghost use Rattle.job_print.specs.Proper.{IsProper};
 
 use crate::line::OutLine;
 use crate::put::{
-    put_bytes, put_calls, put_class, put_device, put_ended, put_fault, put_fill, put_letters,
-    put_memory, put_ordered, put_refused, put_usage,
+    put_bytes, put_calls, put_class, put_device, put_ended, put_fault, put_fill, put_memory,
+    put_ordered, put_refused, put_state, put_usage,
 };
 use std::alloc::AllocError;
 
@@ -28,7 +28,7 @@ fn put_line(out: &mut Vec<u8>, line: &OutLine) -> Result<(), AllocError>
             page,
             letters,
             touched,
-        } => put_letters(out, *page, letters, *touched),
+        } => put_state(out, *page, letters, *touched),
         OutLine::Class(stat) => put_class(out, stat),
         OutLine::Job(fault) => put_fault(out, *fault),
         OutLine::Usage => put_usage(out),

@@ -89,6 +89,7 @@ module _ (r : Rest) (none : r.size ≡ 0) (unused : IsUnused r)
     holds = r.holds;
     blank = r.blank;
     back = r.back;
+    idle = r.idle;
     touched = r.touched;
     used = r.used;
     most = sym unused.most i;
@@ -115,6 +116,7 @@ module _ (r : Rest) (none : r.size ≡ 0) (unused : IsUnused r)
         holds = λ s lt. absurd (not_below _ lt);
         blank = λ p lt. absurd (not_below _ lt);
         back = λ p lt. absurd (not_below _ lt);
+        idle = λ p lt. absurd (not_below _ lt);
         touched = λ p lt. absurd (not_below _ lt);
         used = λ k lt. used_none k (unused.used k lt);
         most = record {

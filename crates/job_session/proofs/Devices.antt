@@ -111,11 +111,12 @@ map_left (Some s) (suc n) old new early =
 
 -- ---- disks of worlds
 
--- the disk of a world with these pages, this limit, this row, and what stands beside it
-abbrev disk_by : {D : Type 0} → Option (Spare D) → ℕ → ℕ → List (Option DiskHeld) → Disk
-disk_by s pages limit row = record {
+-- the disk of a world at this time, with these pages, this limit, this row, and what stands beside it
+abbrev disk_by : {D : Type 0} → ℕ → Option (Spare D) → ℕ → ℕ → List (Option DiskHeld) → Disk
+disk_by clock s pages limit row = record {
   size = pages;
   limit = limit;
+  clock = clock;
   row = row;
   device = device_by s pages row;
   blocks = blocks_by s pages row;
@@ -126,10 +127,11 @@ pub is_new_disk : {D : Type 0} (d : Disk) (s : Option (Spare D)) (pages n limit 
     (row : List (Option DiskHeld)) → pages ≡ n → 1 ≤ n → limit ≡ d.limit → IsEarly pages s
     → device_by s pages row ≡ d.device → blocks_by s pages row ≡ d.blocks
     → AreNew (new_disk n d.limit d.device) (n + 258) row
-    → RestsAs (new_disk n d.limit d.device) n row → IsNewDisk d n (disk_by s pages limit row)
+    → RestsAs (new_disk n d.limit d.device) n row → IsNewDisk d n (disk_by d.clock s pages limit row)
 is_new_disk d s pages n limit row size some same early device blocks are rests = record {
   size = size;
   limit = same;
+  clock = refl;
   device = device;
   blocks = blocks;
   row = are;
@@ -140,7 +142,7 @@ is_new_disk d s pages n limit row size some same early device blocks are rests =
 }
 
 -- a disk of which only the account has changed
-module _ {D : Type 0} (s t : Option (Spare D)) (pages after limit now : ℕ)
+module _ {D : Type 0} (clock : ℕ) (s t : Option (Spare D)) (pages after limit now : ℕ)
     (old new : List (Option DiskHeld)) (beside : t ≡ s) (size : after ≡ pages)
     (rests : IsBare pages old ⊎ ((g : Begin) × RestsAs g pages old))
     (none : pages ≡ 0 → new ≡ old) where
@@ -158,11 +160,12 @@ module _ {D : Type 0} (s t : Option (Spare D)) (pages after limit now : ℕ)
   pub is_limited : (n : ℕ) → now ≡ n
       → ((c : Counters) → slice_get old (pages + 255) ≡ Some (Some (holds.Account c))
       → new ≡ slice_set old (pages + 255) (Some (holds.Account (record c { limit = n }))))
-      → IsLimited (disk_by s pages limit old) n (disk_by t after now new)
+      → IsLimited (disk_by clock s pages limit old) n (disk_by clock t after now new)
   is_limited n is set =
       let kept = same_beside (λ c. holds.Account (record c { limit = n })) set in record {
         size = size;
         limit = is;
+        clock = refl;
         device = kept.0;
         blocks = kept.1;
         none = none;
@@ -172,11 +175,12 @@ module _ {D : Type 0} (s t : Option (Spare D)) (pages after limit now : ℕ)
   pub is_lowered : now ≡ limit
       → ((c : Counters) → slice_get old (pages + 255) ≡ Some (Some (holds.Account c))
       → new ≡ slice_set old (pages + 255) (Some (holds.Account (record c { most = c.pages }))))
-      → IsLowered (disk_by s pages limit old) (disk_by t after now new)
+      → IsLowered (disk_by clock s pages limit old) (disk_by clock t after now new)
   is_lowered is set =
       let kept = same_beside (λ c. holds.Account (record c { most = c.pages })) set in record {
         size = size;
         limit = is;
+        clock = refl;
         device = kept.0;
         blocks = kept.1;
         none = none;
@@ -184,15 +188,16 @@ module _ {D : Type 0} (s t : Option (Spare D)) (pages after limit now : ℕ)
       }
 
 -- a disk on which a phase was set up and run
-pub is_run_on : {D : Type 0} (s t u : Option (Spare D)) (pages between after limit now : ℕ)
+pub is_run_on : {D : Type 0} (clock : ℕ) (s t u : Option (Spare D)) (pages between after limit now : ℕ)
     (old mid new : List (Option DiskHeld)) → u ≡ t → after ≡ between → between ≡ pages
     → now ≡ limit → device_by t between mid ≡ device_by s pages old
     → blocks_by t between mid ≡ blocks_by s pages old → IsEarly after u
     → IsBare after new ⊎ ((g : Begin) × RestsAs g after new)
-    → IsRunOn (disk_by s pages limit old) (disk_by u after now new)
-is_run_on s t u p q r limit now old mid new beside run set same device blocks early rests = record {
+    → IsRunOn (disk_by clock s pages limit old) (disk_by clock u after now new)
+is_run_on clock s t u p q r limit now old mid new beside run set same device blocks early rests = record {
   size = run ∙ set;
   limit = same;
+  clock = refl;
   device = device_left u r mid new early rests
       ∙ (λ i. device_of (device_by (beside i) (run i) mid) ((run ∙ set) i) new)
       ∙ ap (λ (x : DeviceState). device_of x p new) device;

@@ -9,7 +9,7 @@ use Rattle.page_steps.specs.Steps.{DiskHeld}
 use Rattle.zr_core.specs.declared.limits.TheConstants.{MOST_CHAIN}
 use Rattle.zr_core.specs.Machines.{PhaseSteps}
 use Rattle.job_text.specs.declared.job.Attr.{Attr}
-use Rattle.job_text.specs.declared.job.Attr.TheVariants.{DiskPages, LimitPages, Backing, LowerMax}
+use Rattle.job_text.specs.declared.job.Attr.TheVariants.{DiskPages, LimitPages, Backing, Clock, LowerMax}
 use Rattle.job_text.specs.declared.job.Report.{Report}
 use Rattle.job_text.specs.declared.job.Item.{Item}
 use Rattle.job_text.specs.declared.job.Item.TheVariants as items
@@ -17,7 +17,7 @@ use Rattle.job_text.specs.declared.job.PhaseText.{PhaseText}
 use Rattle.job_session.specs.Stepped.{Disk, terms_of, report_of, IsNewDisk, backed, SizeSteps, BackingSteps, AttrSteps, IsRunOn, Stepped, IsBySchedule, AreOwn}
 use Rattle.job_session.specs.declared.stop.Stop.{Stop}
 use Rattle.job_session.specs.Telling.{StopCause, OutputState, Tells, ItemsTold}
-use Rattle.job_session.proofs.Lawful.{KeepsPages}
+use Rattle.job_session.proofs.Lawful.{KeepsPages, KeepsTimeOf}
 use Rattle.job_session.proofs.Sending.{Tells-none, Tells-more, Tells-stop}
 
 -- ---- one after the other
@@ -129,6 +129,7 @@ pub attr_keeps : (d m : Disk) (attr : Attr) (lines : List OutLine) → AttrSteps
 attr_keeps d m (DiskPages n) lines s = λ some. size_some d.size d m n lines refl s some
 attr_keeps d m (LimitPages n) lines s = s.1.size
 attr_keeps d m (Backing n) lines s = backing_same d.size (nat_lt d.device.blocks n) d m n lines s
+attr_keeps d m (Clock n) lines s = ap (λ (x : Disk). x.size) s.1
 attr_keeps d m LowerMax lines s = s.1.size
 
 -- an item leaves these pages
@@ -140,7 +141,43 @@ keeps_pages d m (items.Attr attr) turns lines s =
 keeps_pages d m (items.Report report) turns lines s = ap (λ (x : Disk). x.size) s.1.2
 keeps_pages d m (items.Phase text) turns lines s = ap (λ (x : Disk). x.size) s.7.2 ∙ s.5.size
 
+-- a disk's size and a backing leave the time
+size_time : (size : ℕ) (d m : Disk) (n : ℕ) (lines : List OutLine) → SizeSteps size d n lines m
+    → m.clock ≡ d.clock
+size_time zero d m n lines s = s.1.clock
+size_time (suc size) d m n lines s = ap (λ (x : Disk). x.clock) s.same
+
+backing_time : (size : ℕ) (past : Bool) (d m : Disk) (n : ℕ) (lines : List OutLine)
+    → BackingSteps size past d n lines m → m.clock ≡ d.clock
+backing_time zero false d m n lines s = ap (λ (x : Disk). x.clock) s.1
+backing_time zero true d m n lines s = ap (λ (x : Disk). x.clock) s.same
+backing_time (suc size) past d m n lines s = ap (λ (x : Disk). x.clock) s.same
+
+-- an attribute leaves this time
+pub attr_times : (d m : Disk) (attr : Attr) (lines : List OutLine) → AttrSteps d attr lines m
+    → KeepsTimeOf (items.Attr attr) d.clock m.clock
+attr_times d m (DiskPages n) lines s = size_time d.size d m n lines s
+attr_times d m (LimitPages n) lines s = s.1.clock
+attr_times d m (Backing n) lines s = backing_time d.size (nat_lt d.device.blocks n) d m n lines s
+attr_times d m (Clock n) lines s = ap (λ (x : Disk). x.clock) s.1
+attr_times d m LowerMax lines s = s.1.clock
+
+-- an item leaves this time
+keeps_time : (d m : Disk) (item : Item) (turns : List (List ℕ)) (lines : List OutLine)
+    → Stepped d (item ∷ []) turns lines m → KeepsTimeOf item d.clock m.clock
+keeps_time d m (items.Attr attr) turns lines s =
+    subst (λ (x : Disk). KeepsTimeOf (items.Attr attr) d.clock x.clock) (sym s.4.2)
+    (attr_times d s.0 attr s.1 s.3)
+keeps_time d m (items.Report report) turns lines s = ap (λ (x : Disk). x.clock) s.1.2
+keeps_time d m (items.Phase text) turns lines s = ap (λ (x : Disk). x.clock) s.7.2 ∙ s.5.clock
+
 -- so does one that was told
+pub item_times : (d m : Disk) (item : Item) (o p : OutputState)
+    → ItemsTold d (item ∷ []) m o p (Ok tt) → KeepsTimeOf item d.clock m.clock
+item_times d m item o p t =
+    keeps_time d m item t.turns t.lines (all_stepped (item ∷ []) d m o p t)
+
+-- one that was told leaves those pages
 pub item_keeps : (d m : Disk) (item : Item) (o p : OutputState)
     → ItemsTold d (item ∷ []) m o p (Ok tt) → KeepsPages item d.size m.size
 item_keeps d m item o p t =
@@ -253,7 +290,7 @@ report_told d report o p r told = record {
 
 -- the steps of a phase on the disk, by what they go by
 pub steps_on : (d : Disk) (size clock : ℕ) (actors : List (List Op)) (turns : List ℕ)
-    (lines : List OutLine) (after : List (Option DiskHeld)) → size ≡ d.size → clock ≡ 0
+    (lines : List OutLine) (after : List (Option DiskHeld)) → size ≡ d.size → clock ≡ d.clock
     → PhaseSteps (record { size = size; chain = MOST_CHAIN; clock = clock }) actors d.row turns lines
     after
     → PhaseSteps (terms_of d) actors d.row turns lines after

@@ -11,7 +11,7 @@ use Rattle.zr_base.specs.Plain.{IsRequest}
 use Rattle.zr_base.specs.declared.limits.TheConstants.{MOST_ACTORS, MOST_OPERATIONS}
 use Rattle.actor_steps.specs.Places.{AreRequests, IsWork, operations}
 use Rattle.job_text.specs.declared.job.Attr.{Attr}
-use Rattle.job_text.specs.declared.job.Attr.TheVariants.{DiskPages, LimitPages, Backing, LowerMax}
+use Rattle.job_text.specs.declared.job.Attr.TheVariants.{DiskPages, LimitPages, Backing, Clock, LowerMax}
 use Rattle.job_text.specs.declared.job.Item.{Item}
 use Rattle.job_text.specs.declared.job.Item.TheVariants as items
 use Rattle.job_text.specs.Jobs.{Used, with_attr, with_phase, with_op, with_ops, with_actors, with_text, HasDisk, MaySet, MayOperate, MayAct, MayTurn, MayFollow}
@@ -74,6 +74,15 @@ pub disk_by : (u : Used) (actors : List (List Op)) → (with_actors u actors).di
 disk_by u [] = refl
 disk_by u (ops ∷ more) = disk_by (with_ops u ops) more ∙ disk_by_ops u ops
 
+-- operations take no time
+clock_by_ops : (u : Used) (ops : List Op) → (with_ops u ops).clock ≡ u.clock
+clock_by_ops u [] = refl
+clock_by_ops u (op ∷ ops) = clock_by_ops (with_op u op) ops
+
+pub clock_by : (u : Used) (actors : List (List Op)) → (with_actors u actors).clock ≡ u.clock
+clock_by u [] = refl
+clock_by u (ops ∷ more) = clock_by (with_ops u ops) more ∙ clock_by_ops u ops
+
 pub work_by : (u : Used) (actors : List (List Op)) → length actors ≤ MOST_ACTORS → MayAct u actors
     → IsWork actors
 work_by u actors size may = record {
@@ -118,6 +127,7 @@ abbrev pub KeepsPages : Item → ℕ → ℕ → Type 0
 KeepsPages (items.Attr (DiskPages n)) before after = 1 ≤ n → 1 ≤ after
 KeepsPages (items.Attr (LimitPages n)) before after = after ≡ before
 KeepsPages (items.Attr (Backing n)) before after = after ≡ before
+KeepsPages (items.Attr (Clock n)) before after = after ≡ before
 KeepsPages (items.Attr LowerMax) before after = after ≡ before
 KeepsPages (items.Report report) before after = after ≡ before
 KeepsPages (items.Phase text) before after = after ≡ before
@@ -129,43 +139,71 @@ sized_on u (DiskPages n) before after keeps may sized none =
     let some = keeps may.0 in absurd (omega (arith, none, some))
 sized_on u (LimitPages n) before after keeps may sized none = sized (sym keeps ∙ none)
 sized_on u (Backing n) before after keeps may sized none = sized (sym keeps ∙ none)
+sized_on u (Clock n) before after keeps may sized none = sized (sym keeps ∙ none)
 sized_on u LowerMax before after keeps may sized none = sized (sym keeps ∙ none)
 
--- the items after one that was run, which leaves so many pages
-pub stand_on : (pages after : ℕ) (item : Item) (more : List Item) → KeepsPages item pages after
-    → MayStand pages (item ∷ more) → MayStand after more
-stand_on pages after (items.Attr attr) more keeps may = record {
+-- the times before and after an item: `clock` sets it, and nothing else changes it
+abbrev pub KeepsTimeOf : Item → ℕ → ℕ → Type 0
+KeepsTimeOf (items.Attr (DiskPages n)) before after = after ≡ before
+KeepsTimeOf (items.Attr (LimitPages n)) before after = after ≡ before
+KeepsTimeOf (items.Attr (Backing n)) before after = after ≡ before
+KeepsTimeOf (items.Attr (Clock n)) before after = after ≡ n
+KeepsTimeOf (items.Attr LowerMax) before after = after ≡ before
+KeepsTimeOf (items.Report report) before after = after ≡ before
+KeepsTimeOf (items.Phase text) before after = after ≡ before
+
+-- the time that is counted with an attribute is the one that is set
+pub timed_on : (u : Used) (attr : Attr) (before after : ℕ)
+    → KeepsTimeOf (items.Attr attr) before after → u.clock ≡ before
+    → (with_attr u attr).clock ≡ after
+timed_on u (DiskPages n) before after keeps timed = timed ∙ sym keeps
+timed_on u (LimitPages n) before after keeps timed = timed ∙ sym keeps
+timed_on u (Backing n) before after keeps timed = timed ∙ sym keeps
+timed_on u (Clock n) before after keeps timed = sym keeps
+timed_on u LowerMax before after keeps timed = timed ∙ sym keeps
+
+-- the items after one that was run, which leaves so many pages, and this time
+pub stand_on : (pages after before now : ℕ) (item : Item) (more : List Item)
+    → KeepsPages item pages after → KeepsTimeOf item before now
+    → MayStand pages before (item ∷ more) → MayStand after now more
+stand_on pages after before now (items.Attr attr) more keeps times may = record {
   used = with_attr may.used attr;
   sized = sized_on may.used attr pages after keeps may.may.0 may.sized;
-  may = may.may.1;
+  timed = timed_on may.used attr before now times may.timed;
+  may = may.may.2;
 }
-stand_on pages after (items.Report report) more keeps may = record {
+stand_on pages after before now (items.Report report) more keeps times may = record {
   used = may.used;
   sized = λ none. may.sized (sym keeps ∙ none);
+  timed = may.timed ∙ sym times;
   may = may.may;
 }
-stand_on pages after (items.Phase text) more keeps may = record {
+stand_on pages after before now (items.Phase text) more keeps times may = record {
   used = with_text may.used text.actors text.schedule;
   sized = λ none. disk_by (with_phase may.used) text.actors ∙ may.sized (sym keeps ∙ none);
+  timed = clock_by (with_phase may.used) text.actors ∙ may.timed ∙ sym times;
   may = may.may.1;
 }
 
 -- the first of several items
-pub stand_first : (pages : ℕ) (item : Item) (more : List Item) → MayStand pages (item ∷ more)
-    → MayStand pages (item ∷ [])
-stand_first pages (items.Attr attr) more may = record {
+pub stand_first : (pages clock : ℕ) (item : Item) (more : List Item)
+    → MayStand pages clock (item ∷ more) → MayStand pages clock (item ∷ [])
+stand_first pages clock (items.Attr attr) more may = record {
   used = may.used;
   sized = may.sized;
-  may = (may.may.0, tt);
+  timed = may.timed;
+  may = (may.may.0, may.may.1, tt);
 }
-stand_first pages (items.Report report) more may = record {
+stand_first pages clock (items.Report report) more may = record {
   used = may.used;
   sized = may.sized;
+  timed = may.timed;
   may = tt;
 }
-stand_first pages (items.Phase text) more may = record {
+stand_first pages clock (items.Phase text) more may = record {
   used = may.used;
   sized = may.sized;
+  timed = may.timed;
   may = (may.may.0, tt);
 }
 
@@ -174,7 +212,7 @@ pub front_may : (u : Used) (front later : List Item) → MayFollow u (front ++ l
     → MayFollow u front
 front_may u [] later may = tt
 front_may u (items.Attr attr ∷ front) later may =
-    (may.0, front_may (with_attr u attr) front later may.1)
+    (may.0, may.1, front_may (with_attr u attr) front later may.2)
 front_may u (items.Report report ∷ front) later may = front_may u front later may
 front_may u (items.Phase text ∷ front) later may =
     (may.0, front_may (with_text u text.actors text.schedule) front later may.1)

@@ -4,7 +4,7 @@ use Rattle.std.specs.Prelude.{nat_lt}
 use Rattle.std.proofs.lemmas.Option.{get_or_from_slice_get}
 use Rattle.zr_base.specs.declared.limits.TheConstants.{MOST_PAGES, MOST_ACTORS}
 use Rattle.zr_base.specs.declared.op.Op.{Op}
-use Rattle.zr_base.specs.declared.op.Op.TheVariants.{Write, Read, Discard, Compact}
+use Rattle.zr_base.specs.declared.op.Op.TheVariants.{Write, Read, Discard, Idle, Compact}
 use Rattle.zr_base.specs.Plain.{IsRequest}
 use Rattle.mem_account.specs.Counters.{Counters, no_counts}
 use Rattle.mem_account.specs.Stat.{mm_stat_of, io_stat_of}
@@ -22,24 +22,24 @@ use Rattle.joint_rule.specs.Laws.{StartHasRule, ReachedHasRule}
 use Rattle.joint_rule.specs.Ends.{begin_at, device_of, rest_after, new_rest}
 use Rattle.disk_rest.specs.Resting.{StandsFor}
 use Rattle.disk_rest.specs.Printed.{row_report}
-use Rattle.disk_rest.specs.Laws.{PrintsPhase, LeavesRest, PrintsReports, PrintsNothing, AccountTells, BeginsPhase, BeginsProper, BeginsDisk, SetsLimit, LowersMax}
+use Rattle.disk_rest.specs.Laws.{PrintsPhase, LeavesRest, PrintsReports, PrintsNothing, AccountTells, BeginsPhase, BeginsProper, BeginsDisk, SetsLimit, SetsClock, LowersMax}
 use Rattle.zr_core.specs.declared.limits.TheConstants.{MOST_CHAIN}
 use Rattle.zr_core.specs.Machines.{PhaseSteps}
 use Rattle.zr_core.specs.Rests.{account_in, account_of, new_disk}
 use Rattle.zr_core.specs.Rows.{AreNew}
 use Rattle.job_text.specs.declared.job.Attr.{Attr}
-use Rattle.job_text.specs.declared.job.Attr.TheVariants.{DiskPages, LimitPages, Backing, LowerMax}
+use Rattle.job_text.specs.declared.job.Attr.TheVariants.{DiskPages, LimitPages, Backing, Clock, LowerMax}
 use Rattle.job_text.specs.declared.job.Report.{Report}
 use Rattle.job_text.specs.declared.job.Report.TheVariants as reports
 use Rattle.job_text.specs.declared.job.Item.{Item}
 use Rattle.job_text.specs.declared.job.Item.TheVariants as items
-use Rattle.job_text.specs.Jobs.{Used, with_attr, with_phase, with_op, with_ops, with_text, MaySet, MayOperate, MayAct, MayFollow}
+use Rattle.job_text.specs.Jobs.{Used, with_attr, with_phase, with_op, with_ops, with_text, MaySet, KeepsTime, MayOperate, MayAct, MayFollow}
 use Rattle.job_session.specs.Legal.{Legal, plain_report, plain_item}
 use Rattle.job_session.specs.Stands.{IsBare, HasRow, Stands}
 use Rattle.job_session.specs.Stepped.{Disk, terms_of, report_of, IsNewDisk, IsLimited, IsLowered, backed, SizeSteps, BackingSteps, AttrSteps, IsRunOn, Stepped}
 use Rattle.job_session.proofs.Bare.{phase_nowhere, phase_without}
-use Rattle.job_session.proofs.Jobs.{attr_keeps}
-use Rattle.job_session.proofs.Lawful.{no_item, sized_on, requests_each, work_by, few_operations, none_without, disk_by}
+use Rattle.job_session.proofs.Jobs.{attr_keeps, attr_times}
+use Rattle.job_session.proofs.Lawful.{no_item, sized_on, timed_on, requests_each, work_by, few_operations, none_without, disk_by, clock_by}
 use Rattle.job_session.proofs.Standing.{phase_on, disk_on}
 
 -- ---- requests
@@ -48,6 +48,7 @@ some_of : (op : Op) → IsRequest op → HasSome op
 some_of (Write start count stuff) is = λ request. is.0.1
 some_of (Read start count) is = λ request. is.1
 some_of (Discard start count) is = λ request. is.1
+some_of (Idle age) is = λ request. absurd (cc)
 some_of Compact is = λ request. absurd (cc)
 
 some_each : (u : Used) (ops : List Op) → MayOperate u ops → SomeEach ops
@@ -71,7 +72,7 @@ account_some limit (suc n) row c some is =
     ap (account_in (record no_counts { limit = limit }))
     (get_or_from_slice_get row (suc n + 255) (Some (holds.Account c)) None is)
 
--- What is known of phases, of new disks, of limits, of lowered maxima and of reports.
+-- What is known of phases, of new disks, of limits, of times, of lowered maxima and of reports.
 pub record Laws : Type 0 where
   pub starts : StartHasRule
   pub reached : ReachedHasRule
@@ -81,6 +82,7 @@ pub record Laws : Type 0 where
   pub leaves : LeavesRest
   pub new : BeginsDisk
   pub limits : SetsLimit
+  pub clocks : SetsClock
   pub max : LowersMax
   pub reports : PrintsReports
   pub account : AccountTells
@@ -102,7 +104,7 @@ module _ (laws : Laws) where
           size = sym new.size;
           most = omega (arith, most, new.size);
           limit = s.limit ∙ sym new.limit;
-          clock = s.clock;
+          clock = s.clock ∙ sym new.clock;
           chain = s.chain;
           device = s.device ∙ sym new.device;
           row = inr (record { some = omega (arith, some, new.size); stands = both.1 });
@@ -143,7 +145,7 @@ module _ (laws : Laws) where
     size = s.size ∙ sym is.size;
     most = omega (arith, s.most, is.size);
     limit = sym is.limit;
-    clock = s.clock;
+    clock = s.clock ∙ sym is.clock;
     chain = s.chain;
     device = s.device ∙ sym is.device;
     row = limited_row r d m n s is s.row;
@@ -179,10 +181,39 @@ module _ (laws : Laws) where
     size = s.size ∙ sym is.size;
     most = omega (arith, s.most, is.size);
     limit = s.limit ∙ sym is.limit;
-    clock = s.clock;
+    clock = s.clock ∙ sym is.clock;
     chain = s.chain;
     device = s.device ∙ sym is.device;
     row = lowered_row r d m s is s.row;
+  }
+
+  -- ---- the time
+
+  clocked_row : (r : Rest) (d : Disk) (n : ℕ) → r.set.clock ≤ n → IsBare r d ⊎ HasRow r d
+      → IsBare (sets r (record r.set { clock = n })) (record d { clock = n })
+      ⊎ HasRow (sets r (record r.set { clock = n })) (record d { clock = n })
+  clocked_row r d n later (inl bare) = inl (record {
+    none = bare.none;
+    empty = bare.empty;
+    unused = record {
+      used = bare.unused.used;
+      most = bare.unused.most;
+      so_far = bare.unused.so_far;
+    };
+  })
+  clocked_row r d n later (inr has) =
+      inr (record { some = has.some; stands = laws.clocks r d.row n has.stands later })
+
+  clock_stands : (r : Rest) (d : Disk) (n : ℕ) → d.clock ≤ n → Stands r d
+      → Stands (sets r (record r.set { clock = n })) (record d { clock = n })
+  clock_stands r d n later s = record {
+    size = s.size;
+    most = s.most;
+    limit = s.limit;
+    clock = refl;
+    chain = s.chain;
+    device = s.device;
+    row = clocked_row r d n (omega (arith, later, s.clock)) s.row;
   }
 
   -- ---- reports
@@ -268,7 +299,7 @@ module _ (laws : Laws) where
             size = s.size ∙ sym run.size;
             most = omega (arith, s.most, run.size);
             limit = s.limit ∙ sym run.limit;
-            clock = s.clock;
+            clock = s.clock ∙ sym run.clock;
             chain = s.chain;
             device = (λ i. device_of (s.device i) (s.size i) m.row) ∙ sym run.device;
             row = inr (record { some = omega (arith, has.some, run.size); stands = both.1 });
@@ -290,7 +321,7 @@ module _ (laws : Laws) where
             size = s.size ∙ sym run.size;
             most = omega (arith, s.most, run.size);
             limit = s.limit ∙ sym run.limit;
-            clock = s.clock;
+            clock = s.clock ∙ sym run.clock;
             chain = s.chain;
             device = s.device ∙ sym (run.device ∙ (λ i. device_of d.device (bare.none i) (over.1 i)));
             row = inl (record { none = run.size ∙ bare.none; empty = over.1; unused = bare.unused });
@@ -360,51 +391,61 @@ module _ (laws : Laws) where
   backing_stands (suc size) past r d m n lines is s steps =
       (r, record { told = steps.told; same = refl }, refused_stands r d m steps.same s)
 
-  attr_stands : (r : Rest) (d m : Disk) (attr : Attr) (lines : List OutLine) → MaySet attr
+  attr_stands : (u : Used) (r : Rest) (d m : Disk) (attr : Attr) (lines : List OutLine)
+      → u.clock ≡ d.clock → MaySet attr → KeepsTime u attr
       → Stands r d → AttrSteps d attr lines m → AfterAttr r attr lines m
-  attr_stands r d m (DiskPages n) lines may s steps =
+  attr_stands u r d m (DiskPages n) lines timed may later s steps =
       subst (λ (k : ℕ). (x : Rest) × GivesDisk k r n lines x × Stands x m) (sym s.size)
       (size_stands d.size r d m n lines may.0 may.1 s steps)
-  attr_stands r d m (LimitPages n) lines may s steps =
+  attr_stands u r d m (LimitPages n) lines timed may later s steps =
       (sets r (record r.set { limit = n }), (steps.0, refl), limit_stands r d m n s steps.1)
-  attr_stands r d m (Backing n) lines may s steps =
+  attr_stands u r d m (Backing n) lines timed may later s steps =
       let P : ℕ × ℕ → Type 0 =
       λ k. (x : Rest) × GivesBacking k.0 (nat_lt k.1 n) r n lines x × Stands x m in
       subst P (λ i. (sym s.size i, (sym s.device i).blocks))
       (backing_stands d.size (nat_lt d.device.blocks n) r d m n lines refl s steps)
-  attr_stands r d m LowerMax lines may s steps =
+  attr_stands u r d m (Clock n) lines timed may later s steps = (
+    sets r (record r.set { clock = n }),
+    (steps.0, refl),
+    subst (Stands (sets r (record r.set { clock = n }))) (sym steps.1)
+        (clock_stands r d n (omega (arith, later, timed)) s),
+  )
+  attr_stands u r d m LowerMax lines timed may later s steps =
       (lowered r, (steps.0, refl), lowered_stands r d m s steps.1)
 
   -- ---- whole jobs
 
   pub legal_by : (u : Used) (job : List Item) (r : Rest) (d : Disk) (turns : List (List ℕ))
       (lines : List OutLine) (last : Disk) → MayFollow u job → (d.size ≡ 0 → u.disk ≡ false)
-      → Stands r d → Stepped d job turns lines last → (m : Rest) × Legal r job lines m × Stands m last
-  legal_by u [] r d turns lines last may bare s steps =
+      → u.clock ≡ d.clock → Stands r d → Stepped d job turns lines last → (m : Rest) × Legal r job lines m × Stands m last
+  legal_by u [] r d turns lines last may bare timed s steps =
       (r, (steps.1, refl), subst (Stands r) (sym steps.2) s)
-  legal_by u (items.Attr attr ∷ more) r d turns lines last may bare s steps =
-      let set = attr_stands r d steps.0 attr steps.1 may.0 s steps.3 in
+  legal_by u (items.Attr attr ∷ more) r d turns lines last may bare timed s steps =
+      let set = attr_stands u r d steps.0 attr steps.1 timed may.0 may.1 s steps.3 in
       let keeps = attr_keeps d steps.0 attr steps.1 steps.3 in
-      let rest = legal_by (with_attr u attr) more set.0 steps.0 turns steps.2 last may.1
-      (sized_on u attr d.size steps.0.size keeps may.0 bare) set.2 steps.4 in (
+      let times = attr_times d steps.0 attr steps.1 steps.3 in
+      let rest = legal_by (with_attr u attr) more set.0 steps.0 turns steps.2 last may.2
+      (sized_on u attr d.size steps.0.size keeps may.0 bare)
+      (timed_on u attr d.clock steps.0.clock times timed) set.2 steps.4 in (
         rest.0,
         (set.0, steps.1, steps.2, set.1, rest.1, steps.5),
         rest.2,
       )
-  legal_by u (items.Report q ∷ more) r d turns lines last may bare s steps =
-      let rest = legal_by u more r d turns steps.0 last may bare s steps.1 in (
+  legal_by u (items.Report q ∷ more) r d turns lines last may bare timed s steps =
+      let rest = legal_by u more r d turns steps.0 last may bare timed s steps.1 in (
         rest.0,
         (r, report_of d q, steps.0, (report_is r d q s, refl), rest.1, steps.2),
         rest.2,
       )
-  legal_by u (items.Phase text ∷ more) r d turns lines last may bare s steps =
+  legal_by u (items.Phase text ∷ more) r d turns lines last may bare timed s steps =
       let run = may.0 in
       let after = phase_after (with_phase u) text.actors run.few_actors run.may_act d steps.0 steps.5
       steps.1 steps.3 steps.6 r s s.row
       (λ none. none_without u text.actors run.has_disk (bare none)) in
       let rest = legal_by (with_text u text.actors text.schedule) more after.0 steps.0 steps.2
       steps.4 last may.1
-      (λ none. disk_by (with_phase u) text.actors ∙ bare (sym steps.5.size ∙ none)) after.2 steps.7
+      (λ none. disk_by (with_phase u) text.actors ∙ bare (sym steps.5.size ∙ none))
+      (clock_by (with_phase u) text.actors ∙ timed ∙ sym steps.5.clock) after.2 steps.7
       in (
         rest.0,
         (after.0, steps.3, steps.4, after.1, rest.1, steps.9),
@@ -420,6 +461,7 @@ first_rest device = record {
   holds = λ s. [];
   blank = λ p. true;
   back = λ p. false;
+  idle = λ p. false;
   touched = λ p. 0;
   used = λ k. [];
   most = 0;

@@ -7,7 +7,7 @@ use Rattle.plain_disk.specs.Rests.{Rest}
 use Rattle.plain_disk.specs.Legal.{GivesDisk, GivesBacking, ItemIsLegal}
 use Rattle.slot_entry.specs.Forms.{page_weight}
 use Rattle.job_text.specs.declared.job.Attr.{Attr}
-use Rattle.job_text.specs.declared.job.Attr.TheVariants.{DiskPages, LimitPages, Backing, LowerMax}
+use Rattle.job_text.specs.declared.job.Attr.TheVariants.{DiskPages, LimitPages, Backing, Clock, LowerMax}
 use Rattle.job_text.specs.declared.job.Item.{Item}
 use Rattle.job_text.specs.declared.job.Item.TheVariants as items
 use Rattle.job_text.specs.Jobs.{Used, nothing_used, MayFollow}
@@ -46,6 +46,7 @@ attr_refs r (DiskPages n) lines m is = size_refs r.size r n lines m is
 attr_refs r (LimitPages n) lines m is = ap (λ (x : Rest). refs x.device) is.1
 attr_refs r (Backing n) lines m is =
     backing_refs r.size (nat_lt r.device.blocks n) r n lines m is
+attr_refs r (Clock n) lines m is = ap (λ (x : Rest). refs x.device) is.1
 attr_refs r LowerMax lines m is = ap (λ (x : Rest). refs x.device) is.1
 
 item_refs : (r : Rest) (item : Item) (lines : List OutLine) (m : Rest)
@@ -63,11 +64,12 @@ job_refs (item ∷ job) r lines last is =
 -- ---- jobs that were told
 
 -- the disk of a new world
-bare_disk : (d : Disk) → d.size ≡ 0 → d.limit ≡ 0 → d.row ≡ [] → d.blocks ≡ no_blocks
+bare_disk : (d : Disk) → d.size ≡ 0 → d.limit ≡ 0 → d.clock ≡ 0 → d.row ≡ [] → d.blocks ≡ no_blocks
     → d ≡ without_pages d.device
-bare_disk d size limit row blocks = λ i. record {
+bare_disk d size limit clock row blocks = λ i. record {
   size = size i;
   limit = limit i;
+  clock = clock i;
   row = row i;
   device = d.device;
   blocks = blocks i;
@@ -75,13 +77,15 @@ bare_disk d size limit row blocks = λ i. record {
 
 module _ (legal : (u : Used) (r : Rest) (d : Disk) (job : List Item) (turns : List (List ℕ))
     (lines : List OutLine) (last : Disk)
-    → MayFollow u job → (d.size ≡ 0 → u.disk ≡ false) → Stands r d → Stepped d job turns lines last
+    → MayFollow u job → (d.size ≡ 0 → u.disk ≡ false) → u.clock ≡ d.clock → Stands r d
+    → Stepped d job turns lines last
     → (m : Rest) × Legal r job lines m × Stands m last)
     (job : List Item) (d n : Disk) (o p : OutputState) (r : Result (Unit {0}) Stop)
-    (may : MayFollow nothing_used job) (size : d.size ≡ 0) (limit : d.limit ≡ 0) (row : d.row ≡ [])
+    (may : MayFollow nothing_used job) (size : d.size ≡ 0) (limit : d.limit ≡ 0)
+    (clock : d.clock ≡ 0) (row : d.row ≡ [])
     (blocks : d.blocks ≡ no_blocks) (told : ItemsTold d job n o p r) where
   begun : ItemsTold (without_pages d.device) job n o p r
-  begun = subst (λ (x : Disk). ItemsTold x job n o p r) (bare_disk d size limit row blocks) told
+  begun = subst (λ (x : Disk). ItemsTold x job n o p r) (bare_disk d size limit clock row blocks) told
 
   -- the device is reached as before
   reached : refs n.device ≡ refs d.device
@@ -90,7 +94,7 @@ module _ (legal : (u : Used) (r : Rest) (d : Disk) (job : List Item) (turns : Li
       begun.turns begun.lines begun.last
       (front_may nothing_used begun.front begun.later
       (subst (MayFollow nothing_used) begun.parts may))
-      (λ none. refl) (first_stands d.device) begun.stepped in
+      (λ none. refl) refl (first_stands d.device) begun.stepped in
       ap refs (sym begun.device) ∙ ap refs (sym all.2.device)
       ∙ job_refs begun.front (first_rest d.device) begun.lines all.0 all.1
 

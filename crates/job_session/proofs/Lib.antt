@@ -8,6 +8,7 @@ pub mod Orders
 pub mod Reports
 pub mod Shown
 pub mod Sending
+pub mod Times
 pub mod Written
 pub mod Devices
 pub mod Lent

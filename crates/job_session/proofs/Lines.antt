@@ -48,13 +48,13 @@ any_refusal-op tag end got = ap (λ (b : Bool). is_refusal (ended tag end) || b)
     ∙ or_false (is_refusal (ended tag end))
 
 -- a page that isn't empty has a line
-pub state_line_is : (p : ℕ) (w : Weight) (t : ℕ) → (w ≡ Empty → ⊥)
-    → state_line p w t ≡ state (record { page = p; kept = w; touched = t }) ∷ []
-state_line_is p Empty t some = absurd (some refl)
-state_line_is p Same t some = refl
-state_line_is p (Packed bytes) t some = refl
-state_line_is p Huge t some = refl
-state_line_is p Back t some = refl
+pub state_line_is : (p : ℕ) (w : Weight) (idle : Bool) (t : ℕ) → (w ≡ Empty → ⊥)
+    → state_line p w idle t ≡ state (record { page = p; kept = w; idle = idle; touched = t }) ∷ []
+state_line_is p Empty idle t some = absurd (some refl)
+state_line_is p Same idle t some = refl
+state_line_is p (Packed bytes) idle t some = refl
+state_line_is p Huge idle t some = refl
+state_line_is p Back idle t some = refl
 
 -- ---- lines from a place on
 

@@ -1,17 +1,20 @@
 -- The lines of reports: a page's by its entry, a class's by its pool.
-use Rattle.std.proofs.Common.{◌≡◌, ◌⊎◌, ℕ, zero, suc, ◌+◌, ◌<◌, ◌≤◌, Bool, true, cond, List, [], ◌∷◌, length, get_or, Option, Some, None, slice_get, refl, sym, ap, ◌∙◌, subst, inl, inr, arith}
+use Rattle.std.proofs.Common.{◌≡◌, ◌⊎◌, ℕ, zero, suc, ◌+◌, ◌<◌, ◌≤◌, Bool, true, false, cond, List, [], ◌∷◌, length, get_or, Option, Some, None, slice_get, codes, refl, sym, ap, ◌∙◌, subst, inl, inr, arith}
 use Rattle.std.specs.Prelude.{nat_lt, sum}
 use Rattle.std.specs.Option.{option_map}
 use Rattle.std.proofs.lemmas.Bool.Decides.{nat_tests}
 use Rattle.std.proofs.lemmas.Option.{get_or_from_slice_get, slice_get-map}
-use Rattle.mem_account.specs.declared.weight.Weight.{Weight}
+use Rattle.mem_account.specs.declared.weight.Weight.TheVariants as weights
 use Rattle.size_class.specs.declared.stat.ClassStat.{ClassStat}
 use Rattle.size_class.specs.Classes.{class_size, chain_of, per_of}
 use Rattle.class_pool.specs.Pool.{PoolState}
-use Rattle.plain_disk.specs.Output.{OutLine, class_of}
+use Rattle.plain_disk.specs.Output.{OutLine, StateLine, state, class_of}
 use Rattle.plain_disk.specs.Rests.{state_line, class_line}
 use Rattle.lock_row.specs.declared.names.Held.TheVariants as holds
+use Rattle.slot_entry.specs.declared.kept.Kept.{Kept}
+use Rattle.slot_entry.specs.declared.kept.Kept.TheVariants as kept
 use Rattle.slot_entry.specs.Entries.{EntryState, weight_of}
+use Rattle.slot_entry.specs.Entries.{letters_of as entry_letters}
 use Rattle.page_steps.specs.Steps.{DiskHeld}
 use Rattle.joint_rule.specs.Begins.{Begin}
 use Rattle.joint_rule.specs.Joint.{PoolFits}
@@ -24,8 +27,9 @@ use Rattle.zr_core.specs.declared.limits.TheConstants.{MOST_CHAIN}
 use Rattle.zr_core.specs.Machines.{cell_without_calls}
 use Rattle.zr_core.specs.Rests.{pool_in, pool_of, IsBare, RestsAs}
 use Rattle.zr_core.specs.Stats.{zspages_of, HasStat}
-use Rattle.job_print.specs.Texts.{in_group, IsSummary}
+use Rattle.job_print.specs.Texts.{letters_of, in_group, IsStateOf, IsSummary}
 use Rattle.job_session.proofs.Bare.{nothing_in}
+use Rattle.job_session.proofs.Lines.{state_line_is}
 
 -- ---- pages
 
@@ -33,12 +37,54 @@ use Rattle.job_session.proofs.Bare.{nothing_in}
 abbrev pub state_lines : List (Option DiskHeld) → ℕ → List OutLine
 state_lines row page = state_in page (value_at row page)
 
-pub state_by : (row : List (Option DiskHeld)) (page : ℕ) (e : EntryState) (w : Weight) (t : ℕ)
-    → slice_get row page ≡ Some (Some (holds.Slot e)) → w ≡ weight_of e.kept → t ≡ e.touched
-    → state_line page w t ≡ state_in page (value_at row page)
-state_by row page e w t there weighs touched =
-    (λ i. state_line page (weighs i) (touched i))
+-- a page whose entry is empty has no line
+pub state_none : (row : List (Option DiskHeld)) (page : ℕ) (e : EntryState)
+    → slice_get row page ≡ Some (Some (holds.Slot e)) → e.kept ≡ kept.Empty
+    → state_in page (value_at row page) ≡ []
+state_none row page e there none =
+    ap (state_in page) (get_or_from_slice_get row page (Some (holds.Slot e)) None there)
+    ∙ ap (λ (k : Kept). state_line page (weight_of k) e.idle e.touched) none
+
+-- a page that is kept has a weight
+weighs : (k : Kept) → (k ≡ kept.Empty → ⊥) → weight_of k ≡ weights.Empty → ⊥
+weighs kept.Empty some none = some refl
+weighs (kept.Same w) some none = cc
+weighs (kept.Obj o) some none = by o.huge none
+  where
+    by : (huge : Bool) → cond huge weights.Huge (weights.Packed o.len) ≡ weights.Empty → ⊥
+    by true none = cc
+    by false none = cc
+weighs (kept.Wb b) some none = cc
+
+-- the letters of an entry are those of its page's line
+letters_are : (k : Kept) (idle : Bool) → letters_of (weight_of k) idle ≡ entry_letters k idle
+letters_are kept.Empty idle = refl
+letters_are (kept.Same w) idle = refl
+letters_are (kept.Obj o) idle = by o.huge
+  where
+    by : (huge : Bool) → letters_of (cond huge weights.Huge (weights.Packed o.len)) idle
+        ≡ cond huge (cond idle (codes "..hi") (codes "..h.")) (cond idle (codes "...i") (codes "...."))
+    by true = refl
+    by false = refl
+letters_are (kept.Wb b) idle = refl
+
+-- the line of a page by its entry
+abbrev pub line_of_entry : ℕ → EntryState → StateLine
+line_of_entry page e =
+    record { page = page; kept = weight_of e.kept; idle = e.idle; touched = e.touched }
+
+pub state_some : (row : List (Option DiskHeld)) (page : ℕ) (e : EntryState)
+    → slice_get row page ≡ Some (Some (holds.Slot e)) → (e.kept ≡ kept.Empty → ⊥)
+    → state (line_of_entry page e) ∷ [] ≡ state_in page (value_at row page)
+state_some row page e there some =
+    sym (state_line_is page (weight_of e.kept) e.idle e.touched (weighs e.kept some))
     ∙ ap (state_in page) (sym (get_or_from_slice_get row page (Some (holds.Slot e)) None there))
+
+pub state_of_entry : (page : ℕ) (e : EntryState) (letters : List ℕ) (touched : ℕ)
+    → letters ≡ entry_letters e.kept e.idle → touched ≡ e.touched
+    → IsStateOf (line_of_entry page e) page letters touched
+state_of_entry page e letters touched told at =
+    record { page = refl; letters = letters_are e.kept e.idle ∙ sym told; touched = sym at }
 
 -- ---- classes
 

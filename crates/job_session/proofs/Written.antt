@@ -43,7 +43,8 @@ first_stands device = record {
 
 module _ (legal : (u : Used) (r : Rest) (d : Disk) (job : List Item) (turns : List (List ℕ))
     (lines : List OutLine) (last : Disk)
-    → MayFollow u job → (d.size ≡ 0 → u.disk ≡ false) → Stands r d → Stepped d job turns lines last
+    → MayFollow u job → (d.size ≡ 0 → u.disk ≡ false) → u.clock ≡ d.clock → Stands r d
+    → Stepped d job turns lines last
     → (m : Rest) × Legal r job lines m × Stands m last) (entry exit : Seen) where
   written_by : (device : DeviceState) (job : List Item) (Writes : List ℕ → Type 0)
       (turns : List (List ℕ)) (lines : List OutLine) (last : Disk)
@@ -53,7 +54,7 @@ module _ (legal : (u : Used) (r : Rest) (d : Disk) (job : List Item) (turns : Li
       → IsWritten job entry exit Writes (any_refusal lines)
   written_by device job Writes turns lines last may stepped own output before after =
       let all = legal nothing_used (first_rest device) (without_pages device) job turns lines last may
-      (λ none. refl) (first_stands device) stepped in
+      (λ none. refl) refl (first_stands device) stepped in
       record {
         lines = lines;
         first = first_rest device;

@@ -18,13 +18,13 @@ pub record HasRow (r : Rest) (d : Disk) : Type 0 where
   pub some : 1 ≤ d.size
   pub stands : StandsFor r d.row
 
--- The disk has the pages, the settings and the device of the rest, and its row stands for it, if there
--- is one.
+-- The disk has the pages, the settings, the time and the device of the rest, and its row stands for it,
+-- if there is one.
 pub record Stands (r : Rest) (d : Disk) : Type 0 where
   pub size : r.size ≡ d.size
   pub most : d.size ≤ MOST_PAGES
   pub limit : r.set.limit ≡ d.limit
-  pub clock : r.set.clock ≡ 0
+  pub clock : r.set.clock ≡ d.clock
   pub chain : r.set.chain ≡ MOST_CHAIN
   pub device : r.device ≡ d.device
   pub row : IsBare r d ⊎ HasRow r d

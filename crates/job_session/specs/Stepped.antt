@@ -21,31 +21,39 @@ use Rattle.zr_core.specs.Rests.{account_of, no_blocks, blocks_in, device_by, blo
 use Rattle.zr_core.specs.Rows.{AreNew}
 use Rattle.zr_core.specs.Runs.{turns_of}
 use Rattle.job_text.specs.declared.job.Attr.{Attr}
-use Rattle.job_text.specs.declared.job.Attr.TheVariants.{DiskPages, LimitPages, Backing, LowerMax}
+use Rattle.job_text.specs.declared.job.Attr.TheVariants.{DiskPages, LimitPages, Backing, Clock, LowerMax}
 use Rattle.job_text.specs.declared.job.Report.{Report}
 use Rattle.job_text.specs.declared.job.Report.TheVariants as reports
 use Rattle.job_text.specs.declared.job.Item.{Item}
 use Rattle.job_text.specs.declared.job.Item.TheVariants as items
 
--- the disk between two items: its pages, none before its size is given, the limit in frames, the row
--- of its locks, the device, and the map of its blocks
+-- the disk between two items: its pages, none before its size is given, the limit in frames, the time
+-- that is set, the row of its locks, the device, and the map of its blocks
 pub record Disk : Type 0 where
   pub size : ℕ
   pub limit : ℕ
+  pub clock : ℕ
   pub row : List (Option DiskHeld)
   pub device : DeviceState
   pub blocks : BlockMap
 
 -- the disk before its size is given, over this device
 abbrev pub without_pages : DeviceState → Disk
-without_pages device =
-    record { size = 0; limit = 0; row = []; device = device; blocks = no_blocks }
+without_pages device = record {
+  size = 0;
+  limit = 0;
+  clock = 0;
+  row = [];
+  device = device;
+  blocks = no_blocks;
+}
 
--- the disk of a world
-abbrev pub disk_of : {D : Type 0} {b : Ghosts D} → World D b → Disk
-disk_of world = record {
+-- the disk of a world, at this time
+abbrev pub disk_of : {D : Type 0} {b : Ghosts D} → ℕ → World D b → Disk
+disk_of clock world = record {
   size = world.pages;
   limit = world.limit;
+  clock = clock;
   row = world.row.cells;
   device = device_by world.spare world.pages world.row.cells;
   blocks = blocks_by world.spare world.pages world.row.cells;
@@ -53,7 +61,7 @@ disk_of world = record {
 
 -- what the steps of its phases go by
 abbrev pub terms_of : Disk → Terms
-terms_of d = record { size = d.size; chain = MOST_CHAIN; clock = 0 }
+terms_of d = record { size = d.size; chain = MOST_CHAIN; clock = d.clock }
 
 -- the lines of a report: by the account, by the device, by the pages' entries, or by the classes'
 -- pools
@@ -70,11 +78,12 @@ report_of d reports.Classes = row_report d.size MOST_CHAIN d.row classes
 
 -- ---- attributes
 
--- A new disk of so many pages, with the limit of the disk before. Its row has the device and the map
--- of the blocks.
+-- A new disk of so many pages, with the limit and the time of the disk before. Its row has the device
+-- and the map of the blocks.
 pub record IsNewDisk (d : Disk) (pages : ℕ) (m : Disk) : Type 0 where
   pub size : m.size ≡ pages
   pub limit : m.limit ≡ d.limit
+  pub clock : m.clock ≡ d.clock
   pub device : m.device ≡ d.device
   pub blocks : m.blocks ≡ d.blocks
   pub row : AreNew (new_disk pages d.limit d.device) (pages + 258) m.row
@@ -86,6 +95,7 @@ pub record IsNewDisk (d : Disk) (pages : ℕ) (m : Disk) : Type 0 where
 pub record IsLimited (d : Disk) (n : ℕ) (m : Disk) : Type 0 where
   pub size : m.size ≡ d.size
   pub limit : m.limit ≡ n
+  pub clock : m.clock ≡ d.clock
   pub device : m.device ≡ d.device
   pub blocks : m.blocks ≡ d.blocks
   pub none : d.size ≡ 0 → m.row ≡ d.row
@@ -96,6 +106,7 @@ pub record IsLimited (d : Disk) (n : ℕ) (m : Disk) : Type 0 where
 pub record IsLowered (d m : Disk) : Type 0 where
   pub size : m.size ≡ d.size
   pub limit : m.limit ≡ d.limit
+  pub clock : m.clock ≡ d.clock
   pub device : m.device ≡ d.device
   pub blocks : m.blocks ≡ d.blocks
   pub none : d.size ≡ 0 → m.row ≡ d.row
@@ -130,6 +141,7 @@ AttrSteps d (DiskPages n) lines m = SizeSteps d.size d n lines m
 AttrSteps d (LimitPages n) lines m = (lines ≡ []) × IsLimited d n m
 AttrSteps d (Backing n) lines m =
     BackingSteps d.size (nat_lt d.device.blocks n) d n lines m
+AttrSteps d (Clock n) lines m = (lines ≡ []) × (m ≡ record d { clock = n })
 AttrSteps d LowerMax lines m = (lines ≡ []) × IsLowered d m
 
 -- ---- phases
@@ -139,11 +151,12 @@ abbrev pub map_of : BlockMap → ℕ → List (Option DiskHeld) → BlockMap
 map_of x zero row = x
 map_of x (suc n) row = blocks_in (value_at row (suc n + 256))
 
--- What a run of a phase leaves beside its row: the pages, the limit, and the device and the map of
--- the row, if there is one.
+-- What a run of a phase leaves beside its row: the pages, the limit, the time, and the device and the
+-- map of the row, if there is one.
 pub record IsRunOn (d m : Disk) : Type 0 where
   pub size : m.size ≡ d.size
   pub limit : m.limit ≡ d.limit
+  pub clock : m.clock ≡ d.clock
   pub device : m.device ≡ device_of d.device d.size m.row
   pub blocks : m.blocks ≡ map_of d.blocks d.size m.row
 

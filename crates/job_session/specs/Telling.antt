@@ -13,6 +13,8 @@ use Rattle.job_session.specs.declared.stop.Stop.TheVariants as stops
 use Rattle.job_session.specs.declared.stop.NoText.{NoText}
 use Rattle.job_session.specs.declared.stop.NoText.TheVariants as no
 use Rattle.job_session.specs.Runs.{Seen, Shows, IsUncounted, BeginsWith, WriteCause, IsTextRun, IsNoJob, IsTextCut}
+use Rattle.plain_disk.specs.Rests.{Rest}
+use Rattle.job_session.specs.Stands.{Stands}
 use Rattle.job_session.specs.Stepped.{Disk, without_pages, Stepped, AreOwn}
 use Rattle.job_print.specs.Texts.{text}
 
@@ -58,11 +60,16 @@ pub record Tells (o m : OutputState) (r : Result (Unit {0}) Stop)
 
 -- ---- items
 
--- items that may stand where the disk has so many pages
-pub record MayStand (pages : ℕ) (items : List Item) : Type 0 where
+-- items that may stand where the disk has so many pages, and the time is this
+pub record MayStand (pages clock : ℕ) (items : List Item) : Type 0 where
   pub used : Used
   pub sized : pages ≡ 0 → used.disk ≡ false
+  pub timed : used.clock ≡ clock
   pub may : MayFollow used items
+
+-- the row of the disk stands for some rest of the plain disk
+abbrev pub StandsForSome : Disk → Type 0
+StandsForSome d = (r : Rest) × Stands r d
 
 -- Items were run one after the other by their own turns, on the disk d, and their lines were told.
 -- Where nothing went wrong these are all items of the job, and the disk m is the one after them; else

@@ -14,7 +14,7 @@ use joint_rule::rule_keeps;
 /// for, it leads to one that the last disk stands for.
 pub fn jobs_are_legal()
     ensures legal { (u : _) (r : Rest) (d : _) (job : _) (turns : _) (lines : _) (last : _)
-        → MayFollow u job → (d.size ≡ 0 → u.disk ≡ false) → Stands r d
+        → MayFollow u job → (d.size ≡ 0 → u.disk ≡ false) → u.clock ≡ d.clock → Stands r d
         → Stepped d job turns lines last
         → (m : Rest) × Legal r job lines m × Stands m last }
 {

@@ -4,9 +4,8 @@
 //! sink whenever it has 64 KiB or more. What is left at the end is sent by whoever made the output.
 
 ghost use Rattle.std.specs.Prelude.{◌≡◌, false, [], ◌∷◌};
-ghost use Rattle.plain_disk.specs.Output.{ClassLine, ended, is_refusal, op_lines, order_line, memory, calls, device_calls, refused, class_of};
-ghost use Rattle.plain_disk.specs.Rests.{state_line};
-ghost use Rattle.job_print.specs.Texts.{why_of, IsSummary};
+ghost use Rattle.plain_disk.specs.Output.{StateLine, ClassLine, ended, is_refusal, op_lines, order_line, memory, calls, device_calls, refused, state, class_of};
+ghost use Rattle.job_print.specs.Texts.{why_of, IsStateOf, IsSummary};
 ghost use Rattle.job_session.specs.Telling.{OutputState, Tells};
 
 use crate::io::{PIECE, send};
@@ -16,7 +15,7 @@ use job_print::{
     Refusal, put_calls, put_class, put_device, put_memory, put_op, put_order, put_refused,
     put_state,
 };
-use mem_account::{IoStat, MmStat, Weight};
+use mem_account::{IoStat, MmStat};
 use size_class::ClassStat;
 use std::alloc::Global;
 use std::marker::Model;
@@ -50,7 +49,7 @@ fn is_refused(end: OpEnd) -> bool
     ensures { (tag : Tag) → result ≡ is_refusal (ended tag end) }
 {
     match end {
-        OpEnd::Ok | OpEnd::Compacted { .. } => false,
+        OpEnd::Ok | OpEnd::Marked(_) | OpEnd::Compacted { .. } => false,
         OpEnd::Range | OpEnd::AtLimit { .. } | OpEnd::NoMemory { .. } | OpEnd::Eio { .. } => true,
     }
 }
@@ -142,17 +141,18 @@ impl<'a, K: Sink> Output<'a, K> {
         self.spill()
     }
 
-    /// Tells of a page how it is kept and when it was touched, where it isn't empty.
-    pub(crate) fn tell_state(&mut self, page: u32, kept: Weight, touched: u64) -> Result<(), Stop>
-        ensures { Tells self.old self.new result (state_line page kept touched) }
+    /// Tells the letters of a page that isn't empty, and when it was touched.
+    pub(crate) fn tell_state(
+        &mut self,
+        page: u32,
+        letters: &[u8; 4],
+        touched: u64,
+    ) -> Result<(), Stop>
+        ensures { (s : StateLine) → IsStateOf s page letters.now touched
+            → Tells self.old self.new result (state s ∷ []) }
     {
-        match kept {
-            Weight::Empty => Ok(()),
-            _ => {
-                put_state(&mut self.buffer, page, kept, touched)?;
-                self.spill()
-            }
-        }
+        put_state(&mut self.buffer, page, letters, touched)?;
+        self.spill()
     }
 
     /// Tells the statistics of a class that has zspages.

@@ -1,13 +1,14 @@
-//! The items of a job, one after the other, on one world.
+//! The items of a job, one after the other, on one world. The time that `clock` sets is no part of the
+//! world: each phase is set up at the time that is set before it.
 
-ghost use Rattle.std.specs.Prelude.{◌≡◌, ◌∷◌, []};
+ghost use Rattle.std.specs.Prelude.{◌≡◌, ℕ, ◌∷◌, []};
 ghost use Rattle.zr_core.specs.Rests.{IsAtRest};
 ghost use Rattle.job_text.specs.declared.job.Attr.TheVariants as attrs;
 ghost use Rattle.job_text.specs.declared.job.Item.TheVariants as items;
-ghost use Rattle.job_text.specs.Jobs.{MayFollow, nothing_used};
+ghost use Rattle.job_text.specs.Jobs.{MaySet, MayFollow, nothing_used};
 ghost use Rattle.job_session.specs.Runs.{seen};
 ghost use Rattle.job_session.specs.Stepped.{disk_of};
-ghost use Rattle.job_session.specs.Telling.{MayStand, ItemsTold, JobTold};
+ghost use Rattle.job_session.specs.Telling.{MayStand, StandsForSome, ItemsTold, JobTold};
 
 use crate::laws::jobs_are_legal;
 use crate::output::Output;
@@ -26,10 +27,10 @@ fn set_size<K: Sink, D: Backing>(
     world: &mut World<D>,
     pages: u32,
 ) -> Result<(), Stop>
-    requires may { MayStand world.old.pages (items.Attr (attrs.DiskPages pages) ∷ []) }
+    requires may { MaySet (attrs.DiskPages pages) }
     requires rest { IsAtRest world.old.pages world.old.noted.items world.old.row.cells }
-    ensures item { ItemsTold (disk_of world.old) (items.Attr (attrs.DiskPages pages) ∷ [])
-        (disk_of world.new) out.old out.new result }
+    ensures item { (clock : ℕ) → ItemsTold (disk_of clock world.old)
+        (items.Attr (attrs.DiskPages pages) ∷ []) (disk_of clock world.new) out.old out.new result }
     ensures rest { IsAtRest world.new.pages world.new.noted.items world.new.row.cells }
 {
     if world.pages() > 0 {
@@ -46,10 +47,10 @@ fn set_backing<K: Sink, D: Backing>(
     world: &mut World<D>,
     blocks: u32,
 ) -> Result<(), Stop>
-    requires may { MayStand world.old.pages (items.Attr (attrs.Backing blocks) ∷ []) }
+    requires may { MaySet (attrs.Backing blocks) }
     requires rest { IsAtRest world.old.pages world.old.noted.items world.old.row.cells }
-    ensures item { ItemsTold (disk_of world.old) (items.Attr (attrs.Backing blocks) ∷ [])
-        (disk_of world.new) out.old out.new result }
+    ensures item { (clock : ℕ) → ItemsTold (disk_of clock world.old)
+        (items.Attr (attrs.Backing blocks) ∷ []) (disk_of clock world.new) out.old out.new result }
     ensures rest { IsAtRest world.new.pages world.new.noted.items world.new.row.cells }
 {
     if world.pages() > 0 {
@@ -66,12 +67,13 @@ fn set_backing<K: Sink, D: Backing>(
 fn set_attr<K: Sink, D: Backing>(
     out: &mut Output<'_, K>,
     world: &mut World<D>,
+    clock: &mut u64,
     attr: Attr,
 ) -> Result<(), Stop>
-    requires may { MayStand world.old.pages (items.Attr attr ∷ []) }
+    requires may { MaySet attr }
     requires rest { IsAtRest world.old.pages world.old.noted.items world.old.row.cells }
-    ensures item { ItemsTold (disk_of world.old) (items.Attr attr ∷ []) (disk_of world.new)
-        out.old out.new result }
+    ensures item { ItemsTold (disk_of clock.old world.old) (items.Attr attr ∷ [])
+        (disk_of clock.new world.new) out.old out.new result }
     ensures rest { IsAtRest world.new.pages world.new.noted.items world.new.row.cells }
 {
     match attr {
@@ -81,6 +83,10 @@ fn set_attr<K: Sink, D: Backing>(
             Ok(())
         }
         Attr::Backing(blocks) => set_backing(out, world, blocks),
+        Attr::Clock(seconds) => {
+            *clock = seconds;
+            Ok(())
+        }
         Attr::LowerMax => {
             world.lower_max();
             Ok(())
@@ -88,21 +94,23 @@ fn set_attr<K: Sink, D: Backing>(
     }
 }
 
-// A phase: it is set up, run by its schedule, and told.
+// A phase: it is set up at the time that is set, run by its schedule, and told.
 fn run_phase<K: Sink, D: Backing>(
     out: &mut Output<'_, K>,
     world: &mut World<D>,
+    clock: u64,
     text: &PhaseText,
 ) -> Result<(), Stop>
-    requires may { MayStand world.old.pages (items.Phase text.now ∷ []) }
+    requires may { MayStand world.old.pages clock (items.Phase text.now ∷ []) }
     requires rest { IsAtRest world.old.pages world.old.noted.items world.old.row.cells }
-    ensures item { ItemsTold (disk_of world.old) (items.Phase text.now ∷ []) (disk_of world.new)
-        out.old out.new result }
+    requires stands { StandsForSome (disk_of clock world.old) }
+    ensures item { ItemsTold (disk_of clock world.old) (items.Phase text.now ∷ [])
+        (disk_of clock world.new) out.old out.new result }
     ensures rest { IsAtRest world.new.pages world.new.noted.items world.new.row.cells }
 {
     let actors = text.actors.as_slice();
     let schedule = text.schedule.as_slice();
-    let mut phase = world.prepare(actors, 0)?;
+    let mut phase = world.prepare(actors, clock)?;
     world.run(&mut phase, actors, schedule);
     tell_phase(out, world, &phase, actors)
 }
@@ -111,35 +119,40 @@ fn run_phase<K: Sink, D: Backing>(
 fn run_item<K: Sink, D: Backing>(
     out: &mut Output<'_, K>,
     world: &mut World<D>,
+    clock: &mut u64,
     item: &Item,
 ) -> Result<(), Stop>
-    requires may { MayStand world.old.pages (item.now ∷ []) }
+    requires may { MayStand world.old.pages clock.old (item.now ∷ []) }
     requires rest { IsAtRest world.old.pages world.old.noted.items world.old.row.cells }
-    ensures item { ItemsTold (disk_of world.old) (item.now ∷ []) (disk_of world.new)
-        out.old out.new result }
+    requires stands { StandsForSome (disk_of clock.old world.old) }
+    ensures item { ItemsTold (disk_of clock.old world.old) (item.now ∷ [])
+        (disk_of clock.new world.new) out.old out.new result }
     ensures rest { IsAtRest world.new.pages world.new.noted.items world.new.row.cells }
 {
     match item {
-        Item::Attr(attr) => set_attr(out, world, *attr),
+        Item::Attr(attr) => set_attr(out, world, clock, *attr),
         Item::Report(report) => tell_report(out, world, *report),
-        Item::Phase(text) => run_phase(out, world, text),
+        Item::Phase(text) => run_phase(out, world, *clock, text),
     }
 }
 
-// Items, with their lines.
+// Items, with their lines, from this time on.
 fn run_items<K: Sink, D: Backing>(
     out: &mut Output<'_, K>,
     world: &mut World<D>,
+    clock: &mut u64,
     job: &[Item],
 ) -> Result<(), Stop>
-    requires may { MayStand world.old.pages job.now }
+    requires may { MayStand world.old.pages clock.old job.now }
     requires rest { IsAtRest world.old.pages world.old.noted.items world.old.row.cells }
-    ensures items { ItemsTold (disk_of world.old) job.now (disk_of world.new)
+    requires stands { StandsForSome (disk_of clock.old world.old) }
+    ensures items { ItemsTold (disk_of clock.old world.old) job.now (disk_of clock.new world.new)
         out.old out.new result }
     ensures rest { IsAtRest world.new.pages world.new.noted.items world.new.row.cells }
 {
+    jobs_are_legal();
     for item in job {
-        run_item(out, world, item)?;
+        run_item(out, world, clock, item)?;
     }
     Ok(())
 }
@@ -160,7 +173,8 @@ pub(crate) fn run_job<K: Sink, D: Backing>(
 {
     jobs_are_legal();
     let mut world = World::new(alloc, dev);
-    let run = run_items(out, &mut world, job);
+    let mut clock = 0;
+    let run = run_items(out, &mut world, &mut clock, job);
     let _dev = world.close();
     run
 }

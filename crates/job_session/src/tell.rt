@@ -10,7 +10,6 @@ ghost use Rattle.zr_core.specs.Playing.{playing, lines_shown};
 ghost use Rattle.zr_core.specs.Runs.{AllOver};
 ghost use Rattle.zr_core.specs.Rests.{IsAtRest};
 ghost use Rattle.zr_core.specs.States.{ends_shown, sectors_shown, AreFit, CanGoOn, HasEnded};
-ghost use Rattle.slot_entry.specs.Entries.{weight_of};
 ghost use Rattle.joint_rule.specs.Ends.{value_at};
 ghost use Rattle.disk_rest.specs.Rows.{used_at};
 ghost use Rattle.disk_rest.specs.Printed.{state_in, row_report};
@@ -24,7 +23,6 @@ use crate::stop::Stop;
 use backing_dev::Backing;
 use disk_rest::pools_count;
 use job_text::Report;
-use mem_account::Weight;
 use size_class::CLASSES;
 use slot_entry::Kept;
 use zr_base::{ActorOps, PageIx, Sink, Tag};
@@ -100,19 +98,6 @@ pub(crate) fn tell_phase<K: Sink, D: Backing>(
     tell_orders(out, world)
 }
 
-// What the account counts of a kept form.
-fn weight(kept: Kept) -> Weight
-    ensures { result ≡ weight_of kept }
-{
-    match kept {
-        Kept::Empty => Weight::Empty,
-        Kept::Same(_) => Weight::Same,
-        Kept::Obj(object) if object.huge => Weight::Huge,
-        Kept::Obj(object) => Weight::Packed(object.len),
-        Kept::Wb(_) => Weight::Back,
-    }
-}
-
 // A page, where it isn't empty.
 fn tell_state<K: Sink, D: Backing>(
     out: &mut Output<'_, K>,
@@ -124,7 +109,10 @@ fn tell_state<K: Sink, D: Backing>(
     ensures { Tells out.old out.new result (state_in page (value_at world.now.row.cells page)) }
 {
     let entry = world.entry(PageIx(page));
-    out.tell_state(page, weight(entry.kept()), entry.touched())
+    match entry.kept() {
+        Kept::Empty => Ok(()),
+        _ => out.tell_state(page, &entry.letters(), entry.touched()),
+    }
 }
 
 // The pages that aren't empty.
@@ -176,7 +164,7 @@ pub(crate) fn tell_report<K: Sink, D: Backing>(
     report: Report,
 ) -> Result<(), Stop>
     requires { IsAtRest world.now.pages world.now.noted.items world.now.row.cells }
-    ensures { Tells out.old out.new result (report_of (disk_of world.now) report) }
+    ensures { (clock : ℕ) → Tells out.old out.new result (report_of (disk_of clock world.now) report) }
 {
     match report {
         Report::MmStat => out.tell_memory(&world.mm_stat()),

@@ -6,7 +6,7 @@ use Rattle.std.proofs.lemmas.List.{drop_more, drop_all, take-append-drop, length
 use Rattle.std.proofs.lemmas.List.Folds.{list_all-append}
 use Rattle.job_text.specs.declared.fault.Cause.{Cause}
 use Rattle.job_text.specs.declared.fault.Cause.TheVariants as causes
-use Rattle.job_text.specs.Numbers.{digit_value, are_digits, value_from, is_number, number_of, is_word, word_of}
+use Rattle.job_text.specs.Numbers.{digit_value, are_digits, value_from, is_number, is_word, word_of}
 use Rattle.job_text.specs.Answers.{saturated, with_last, exact_of}
 
 -- a number that is too great stays so

@@ -32,6 +32,8 @@ fn tells_jobs(rt: HostRuntime) -> Result<(), Fail> {
         "mem_limit 1099511627776\nmem_limit 00\nio_stat\nio_stat\nclasses\nrun\nclasses",
         "backing 1\nbacking 65536\ndisksize 4K\nbacking 0001\nactor\nrun\nbacking 65536 # late",
         "bd_stat\ndisksize 4K\nbd_stat # none\nactor\nread 0 1\nrun\n\tbd_stat\nbd_stat",
+        "clock 0\nclock 00\nclock 18446744073709551615\nclock 18446744073709551615\nmm_stat",
+        "disksize 4K\nactor\nidle all\nidle 0\nidle 18446744073709551615\nrun\nclock 5 # later",
         "disksize 4K\ndisksize 4K\nrun\n\ndisksize 1G\nactor\nrun\ndisksize 4K",
     ];
     for text in table {
@@ -41,7 +43,7 @@ fn tells_jobs(rt: HostRuntime) -> Result<(), Fail> {
 }
 
 // Texts with their first faulty line and its cause: by their words alone, then by their places.
-const FAULTY: [(&str, u32, Cause); 97] = [
+const FAULTY: [(&str, u32, Cause); 120] = [
     ("stop", 1, Cause::Word),
     ("RUN", 1, Cause::Word),
     ("run now", 1, Cause::Word),
@@ -64,6 +66,12 @@ const FAULTY: [(&str, u32, Cause); 97] = [
     ("disksize 4K\nactor\nclasses 71", 3, Cause::Word),
     ("write x 1 fil 0", 1, Cause::Word),
     ("write 0 1 hex", 1, Cause::Word),
+    ("clock", 1, Cause::Word),
+    ("clock 1 1", 1, Cause::Word),
+    ("clock 5\nCLOCK 6", 2, Cause::Word),
+    ("idle", 1, Cause::Word),
+    ("idle all 1", 1, Cause::Word),
+    ("disksize 4K\nactor\nidle 5 6", 3, Cause::Word),
     ("compact 1", 1, Cause::Word),
     ("disksize 4K\nactor\ncompact all", 3, Cause::Word),
     ("schedule", 1, Cause::Word),
@@ -80,6 +88,11 @@ const FAULTY: [(&str, u32, Cause); 97] = [
     ("disksize 4K\nactor\nbacking +1", 3, Cause::Number),
     ("mem_used_max 0K", 1, Cause::Number),
     ("mem_used_max -0", 1, Cause::Number),
+    ("clock 1s", 1, Cause::Number),
+    ("clock 5\nclock -1", 2, Cause::Number),
+    ("idle ALL", 1, Cause::Number),
+    ("idle 1K", 1, Cause::Number),
+    ("disksize 4K\nactor\nidle every", 3, Cause::Number),
     ("write 99999999999999999999 1 fill g", 1, Cause::Number),
     ("write 0 0 fill 00000000000000001", 1, Cause::Number),
     ("write 0 1 hex 0g", 1, Cause::Number),
@@ -104,6 +117,16 @@ const FAULTY: [(&str, u32, Cause); 97] = [
     ("mem_used_max 1", 1, Cause::Range),
     ("mem_used_max 18446744073709551616", 1, Cause::Range),
     ("disksize 4K\nactor\nmem_used_max 1", 3, Cause::Range),
+    ("clock 18446744073709551616", 1, Cause::Range),
+    ("clock 5\nclock 4", 2, Cause::Range),
+    ("clock 5\nclock 6\nrun\nclock 5", 4, Cause::Range),
+    ("clock 1\ndisksize 4K\nactor\nclock 0", 4, Cause::Range),
+    ("idle 18446744073709551616", 1, Cause::Range),
+    (
+        "disksize 4K\nactor\nidle 99999999999999999999",
+        3,
+        Cause::Range,
+    ),
     ("read 4294967296 1", 1, Cause::Range),
     ("discard 0 0", 1, Cause::Range),
     ("write 0 2049 hex 00", 1, Cause::Range),
@@ -127,6 +150,11 @@ const FAULTY: [(&str, u32, Cause); 97] = [
         Cause::Order,
     ),
     ("disksize 4K\nactor\nmem_used_max 0", 3, Cause::Order),
+    ("clock 5\ndisksize 4K\nactor\nclock 5", 4, Cause::Order),
+    ("disksize 4K\nactor\nidle 0\nclock 1", 4, Cause::Order),
+    ("idle all", 1, Cause::Order),
+    ("disksize 4K\nactor\nrun\nidle 5", 4, Cause::Order),
+    ("disksize 4K\nactor\nschedule 0\nidle all", 4, Cause::Order),
     ("backing 1\ndisksize 4K\nactor\nbacking 1", 4, Cause::Order),
     ("disksize 4K\nactor\nschedule 0\nbacking 1", 4, Cause::Order),
     ("disksize 4K\nactor\nread 0 1\nbd_stat", 4, Cause::Order),
@@ -146,6 +174,7 @@ const FAULTY: [(&str, u32, Cause); 97] = [
     ("mem_used_max 0\nactor\nrun", 2, Cause::NoDisk),
     ("bd_stat\nactor\nrun", 2, Cause::NoDisk),
     ("classes\nactor\nrun", 2, Cause::NoDisk),
+    ("clock 5\nactor\nidle all\nrun", 2, Cause::NoDisk),
     (
         "disksize 4K\nactor\nschedule 0*16777216\nschedule 0",
         4,
@@ -202,6 +231,22 @@ fn tells_limits(rt: HostRuntime) -> Result<(), Fail> {
             1_000_001,
             "run\n",
             Some(1_000_003),
+        ),
+        ("disksize 1G\nactor\n", "idle all\n", 64, "run\n", None),
+        ("disksize 1G\nactor\n", "idle 5\n", 65, "run\n", Some(67)),
+        (
+            "disksize 8K\ndisksize 1G\nactor\n",
+            "idle all\n",
+            100,
+            "compact\nread 0 1\nrun\n",
+            None,
+        ),
+        (
+            "disksize 1G\ndisksize 4K\nactor\nidle 5\nrun\nactor\n",
+            "idle all\n",
+            64,
+            "run\n",
+            Some(70),
         ),
         ("", COMMENT, 262_144, "", None),
         ("stop\n", COMMENT, 262_144, "", Some(0)),
@@ -355,6 +400,14 @@ fn reads_values(rt: HostRuntime) -> Result<(), Fail> {
         (
             "backing 1\nbacking 65536\ndisksize 4K\nbd_stat\nbacking 010\ndisksize 8K\nactor\nrun",
             "backing 1; backing 65536; pages 1; BdStat; backing 10; pages 2; actor; run; ",
+        ),
+        (
+            "clock 007\ndisksize 4K\nactor\nidle all\nidle 010\nidle 0\nrun\nclock 7\nclock 8",
+            "clock 7; pages 1; actor; idle all; idle 10; idle 0; run; clock 7; clock 8; ",
+        ),
+        (
+            "clock 18446744073709551615\ndisksize 4K\nactor\nidle 18446744073709551615\nrun",
+            "clock 18446744073709551615; pages 1; actor; idle 18446744073709551615; run; ",
         ),
         (
             "mm_stat\ndisksize 4K\nmem_limit 5K\nio_stat\nactor\nrun\nstates\nclasses\nmm_stat",

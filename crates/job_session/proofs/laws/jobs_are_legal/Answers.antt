@@ -12,12 +12,13 @@ returns c =
       leaves = c.phases_end.ensures.leaves;
       new = c.disks_begin.ensures;
       limits = c.rows_stand.ensures.limit;
+      clocks = c.rows_stand.ensures.clock;
       max = c.rows_stand.ensures.max;
       reports = c.rows_print.ensures.reports;
       account = c.rows_print.ensures.account;
       nothing = c.rows_print.ensures.nothing;
     } in
     record {
-      legal = λ u r d job turns lines last may bare s steps. legal_by laws u job r d turns lines last
-          may bare s steps;
+      legal = λ u r d job turns lines last may bare timed s steps.
+          legal_by laws u job r d turns lines last may bare timed s steps;
     }

@@ -4,15 +4,17 @@ use Rattle.std.proofs.lemmas.Result.{err_from_is_err_and}
 use Rattle.job_text.specs.declared.job.Item.{Item}
 use Rattle.job_session.specs.Stepped.{Disk, disk_of}
 use Rattle.job_session.specs.Telling.{MayStand, ItemsTold}
-use Rattle.job_session.proofs.Jobs.{items_none, items_more, items_cut, item_keeps}
+use Rattle.job_session.proofs.Jobs.{items_none, items_more, items_cut, item_keeps, item_times}
 use Rattle.job_session.proofs.Lawful.{stand_first, stand_on}
+use Rattle.job_session.proofs.Times.{stands_on}
 use Rattle.job_session.proofs.session.run_items.Goals as goal
 
 pub loop-item-init : goal.loop-item-init
 loop-item-init g c = record {
-  told = items_none (disk_of c.args.world.now) c.args.out.now;
+  told = items_none (disk_of c.args.clock.now c.args.world.now) c.args.out.now;
   may = c.requires.may;
   rest = c.requires.rest;
+  stands = c.requires.stands;
 }
 
 -- an item of a job, and what is left of it
@@ -23,9 +25,9 @@ left_at job at item lt is = drop_more job at item lt
 
 pub run_item-requires-clause-may : goal.run_item-requires-clause-may
 run_item-requires-clause-may g c =
-    stand_first c.loop-item.world.pages c.item-item.result
+    stand_first c.loop-item.world.pages c.loop-item.clock c.item-item.result
     (drop (c.loop-item.item-index + 1) c.args.job.now)
-    (subst (MayStand c.loop-item.world.pages)
+    (subst (MayStand c.loop-item.world.pages c.loop-item.clock)
     (left_at c.args.job.now c.loop-item.item-index c.item-item.result c.loop-item-test.true
     c.item-item.is)
     c.loop-item.invariant.may)
@@ -36,9 +38,9 @@ returns-in_err-run_item-clause-items g c =
     let item : Item = c.item-item.result in
     let front : List Item = take at c.args.job.now in
     let back : List Item = drop (at + 1) c.args.job.now in
-    let first : Disk = disk_of c.args.world.now in
-    let d : Disk = disk_of c.loop-item.world in
-    let n : Disk = disk_of c.run_item.new.world in
+    let first : Disk = disk_of c.args.clock.now c.args.world.now in
+    let d : Disk = disk_of c.loop-item.clock c.loop-item.world in
+    let n : Disk = disk_of c.run_item.new.clock c.run_item.new.world in
     let whole : front ++ item ∷ [] ++ back ≡ c.args.job.now =
     append_assoc front (item ∷ []) back
     ∙ ap (λ (xs : List Item). front ++ xs)
@@ -58,19 +60,25 @@ loop-item-preserved g c =
     let item : Item = c.item-item.result in
     let front : List Item = take at c.args.job.now in
     let back : List Item = drop (at + 1) c.args.job.now in
-    let first : Disk = disk_of c.args.world.now in
-    let d : Disk = disk_of c.loop-item.world in
-    let n : Disk = disk_of c.run_item.new.world in
+    let first : Disk = disk_of c.args.clock.now c.args.world.now in
+    let d : Disk = disk_of c.loop-item.clock c.loop-item.world in
+    let n : Disk = disk_of c.run_item.new.clock c.run_item.new.world in
     let taken : take (at + 1) c.args.job.now ≡ front ++ item ∷ [] =
     take_more c.args.job.now at item c.loop-item-test.true
     ∙ ap (λ (x : Item). front ++ x ∷ []) (sym c.item-item.is) in
     let left = left_at c.args.job.now at item c.loop-item-test.true c.item-item.is in
+    let may = subst (MayStand c.loop-item.world.pages c.loop-item.clock) left
+    c.loop-item.invariant.may in
     record {
       told = subst (λ (xs : List Item). ItemsTold first xs n c.args.out.now c.run_item.new.out
           (Ok tt)) (sym taken)
           (items_more front (item ∷ []) first d n _ _ _ _ c.loop-item.invariant.told
           c.in_ok-run_item.ensures.item);
-      may = stand_on d.size n.size item back (item_keeps d n item _ _ c.in_ok-run_item.ensures.item)
-          (subst (MayStand c.loop-item.world.pages) left c.loop-item.invariant.may);
+      may = stand_on d.size n.size d.clock n.clock item back
+          (item_keeps d n item _ _ c.in_ok-run_item.ensures.item)
+          (item_times d n item _ _ c.in_ok-run_item.ensures.item) may;
       rest = c.in_ok-run_item.ensures.rest;
+      stands = stands_on c.jobs_are_legal.ensures.legal d n item _ _
+          (stand_first d.size d.clock item back may) c.loop-item.invariant.stands
+          c.in_ok-run_item.ensures.item;
     }

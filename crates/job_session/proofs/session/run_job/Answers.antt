@@ -8,10 +8,10 @@ use Rattle.job_session.proofs.session.run_job.Goals as goal
 pub returns-clause-told : goal.returns-clause-told
 returns-clause-told g c =
     let new = c.new-world.ensures in
-    let named = lent_back c.jobs_are_legal.ensures.legal _ _ _ _ _ _ c.requires new.pages new.limit
+    let named = lent_back c.jobs_are_legal.ensures.legal _ _ _ _ _ _ c.requires new.pages new.limit refl
     new.cells new.blocks c.run_items-run.ensures.items _ _ _ _
     (ap (λ (x : DeviceState). x.references) new.device) c.close-dev.ensures.same in
-    told_over c.jobs_are_legal.ensures.legal _ _ _ _ _ _ c.requires new.pages new.limit
+    told_over c.jobs_are_legal.ensures.legal _ _ _ _ _ _ c.requires new.pages new.limit refl
     new.cells new.blocks c.run_items-run.ensures.items g.D.Backing.block_count
     g.D.Backing.contents g.D.Backing.fault_count g.D.Backing.calls c.args.dev.now
     c.close-dev.result.now _ (search (rules, named.0))
@@ -30,7 +30,7 @@ returns-clause-told g c =
 pub returns-clause-same : goal.returns-clause-same
 returns-clause-same g c =
     let new = c.new-world.ensures in
-    let named = lent_back c.jobs_are_legal.ensures.legal _ _ _ _ _ _ c.requires new.pages new.limit
+    let named = lent_back c.jobs_are_legal.ensures.legal _ _ _ _ _ _ c.requires new.pages new.limit refl
     new.cells new.blocks c.run_items-run.ensures.items _ _ _ _
     (ap (λ (x : DeviceState). x.references) new.device) c.close-dev.ensures.same in
     ap g.D.Backing.references (search (rules, named.0)) ∙ named.1

@@ -8,6 +8,7 @@ use Rattle.job_session.specs.Stepped.{disk_of}
 use Rattle.job_session.proofs.Devices.{is_run_on}
 use Rattle.job_session.proofs.Jobs.{items_stop, steps_on, phase_told}
 use Rattle.job_session.proofs.Lawful.{work_by, none_without, named}
+use Rattle.job_session.proofs.Times.{time_of}
 use Rattle.job_session.proofs.session.run_phase.Goals as goal
 
 pub prepare-requires-clause-work : goal.prepare-requires-clause-work
@@ -22,11 +23,15 @@ prepare-requires-clause-none g c = λ none.
     ∙ none_without c.requires.may.used c.args.text.now.actors c.requires.may.may.0.has_disk
     (c.requires.may.sized none)
 
+pub prepare-requires-clause-time : goal.prepare-requires-clause-time
+prepare-requires-clause-time g c =
+    time_of (disk_of c.args.clock c.args.world.now) c.requires.stands
+
 pub returns-in_err-phase-clause-item : goal.returns-in_err-phase-clause-item
 returns-in_err-phase-clause-item g c =
     let p = err_from_is_err_and c.from_residual.result c.from_residual.ensures.1 in
-    rw (p.1, p.2) (items_stop (disk_of c.args.world.now)
-    (disk_of c.prepare.new.self) _ c.args.out.now _ tt (sym c.prepare.ensures.device))
+    rw (p.1, p.2) (items_stop (disk_of c.args.clock c.args.world.now)
+    (disk_of c.args.clock c.prepare.new.self) _ c.args.out.now _ tt (sym c.prepare.ensures.device))
 
 pub run-requires-clause-actors : goal.run-requires-clause-actors
 run-requires-clause-actors g c =
@@ -38,15 +43,16 @@ run-requires-clause-actors g c =
 
 pub returns-clause-item : goal.returns-clause-item
 returns-clause-item g c =
-    let d = disk_of c.args.world.now in
+    let clock = c.args.clock in
+    let d = disk_of clock c.args.world.now in
     let m = c.run.new.self in
     let ready = c.in_ok-phase.ensures in
     let steps = c.run.ensures.steps d.row ready.set_up in
-    phase_told d (disk_of c.run.new.self) c.args.text.now c.as_slice-actors.result.now
+    phase_told d (disk_of clock c.run.new.self) c.args.text.now c.as_slice-actors.result.now
     c.as_slice-schedule.result.now
     _ _ c.args.out.now c.tell_phase.new.out c.tell_phase.result
     c.as_slice-actors.ensures c.as_slice-schedule.ensures
-    (is_run_on c.args.world.now.spare c.prepare.new.self.spare m.spare c.args.world.now.pages
+    (is_run_on clock c.args.world.now.spare c.prepare.new.self.spare m.spare c.args.world.now.pages
     c.prepare.new.self.pages m.pages c.args.world.now.limit m.limit d.row
     c.prepare.new.self.row.cells m.row.cells c.run.ensures.spare
     (ap (λ (t : Terms). t.size) c.run.ensures.same) ready.pages

@@ -9,16 +9,16 @@ use Rattle.job_session.proofs.Sending.{Tells-none}
 use Rattle.job_session.proofs.session.set_backing.Goals as goal
 
 pub returns-then-pages-gt0-clause-item : goal.returns-then-pages-gt0-clause-item
-returns-then-pages-gt0-clause-item g c =
-    let d = disk_of c.args.world.now in
+returns-then-pages-gt0-clause-item g c clock =
+    let d = disk_of clock c.args.world.now in
     let some : 0 < d.size = omega (arith, c.if-pages-gt0.true, c.pages.ensures) in
     attr_told d d (Backing c.args.blocks) _ c.args.out.now _ _
     (backing_busy_now d.size (nat_lt d.device.blocks c.args.blocks) d c.args.blocks some)
     c.tell_refused.ensures
 
 pub returns-then-device_blocks-blocks-clause-item : goal.returns-then-device_blocks-blocks-clause-item
-returns-then-device_blocks-blocks-clause-item g c =
-    let d = disk_of c.args.world.now in
+returns-then-device_blocks-blocks-clause-item g c clock =
+    let d = disk_of clock c.args.world.now in
     let none : d.size ≡ 0 = omega (arith, c.if-pages-gt0.false, c.pages.ensures) in
     let few : d.device.blocks < c.args.blocks =
     omega (arith, c.if-device_blocks-blocks.true, c.device_blocks.ensures) in
@@ -28,15 +28,15 @@ returns-then-device_blocks-blocks-clause-item g c =
     c.tell_refused-then-device_blocks-blocks.ensures
 
 pub returns-in_err-set_backing-clause-item : goal.returns-in_err-set_backing-clause-item
-returns-in_err-set_backing-clause-item g c =
+returns-in_err-set_backing-clause-item g c clock =
     let p = err_from_is_err_and c.from_residual.result c.from_residual.ensures.1 in
-    rw (p.1, p.2) (items_stop (disk_of c.args.world.now) (disk_of c.set_backing.new.self) _
+    rw (p.1, p.2) (items_stop (disk_of clock c.args.world.now) (disk_of clock c.set_backing.new.self) _
     c.args.out.now _ tt (sym c.set_backing.ensures.device))
 
 pub returns-clause-item : goal.returns-clause-item
-returns-clause-item g c =
-    let d = disk_of c.args.world.now in
-    let m = disk_of c.set_backing.new.self in
+returns-clause-item g c clock =
+    let d = disk_of clock c.args.world.now in
+    let m = disk_of clock c.set_backing.new.self in
     let set = c.in_ok-set_backing.ensures in
     let none : d.size ≡ 0 = omega (arith, c.if-pages-gt0.false, c.pages.ensures) in
     let fits : c.args.blocks ≤ d.device.blocks =
@@ -45,6 +45,7 @@ returns-clause-item g c =
     let same : m ≡ backed d c.args.blocks = λ i. record {
       size = set.pages i;
       limit = set.limit i;
+      clock = clock;
       row = (set.row i).cells;
       device = set.device i;
       blocks = set.blocks i;
