@@ -1,0 +1,59 @@
+-- No page was touched after the time that is set, where the disk stands for a rest; and it stands for
+-- one after each item.
+use Rattle.std.proofs.Common.{◌≡◌, ◌⊎◌, ℕ, ◌<◌, ◌≤◌, false, List, [], ◌∷◌, Option, Some, slice_get, sym, ap, ◌∙◌, inl, inr, arith, Ok}
+use Rattle.std.specs.Option.{option_map}
+use Rattle.std.proofs.lemmas.Option.{slice_get-map}
+use Rattle.plain_disk.specs.Output.{OutLine}
+use Rattle.plain_disk.specs.Rests.{Rest}
+use Rattle.lock_row.specs.declared.names.Held.TheVariants as holds
+use Rattle.page_steps.specs.Steps.{DiskHeld}
+use Rattle.slot_entry.specs.Entries.{EntryState}
+use Rattle.disk_rest.specs.Rows.{cell_without_calls}
+use Rattle.disk_rest.specs.Resting.{StandsFor}
+use Rattle.zr_core.specs.Rests.{IsTime}
+use Rattle.job_text.specs.declared.job.Item.{Item}
+use Rattle.job_text.specs.Jobs.{Used, MayFollow}
+use Rattle.job_session.specs.Legal.{Legal}
+use Rattle.job_session.specs.Stands.{IsBare, HasRow, Stands}
+use Rattle.job_session.specs.Stepped.{Disk, Stepped}
+use Rattle.job_session.specs.Telling.{OutputState, MayStand, StandsForSome, ItemsTold}
+use Rattle.job_session.proofs.Jobs.{all_stepped}
+use Rattle.job_session.proofs.Lawful.{no_item}
+
+-- ---- the time
+
+-- a page of a row that stands for a rest wasn't touched after its time
+touched_before : (r : Rest) (row : List (Option DiskHeld)) (p : ℕ) (e : EntryState) → StandsFor r row
+    → slice_get row p ≡ Some (Some (holds.Slot e)) → e.touched ≤ r.set.clock
+touched_before r row p e stands is =
+    let f : EntryState = record e { order = []; room = 0 } in
+    let there = slice_get-map cell_without_calls row p ∙ ap (option_map cell_without_calls) is in
+    let sound = (stands.rest.home p (holds.Slot f) there).sound in
+    let at : e.touched ≡ r.touched p = sound.touched in
+    let time : r.touched p ≤ r.set.clock = stands.plain.times p sound.page in
+    omega (arith, at, time)
+
+pub time_of : (d : Disk) → StandsForSome d → IsTime d.clock d.row
+time_of d some p e is = by some.1.row
+  where
+    by : IsBare some.0 d ⊎ HasRow some.0 d → e.touched ≤ d.clock
+    by (inl bare) =
+        absurd (no_item p (Some (holds.Slot e)) (ap (λ row. slice_get row p) (sym bare.empty) ∙ is))
+    by (inr has) =
+        let time = touched_before some.0 d.row p e has.stands is in
+        omega (arith, time, some.1.clock)
+
+-- ---- from item to item
+
+-- after an item that was told the disk stands for some rest
+pub stands_on : (legal : (u : Used) (r : Rest) (d : Disk) (job : List Item) (turns : List (List ℕ))
+    (lines : List OutLine) (last : Disk)
+    → MayFollow u job → (d.size ≡ 0 → u.disk ≡ false) → u.clock ≡ d.clock → Stands r d
+    → Stepped d job turns lines last
+    → (m : Rest) × Legal r job lines m × Stands m last)
+    (d m : Disk) (item : Item) (o p : OutputState) → MayStand d.size d.clock (item ∷ [])
+    → StandsForSome d → ItemsTold d (item ∷ []) m o p (Ok tt) → StandsForSome m
+stands_on legal d m item o p may some told =
+    let all = legal may.used some.0 d (item ∷ []) told.turns told.lines m may.may may.sized may.timed
+    some.1 (all_stepped (item ∷ []) d m o p told) in
+    (all.0, all.2)
