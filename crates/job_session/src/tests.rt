@@ -174,3 +174,27 @@ fn tells_reports(rt: HostRuntime) -> Result<(), Fail> {
     }
     Ok(())
 }
+
+// Marks by ages, at the times that are set, and by whether an access comes before or after.
+#[test]
+fn marks_idle_pages(rt: HostRuntime) -> Result<(), Fail> {
+    let table = [
+        (
+            "disksize 8K\nclock 10\nactor\nwrite 0 4 fill 1\nwrite 8 8 fill 2\nrun\nclock 15\nactor\nidle 5\nidle 4\nidle all\nread 0 1\nidle all\nrun\nstates\n",
+            "op 0 0 ok\nop 0 1 ok\norder 0 0:0\norder 1 0:1\nop 0 0 marked 0\nop 0 1 marked 1\nop 0 2 marked 0\nop 0 3 ok\nfill 0000000000000001\nop 0 4 marked 1\norder 0 0:3\nstate 0 ...i 15\nstate 1 s... 10\n",
+        ),
+        (
+            "disksize 4K\nactor\nwrite 0 4 fill 1\nrun\nactor\nidle all\nactor\nread 0 1\nschedule 0*2 1*6\nrun\nstates\n",
+            "op 0 0 ok\norder 0 0:0\nop 0 0 marked 1\nop 1 0 ok\nfill 0000000000000001\norder 0 1:0\nstate 0 .... 0\n",
+        ),
+        (
+            "disksize 4K\nactor\nwrite 0 4 fill 1\nrun\nactor\nidle all\nactor\nread 0 1\nschedule 1*6 0*2\nrun\nstates\n",
+            "op 0 0 ok\norder 0 0:0\nop 0 0 marked 1\nop 1 0 ok\nfill 0000000000000001\norder 0 1:0\nstate 0 ...i 0\n",
+        ),
+    ];
+    for (job, wanted) in table {
+        let ended = ends(rt.alloc(), &["run"], job, &[], 1000, wanted)?;
+        assert_eq!(rt; ended, (Status::Done, true), "at {job}");
+    }
+    Ok(())
+}
