@@ -3,6 +3,7 @@
   1. pages and their orders
   2. the account and the pools, by the pages and by the ends of operations
   3. compactions
+  4. marks
 """
 from __future__ import annotations
 
@@ -16,8 +17,10 @@ from model import (Entry, Local, Lock, Machine, Piece, Row, Tag, account_at, ent
 
 
 def breaches(machine: Machine) -> Iterator[str]:
-    """Where a phase that has been run breaks what an output promises: of its pages, and of its reports."""
+    """Where a phase that has been run breaks what an output promises: of its pages and their marks, and of its
+    reports."""
     yield from page_breaches(machine)
+    yield from mark_breaches(machine)
     yield from report_breaches(machine)
     yield from compaction_breaches(machine)
 
@@ -208,3 +211,47 @@ def lone_breaches(machine: Machine, local: Local) -> Iterator[str]:
 def are_tight(row: Row) -> bool:
     """Whether each class has at most one zspage with a free cell."""
     return all(pool.is_tight() for pool in pools_of(row))
+
+
+# ---- 4. marks
+
+def mark_breaches(machine: Machine) -> Iterator[str]:
+    """Where a page is idle that isn't in the pool, or one that was idle and had no call isn't; where without an
+    operation that marks another page is idle; and where those of a phase's only actor mark or count other pages."""
+    marks = any(op.word == "idle" for local in machine.locals for op in local.ops)
+    for page in range(machine.pages):
+        entry, before = machine.entry(page), entry_at(machine.before, page)
+        has_call = page in machine.called and entry.order
+        if entry.is_idle and not isinstance(entry.kept, Stored):
+            yield f"page {page} is idle and isn't in the pool"
+        if before.is_idle and not has_call and not entry.is_idle:
+            yield f"page {page} was idle and had no call, and isn't idle any more"
+        if not marks and entry.is_idle and (has_call or not before.is_idle):
+            yield f"page {page} is idle, and no operation marks"
+    if len(machine.locals) == 1:
+        yield from lone_mark_breaches(machine, machine.locals[0])
+
+
+def lone_mark_breaches(machine: Machine, local: Local) -> Iterator[str]:
+    """Where the marks of a phase's only actor aren't those of its operations, one after the other."""
+    bytes_of = {page: page_in(machine.before, entry_at(machine.before, page).kept) for page in range(machine.pages)}
+    blank = {page: entry_at(machine.before, page).kept is None for page in range(machine.pages)}
+    touched = {page: entry_at(machine.before, page).touched for page in range(machine.pages)}
+    idle = {page: entry_at(machine.before, page).is_idle for page in range(machine.pages)}
+    done = list(carried_out(local))
+    for nr, (op, end) in enumerate(zip(local.ops, local.ends)):
+        if op.word == "idle":
+            old = {page for page in idle if op.age is None or machine.clock - touched[page] > op.age}
+            meant = {page for page in old if not blank[page] and isinstance(form_of(bytes_of[page]), Pooled)}
+            new = {page for page in meant if not idle[page]}
+            if end != f"marked {len(new)}":
+                yield f"operation {nr} ended `{end}`, and {len(new)} marks are new"
+            idle.update(dict.fromkeys(new, True))
+        for piece in (piece for piece in done if piece.tag.op == nr):
+            touched[piece.page], idle[piece.page] = machine.clock, False
+            if op.word != "read":
+                bytes_of[piece.page] = piece.put_on(bytes_of[piece.page])
+                blank[piece.page] = op.word == "discard"
+    for page, is_idle in idle.items():
+        if machine.entry(page).is_idle != is_idle:
+            yield f"page {page} {'is' if not is_idle else 'is not'} idle at the end, against the operations"

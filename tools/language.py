@@ -25,6 +25,7 @@ LIMITS = {
     "pieces": 1_048_576,
     "sectors to read": 262_144,
     "turns": 16_777_216,
+    "pages to scan": 16_777_216,
 }
 
 
@@ -96,6 +97,8 @@ VALUES = {
     "LIMIT": Value(size, lambda pages: pages <= 2 ** 28, "at most 2^28 pages"),
     "BLOCKS": Value(number, lambda blocks: 1 <= blocks <= 65_536, "1 to 65,536 blocks"),
     "NUMBER": Value(number, lambda value: value == 0, "0"),
+    "TIME": Value(number, lambda seconds: seconds < 2 ** 64, "below 2^64"),
+    "AGE": Value(number, lambda seconds: seconds < 2 ** 64, "below 2^64"),
     "START": Value(number, lambda sector: sector < 2 ** 32, "a sector below 2^32"),
     "COUNT": Value(number, lambda count: 1 <= count <= 2_048, "1 to 2,048 sectors"),
     "WORD64": Value(word64, any_value, ""),
@@ -111,6 +114,7 @@ FORMS = [form.split() for form in (
     "mem_limit LIMIT",
     "backing BLOCKS",
     "mem_used_max NUMBER",
+    "clock TIME",
     "mm_stat",
     "io_stat",
     "bd_stat",
@@ -122,11 +126,13 @@ FORMS = [form.split() for form in (
     "write START COUNT hex DIGITS..",
     "read START COUNT",
     "discard START COUNT",
+    "idle all",
+    "idle AGE",
     "compact",
     "schedule TURN..",
     "run",
 )]
-OPERATIONS = ("write", "read", "discard", "compact")
+OPERATIONS = ("write", "read", "discard", "idle", "compact")
 REPORTS = ("mm_stat", "io_stat", "bd_stat", "states", "classes")
 
 
@@ -189,13 +195,14 @@ def seq_sector(base: int, step: int, index: int) -> bytes:
 
 @dataclass(frozen=True)
 class Op:
-    """An operation: its word, its request, the bytes that it puts into each sector of the request, and its line. A
-    compaction is no request: it has no sectors."""
+    """An operation: its word, its request, the bytes that it puts into each sector of the request, its line, and the
+    age of `idle`, if it has one. `idle` and `compact` are no requests: they have no sectors."""
     word: str
     start: int
     count: int
     sector: Callable[[int], bytes]
     text: str
+    age: Optional[int] = None
 
     def pages(self) -> range:
         """The pages on which the request has sectors."""
@@ -242,6 +249,11 @@ class LowerMax(NamedTuple):
     """An item of a job: the greatest number of frames charged is from now on what is charged now."""
 
 
+class Clock(NamedTuple):
+    """An item of a job: the time is this from now on, in seconds."""
+    seconds: int
+
+
 class Report(NamedTuple):
     """An item of a job: a report is printed."""
     name: str
@@ -255,7 +267,7 @@ class Phase:
     schedule: list[Turns] = field(default_factory=list)
 
 
-Item = Union[Size, Limit, Backing, LowerMax, Report, Phase]
+Item = Union[Size, Limit, Backing, LowerMax, Clock, Report, Phase]
 AFTER_SCHEDULE = "after a `schedule` come only more of it and `run`"
 
 
@@ -266,6 +278,8 @@ class Reader:
         self.items: list[Item] = []
         self.phase: Optional[Phase] = None
         self.has_disk = False
+        self.pages = 0  # of the first size of the disk
+        self.clock = 0
         self.used = dict.fromkeys(LIMITS, 0)
         self.line = 0
 
@@ -302,6 +316,7 @@ class Reader:
     def says_disksize(self, values: dict[str, list[Any]], words: list[str]) -> None:
         """`disksize SIZE`: any time outside a phase. A second one is answered when the job runs."""
         self.want(self.phase is None, "order", "`disksize` stands outside a phase")
+        self.pages = self.pages if self.has_disk else values["SIZE"][0]
         self.has_disk = True
         self.items.append(Size(values["SIZE"][0]))
 
@@ -320,6 +335,14 @@ class Reader:
         self.want(self.phase is None, "order", "`mem_used_max` stands outside a phase")
         self.items.append(LowerMax())
 
+    def says_clock(self, values: dict[str, list[Any]], words: list[str]) -> None:
+        """`clock TIME`: any time outside a phase; the time doesn't fall."""
+        seconds = values["TIME"][0]
+        self.want(seconds >= self.clock, "range", f"the clock is at {self.clock} and doesn't fall")
+        self.want(self.phase is None, "order", "`clock` stands outside a phase")
+        self.clock = seconds
+        self.items.append(Clock(seconds))
+
     def says_report(self, values: dict[str, list[Any]], words: list[str]) -> None:
         """`mm_stat`, `io_stat`, `bd_stat`, `states`, `classes`: any time outside a phase."""
         self.want(self.phase is None, "order", f"`{words[0]}` stands outside a phase")
@@ -335,15 +358,16 @@ class Reader:
         self.phase.actors.append([])
 
     def says_operation(self, values: dict[str, list[Any]], words: list[str]) -> None:
-        """`write`, `read`, `discard`, `compact`: of the last actor."""
+        """`write`, `read`, `discard`, `idle`, `compact`: of the last actor."""
         self.want(self.phase is not None, "order", "an operation stands after an `actor`")
         assert self.phase is not None
         self.want(not self.phase.schedule, "order", AFTER_SCHEDULE)
         text = " ".join(words[:4] + [".."] if words[3:4] == ["hex"] else words)
-        op = Op(words[0], *request_of(values), stuff_of(values), text)
+        op = Op(words[0], *request_of(values), stuff_of(values), text, values.get("AGE", [None])[0])
         self.use("operations", 1)
         self.use("pieces", len(op.pages()))
         self.use("sectors to read", op.count if op.word == "read" else 0)
+        self.use("pages to scan", self.pages if op.word == "idle" else 0)
         self.phase.actors[-1].append(op)
 
     def says_schedule(self, values: dict[str, list[Any]], words: list[str]) -> None:

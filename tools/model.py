@@ -22,7 +22,7 @@ import sys
 from dataclasses import dataclass, field
 from typing import Callable, Dict, Iterable, Iterator, NamedTuple, Optional, Tuple, Type, Union
 
-from language import (MOST_BYTES, SECTORS, WORDS, Backing, Fault, Item, Limit, LowerMax, Op, Phase, Report, Size,
+from language import (MOST_BYTES, SECTORS, WORDS, Backing, Clock, Fault, Item, Limit, LowerMax, Op, Phase, Report, Size,
                       fill_sector, read_job)
 from memory import (LAST_CLASS, ZERO_PAGE, Account, Form, Kept, Page, Pool, Pooled, Same, Stored, chain_of, form_of, per,
                     size_of, stands_as)
@@ -46,8 +46,8 @@ NO_PAGE = -1
 
 
 class Piece(NamedTuple):
-    """What an operation has on one page: sectors `first` to `first + count - 1` of it. A request beyond the disk and a
-    compaction have one piece, on no page."""
+    """What an operation has on one page: sectors `first` to `first + count - 1` of it. A request beyond the disk and
+    what is no request have one piece, on no page."""
     tag: Tag
     op: Op
     page: int
@@ -62,6 +62,10 @@ class Piece(NamedTuple):
     def is_compaction(self) -> bool:
         """Whether it is a compaction's."""
         return self.op.word == "compact"
+
+    def is_scan(self) -> bool:
+        """Whether it marks pages."""
+        return self.op.word == "idle"
 
     def is_whole(self) -> bool:
         """Whether it has all sectors of its page."""
@@ -85,7 +89,7 @@ class Piece(NamedTuple):
 def pieces_of(tag: Tag, op: Op, pages: int) -> Iterator[Piece]:
     """The pieces of an operation on a disk of so many pages. A discard has one on each page that it has whole."""
     is_beyond = op.start + op.count > pages * SECTORS
-    if is_beyond or op.word == "compact":
+    if is_beyond or op.word in ("idle", "compact"):
         yield Piece(tag, op, NO_PAGE, 0, 0, is_beyond)
         return
     for page in op.pages():
@@ -107,14 +111,26 @@ class Lock(NamedTuple):
 
 
 class Entry(NamedTuple):
-    """What a slot guards: the kept form of a page, the page's order in this phase, and when a call last came to it."""
+    """What a slot guards: the kept form of a page, the page's order in this phase, when a call last came to it, and
+    whether it is marked idle."""
     kept: Kept = None
     order: Tuple[Tag, ...] = ()
     touched: int = 0
+    is_idle: bool = False
 
-    def noted(self, tag: Tag, kept: Kept) -> Entry:
-        """The entry after a call. The clock of all phases is 0."""
-        return Entry(kept, self.order + (tag,), 0)
+    def noted(self, tag: Tag, kept: Kept, clock: int) -> Entry:
+        """The entry after a call, which removes the mark."""
+        return Entry(kept, self.order + (tag,), clock)
+
+    def may_mark(self, clock: int, age: Optional[int]) -> bool:
+        """Whether it may be marked idle: its page is in the pool, and the last call came more than `age` seconds ago."""
+        return isinstance(self.kept, Stored) and (age is None or clock - self.touched > age)
+
+    def letters(self) -> str:
+        """How its page is printed."""
+        is_huge = isinstance(self.kept, Stored) and self.kept.is_huge
+        marks = ((isinstance(self.kept, Same), "s"), (False, "w"), (is_huge, "h"), (self.is_idle, "i"))
+        return "".join(letter if mark else "." for mark, letter in marks)
 
 
 Value = Union[Entry, Pool, Account]
@@ -158,20 +174,29 @@ class Compaction(NamedTuple):
     frames: int = 0
 
 
+class Scan(NamedTuple):
+    """Where a scan that marks pages stands: the page that it is at, and how many marks are new so far."""
+    page: int = 0
+    marked: int = 0
+
+
 class Carried(NamedTuple):
     """What an actor carries from stage to stage of a piece: the page that it has read from a cell, its new object, the
-    frames that it has freed and not yet given back, the refusal that ends the piece, where its compaction stands."""
+    frames that it has freed and not yet given back, the refusal that ends the piece, where its compaction stands, and
+    where its scan does."""
     page: Optional[Page] = None
     made: Optional[Stored] = None
     owed: int = 0
     refusal: str = ""
     compaction: Compaction = Compaction()
+    scan: Scan = Scan()
 
 
 @dataclass
 class Local:
     """An actor: its operations and pieces, how each operation has ended and which sectors it has read; which piece it
-    is at, in which stage, the values that it holds by the kind of their lock, and what it carries."""
+    is at, in which stage, the values that it holds by the kind of their lock, and what it carries; the pages of the
+    disk, and the time of its phase."""
     ops: list[Op]
     todo: list[Piece]
     ends: list[str]
@@ -180,6 +205,8 @@ class Local:
     stage: str = "Start"
     held: Dict[str, Value] = field(default_factory=dict)
     carried: Carried = Carried()
+    pages: int = 0
+    clock: int = 0
 
     def piece(self) -> Optional[Piece]:
         """The piece that it is at; none where the actor is finished."""
@@ -230,10 +257,10 @@ class Local:
         self.stage = stage
 
 
-def new_local(actor: int, ops: list[Op], pages: int) -> Local:
+def new_local(actor: int, ops: list[Op], pages: int, clock: int) -> Local:
     """An actor before its first turn."""
     todo = [piece for nr, op in enumerate(ops) for piece in pieces_of(Tag(actor, nr), op, pages)]
-    return Local(ops, todo, ["ok"] * len(ops), [[] for _ in ops])
+    return Local(ops, todo, ["ok"] * len(ops), [[] for _ in ops], pages=pages, clock=clock)
 
 
 TAKE, GIVE = "takes", "gives"
@@ -266,10 +293,18 @@ def swept_class(local: Local, piece: Piece) -> Lock:
     return Lock("class", local.carried.compaction.number)
 
 
+def scanned_slot(local: Local, piece: Piece) -> Lock:
+    """The slot of the page that a scan is at."""
+    return Lock("slot", local.carried.scan.page)
+
+
 def first_lock(local: Local, piece: Piece) -> Lock:
-    """The slot, the account for a request beyond the disk, or the first class for a compaction."""
+    """The slot, the account for a request beyond the disk, the first page's slot for a scan, or the first class for a
+    compaction."""
     if piece.is_compaction():
         return swept_class(local, piece)
+    if piece.is_scan():
+        return scanned_slot(local, piece)
     return ACCOUNT if piece.is_beyond else slot(local, piece)
 
 
@@ -304,6 +339,8 @@ def after_start(local: Local, piece: Piece) -> str:
     """The piece has its first lock."""
     if piece.is_compaction():
         return "Moving"
+    if piece.is_scan():
+        return "Marking"
     if piece.is_beyond:
         return "Refusing"
     kept = local.entry().kept
@@ -324,6 +361,11 @@ def after_made(local: Local, piece: Piece) -> str:
     if local.carried.refusal:
         return "Leaving" if local.carried.page is None else "Pinned"
     return settle(local, piece)
+
+
+def after_mark(local: Local, piece: Piece) -> str:
+    """A scan has marked its page or not; after the last page it has ended."""
+    return OVER if local.ends[piece.tag.op] != "ok" else "Scanning"
 
 
 def after_move(local: Local, piece: Piece) -> str:
@@ -358,7 +400,7 @@ def leave(local: Local, piece: Piece, entry: Entry) -> Entry:
         local.ends[piece.tag.op] = local.carried.refusal
         return entry
     local.reads[piece.tag.op] += piece.copied_from(local.seen())
-    return entry.noted(piece.tag, entry.kept)
+    return entry.noted(piece.tag, entry.kept, local.clock)
 
 
 def charge(local: Local, piece: Piece, account: Account) -> Account:
@@ -394,7 +436,18 @@ def count(local: Local, piece: Piece, account: Account) -> Account:
 
 def put(local: Local, piece: Piece, entry: Entry) -> Entry:
     """A write or a discard is carried out, and noted."""
-    return entry.noted(piece.tag, local.next_kept(piece))
+    return entry.noted(piece.tag, local.next_kept(piece), local.clock)
+
+
+def mark(local: Local, piece: Piece, entry: Entry) -> Entry:
+    """A scan marks the page where it may be marked, and goes on to the next one, or ends."""
+    may = entry.may_mark(local.clock, piece.op.age)
+    at = local.carried.scan
+    scan = Scan(at.page + 1, at.marked + (may and not entry.is_idle))
+    if scan.page == local.pages:
+        local.ends[piece.tag.op] = f"marked {scan.marked}"
+    local.carry(scan=scan)
+    return entry._replace(is_idle=entry.is_idle or may)
 
 
 def move(local: Local, piece: Piece, pool: Pool) -> Pool:
@@ -445,6 +498,8 @@ STAGES = {
     "Owing": Stage(TAKE, the_account, then("Giving")),
     "Giving": Stage(GIVE, the_account, then("Ready"), count),
     "Ready": Stage(GIVE, slot, then(OVER), put),
+    "Scanning": Stage(TAKE, scanned_slot, then("Marking")),
+    "Marking": Stage(GIVE, scanned_slot, after_mark, mark),
     "Sweeping": Stage(TAKE, swept_class, then("Moving")),
     "Moving": Stage(GIVE, swept_class, after_move, move),
     "Shrunk": Stage(TAKE, the_account, then("Shrinking")),
@@ -471,9 +526,9 @@ class Machine:
     """The row of locks with the locals of a phase's actors. The row outlives the phase."""
     takes, gives = "takes", "gives"
 
-    def __init__(self, row: Row, pages: int, phase: Phase) -> None:
-        self.row, self.pages, self.phase = row, pages, phase
-        self.locals = [new_local(actor, ops, pages) for actor, ops in enumerate(phase.actors)]
+    def __init__(self, row: Row, pages: int, phase: Phase, clock: int = 0) -> None:
+        self.row, self.pages, self.phase, self.clock = row, pages, phase, clock
+        self.locals = [new_local(actor, ops, pages, clock) for actor, ops in enumerate(phase.actors)]
         self.holder: dict[Lock, int] = {}  # who has a lock that is out
         self.called = sorted({piece.page for local in self.locals for piece in local.todo if piece.has_page()})
         for page in self.called:
@@ -588,9 +643,7 @@ def report_of(name: str, row: Row) -> Iterator[str]:
     elif name == "states":
         for lock, entry in sorted(row.items()):
             if isinstance(entry, Entry) and entry.kept is not None:
-                is_huge = isinstance(entry.kept, Stored) and entry.kept.is_huge
-                letters = ("s" if isinstance(entry.kept, Same) else ".") + "." + ("h" if is_huge else ".") + "."
-                yield f"state {lock.number} {letters} {entry.touched}"
+                yield f"state {lock.number} {entry.letters()} {entry.touched}"
     else:
         yield from (class_line(pool) for _, pool in sorted(row.items()) if isinstance(pool, Pool) and pool.zspages)
 
@@ -619,13 +672,14 @@ def is_compacted(end: str) -> bool:
 
 def is_refusal(end: str) -> bool:
     """Whether an end is a refusal."""
-    return end != "ok" and not is_compacted(end)
+    return end != "ok" and not is_compacted(end) and not end.startswith("marked ")
 
 
 def results_of(items: Iterable[Item], row: Row, pages: int = 0,
                kind: Type[Machine] = Machine) -> Iterator[Union[Machine, list[str]]]:
     """What the items of a job come to on a disk: for a phase its machine, at its start; for a report its lines, and
     for an attribute that is refused the one that says so. The caller runs a machine before asking for the next."""
+    clock = 0
     for item in items:
         if isinstance(item, (Size, Backing)):
             refusal = refusal_of(item, pages)
@@ -637,10 +691,12 @@ def results_of(items: Iterable[Item], row: Row, pages: int = 0,
             row[ACCOUNT] = account_at(row)._replace(limit=item.frames)
         elif isinstance(item, LowerMax):
             row[ACCOUNT] = account_at(row).lowered()
+        elif isinstance(item, Clock):
+            clock = item.seconds
         elif isinstance(item, Report):
             yield list(report_of(item.name, row))
         else:
-            yield kind(row, pages, item)
+            yield kind(row, pages, item, clock)
 
 
 def phases_of(items: Iterable[Item], kind: Type[Machine] = Machine) -> Iterator[Machine]:

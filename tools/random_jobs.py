@@ -12,6 +12,7 @@ from typing import Callable
 EDGES = (0, 1, 7, 8, 9, 15, 16)
 COUNTS = (1, 1, 2, 3, 4, 7, 8, 8, 8, 9, 16, 16, 24)
 LIMITS = ("0", "1", "4K", "4k", "8K", "8K", "12K", "16K", "20K", "24K", "1M", "1G", "1099511627776", "0G")
+AGES = ("all", "all", "all", "0", "1", "4", "5", "05", "9", "18446744073709551615")
 REPORTS = ("mm_stat", "io_stat", "bd_stat", "states", "classes")
 # Blocks of the backing device that are used: up to those that it has, or more.
 BLOCKS = ("1", "2", "7", "16", "0016", "100", "4095", "4096", "4096", "4096", "4097", "65536")
@@ -31,13 +32,14 @@ STRANGE = (
     "", "x", "-1", "+1", "1.5", "0x1", "0", "00", "007", "2048", "2049", "4294967295", "4294967296",
     "18446744073709551616", "123456789012345678901234567890", "1K", "1k", "K", "4M", "1G", "1T", "262145", "0*1", "1*0",
     "*", "0*", "*1", "0*1*1", "0*16777217", "0*16777216", "63", "64", "99999999999999999", "00000000000000001", "fill",
-    "seq", "hex", "mem_limit", "backing", "mem_used_max", "mm_stat", "bd_stat", "classes", "4096", "65536", "65537", "1048576M", "1048577M", "FILL", "read", "write", "discard", "compact", "run", "RUN", "actor", "disksize", "schedule", "idle", "all",
+    "seq", "hex", "mem_limit", "backing", "mem_used_max", "mm_stat", "bd_stat", "classes", "4096", "65536", "65537", "1048576M", "1048577M", "FILL", "read", "write", "discard", "compact", "run", "RUN", "actor", "disksize", "schedule", "idle", "all", "clock",
     "\x0b", "\x0c", "\xa0", "\r", "\0", "\xff", "#", "run#", "a" * 60,
 )
 # Whole lines that are wrong in most places.
 STRANGE_LINES = (
     "run", "actor", "disksize 8K", "disksize 0", "disksize 1G1", "schedule 0", "schedule 3", "schedule", "read 0 1",
-    "write 0 1 fill 1", "write 0 1 hex 00", "write 4294967296 1 hex 00", "write 0 2049 hex 00", "discard 0 8", "idle 5",
+    "write 0 1 fill 1", "write 0 1 hex 00", "write 4294967296 1 hex 00", "write 0 2049 hex 00", "discard 0 8", "idle 5", "idle", "idle all 1",
+    "idle alls", "idle 18446744073709551616", "clock 0", "clock 3", "clock", "clock 1K", "clock 18446744073709551616",
     "mem_limit 4K", "mem_limit", "mem_limit 1T", "mem_limit 1048577M", "mem_limit 18446744073709551616", "mm_stat",
     "backing 1", "backing 4097", "backing 0", "backing 65537", "backing 18446744073709551616", "backing 1K", "backing",
     "backing 1 1", "bd_stat", "bd_stat 0",
@@ -52,6 +54,7 @@ class Maker:
     def __init__(self, seed: str) -> None:
         self.chance = Random(seed)
         self.sectors = 8
+        self.clock = 0
         self.alike, self.kept = "seq f4240 1", [0]  # how pages were last scattered, and which are left
 
     def one_in(self, times: int) -> bool:
@@ -80,9 +83,11 @@ class Maker:
         return start, count
 
     def operation(self) -> str:
-        """A read, a write, a discard or a compaction."""
+        """A read, a write, a discard, a compaction, or one that marks pages."""
         if self.one_in(12):
             return "compact"
+        if self.one_in(10):
+            return f"idle {self.chance.choice(AGES)}"
         start, count = self.request()
         word = self.chance.choice(("write", "write", "write", "read", "read", "discard"))
         return f"{word} {start} {count}" + (f" {self.stuff(count)}" if word == "write" else "")
@@ -179,6 +184,9 @@ class Maker:
         """What stands between phases, and before the disk: limits, mostly small ones, lowered maxima, and reports."""
         lines = [f"mem_limit {self.chance.choice(LIMITS)}"] if self.one_in(3) else []
         lines += ["mem_used_max 0", "mm_stat"] if self.one_in(6) else []
+        if self.one_in(2):
+            self.clock += self.chance.choice((0, 1, 1, 4, 5, 6, 10))
+            lines += [f"clock {self.clock}"]
         return lines + [self.chance.choice(REPORTS) for _ in range(self.chance.randrange(4) if self.one_in(2) else 0)]
 
     def first(self, pages: int) -> list[str]:

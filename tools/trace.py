@@ -122,6 +122,8 @@ def giving_text(turn: Turn) -> str:
     if turn.stage == "Moving" and isinstance(turn.taken, Pool) and isinstance(turn.given, Pool):
         return move_text(turn.taken, turn.given)
     if isinstance(turn.taken, Entry) and isinstance(turn.given, Entry):
+        if turn.given.is_idle and not turn.taken.is_idle:
+            return "marks the page idle"
         return "leaves the page" if len(turn.given.order) == len(turn.taken.order) else work_text(turn.piece)
     return GIVINGS.get(turn.stage, "")
 

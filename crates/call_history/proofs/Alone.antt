@@ -2,17 +2,17 @@
 use Rattle.std.proofs.Common.{◌≡◌, ◌⊎◌, ℕ, ◌+◌, ◌≤◌, Bool, true, false, List, [], ◌∷◌, ◌++◌, refl, sym, ap, ◌∙◌, subst, arith, inl, inr, ⊎_elim}
 use Rattle.std.specs.List.{AllByRecursion}
 use Rattle.zr_base.specs.declared.op.Op.{Op}
-use Rattle.zr_base.specs.declared.op.Op.TheVariants.{Write, Read, Discard, Compact}
+use Rattle.zr_base.specs.declared.op.Op.TheVariants.{Write, Read, Discard, Idle, Compact}
 use Rattle.zr_base.specs.declared.op.OpEnd.{OpEnd}
 use Rattle.zr_base.specs.declared.op.OpEnd.TheVariants as ends
 use Rattle.zr_base.specs.Plain.{is_compaction}
 use Rattle.plain_disk.specs.Ends.{Ground, Bounds, MayEnd}
-use Rattle.plain_disk.specs.Compactions.{tight_by, tight_after, IsIdle, AreIdle, moves_by, moves_after}
+use Rattle.plain_disk.specs.Compactions.{tight_by, tight_after, MovesNone, MoveNone, moves_by, moves_after}
 use Rattle.call_history.specs.declared.part.Part.{Part}
 use Rattle.call_history.specs.declared.part.PartEnd.{PartEnd}
 use Rattle.call_history.specs.declared.part.Done.{Done}
 use Rattle.call_history.specs.Parts.{parts, program, Follows, op_end, end_of, ends_from}
-use Rattle.call_history.specs.Alone.{tight_over, AreIdleOver, moves_over}
+use Rattle.call_history.specs.Alone.{tight_over, MoveNoneOver, moves_over}
 use Rattle.call_history.specs.Histories.{HasSome, SomeEach}
 use Rattle.call_history.proofs.Ends.{Mine, every_mine}
 use Rattle.call_history.proofs.Told.{every_parts}
@@ -22,14 +22,15 @@ use Rattle.call_history.proofs.Actors.{cut, front_end, back_ends}
 -- ---- pieces in a row
 
 -- what is idle where the classes are tight is so where they may not be
-idle_less : (b : Bool) (ds : List Done) → AreIdleOver b ds → AreIdleOver false ds
+idle_less : (b : Bool) (ds : List Done) → MoveNoneOver b ds → MoveNoneOver false ds
 idle_less b [] all = tt
 idle_less b (d ∷ ds) all = ((λ e. absurd (cc)), later (idle_less b ds) d.part.op all.1) where
-  later : (AreIdleOver b ds → AreIdleOver false ds) → (op : Op)
-      → AreIdleOver (tight_by op b) ds → AreIdleOver (tight_by op false) ds
+  later : (MoveNoneOver b ds → MoveNoneOver false ds) → (op : Op)
+      → MoveNoneOver (tight_by op b) ds → MoveNoneOver (tight_by op false) ds
   later less (Read start count) rest = less rest
   later less (Write start count stuff) rest = rest
   later less (Discard start count) rest = rest
+  later less (Idle age) rest = less rest
   later less Compact rest = rest
 
 -- classes that come to be tight come to be so if they were before
@@ -41,6 +42,7 @@ tight_more b (d ∷ ds) e = later (tight_more b ds) d.part.op e where
   later more (Read start count) e = more e
   later more (Write start count stuff) e = e
   later more (Discard start count) e = e
+  later more (Idle age) e = more e
   later more Compact e = e
 
 -- more moves before are more moves after
@@ -52,6 +54,7 @@ moves_more (d ∷ ds) i j le = moves_more ds (moves_by d.part.op (op_end d.end 0
       now (Read start count) end = le
       now (Write start count stuff) end = omega arith
       now (Discard start count) end = omega arith
+      now (Idle age) end = le
       now Compact (ends.Compacted moves frames) = omega arith
       now Compact _ = omega arith
 
@@ -60,8 +63,8 @@ tight_append : (b : Bool) (xs ys : List Done)
 tight_append b [] ys = refl
 tight_append b (x ∷ xs) ys = tight_append (tight_by x.part.op b) xs ys
 
-idle_append : (b : Bool) (xs ys : List Done) → AreIdleOver b (xs ++ ys)
-    → AreIdleOver b xs × AreIdleOver (tight_over b xs) ys
+idle_append : (b : Bool) (xs ys : List Done) → MoveNoneOver b (xs ++ ys)
+    → MoveNoneOver b xs × MoveNoneOver (tight_over b xs) ys
 idle_append b [] ys all = (tt, all)
 idle_append b (x ∷ xs) ys all =
     let q = idle_append (tight_by x.part.op b) xs ys all.1 in ((all.0, q.0), q.1)
@@ -91,19 +94,20 @@ module _ (start count : ℕ) where
 
 module _ (t : Ground) (b : Bounds) where
   -- only a compaction ends as one
-  idle_else : (op : Op) (end : OpEnd) → is_compaction op ≡ false → MayEnd t b op end → IsIdle end
+  idle_else : (op : Op) (end : OpEnd) → is_compaction op ≡ false → MayEnd t b op end → MovesNone end
   idle_else op ends.Ok other may = tt
   idle_else op ends.Range other may = tt
   idle_else op (ends.AtLimit pages need limit done) other may = tt
   idle_else op (ends.NoMemory done) other may = tt
   idle_else op (ends.Eio fault done) other may = tt
+  idle_else op (ends.Marked pages) other may = tt
   idle_else op (ends.Compacted moves frames) other may =
       absurd (let q : true ≡ false = sym may.0 ∙ other in cc)
 
   -- What the pieces of an operation say of it.
   record Says (nr : ℕ) (op : Op) (front : List Done) (tight : Bool) (n : ℕ) : Type 0 where
     after : (tight_over tight front ≡ tight_by op tight) ⊎ (tight_by op tight ≡ false)
-    idle : AreIdleOver tight front → tight ≡ true → IsIdle (end_of nr front)
+    still : MoveNoneOver tight front → tight ≡ true → MovesNone (end_of nr front)
     moves : moves_by op (end_of nr front) n ≤ moves_over n front
 
   module _ (nr : ℕ) (front : List Done) (tight : Bool) (n : ℕ) where
@@ -115,7 +119,7 @@ module _ (t : Ground) (b : Bounds) where
         only_end t b nr Compact front o ∙ sym (ap (λ (x : PartEnd). op_end x 0) o.whole.is) in
         record {
           after = inl (ap (tight_over tight) o.is ∙ ap (λ (x : Op). tight_by x tight) op);
-          idle = λ all yes. subst IsIdle (sym end) ((subst (AreIdleOver tight) o.is all).0 yes);
+          still = λ all yes. subst MovesNone (sym end) ((subst (MoveNoneOver tight) o.is all).0 yes);
           moves =
               let q : moves_over n front ≡ moves_by Compact (end_of nr front) n =
               ap (moves_over n) o.is ∙ (λ i. moves_by (op i) (sym end i) n) in omega arith;
@@ -129,22 +133,33 @@ module _ (t : Ground) (b : Bounds) where
         (every_parts (λ (p : Part). p.op ≡ Read start count) t.size nr (Read start count)
         (λ q. refl)) in record {
           after = inl (reads_tight start count tight front all);
-          idle = λ rest yes. idle_else (Read start count) (end_of nr front) refl
+          still = λ rest yes. idle_else (Read start count) (end_of nr front) refl
               (one_op t b 0 nr (Read start count) front some m).may;
           moves = let q = reads_moves start count n front all in omega arith;
         }
     says (Write start count stuff) some m = record {
       after = inr refl;
-      idle = λ rest yes. idle_else (Write start count stuff) (end_of nr front) refl
+      still = λ rest yes. idle_else (Write start count stuff) (end_of nr front) refl
           (one_op t b 0 nr (Write start count stuff) front some m).may;
       moves = omega arith;
     }
     says (Discard start count) some m = record {
       after = inr refl;
-      idle = λ rest yes. idle_else (Discard start count) (end_of nr front) refl
+      still = λ rest yes. idle_else (Discard start count) (end_of nr front) refl
           (one_op t b 0 nr (Discard start count) front some m).may;
       moves = omega arith;
     }
+    says (Idle age) some m =
+        let o = only_is t b nr (Idle age) front refl (mine_single t b nr (Idle age) front refl m) in
+        let op : o.d.part.op ≡ Idle age = ap (λ (p : Part). p.op) o.part in record {
+          after = inl (ap (tight_over tight) o.is ∙ ap (λ (x : Op). tight_by x tight) op);
+          still = λ rest yes. idle_else (Idle age) (end_of nr front) refl
+              (one_op t b 0 nr (Idle age) front some m).may;
+          moves =
+              let q : moves_over n front ≡ n =
+              ap (moves_over n) o.is ∙ ap (λ (x : Op). moves_by x (op_end o.d.end 0) n) op in
+              omega arith;
+        }
     says Compact some m = compaction_says
         (only_is t b nr Compact front refl (mine_single t b nr Compact front refl m))
 
@@ -152,14 +167,14 @@ module _ (t : Ground) (b : Bounds) where
 
   -- What an actor's pieces say of its operations.
   pub record Tell (nr : ℕ) (ops : List Op) (done : List Done) (tight : Bool) (n : ℕ) : Type 0 where
-    pub idle : AreIdleOver tight done → AreIdle tight ops (ends_from nr ops done)
+    pub still : MoveNoneOver tight done → MoveNone tight ops (ends_from nr ops done)
     pub least : tight_after tight ops ≡ true → tight_over tight done ≡ true
     pub few : moves_after n ops (ends_from nr ops done) ≤ moves_over n done
 
   pub tell : (nr : ℕ) (ops : List Op) (done : List Done) (tight : Bool) (n : ℕ) → SomeEach ops
       → Follows (By t b) (program t.size nr ops) done [] → Tell nr ops done tight n
   tell nr [] [] tight n some f =
-      record { idle = λ all. tt; least = λ e. e; few = omega arith }
+      record { still = λ all. tt; least = λ e. e; few = omega arith }
   tell nr [] (d ∷ ds) tight n some f = absurd f
   tell nr (op ∷ ops) done tight n some f =
       let c = cut (By t b) t.size nr op ops done f in
@@ -169,12 +184,12 @@ module _ (t : Ground) (b : Bounds) where
       let later = tell (nr + 1) ops c.back (tight_by op tight)
       (moves_by op (end_of nr c.front) n) some.1 c.later in
       record {
-        idle = λ all.
-            let q = idle_append tight c.front c.back (subst (AreIdleOver tight) c.is all) in (
-              λ yes. subst IsIdle (sym end) (s.idle q.0 yes),
-              subst (AreIdle (tight_by op tight) ops) (sym back) (later.idle (⊎_elim
-                  (λ same. subst (λ (x : Bool). AreIdleOver x c.back) same q.1)
-                  (λ none. subst (λ (x : Bool). AreIdleOver x c.back) (sym none)
+        still = λ all.
+            let q = idle_append tight c.front c.back (subst (MoveNoneOver tight) c.is all) in (
+              λ yes. subst MovesNone (sym end) (s.still q.0 yes),
+              subst (MoveNone (tight_by op tight) ops) (sym back) (later.still (⊎_elim
+                  (λ same. subst (λ (x : Bool). MoveNoneOver x c.back) same q.1)
+                  (λ none. subst (λ (x : Bool). MoveNoneOver x c.back) (sym none)
                   (idle_less (tight_over tight c.front) c.back q.1)) s.after)),
             );
         least = λ e.

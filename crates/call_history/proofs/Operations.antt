@@ -3,7 +3,7 @@ use Rattle.std.proofs.Common.{◌≡◌, ℕ, zero, suc, ◌+◌, ◌-◌, ◌*�
 use Rattle.std.specs.List.{range_with_len, AllByRecursion}
 use Rattle.std.proofs.lemmas.Bool.{cases_Bool, eq-eqb, ne_eqb, and_right, and_parts, and_from, ltb-true, leb-true, le-leb, lt-ltb, cases_lt}
 use Rattle.zr_base.specs.declared.op.Op.{Op}
-use Rattle.zr_base.specs.declared.op.Op.TheVariants.{Write, Read, Discard, Compact}
+use Rattle.zr_base.specs.declared.op.Op.TheVariants.{Write, Read, Discard, Idle, Compact}
 use Rattle.zr_base.specs.declared.op.OpEnd.{OpEnd}
 use Rattle.zr_base.specs.declared.op.OpEnd.TheVariants as ends
 use Rattle.zr_base.specs.Plain.{start_of, count_of, has_event, touches, is_among, pieces_noted, stands_on}
@@ -88,6 +88,7 @@ among_noted : (op : Op) (first n p : ℕ)
 among_noted (Write start count stuff) first n p = among_more first n p
 among_noted (Read start count) first n p = refl
 among_noted (Discard start count) first n p = among_more first n p
+among_noted (Idle age) first n p = among_more first n p
 among_noted Compact first n p = among_more first n p
 
 -- a request's sectors on its first so many pages, as those from its first sector on
@@ -135,12 +136,14 @@ module _ (t : Ground) (b : Bounds) where
   -- such an end is one that the operation may have, and it stands in no order
   single_may : (op : Op) (end : OpEnd) → MayBeSingle t op end → MayEnd t b op end
   single_may op ends.Range may = may
+  single_may op (ends.Marked pages) may = may
   single_may op (ends.Compacted moves frames) may = may
   single_may op _ may = absurd may
 
   single_stands : (op : Op) (end : OpEnd) (p : ℕ) → MayBeSingle t op end
       → stands_on op end p ≡ false
   single_stands op ends.Range p may = refl
+  single_stands op (ends.Marked pages) p may = refl
   single_stands op (ends.Compacted moves frames) p may = refl
   single_stands op _ p may = absurd may
 
@@ -148,6 +151,7 @@ module _ (t : Ground) (b : Bounds) where
       → MayBeSingle t (Read start count) end
       → shown (Read start count) end got ≡ read_by (Read start count) end f
   single_shown start count ends.Range got f may = refl
+  single_shown start count (ends.Marked pages) got f may = refl
   single_shown start count (ends.Compacted moves frames) got f may = refl
   single_shown start count _ got f may = absurd may
 
@@ -296,6 +300,7 @@ module _ (t : Ground) (b : Bounds) where
     by_kind (Discard start count) some off k =
         by_wholes p nr (Discard start count) front (some refl) (discard_ends nr start count off) off
         k
+    by_kind (Idle age) some off k = absurd (cc)
     by_kind Compact some off k = absurd (cc)
 
   -- ---- what a read tells

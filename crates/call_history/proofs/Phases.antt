@@ -8,7 +8,7 @@ use Rattle.std.proofs.lemmas.Option.{get_or_from_slice_get}
 use Rattle.zr_base.specs.declared.op.Tag.{Tag}
 use Rattle.zr_base.specs.declared.op.Op.{Op}
 use Rattle.zr_base.specs.declared.op.OpEnd.{OpEnd}
-use Rattle.zr_base.specs.Plain.{count_of, start_of, is_beyond, is_compaction, has_event, stands_named, is_noted, same_tag, Rises, IsOrder, order_before}
+use Rattle.zr_base.specs.Plain.{count_of, start_of, is_beyond, is_maintenance, has_event, stands_named, is_noted, same_tag, Rises, IsOrder, order_before}
 use Rattle.zr_base.specs.Pieces.{first_page, pages_of}
 use Rattle.mem_account.specs.declared.weight.Weight.{Weight}
 use Rattle.mem_account.specs.Counters.{Counters, at_most_end}
@@ -29,7 +29,7 @@ use Rattle.call_history.proofs.Ends.{every_done}
 use Rattle.call_history.proofs.Orders.{Rising, count_is, rises_is, before_is}
 use Rattle.call_history.proofs.Operations.{By, Reads, never_stands, pages_some}
 use Rattle.call_history.proofs.Actors.{stood, actor_noted, actor_ends, actor_reads, stood_rises, stood_once}
-use Rattle.plain_disk.specs.Compactions.{are_tight, AreIdle, moves_after, IsAlone}
+use Rattle.plain_disk.specs.Compactions.{are_tight, MoveNone, moves_after, IsAlone}
 use Rattle.call_history.proofs.Alone.{tell}
 use Rattle.call_history.proofs.Sums.{IsSteady, failed_read-is, failed_write-is, starved-is, tells_fault-is, compacted-is, beyond-is, all_sum}
 
@@ -96,7 +96,7 @@ program_on pages nr (op ∷ ops) some =
     (elim (cases_Bool (is_single pages op)) [
       | inl on ↦ rw on (inl on, tt)
       | inr off ↦ rw off
-          (parts_on nr op (first_page op) (pages_of op) pages (let on = or_parts (is_compaction op) (is_beyond pages op) off in
+          (parts_on nr op (first_page op) (pages_of op) pages (let on = or_parts (is_maintenance op) (is_beyond pages op) off in
           let y = some.0 on.0 in let n = pages_some op y in
           let z = ltb-false (8 * pages) (start_of op + count_of op) on.1 in omega arith))
     ]) (program_on pages (nr + 1) ops some.1)
@@ -330,7 +330,7 @@ module _ (form : List ℕ → Weight) (r : Rest) (actors : List (List Op)) (done
       → now ≡ at_most_end (old + ends_sum w actors ends_now)
   counted w is old now e = e ∙ ap (λ (n : ℕ). at_most_end (old + n)) (ends_are w is)
 
-  module _ (c : Counters) (told : Tallies form r actors dones orders c m) where
+  module _ (c : Counters) (told : Tallies form r actors dones orders c m) (never : ⊥) where
     leaves : Leaves form r actors ends_now orders m
     leaves = record {
       pages = told.pages;
@@ -370,10 +370,12 @@ module _ (form : List ℕ → Weight) (r : Rest) (actors : List (List Op)) (done
           let is_es : ends_from 0 ops done ≡ es =
           (let q : ends_from 0 ops done ∷ [] ≡ es ∷ [] =
           sym (λ i. ends_each (one i) (is i)) ∙ ends in cc) in record {
-            idle = subst (AreIdle tight ops) is_es (x.idle over.idle);
+            still = subst (MoveNone tight ops) is_es (x.still over.still);
             least = λ e. over.least (x.least e);
             few = let le = x.few in let most = over.few in
                 let same = ap (moves_after 0 ops) is_es in omega arith;
+            marks = absurd never;
+            idle = absurd never;
           }
 
     pub is_phase : IsPhase form r actors

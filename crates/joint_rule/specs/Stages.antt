@@ -2,11 +2,10 @@
 use Rattle.std.specs.Prelude.{◌≡◌, ℕ, ◌+◌, ◌*◌, ◌<◌, ◌≤◌, ◌⊎◌, Bool, true, false, List, [], ◌∷◌, length, Option, Some, None, ⊤}
 use Rattle.zr_base.specs.declared.op.Op.{Op}
 use Rattle.zr_base.specs.declared.op.Op.TheVariants.{Write, Read, Discard, Idle, Compact}
-use Rattle.zr_base.specs.Plain.{is_beyond, has_whole}
+use Rattle.zr_base.specs.Plain.{is_beyond, is_marking, has_whole}
 use Rattle.mem_account.specs.declared.weight.Weight.{Weight}
 use Rattle.mem_account.specs.Tally.{packed_bytes_of}
 use Rattle.plain_disk.specs.Ends.{is_single}
-use Rattle.plain_disk.specs.Idles.{is_marking}
 use Rattle.call_history.specs.declared.part.Part.{Part}
 use Rattle.call_history.specs.declared.part.PartEnd.{PartEnd}
 use Rattle.call_history.specs.declared.part.PartEnd.TheVariants.{Carried, AtLimit, NoMemory, Eio, Whole}

@@ -4,11 +4,11 @@ use Rattle.std.specs.Prelude.{◌≡◌, ◌⊎◌, ℕ, ◌+◌, ◌-◌, ◌*�
 use Rattle.std.specs.List.{flat_map, range_with_len}
 use Rattle.zr_base.specs.declared.op.Stuff.{Stuff}
 use Rattle.zr_base.specs.declared.op.Op.{Op}
-use Rattle.zr_base.specs.declared.op.Op.TheVariants.{Write, Read, Idle, Compact}
+use Rattle.zr_base.specs.declared.op.Op.TheVariants.{Write, Read}
 use Rattle.zr_base.specs.declared.op.OpEnd.{OpEnd}
 use Rattle.zr_base.specs.declared.op.OpEnd.TheVariants as ends
 use Rattle.zr_base.specs.Pieces.{first_page, pages_of}
-use Rattle.zr_base.specs.Plain.{stuff_sector, has_whole, is_beyond, is_maintenance}
+use Rattle.zr_base.specs.Plain.{stuff_sector, has_whole, is_beyond, is_maintenance, is_marking, is_compaction}
 use Rattle.mem_account.specs.declared.weight.Weight.{Weight}
 use Rattle.size_class.specs.Classes.{chain_of}
 use Rattle.plain_disk.specs.Forms.{is_pooled, in_class}
@@ -85,17 +85,15 @@ MayFault t (Write start count stuff) page fault =
 MayFault t (Read start count) page fault = IsFaultAt t page fault
 MayFault t _ page fault = ⊥
 
--- the ends of what is no request: an operation that marks pages marks at most those of the disk, and
--- a compaction frees at most a chain's frames with each move
-abbrev pub MayEndSo : Ground → Op → OpEnd → Type 0
-MayEndSo t (Idle age) (ends.Marked pages) = pages ≤ t.size
-MayEndSo t Compact (ends.Compacted moves frames) = frames ≤ t.chain * moves
-MayEndSo t op end = ⊥
-
--- the ends of an operation that is over in one piece: `range` where it lies beyond the disk
+-- the ends of an operation that is over in one piece: `range` where it lies beyond the disk; new marks
+-- of at most the disk's pages; and a compaction's numbers, which frees at most a chain's frames with
+-- each move
 abbrev pub MayBeSingle : Ground → Op → OpEnd → Type 0
 MayBeSingle t op ends.Range = is_beyond t.size op ≡ true
-MayBeSingle t op end = MayEndSo t op end
+MayBeSingle t op (ends.Marked pages) = (is_marking op ≡ true) × (pages ≤ t.size)
+MayBeSingle t op (ends.Compacted moves frames) =
+    (is_compaction op ≡ true) × (frames ≤ t.chain * moves)
+MayBeSingle t op _ = ⊥
 
 -- so many pieces of an operation on the disk were carried out, and not all
 abbrev pub IsCutAt : ℕ → Op → ℕ → Type 0

@@ -7,7 +7,7 @@ use Rattle.zr_base.specs.declared.op.Op.{Op}
 use Rattle.zr_base.specs.declared.op.Op.TheVariants.{Idle}
 use Rattle.zr_base.specs.declared.op.OpEnd.{OpEnd}
 use Rattle.zr_base.specs.declared.op.OpEnd.TheVariants as ends
-use Rattle.zr_base.specs.Plain.{is_older, stands_on}
+use Rattle.zr_base.specs.Plain.{is_older, is_marking, stands_on}
 use Rattle.mem_account.specs.declared.weight.Weight.{Weight}
 use Rattle.plain_disk.specs.Forms.{is_pooled}
 use Rattle.plain_disk.specs.Calls.{Found, kept_as, after, leaves_page}
@@ -78,12 +78,7 @@ pages_at r p =
 
 -- ---- any phase
 
--- whether an operation marks pages
-abbrev pub is_marking : Op → Bool
-is_marking (Idle age) = true
-is_marking _ = false
-
--- whether some operation of an actor does
+-- whether some operation of an actor marks pages
 abbrev pub marks_some : List Op → Bool
 marks_some [] = false
 marks_some (op ∷ ops) = is_marking op || marks_some ops

@@ -79,6 +79,16 @@ is_maintenance (Discard start count) = false
 is_maintenance (Idle age) = true
 is_maintenance Compact = true
 
+-- whether it marks pages idle
+abbrev pub is_marking : Op → Bool
+is_marking (Idle age) = true
+is_marking _ = false
+
+-- whether it is a compaction
+abbrev pub is_compaction : Op → Bool
+is_compaction Compact = true
+is_compaction _ = false
+
 -- a request begins below sector 2 ^ 32, and has one sector at least and at most so many
 abbrev pub InBounds : ℕ → ℕ → Type 0
 InBounds start count = (start < 2 ^ 32) × (1 ≤ count) × (count ≤ MOST_SECTORS)
