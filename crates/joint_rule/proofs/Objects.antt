@@ -623,13 +623,18 @@ module _ (g : Begin) (ok : Known g) (w : State DiskHeld) (j : Joint g w) (a : �
         (on l (settle_at e.kept) ((slot p.page, holds.Slot e) ∷ []) l.fresh l.pin l.owed l.ahead
         l.behind l.page l.fail)
     give_stows well = record {
-      home = record { sound = (all g ok w j a l who p rest todo _ Made held at).0; stands = tt; backs = tt; marks = tt };
+      home = record {
+        sound = (all g ok w j a l who p rest todo _ Made held at).0;
+        stands = tt;
+        backs = tt;
+        marks = tt;
+      };
       fits = goes_on g ok w j a l who p rest todo (settle_at e.kept)
           ((slot p.page, holds.Slot e) ∷ []) l.fresh l.pin l.owed l.ahead l.behind l.page l.fail
           (settle_locks e.kept p _ _) (all g ok w j a l who p rest todo _ Made held at).1
           (settle_stage g p e l.fresh l.pin l.owed l.ahead l.behind l.page l.fail sm.pins sm.owes
-          sm.stands sm.backs sm.marks (write_blank p.op sm.kind.0 l.ahead _) sm.right sm.counts.0 sm.counts.1
-          (subst NoneOf (sym well) tt) sm.begun (writes_change p.op sm.kind.0)
+          sm.stands sm.backs sm.marks (write_blank p.op sm.kind.0 l.ahead _) sm.right sm.counts.0
+          sm.counts.1 (subst NoneOf (sym well) tt) sm.begun (writes_change p.op sm.kind.0)
           (subst (λ (x : Option PartEnd). MadeBy g.chain x (next_form p l.page e.kept) l.fresh) well
           sm.made) e.kept refl) (let lr = ap (held_sum (spot n) (claims g each_one)) held in
           let lx = ap (held_sum (spot n) (ever_at g)) held in
@@ -725,7 +730,12 @@ module _ (g : Begin) (ok : Known g) (w : State DiskHeld) (j : Joint g w) (a : �
           (on l (quit_at l.pin) ((slot p.page, holds.Slot e) ∷ []) l.fresh l.pin l.owed l.ahead
           l.behind l.page l.fail)
       give_quits = record {
-        home = record { sound = (all g ok w j a l who p rest todo _ Made held at).0; stands = tt; backs = tt; marks = tt };
+        home = record {
+          sound = (all g ok w j a l who p rest todo _ Made held at).0;
+          stands = tt;
+          backs = tt;
+          marks = tt;
+        };
         fits = goes_on g ok w j a l who p rest todo (quit_at l.pin)
             ((slot p.page, holds.Slot e) ∷ []) l.fresh l.pin l.owed l.ahead l.behind l.page l.fail
             (quit_locks l.pin _ _) (all g ok w j a l who p rest todo _ Made held at).1

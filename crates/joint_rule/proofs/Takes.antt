@@ -394,38 +394,40 @@ module _ (g : Begin) (ok : Known g) (p : Part) (fresh : Option Object) (pin : Op
         (begun_at a b p (next_form p page (entry_or v e).kept) (entry_or v e).kept)
     start_take true b a c what kind stands backs marks locks s =
         first_take p.op refl a kind stands backs marks locks s
-    start_take false true a b what kind stands backs marks locks s = account v (account_kind g v kind) where
-      account : (u : DiskHeld) → IsAccount u → Moved ks lock.Account (entry_or u e) Refusing
-      account (holds.Account c) i = (
-        ap (λ (xs : List LockNo). lock.Account ∷ xs) locks,
-        record {
-          kind = tt;
-          made = s.made;
-          pins = s.pins;
-          owes = s.owes;
-          stands = tt;
-          backs = tt;
-          marks = tt;
-          partly = tt;
-          right = s.right;
-          counts = s.counts;
-          blank = tt;
-          fails = s.fails;
-          begun = b;
-          scans = tt;
-          compacts = tt;
-        },
-      )
-      account (holds.Slot c) i = absurd i
-      account (holds.Class c) i = absurd i
-      account (holds.Blocks c) i = absurd i
-      account (holds.Device c) i = absurd i
+    start_take false true a b what kind stands backs marks locks s =
+        account v (account_kind g v kind) where
+          account : (u : DiskHeld) → IsAccount u → Moved ks lock.Account (entry_or u e) Refusing
+          account (holds.Account c) i = (
+            ap (λ (xs : List LockNo). lock.Account ∷ xs) locks,
+            record {
+              kind = tt;
+              made = s.made;
+              pins = s.pins;
+              owes = s.owes;
+              stands = tt;
+              backs = tt;
+              marks = tt;
+              partly = tt;
+              right = s.right;
+              counts = s.counts;
+              blank = tt;
+              fails = s.fails;
+              begun = b;
+              scans = tt;
+              compacts = tt;
+            },
+          )
+          account (holds.Slot c) i = absurd i
+          account (holds.Class c) i = absurd i
+          account (holds.Blocks c) i = absurd i
+          account (holds.Device c) i = absurd i
     start_take false false a b what kind stands backs marks locks s = slot_of v
         (entry_kind g p.page (disk (or_from _ _ a b)).0 v kind) kind stands backs marks where
           slot_of : (u : DiskHeld) → IsEntry u → Sound g p.page u → Stands g p.page u
-              → Backs g p.page u → Marks u → Moved ks (slot p.page) (entry_or u e) (entered_at p.op p.page
-              (next_form p page (entry_or u e).kept) (entry_or u e).kept)
-          slot_of (holds.Slot x) i so st ba ma = let r = entered e s x so st ba ma (or_from _ _ a b) p.op refl in
+              → Backs g p.page u → Marks u → Moved ks (slot p.page) (entry_or u e)
+              (entered_at p.op p.page (next_form p page (entry_or u e).kept) (entry_or u e).kept)
+          slot_of (holds.Slot x) i so st ba ma =
+              let r = entered e s x so st ba ma (or_from _ _ a b) p.op refl in
               (ap (λ (xs : List LockNo). slot p.page ∷ xs) locks ∙ r.0, r.1)
           slot_of (holds.Class c) i so st ba ma = absurd i
           slot_of (holds.Account c) i so st ba ma = absurd i
@@ -639,7 +641,8 @@ module _ (g : Begin) (ok : Known g) (p : Part) (fresh : Option Object) (pin : Op
           scans = tt;
           compacts = tt;
         })
-    at_take (Sweeping x) what kind stands backs marks locks s = by_pool x.class (Moving x) s.compacts.class kind
+    at_take (Sweeping x) what kind stands backs marks locks s =
+        by_pool x.class (Moving x) s.compacts.class kind
         (ap (λ (xs : List LockNo). lock.Class x.class ∷ xs) locks)
         (record {
           kind = tt;
