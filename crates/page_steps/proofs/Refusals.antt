@@ -1,5 +1,5 @@
 -- The events of a refused piece give back what they found.
-use Rattle.std.proofs.Common.{◌≡◌, ◌⊎◌, ℕ, zero, suc, ◌==◌, Bool, true, false, List, [], ◌∷◌, ◌++◌, length, map, Option, Some, None, refl, sym, ap, ◌∙◌, subst, inl, inr, arith, length-append}
+use Rattle.std.proofs.Common.{◌≡◌, ◌⊎◌, ℕ, zero, suc, ◌+◌, ◌==◌, Bool, true, false, List, [], ◌∷◌, ◌++◌, length, map, Option, Some, None, refl, sym, ap, ◌∙◌, subst, inl, inr, arith, length-append}
 use Rattle.std.proofs.lemmas.Bool.{false≢true}
 use Rattle.std.proofs.lemmas.List.{append_cancel_left, map-append}
 use Rattle.std.specs.Prelude.{⊤, slice_set}
@@ -14,7 +14,7 @@ use Rattle.call_history.specs.Parts.{is_read}
 use Rattle.call_history.specs.Shows.{got_from}
 use Rattle.lock_row.specs.declared.names.Held.TheVariants as holds
 use Rattle.zr_base.specs.declared.op.Op.{Op}
-use Rattle.zr_base.specs.declared.op.Op.TheVariants.{Write, Read, Discard, Compact}
+use Rattle.zr_base.specs.declared.op.Op.TheVariants.{Write, Read, Discard, Idle, Compact}
 use Rattle.zr_base.specs.declared.op.OpEnd.TheVariants as ends
 use Rattle.mem_account.specs.Counters.{Counters, counted}
 use Rattle.mem_account.specs.declared.weight.Delta.TheVariants as delta
@@ -27,7 +27,10 @@ use Rattle.slot_entry.specs.declared.kept.Kept.{Kept}
 use Rattle.slot_entry.specs.declared.kept.Kept.TheVariants as kept
 use Rattle.page_steps.specs.Pools.{Lends, Returns}
 use Rattle.page_steps.specs.Steps.{Terms, DiskHeld, Here, taken_at, settle_at, quit_at, took, entry_or, entry_in}
-use Rattle.page_steps.specs.Givings.{Works, fails_by, refuses, pins, unpins, fetches, misses, counts, charges, limits, starves, stows, quits, frees, releases, repays, puts, reads, fails, errs, leaves, compacts}
+use Rattle.page_steps.specs.Givings.{Works, fails_by, refuses, pins, unpins, fetches, misses, counts, charges, limits, starves, stows, quits, frees, releases, repays, puts, reads, fails, errs, leaves, marks, compacts}
+use Rattle.page_steps.specs.Scans.{Marks, scans, scan_at, with_page, marking_by}
+use Rattle.lock_row.specs.declared.names.Scan.{Scan}
+use Rattle.slot_entry.specs.Entries.{is_new_mark}
 use Rattle.page_steps.specs.Compactions.{Compacts, moves, rests, shrinks, moved_at, with_move, compaction_at, resting_by}
 use Rattle.page_steps.specs.Nexts.{ending_by, failing_by, tail_of, own_entry, pinning, fetching, missing}
 use Rattle.page_steps.specs.Pages.{page_in}
@@ -131,7 +134,7 @@ IsEarly at.Both todo f = HasNone f
 IsEarly at.Made todo f = HasSome f
 IsEarly a todo f = ⊥
 
--- the piece isn't refused any more; a compaction never is
+-- the piece isn't refused any more; what is no request never is
 abbrev IsLate : At → List Part → Option PartEnd → Type 0
 IsLate at.Refusing todo f = ⊤
 IsLate at.Failing todo f = IsNoted todo f
@@ -145,6 +148,8 @@ IsLate at.Releasing todo f = ⊤
 IsLate at.Owing todo f = ⊤
 IsLate at.Giving todo f = ⊤
 IsLate at.Ready todo f = ⊤
+IsLate (at.Scanning x) todo f = ⊤
+IsLate (at.Marking x) todo f = ⊤
 IsLate (at.Sweeping x) todo f = ⊤
 IsLate (at.Moving x) todo f = ⊤
 IsLate (at.Shrunk x) todo f = ⊤
@@ -177,6 +182,8 @@ split at.Releasing todo f none = inr tt
 split at.Owing todo f none = inr tt
 split at.Giving todo f none = inr tt
 split at.Ready todo f none = inr tt
+split (at.Scanning x) todo f none = inr tt
+split (at.Marking x) todo f none = inr tt
 split (at.Sweeping x) todo f none = inr tt
 split (at.Moving x) todo f none = inr tt
 split (at.Shrunk x) todo f none = inr tt
@@ -211,6 +218,8 @@ late_take size (p ∷ ps) at.Releasing page k f late = tt
 late_take size (p ∷ ps) at.Owing page k f late = tt
 late_take size (p ∷ ps) at.Giving page k f late = tt
 late_take size (p ∷ ps) at.Ready page k f late = tt
+late_take size (p ∷ ps) (at.Scanning x) page k f late = tt
+late_take size (p ∷ ps) (at.Marking x) page k f late = tt
 late_take size (p ∷ ps) (at.Sweeping x) page k f late = tt
 late_take size (p ∷ ps) (at.Moving x) page k f late = tt
 late_take size (p ∷ ps) (at.Shrunk x) page k f late = tt
@@ -260,6 +269,19 @@ compact_step t l v m (rests p rest x q todo stage held none give is) =
     (rest_step t.chain (compaction_at l.at) ((compaction_at l.at).class == 254) l v p rest todo)
 compact_step t l v m (shrinks p rest x c todo stage held give is) =
     inl (subst (λ (y : Here). IsLate y.at y.todo y.fail × (y.done ≡ l.done)) (sym is) (tt, refl))
+
+scan_step : (x : Scan) (last : Bool) (l : Here) (v : DiskHeld) (p : Part) (rest : List Part)
+    → l.todo ≡ p ∷ rest → Goes l (marking_by x last l v)
+scan_step x true l v p rest todo =
+    let end = over.Whole (ends.Marked x.marked) in
+    inr (record { part = p; end = end; got = [] }, over_is l end (λ p. []) p rest l.todo todo, λ r. r)
+scan_step x false l v p rest todo = inl (tt, refl)
+
+mark_step : (t : Terms) (l : Here) (v : DiskHeld) (m : Here) → Marks t l v m → Goes l m
+mark_step t l v m (scans p rest age x e todo op stage held give is) =
+    subst (λ (y : Here). Goes l y) (sym is)
+    (scan_step (with_page (scan_at l.at) (is_new_mark t.clock age e))
+    (((scan_at l.at).page + 1) == t.size) l v p rest todo)
 
 -- the piece in work is no read
 no_read : (p : Part) (rest todo : List Part) → todo ≡ p ∷ rest → reads_first todo ≡ false
@@ -340,6 +362,7 @@ late_step t l v m (leaves p rest e end todo stage held fail other give is) late 
       noted_late p rest l.todo l.fail end todo fail
           (subst (λ (a : At). IsLate a l.todo l.fail) stage late),
     )
+late_step t l v m (marks c) late = mark_step t l v m c
 late_step t l v m (compacts c) late = compact_step t l v m c
 
 -- What a giving of a piece leaves that may still be refused: it goes on with what it took, or it is
@@ -367,6 +390,7 @@ fails_write : (op : Op) (c : Counters) → is_read op ≡ false
 fails_write (Write start count stuff) c e = refl
 fails_write (Read start count) c e = absurd (false≢true (sym e))
 fails_write (Discard start count) c e = refl
+fails_write (Idle age) c e = refl
 fails_write Compact c e = refl
 
 -- the value that was held last
@@ -451,6 +475,10 @@ early_step t l v m (leaves p rest e end todo stage held fail other give is) earl
       ap (λ (y : Here). y.held) so ∙ held_is l end (λ p. []) p rest l.todo todo
           ∙ sym (ap tail_of held),
     ))
+early_step t l v m (marks c) early = absurd (by c) where
+  by : Marks t l v m → ⊥
+  by (scans p rest age x e todo op stage held give is) =
+      subst (λ (a : At). IsEarly a l.todo l.fail) stage early
 early_step t l v m (compacts c) early = absurd (by c) where
   by : Compacts t l v m → ⊥
   by (moves p rest x q q' budget frames todo stage held more one give is) =

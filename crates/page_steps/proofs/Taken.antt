@@ -66,16 +66,16 @@ device_in P {v = v} fits = absurd fits
 pub fits_start : (c : Head) (r : Scratch) (v : DiskHeld) → is_count c.work ≡ false
     → FitsSome {D = AnyDevice} c r stage.Start v → AsSlot HasPlace v
 fits_start c r v piece (x, w, fits) =
-    subst (λ (b : Bool). StartFits x.terms.chain false b v) (w.beyond ∙ piece)
-    (subst (λ (b : Bool). StartFits x.terms.chain b (is_beyond x.terms.size x.part.op) v) w.request
-    fits)
+    subst (λ (b : Bool). StartFits x.terms x.part.op false b v) (w.beyond ∙ piece)
+    (subst (λ (b : Bool). StartFits x.terms x.part.op b (is_beyond x.terms.size x.part.op) v)
+    w.request fits)
 
 pub fits_beyond : (c : Head) (r : Scratch) (v : DiskHeld) → is_count c.work ≡ true
     → FitsSome {D = AnyDevice} c r stage.Beyond v → AsAccount (λ a. Unit {0}) v
 fits_beyond c r v count (x, w, fits) =
-    subst (λ (b : Bool). StartFits x.terms.chain false b v) (w.beyond ∙ count)
-    (subst (λ (b : Bool). StartFits x.terms.chain b (is_beyond x.terms.size x.part.op) v) w.request
-    fits)
+    subst (λ (b : Bool). StartFits x.terms x.part.op false b v) (w.beyond ∙ count)
+    (subst (λ (b : Bool). StartFits x.terms x.part.op b (is_beyond x.terms.size x.part.op) v)
+    w.request fits)
 
 pub fits_seen : (c : Head) (r : Scratch) (e : EntryState) (o : Stored) (v : DiskHeld)
     → e.kept ≡ kept.Obj o → FitsSome {D = AnyDevice} c r (stage.Seen e o) v → AsPool (CanPin o) v

@@ -20,12 +20,7 @@ give-requires g c =
 pub returns : goal.returns
 returns g c =
     let a = c.args in
-    let empty : c.put.new.self ≡ emptied a.own.entry = λ i. record {
-      kept = c.put.ensures.kept i;
-      order = c.put.ensures.order i;
-      room = c.put.ensures.room i;
-      touched = c.put.ensures.touched i;
-    } in
+    let empty : c.put.new.self ≡ emptied a.own.entry = c.put.ensures in
     gives_it (freeing 0) c.requires tt refl
     (can_release a.head a.scratch.now a.own a.block a.next a.blocks c.release.new.self c.requires.fit.1
     c.release.ensures.free)

@@ -16,12 +16,7 @@ give_by-requires g c =
 pub returns : goal.returns
 returns g c =
     let a = c.args in
-    let empty : c.put.new.self ≡ emptied a.own.entry = λ i. record {
-      kept = c.put.ensures.kept i;
-      order = c.put.ensures.order i;
-      room = c.put.ensures.room i;
-      touched = c.put.ensures.touched i;
-    } in
+    let empty : c.put.new.self ≡ emptied a.own.entry = c.put.ensures in
     gives_it (freeing c.drop_object-frames.result) c.requires tt refl
     (can_free a.head a.scratch.now a.own a.object a.next a.pool c.drop_object-frames.new.pool
     c.drop_object-frames.result c.requires.fit.1 c.drop_object-frames.ensures)
