@@ -1,5 +1,5 @@
 -- What kind of value a place has.
-use Rattle.std.proofs.Common.{◌≡◌, ◌+◌, ◌≤◌, ◌<◌, ℕ, List, arith}
+use Rattle.std.proofs.Common.{◌+◌, ◌≤◌, ◌<◌, ℕ, List, arith}
 use Rattle.joint_rule.proofs.Pages.{ever_now}
 use Rattle.joint_rule.specs.Begins.{Begin, form_at, image}
 use Rattle.joint_rule.specs.Joint.{Sound, Stands}

@@ -35,7 +35,6 @@ use Rattle.std.proofs.lemmas.Bool.{cases_eq, cases_lt, eqb-false, eqb-true, le-l
 use Rattle.std.proofs.lemmas.List.{length-map}
 use Rattle.std.proofs.lemmas.List.Sums.{sum_by-cons}
 use Rattle.zspage.specs.Cells.{UsedCell}
-use Rattle.zr_base.specs.Plain.{is_maintenance}
 use Rattle.zr_base.specs.declared.op.Op.{Op}
 use Rattle.zr_base.specs.declared.op.Op.TheVariants.{Compact, Discard, Idle, Read, Write}
 use Rattle.lock_row.specs.declared.names.LockNo.TheVariants as lock
