@@ -93,7 +93,7 @@ returns-clause-start o c g rests =
     c.in_ok-workers.ensures c.in_ok-counts.ensures.counted c.in_ok-reserve_all.ensures.reserved
     (no_entry c.args.self.now.pages c.args.self.now.noted.items c.args.self.now.row.cells
     c.requires.rest)
-    g rests c.requires.work refl c.phases_go_on.ensures.next c.disks_begin.ensures.proper
+    g rests c.requires.work c.requires.time refl c.phases_go_on.ensures.next c.disks_begin.ensures.proper
 
 pub returns-clause-can : goal.returns-clause-can
 returns-clause-can o c =
@@ -104,7 +104,8 @@ returns-clause-can o c =
     c.in_ok-workers.ensures c.in_ok-counts.ensures.counted c.in_ok-reserve_all.ensures.reserved
     (no_entry c.args.self.now.pages c.args.self.now.noted.items c.args.self.now.row.cells
     c.requires.rest)
-    c.args.self.now.noted.items c.requires.rest c.requires.none c.requires.work refl
+    c.args.self.now.noted.items c.requires.rest c.requires.none c.requires.work
+    c.requires.time refl
     (are_counted c.args.self.now.pages c.in_ok-counts.counts c.in_ok-noted.noted.items
     c.in_ok-noted.ensures.keys c.noted_pages.ensures.ordered c.in_ok-counts.ensures.only)
     c.rule_keeps.ensures.start c.phases_go_on.ensures.next c.disks_begin.ensures.proper
