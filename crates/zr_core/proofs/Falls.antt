@@ -391,8 +391,8 @@ module _ (sums : SumMoves DiskHeld) (t : Terms) where
       → left_with ls a m < locals_sum (left_by t.size (t.size + length ls)) ls
   less_left ls a l m who lt =
       let n = t.size + length ls in
-      let q = sums (left_by n) ls a l m who in
-      let e : left_with ls a m ≡ locals_sum (left_by n) (slice_set ls a m) =
+      let q = sums (left_by t.size n) ls a l m who in
+      let e : left_with ls a m ≡ locals_sum (left_by t.size n) (slice_set ls a m) =
       ap (λ (k : ℕ). locals_sum (left_by t.size (t.size + k)) (slice_set ls a m)) (length-set ls a m) in
       omega arith
 

@@ -259,6 +259,12 @@ still_rests pages noted old new rest d counts r = record {
 
 -- ---- the workers
 
+-- where there are actors the disk has a page
+pub has_page : (pages : ℕ) (actors : List (List Op)) → (pages ≡ 0 → actors ≡ [])
+    → 0 < length actors → 0 < pages
+has_page zero actors none lt = absurd (let q = ap length (none refl) in let no : ⊥ = omega arith in no)
+has_page (suc n) actors none lt = omega arith
+
 none_over : {D : Type 0} (ws : List (Worker D)) (a : ℕ) (done : List Done)
     → slice_get (nothing_over ws) a ≡ Some done
     → done ≡ []

@@ -69,6 +69,7 @@ nothing_told ends.Range = refl
 nothing_told (ends.AtLimit pages need limit done) = refl
 nothing_told (ends.NoMemory done) = refl
 nothing_told (ends.Eio fault done) = refl
+nothing_told (ends.Marked pages) = refl
 nothing_told (ends.Compacted moves frames) = refl
 
 read_told : (start count : ℕ) (end : OpEnd) (got : List (List ℕ))
