@@ -5,6 +5,7 @@ pub mod Pools
 pub mod Lookups
 pub mod Blocks
 pub mod Stages
+pub mod Places
 pub mod Takes
 pub mod Zspages
 pub mod Classes
@@ -16,6 +17,7 @@ pub mod Objects
 pub mod Accounts
 pub mod Compactions
 pub mod Device
+pub mod Scans
 pub mod Givings
 pub mod Keeps
 pub mod Bounds
@@ -27,6 +29,7 @@ pub mod Sweeps
 pub mod Alone
 pub mod Faults
 pub mod Fetches
+pub mod Ages
 pub mod Turns
 pub mod Starts
 pub mod Gets
