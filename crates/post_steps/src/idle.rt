@@ -134,7 +134,7 @@ fn scan<D: Backing, H: Hand<Value = DiskHeld<D>>>(
     }
 }
 
-// The scan once its page is behind it, with one mark more where it is new.
+// The scan after its page, with one mark more where it is new.
 fn passed(x: Scan, new: bool) -> Scan
     requires { (x.page < 2 ^ 32 - 1) × (x.marked ≤ x.page) }
     ensures { result ≡ with_page x new }
