@@ -63,7 +63,7 @@ no_change (Idle age) i e = i
 no_change Compact i e = i
 
 -- what is beyond the disk is no compaction
-beyond_other : (size : ℕ) (op : Op) → is_beyond size op ≡ true → is_maintenance op ≡ false
+pub beyond_other : (size : ℕ) (op : Op) → is_beyond size op ≡ true → is_maintenance op ≡ false
 beyond_other size (Write start count stuff) e = refl
 beyond_other size (Read start count) e = refl
 beyond_other size (Discard start count) e = refl
@@ -72,7 +72,7 @@ beyond_other size (Idle age) e = absurd (let z = ltb-true (8 * size) (0 + 0) e i
 beyond_other size Compact e = absurd (let z = ltb-true (8 * size) (0 + 0) e in
     let no : ⊥ = omega arith in no)
 
-on_page : (size : ℕ) (op : Op) → is_single size op ≡ false → is_maintenance op ≡ false
+pub on_page : (size : ℕ) (op : Op) → is_single size op ≡ false → is_maintenance op ≡ false
 on_page size op e = (or_parts (is_maintenance op) (is_beyond size op) e).0
 
 -- a refused piece did nothing

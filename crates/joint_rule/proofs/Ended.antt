@@ -1,7 +1,7 @@
 -- What a finished phase tells: its histories agree with its orders, and the account with the rest.
 use Rattle.std.proofs.Common.{◌≡◌, ◌+◌, ◌*◌, ◌-◌, ◌/◌, ◌≤◌, ◌<◌, ◌∷◌, ◌++◌, ◌∙◌, ℕ, zero, suc, Bool, true, false, cond, eqb, List, [], length, sum_by, Option, Some, None, slice_get, refl, sym, ap, subst, arith, inl, inr, zero-add}
 use Rattle.plain_disk.specs.Idles.{KeepsMark, is_marked_in}
-use Rattle.joint_rule.proofs.Ages.{ages_end}
+use Rattle.joint_rule.proofs.Idles.{ages_end}
 use Rattle.backing_dev.specs.Dev.{DeviceState}
 use Rattle.block_map.specs.BlockMap.{BlockMap}
 use Rattle.call_history.specs.Alone.{IsAloneOver}
@@ -629,11 +629,10 @@ module _ (r : Rest) (actors : List (List Op)) (ok : Known (begin_at r actors)) (
       let who : slice_get w.locals 0 ≡ Some l.0 = ap (λ (ls : List Here). slice_get ls 0) l.1 in
       let o = rule.alone l.0 l.1 in
       let c = o.calm (ap (λ (ps : List Part). is_calm ps l.0.at) (over g w rule fin 0 l.0 who)) in
-      let marks = ages_end g w rule fin l.0 l.1 in
       subst (λ (ds : List Done). IsAloneOver page_weight r ds m) l.2 (record {
         still = o.still;
-        marks = marks.0;
-        idle = marks.1;
+        marks = o.ages.marks;
+        idle = λ p lt. ages_end g w rule fin l.0 l.1 p lt;
         least = λ t. class_least (c.tight t);
         few = let e = objects_are in let z = c.few in omega arith;
       })

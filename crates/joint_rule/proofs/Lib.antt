@@ -29,6 +29,7 @@ pub mod Sweeps
 pub mod Alone
 pub mod Faults
 pub mod Fetches
+pub mod Aged
 pub mod Ages
 pub mod Turns
 pub mod Starts
@@ -36,6 +37,7 @@ pub mod Gets
 pub mod Fitting
 pub mod Rests
 pub mod Ranges
+pub mod Idles
 pub mod Ended
 pub mod Renewals
 pub mod NewDisks

@@ -87,7 +87,7 @@ module _ (g : Begin) where
   holds_after f [] s = refl
   holds_after f (t ∷ ts) s = holds_after (after (named g.given.actors t) f) ts s
 
-  after_push : (f : Found) (order : List Tag) (t : Tag)
+  pub after_push : (f : Found) (order : List Tag) (t : Tag)
       → after_all g.given.actors f (order ++ t ∷ [])
       ≡ after (named g.given.actors t) (after_all g.given.actors f order)
   after_push f [] t = refl
