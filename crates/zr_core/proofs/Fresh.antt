@@ -17,11 +17,11 @@ use Rattle.joint_rule.specs.Begins.{Begin, IsSector, Proper}
 use Rattle.joint_rule.specs.Laws.{NewIsAtRest, RequestsAreProper}
 use Rattle.joint_rule.specs.Starts.{AreFree, IsNew}
 use Rattle.zr_core.specs.Machines.{order_in, without_calls, without_orders}
-use Rattle.zr_core.specs.Rests.{slots_of, classes_of, last_locks, names_of, RestsAs, IsAtRest, new_disk}
+use Rattle.zr_core.specs.Rests.{slots_of, classes_of, last_locks, names_of, IsTime, RestsAs, IsAtRest, new_disk}
 use Rattle.zr_core.specs.Rows.{AreNew}
 use Rattle.zr_core.proofs.Lists.{get_left, get_right, get_else}
 use Rattle.zr_core.proofs.Matches.{Row, was_at, emptied_long, emptied_at}
-use Rattle.zr_core.proofs.Rests.{at_rest}
+use Rattle.zr_core.proofs.Rests.{fits_so, at_rest}
 
 -- ---- one place more
 
@@ -184,6 +184,13 @@ new_proper law pages limit device most = law (new_disk pages limit device) (λ t
       few = omega arith;
       pieces = λ p lt. omega arith;
     }
+
+-- its pages were touched at no time after the first
+pub new_time : (pages limit now : ℕ) (device : DeviceState) (cells : Row)
+    → RestsAs (new_disk pages limit device) pages cells → IsTime now cells
+new_time pages limit now device cells rests p e at =
+    let touched = (fits_so (new_disk pages limit device) pages cells rests p e at).touched in
+    omega arith
 
 without_new : (g : Begin) (k : ℕ) (v : DiskHeld) → IsNew g k v → IsNew g k (without_calls v)
 without_new g k (holds.Slot e) is =

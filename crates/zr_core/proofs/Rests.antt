@@ -179,7 +179,7 @@ module _ (g : Begin) (pages : ℕ) (cells : Row) (rests : RestsAs g pages cells)
   }
 
   -- an entry without its order is that of a page of the disk
-  fits_so : (p : ℕ) (e : EntryState) → slice_get cells p ≡ Some (Some (holds.Slot e))
+  pub fits_so : (p : ℕ) (e : EntryState) → slice_get cells p ≡ Some (Some (holds.Slot e))
       → EntryFits g p (record e { order = []; room = 0 })
   fits_so p e at = (rests.row.home p (without_calls (holds.Slot e))
       (emptied_at cells p (Some (holds.Slot e)) at)).sound
