@@ -4,7 +4,7 @@ use Rattle.std.proofs.Math.Seq.{take-suc}
 use Rattle.std.proofs.lemmas.List.{length_push, length-take-le}
 use Rattle.std.proofs.lemmas.Option.{slice_get_within, get_or_from_slice_get}
 use Rattle.zr_base.specs.declared.op.Op.{Op}
-use Rattle.zr_base.specs.declared.op.Op.TheVariants.{Write, Read, Discard, Compact}
+use Rattle.zr_base.specs.declared.op.Op.TheVariants.{Write, Read, Discard, Idle, Compact}
 use Rattle.call_history.specs.Parts.{program}
 use Rattle.page_steps.specs.Steps.{Terms}
 use Rattle.actor_steps.specs.declared.place.Place.{Place}
@@ -68,6 +68,7 @@ new_fits : (size : ℕ) (pl : Place) (k : ℕ) (op : Op) (r : Reply) → IsNewRe
     → ReplyFits size pl k op r
 new_fits size pl k (Write start count stuff) r n = n.none
 new_fits size pl k (Discard start count) r n = n.none
+new_fits size pl k (Idle age) r n = n.none
 new_fits size pl k Compact r n = n.none
 new_fits size pl k (Read start count) r n = (
   record {
@@ -81,17 +82,19 @@ new_fits size pl k (Read start count) r n = (
   λ beyond. n.none,
 )
 
-pub is_new_worker : {D : Type 0} (size chain actor : ℕ) (ops : List Op) (w : Worker D) → AreRequests ops
+pub is_new_worker : {D : Type 0} (size chain actor : ℕ) (ops : List Op) (w : Worker D) → 0 < size
+    → AreRequests ops
     → length ops < 2 ^ 32 → w.actor ≡ actor → w.call ≡ None → w.carried ≡ 0
     → w.scratch.table ≡ chain → chain ≤ 16 → IsPlace ops w.place → IsSettled size ops w.place
     → todo_at size ops w.place ≡ program size 0 ops
     → AreNewReplies size ops w.replies.items → IsNewWorker size chain actor ops w
-is_new_worker size chain actor ops w requests few who at carried table most place settled todo new =
+is_new_worker size chain actor ops w some requests few who at carried table most place settled todo new =
     record {
       who = who;
       at = at;
       todo = todo;
       fit = λ now. let t : Terms = record { size = size; chain = chain; clock = now } in record {
+        some = some;
         requests = requests;
         few = few;
         place = place;

@@ -1,14 +1,17 @@
 -- The call of a piece before its first event.
-use Rattle.std.proofs.Common.{◌≡◌, ℕ, ◌+◌, ◌≤◌, true, false, List, Some, slice_get, refl, sym, ap, ◌∙◌, subst}
+use Rattle.std.proofs.Common.{◌≡◌, ℕ, ◌+◌, ◌<◌, ◌≤◌, true, false, List, Option, Some, slice_get, refl, sym, ap, ◌∙◌, subst}
 use Rattle.zr_base.specs.declared.op.Op.{Op}
+use Rattle.zr_base.specs.declared.op.Op.TheVariants.{Idle, Compact}
 use Rattle.zr_base.specs.declared.op.Tag.{Tag}
 use Rattle.zr_base.specs.declared.op.Piece.{Piece}
-use Rattle.zr_base.specs.Plain.{is_beyond, is_compaction}
+use Rattle.zr_base.specs.Plain.{is_beyond, is_maintenance}
 use Rattle.page_steps.specs.declared.stage.Work.{Work}
 use Rattle.page_steps.specs.Calls.{is_count, Asks, started, counting}
 use Rattle.post_steps.specs.declared.compact.CompactCall.{CompactCall}
 use Rattle.post_steps.specs.declared.compact.CompactStage.{CompactStage}
 use Rattle.post_steps.specs.declared.compact.CompactStage.TheVariants as stage
+use Rattle.post_steps.specs.declared.idle.IdleCall.{IdleCall}
+use Rattle.post_steps.specs.declared.idle.IdleStage.TheVariants as scan
 use Rattle.actor_steps.specs.declared.call.Call.{Call}
 use Rattle.actor_steps.specs.declared.call.Call.TheVariants as call
 use Rattle.actor_steps.specs.Workers.{IsBegun}
@@ -22,13 +25,13 @@ module _ {D : Type 0} (size now : ℕ) (tag : Tag) (op : Op) (page : ℕ) (fresh
     start = λ x r. refl;
     work = λ x r s n c o p t f. record {
       chain = c;
-      request = ap is_compaction o ∙ request_beyond size op on;
+      request = ap is_maintenance o ∙ request_beyond size op on;
       beyond = (λ i. is_beyond (s i) (o i)) ∙ on;
       call = λ (off : true ≡ false). absurd (cc);
     };
   }
 
-  pub begun_as : (w : Work) (p : Piece) → is_compaction op ≡ false → is_beyond size op ≡ false
+  pub begun_as : (w : Work) (p : Piece) → is_maintenance op ≡ false → is_beyond size op ≡ false
       → is_count w ≡ false
       → p.page.0 ≡ page → p.first + p.count ≤ 8 → Asks w p fresh op
       → IsBegun {D = D} size now tag op page fresh (call.Page (started w p tag now))
@@ -38,7 +41,7 @@ module _ {D : Type 0} (size now : ℕ) (tag : Tag) (op : Op) (page : ℕ) (fresh
     start = λ x r. refl;
     work = λ x r s n c o q t f. record {
       chain = c;
-      request = ap is_compaction o ∙ request;
+      request = ap is_maintenance o ∙ request;
       beyond = (λ i. is_beyond (s i) (o i)) ∙ off ∙ sym piece;
       call = λ e. record {
         tag = t;
@@ -49,7 +52,20 @@ module _ {D : Type 0} (size now : ℕ) (tag : Tag) (op : Op) (page : ℕ) (fresh
     };
   }
 
-  pub begun_compact : (c : CompactCall) → c.stage ≡ stage.Start → is_compaction op ≡ true
+  pub begun_idle : (c : IdleCall) (age : Option ℕ) → 0 < size → c ≡ record {
+    head = record { pages = size; now = now; age = age };
+    stage = scan.Start;
+  } → op ≡ Idle age → IsBegun {D = D} size now tag op page fresh (call.Idle c)
+  begun_idle c age some start on =
+      subst (λ (d : IdleCall). IsBegun {D = D} size now tag op page fresh (call.Idle d)) (sym start)
+      (record {
+        going = tt;
+        fit = λ r few. some;
+        start = λ x r. refl;
+        work = λ x r s n c o p t f. record { pages = sym s; clock = sym n; op = o ∙ on };
+      })
+
+  pub begun_compact : (c : CompactCall) → c.stage ≡ stage.Start → op ≡ Compact
       → IsBegun {D = D} size now tag op page fresh (call.Compact c)
   begun_compact c start on =
       subst (λ (s : CompactStage). IsBegun {D = D} size now tag op page fresh
@@ -57,7 +73,7 @@ module _ {D : Type 0} (size now : ℕ) (tag : Tag) (op : Op) (page : ℕ) (fresh
         going = tt;
         fit = λ r few. few;
         start = λ x r. refl;
-        work = λ x r s n c o p t f. record { chain_is = c; op = ap is_compaction o ∙ on };
+        work = λ x r s n c o p t f. record { chain_is = c; op = o ∙ on };
       })
 
 -- for the operation that is the nr-th

@@ -18,7 +18,11 @@ use Rattle.page_steps.specs.Turns.{Allows as PageAllows, after as after_page, Ad
 use Rattle.post_steps.specs.declared.compact.CompactCall.{CompactCall}
 use Rattle.post_steps.specs.declared.compact.CompactStage.{CompactStage}
 use Rattle.post_steps.specs.Compact.{here as compact_here, next_event as compact_event, IsWork as IsCompactWork, IsGoing as IsCompactGoing}
-use Rattle.post_steps.specs.Turns.{Allows, after as after_compact, Advanced as CompactAdvanced}
+use Rattle.post_steps.specs.declared.idle.IdleCall.{IdleCall}
+use Rattle.post_steps.specs.declared.idle.IdleHead.{IdleHead}
+use Rattle.post_steps.specs.declared.idle.IdleStage.{IdleStage}
+use Rattle.post_steps.specs.Idle.{here as idle_here, next_event as idle_event, IsWork as IsIdleWork, IsGoing as IsIdleGoing}
+use Rattle.post_steps.specs.Turns.{Allows, after as after_alone, Advanced as AloneAdvanced}
 use Rattle.actor_steps.specs.declared.call.Call.{Call}
 use Rattle.actor_steps.specs.declared.call.Call.TheVariants as call
 use Rattle.actor_steps.specs.Calls.{Does, local, next_event, IsFit, IsGoing, is_alone, after, Advanced}
@@ -35,17 +39,24 @@ abbrev pub CompactPlans : Type 0
 CompactPlans = (chain : ℕ) (s : CompactStage) (x : Frame) → IsCompactGoing s → IsCompactWork chain x
     → plan x.terms (compact_here x s) ≡ compact_event s
 
-pub plan_is : {D : Type 0} → PagePlans D → CompactPlans → (c : Call D) (r : Scratch) (x : Frame) → IsFit c r
-    → IsGoing c → Does c r x → plan x.terms (local c r x) ≡ next_event c
-plan_is pages compacts (call.Page c) r x fit on does = pages c.head r c.stage x fit on does
-plan_is pages compacts (call.Compact c) r x fit on does = compacts r.table c.stage x on does
+-- and for a call that marks pages
+abbrev pub ScanPlans : Type 0
+ScanPlans = (c : IdleHead) (s : IdleStage) (x : Frame) → IsIdleGoing s → IsIdleWork c x
+    → plan x.terms (idle_here x s) ≡ idle_event s
 
--- an operation is over in one piece exactly where its call counts it, or compacts
+pub plan_is : {D : Type 0} → PagePlans D → CompactPlans → ScanPlans → (c : Call D) (r : Scratch) (x : Frame)
+    → IsFit c r → IsGoing c → Does c r x → plan x.terms (local c r x) ≡ next_event c
+plan_is pages compacts scans (call.Page c) r x fit on does = pages c.head r c.stage x fit on does
+plan_is pages compacts scans (call.Idle c) r x fit on does = scans c.head c.stage x on does
+plan_is pages compacts scans (call.Compact c) r x fit on does = compacts r.table c.stage x on does
+
+-- an operation is over in one piece exactly where its call counts it, marks pages, or compacts
 pub alone_is : {D : Type 0} (c : Call D) (r : Scratch) (x : Frame) → Does c r x
     → is_single x.terms.size x.part.op ≡ is_alone c
 alone_is (call.Page c) r x does =
     ap (λ b. b || is_beyond x.terms.size x.part.op) does.request ∙ does.beyond
-alone_is (call.Compact c) r x does = ap (λ b. b || is_beyond x.terms.size x.part.op) does.op
+alone_is (call.Idle c) r x does = ap (is_single x.terms.size) does.op
+alone_is (call.Compact c) r x does = ap (is_single x.terms.size) does.op
 
 -- ---- turns
 
@@ -55,11 +66,11 @@ after_page_is x l r s progress.Moved = refl
 after_page_is x l r s (progress.Waits k) = refl
 after_page_is x l r s (progress.Done end) = refl
 
-after_compact_is : (l m : Here) (p : Progress)
-    → after_compact l m p ≡ after l m (λ end q. []) p
-after_compact_is l m progress.Moved = refl
-after_compact_is l m (progress.Waits k) = refl
-after_compact_is l m (progress.Done end) = refl
+after_alone_is : (l m : Here) (p : Progress)
+    → after_alone l m p ≡ after l m (λ end q. []) p
+after_alone_is l m progress.Moved = refl
+after_alone_is l m (progress.Waits k) = refl
+after_alone_is l m (progress.Done end) = refl
 
 -- what the hand allows a page's call, as the page's crate says it
 pub page_allows : {D X : Type 0} {can_take : X → LockNo → Next → Type 0}
@@ -79,10 +90,18 @@ module _ {X : Type 0} {takes : X → LockNo → Next → DiskHeld → X → Type
       subst (λ (m : Here). Turned takes misses gives x.terms (page_here x r c.stage) h m g p)
       (after_page_is x (page_here x r c.stage) s d.stage p) (turns x does)
 
+  pub idle_turn : (D : Type 0) (c d : IdleCall)
+      → AloneAdvanced takes misses gives (IsIdleWork c.head) (λ x. idle_here x c.stage) h
+      (λ x. idle_here x d.stage) g p
+      → Advanced takes misses gives {D = D} (call.Idle c) r h (call.Idle d) s g p
+  idle_turn D c d turns x does =
+      subst (λ (m : Here). Turned takes misses gives x.terms (idle_here x c.stage) h m g p)
+      (after_alone_is (idle_here x c.stage) (idle_here x d.stage) p) (turns x does)
+
   pub compact_turn : (D : Type 0) (c d : CompactCall)
-      → CompactAdvanced takes misses gives (IsCompactWork r.table) (λ x. compact_here x c.stage) h
+      → AloneAdvanced takes misses gives (IsCompactWork r.table) (λ x. compact_here x c.stage) h
       (λ x. compact_here x d.stage) g p
       → Advanced takes misses gives {D = D} (call.Compact c) r h (call.Compact d) s g p
   compact_turn D c d turns x does =
       subst (λ (m : Here). Turned takes misses gives x.terms (compact_here x c.stage) h m g p)
-      (after_compact_is (compact_here x c.stage) (compact_here x d.stage) p) (turns x does)
+      (after_alone_is (compact_here x c.stage) (compact_here x d.stage) p) (turns x does)

@@ -5,7 +5,7 @@ use native.Mathlib.Decide.{ℕ_discrete}
 use Rattle.std.proofs.lemmas.Bool.{cases_Bool, eq-eqb, ne_eqb}
 use Rattle.std.proofs.lemmas.List.{append-nil}
 use Rattle.zr_base.specs.declared.op.Op.{Op}
-use Rattle.zr_base.specs.declared.op.Op.TheVariants.{Write, Read, Discard, Compact}
+use Rattle.zr_base.specs.declared.op.Op.TheVariants.{Write, Read, Discard, Idle, Compact}
 use Rattle.plain_disk.specs.Ends.{is_single}
 use Rattle.call_history.specs.declared.part.Part.{Part}
 use Rattle.call_history.specs.declared.part.Done.{Done}
@@ -50,6 +50,7 @@ got_plain piece.Range page p none = refl
 got_plain (piece.AtLimit pages need limit) page p none = refl
 got_plain piece.NoMemory page p none = refl
 got_plain (piece.Eio fault) page p none = refl
+got_plain (piece.Marked pages) page p none = refl
 got_plain (piece.Compacted moves frames) page p none = refl
 
 -- nor does one of an operation that is over in one piece
@@ -63,12 +64,14 @@ got_none piece.Range page p none = refl
 got_none (piece.AtLimit pages need limit) page p none = refl
 got_none piece.NoMemory page p none = refl
 got_none (piece.Eio fault) page p none = refl
+got_none (piece.Marked pages) page p none = refl
 got_none (piece.Compacted moves frames) page p none = refl
 
 -- what a call says of it
 got_is : {D : Type 0} (c : Call D) (r : Scratch) (end : PieceEnd) (p : Part) → EndsAs (is_alone c) end
     → got_in c r end p ≡ got_of_piece end r.page p
 got_is (call.Page c) r end p e = refl
+got_is (call.Idle c) r end p e = sym (got_none end r.page p (e refl))
 got_is (call.Compact c) r end p e = sym (got_none end r.page p (e refl))
 
 -- ---- room in replies
@@ -78,6 +81,7 @@ reads_fit : (size : ℕ) (pl : Place) (op : Op) (r : Reply) → is_single size o
     → vec_len r.sectors + reads op pl.page ≤ vec_capacity r.sectors
 reads_fit size pl (Write start count stuff) r inside f le = omega arith
 reads_fit size pl (Discard start count) r inside f le = omega arith
+reads_fit size pl (Idle age) r inside f le = omega arith
 reads_fit size pl Compact r inside f le = omega arith
 reads_fit size pl (Read start count) r inside f le = let q = f.0.here refl inside in omega arith
 
@@ -96,6 +100,7 @@ has_room size pl op r k piece.Range single e f le = tt
 has_room size pl op r k (piece.AtLimit pages need limit) single e f le = tt
 has_room size pl op r k piece.NoMemory single e f le = tt
 has_room size pl op r k (piece.Eio fault) single e f le = tt
+has_room size pl op r k (piece.Marked pages) single e f le = tt
 has_room size pl op r k (piece.Compacted moves frames) single e f le = tt
 
 -- a later place asks for no more room
@@ -103,6 +108,7 @@ fits_later : (size : ℕ) (pl pl' : Place) (k : ℕ) (op : Op) (r : Reply) → k
     → IsOnward (behind pl) pl' → ReplyFits size pl k op r → ReplyFits size pl' k op r
 fits_later size pl pl' k (Write start count stuff) r ne on f = f
 fits_later size pl pl' k (Discard start count) r ne on f = f
+fits_later size pl pl' k (Idle age) r ne on f = f
 fits_later size pl pl' k Compact r ne on f = f
 fits_later size pl pl' k (Read start count) r ne on f = (
   record {
@@ -131,6 +137,10 @@ fits_here size pl pl' (Write start count stuff) was is k end page on len room go
 fits_here size pl pl' (Discard start count) was is k end page on len room got single e f =
     got ∙ ap (λ (xs : List (List ℕ)). was.sectors.items ++ xs)
     (got_plain end page (part_at pl (Discard start count)) (λ b. refl))
+    ∙ append-nil was.sectors.items ∙ f
+fits_here size pl pl' (Idle age) was is k end page on len room got single e f =
+    got ∙ ap (λ (xs : List (List ℕ)). was.sectors.items ++ xs)
+    (got_plain end page (part_at pl (Idle age)) (λ b. refl))
     ∙ append-nil was.sectors.items ∙ f
 fits_here size pl pl' Compact was is k end page on len room got single e f =
     got ∙ ap (λ (xs : List (List ℕ)). was.sectors.items ++ xs)
@@ -245,6 +255,7 @@ module _ {D : Type 0} (t : Terms) (ops : List Op) (v : Worker D) (c : Call D)
 
     pub ends_fit : r.table ≡ v.scratch.table → IsFit t ops w'
     ends_fit table = record {
+      some = fit.some;
       requests = fit.requests;
       few = fit.few;
       place = fin.place;
@@ -347,6 +358,7 @@ module _ {D : Type 0} (t : Terms) (ops : List Op) (v : Worker D) (c : Call D)
           → ending_by (local b v.scratch y) (ending end) (got_in b r end) (local b v.scratch y).todo
           ≡ over (got_in b r end (part_at v.place op))
       ends_so (call.Page b) = refl
+      ends_so (call.Idle b) = refl
       ends_so (call.Compact b) = refl
 
       -- is the worker's

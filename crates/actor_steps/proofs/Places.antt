@@ -4,8 +4,8 @@ use Rattle.std.proofs.lemmas.Bool.{cases_Bool, eq-eqb, ne_eqb, ltb-true}
 use Rattle.std.proofs.lemmas.Bool.Decides.{nat_tests}
 use Rattle.std.proofs.lemmas.Option.{slice_get-get_or}
 use Rattle.zr_base.specs.declared.op.Op.{Op}
-use Rattle.zr_base.specs.declared.op.Op.TheVariants.{Write, Read, Discard, Compact}
-use Rattle.zr_base.specs.Plain.{start_of, count_of, has_event, is_beyond, is_compaction, touches, IsRequest, InBounds}
+use Rattle.zr_base.specs.declared.op.Op.TheVariants.{Write, Read, Discard, Idle, Compact}
+use Rattle.zr_base.specs.Plain.{start_of, count_of, has_event, is_beyond, is_maintenance, touches, IsRequest, InBounds}
 use Rattle.zr_base.specs.Pieces.{first_page, pages_of}
 use Rattle.plain_disk.specs.Ends.{is_single}
 use Rattle.call_history.specs.declared.part.Part.{Part}
@@ -37,20 +37,21 @@ module _ {A : Type 0} where
   drop_out (y ∷ ys) zero le = absurd (omega arith)
   drop_out (y ∷ ys) (suc i) le = drop_out ys i (omega arith)
 
-pub in_bounds : (op : Op) → is_compaction op ≡ false → IsRequest op
+pub in_bounds : (op : Op) → is_maintenance op ≡ false → IsRequest op
     → InBounds (start_of op) (count_of op)
 in_bounds (Write start count stuff) request r = r.0
 in_bounds (Read start count) request r = r
 in_bounds (Discard start count) request r = r
+in_bounds (Idle age) request r = absurd (true≢false request)
 in_bounds Compact request r = absurd (true≢false request)
 
-pub pages_some : (op : Op) → is_compaction op ≡ false → IsRequest op
+pub pages_some : (op : Op) → is_maintenance op ≡ false → IsRequest op
     → pages_of op ≡ (start_of op + count_of op - 1) / 8 + 1 - start_of op / 8
 pages_some op request r =
     ap (λ (b : Bool). cond b 0 ((start_of op + count_of op - 1) / 8 + 1 - start_of op / 8))
     (ne_eqb (count_of op) 0 (λ z. let b = (in_bounds op request r).1 in omega arith))
 
-few_of_request : (op : Op) → is_compaction op ≡ false → IsRequest op
+few_of_request : (op : Op) → is_maintenance op ≡ false → IsRequest op
     → (first_page op < 2 ^ 29) × (pages_of op < 1000)
 few_of_request op request r =
     let n = pages_some op request r in
@@ -64,6 +65,7 @@ few_of : (op : Op) → IsRequest op → (first_page op < 2 ^ 29) × (pages_of op
 few_of (Write start count stuff) r = few_of_request (Write start count stuff) refl r
 few_of (Read start count) r = few_of_request (Read start count) refl r
 few_of (Discard start count) r = few_of_request (Discard start count) refl r
+few_of (Idle age) r = (omega arith, omega arith)
 few_of Compact r = (omega arith, omega arith)
 
 pub few_pages : (op : Op) → IsRequest op → pages_of op < 1000
@@ -74,17 +76,20 @@ low_page op r = (few_of op r).0
 
 -- one that isn't over in one piece is a request, on the disk
 pub request_on : (size : ℕ) (op : Op) → is_single size op ≡ false
-    → (is_compaction op ≡ false) × (is_beyond size op ≡ false)
+    → (is_maintenance op ≡ false) × (is_beyond size op ≡ false)
 request_on size (Write start count stuff) off = (refl, off)
 request_on size (Read start count) off = (refl, off)
 request_on size (Discard start count) off = (refl, off)
+request_on size (Idle age) off = absurd (true≢false off)
 request_on size Compact off = absurd (true≢false off)
 
 -- only a request is beyond the disk
-pub request_beyond : (size : ℕ) (op : Op) → is_beyond size op ≡ true → is_compaction op ≡ false
+pub request_beyond : (size : ℕ) (op : Op) → is_beyond size op ≡ true → is_maintenance op ≡ false
 request_beyond size (Write start count stuff) on = refl
 request_beyond size (Read start count) on = refl
 request_beyond size (Discard start count) on = refl
+request_beyond size (Idle age) on =
+    let lt = ltb-true (8 * size) 0 on in absurd (let none : ⊥ = omega arith in none)
 request_beyond size Compact on =
     let lt = ltb-true (8 * size) 0 on in absurd (let none : ⊥ = omega arith in none)
 
@@ -264,7 +269,7 @@ todo_next size ops pl op at s =
 
 -- the request at a place touches its page
 pub touches_here : (size : ℕ) (ops : List Op) (pl : Place) (op : Op) → slice_get ops pl.nr ≡ Some op
-    → AreRequests ops → IsPlace ops pl → IsSettled size ops pl → is_compaction op ≡ false
+    → AreRequests ops → IsPlace ops pl → IsSettled size ops pl → is_maintenance op ≡ false
     → Touches op pl.page
 touches_here size ops pl op at requests place settled request =
     let on = on_here size ops pl.nr op at pl.page pl.left place in
@@ -277,7 +282,7 @@ touches_here size ops pl op at requests place settled request =
     }
 
 -- and so do its sectors
-pub is_touched : (op : Op) (page : ℕ) → is_compaction op ≡ false → Touches op page
+pub is_touched : (op : Op) (page : ℕ) → is_maintenance op ≡ false → Touches op page
     → IsTrue (touches (start_of op) (count_of op) page)
 is_touched op page request t =
     let n = pages_some op request t.request in

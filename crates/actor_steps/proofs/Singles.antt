@@ -1,5 +1,5 @@
 -- The piece of an operation that is over in one piece reads nothing.
-use Rattle.std.proofs.Common.{◌≡◌, ℕ, ◌==◌, Bool, true, false, List, [], ◌∷◌, ◌++◌, Option, Some, None, refl, sym, ap, ◌∙◌, subst}
+use Rattle.std.proofs.Common.{◌≡◌, ℕ, ◌+◌, ◌==◌, Bool, true, false, List, [], ◌∷◌, ◌++◌, Option, Some, None, refl, sym, ap, ◌∙◌, subst}
 use Rattle.call_history.specs.declared.part.Part.{Part}
 use Rattle.call_history.specs.declared.part.PartEnd.{PartEnd}
 use Rattle.call_history.specs.declared.part.PartEnd.TheVariants as over
@@ -10,8 +10,10 @@ use Rattle.lock_row.specs.declared.names.LockNo.{LockNo}
 use Rattle.lock_row.specs.declared.names.At.{At}
 use Rattle.lock_row.specs.declared.names.At.TheVariants as at
 use Rattle.lock_row.specs.declared.names.Compaction.{Compaction}
+use Rattle.lock_row.specs.declared.names.Scan.{Scan}
 use Rattle.lock_row.specs.declared.names.Plan.{Plan}
 use Rattle.lock_row.specs.declared.names.Plan.TheVariants.{Take}
+use Rattle.slot_entry.specs.Entries.{is_new_mark}
 use Rattle.page_steps.specs.declared.stage.Head.{Head}
 use Rattle.page_steps.specs.declared.stage.Scratch.{Scratch}
 use Rattle.page_steps.specs.declared.stage.Stage.{Stage}
@@ -22,13 +24,17 @@ use Rattle.page_steps.specs.declared.stage.Progress.{Progress}
 use Rattle.page_steps.specs.declared.stage.Progress.TheVariants as progress
 use Rattle.page_steps.specs.Steps.{Terms, DiskHeld, Here, start_plan}
 use Rattle.page_steps.specs.Nexts.{Next, ending_by}
-use Rattle.page_steps.specs.Givings.{Works, refuses, pins, unpins, fetches, misses, counts, charges, limits, starves, stows, quits, frees, releases, repays, puts, reads, fails, errs, leaves, compacts}
+use Rattle.page_steps.specs.Givings.{Works, refuses, pins, unpins, fetches, misses, counts, charges, limits, starves, stows, quits, frees, releases, repays, puts, reads, fails, errs, leaves, marks, compacts}
+use Rattle.page_steps.specs.Scans.{scans, scan_at, with_page, marking_by}
 use Rattle.page_steps.specs.Compactions.{moves, rests, shrinks, resting_by, compaction_at}
 use Rattle.page_steps.specs.Calls.{Frame, here, is_count, IsWork, IsFit, IsGoing, end_of, got_of}
 use Rattle.page_steps.specs.Turns.{Turned, waited, took_it, gave_it}
 use Rattle.post_steps.specs.declared.compact.CompactStage.{CompactStage}
 use Rattle.post_steps.specs.declared.compact.CompactStage.TheVariants as compact
 use Rattle.post_steps.specs.Compact.{here as compact_here, at_of}
+use Rattle.post_steps.specs.declared.idle.IdleStage.{IdleStage}
+use Rattle.post_steps.specs.declared.idle.IdleStage.TheVariants as scan
+use Rattle.post_steps.specs.Idle.{here as idle_here, at_of as scan_at_of}
 use Rattle.actor_steps.specs.declared.call.Call.{Call}
 use Rattle.actor_steps.specs.declared.call.Call.TheVariants as call
 use Rattle.actor_steps.specs.Calls.{Does, local, got_by, is_alone, IsFit as IsCallFit, IsGoing as IsCallGoing}
@@ -73,6 +79,7 @@ whole_end piece.Range whole e = tt
 whole_end (piece.AtLimit pages need limit) whole e = tt
 whole_end piece.NoMemory whole e = tt
 whole_end (piece.Eio fault) whole e = tt
+whole_end (piece.Marked pages) whole e = tt
 whole_end (piece.Compacted n frames) whole e = tt
 
 no : {A : Type 0} (b : Bool) → b ≡ true → b ≡ false → A
@@ -113,6 +120,7 @@ module _ (c : Head) (r : Scratch) (x : Frame) (first : x.done ≡ []) (end : Pie
   refused D a v m (fails p rest e last e₁ e₂ e₃ e₄ e₅ is) same = absurd (subst IsRefusing e₂ tt)
   refused D a v m (errs p rest e f last e₁ e₂ e₃ e₄ e₅ e₆ e₇ is) same = absurd (subst IsRefusing e₂ tt)
   refused D a v m (leaves p rest e last e₁ e₂ e₃ e₄ e₅ e₆ is) same = absurd (subst IsRefusing e₂ tt)
+  refused D a v m (marks (scans p rest age y e e₁ e₂ e₃ e₄ e₅ is)) same = absurd (subst IsRefusing e₃ tt)
   refused D a v m (compacts (moves p rest y q q' budget frames e₁ e₂ e₃ e₄ e₅ e₆ is)) same = absurd (subst IsRefusing e₂ tt)
   refused D a v m (compacts (rests p rest y q e₁ e₂ e₃ e₄ e₅ is)) same = absurd (subst IsRefusing e₂ tt)
   refused D a v m (compacts (shrinks p rest y k e₁ e₂ e₃ e₄ is)) same = absurd (subst IsRefusing e₂ tt)
@@ -161,23 +169,31 @@ module _ (c : Head) (r : Scratch) (x : Frame) (first : x.done ≡ []) (end : Pie
     reads_nothing (stage.Ready due ahead behind) going fit last = no (is_count c.work) on fit.piece
     reads_nothing stage.Over going fit last = absurd going
 
--- ---- a compaction
+-- ---- what is no request
 
-abbrev IsCompacting : At → Type 0
-IsCompacting at.Start = Unit {0}
-IsCompacting (at.Sweeping y) = Unit {0}
-IsCompacting (at.Moving y) = Unit {0}
-IsCompacting (at.Shrunk y) = Unit {0}
-IsCompacting (at.Shrinking y) = Unit {0}
-IsCompacting a = ⊥
+abbrev IsTending : At → Type 0
+IsTending at.Start = Unit {0}
+IsTending (at.Scanning y) = Unit {0}
+IsTending (at.Marking y) = Unit {0}
+IsTending (at.Sweeping y) = Unit {0}
+IsTending (at.Moving y) = Unit {0}
+IsTending (at.Shrunk y) = Unit {0}
+IsTending (at.Shrinking y) = Unit {0}
+IsTending a = ⊥
 
-compacting : (s : CompactStage) → IsCompacting (at_of s)
+compacting : (s : CompactStage) → IsTending (at_of s)
 compacting compact.Start = tt
 compacting (compact.Sweeping y) = tt
 compacting (compact.Moving y q) = tt
 compacting (compact.Shrunk y frames) = tt
 compacting (compact.Shrinking y frames a) = tt
 compacting compact.Over = tt
+
+scanning : (s : IdleStage) → IsTending (scan_at_of s)
+scanning scan.Start = tt
+scanning (scan.Scanning y) = tt
+scanning (scan.Marking y e) = tt
+scanning scan.Over = tt
 
 abbrev IsOver : Option PartEnd → Type 0
 IsOver None = ⊥
@@ -204,49 +220,61 @@ module _ (l : Here) (none : l.done ≡ []) (end : PieceEnd) where
   rested chain y false v p rest todo is =
       not_yet (resting_by chain y false l v) refl is
 
-  -- the last giving of a compaction
-  compacted : (t : Terms) (v : DiskHeld) (m : Here) → IsCompacting l.at → Works t l v m
+  scanned : (y : Scan) (last : Bool) (v : DiskHeld) (p : Part) (rest : List Part)
+      → l.todo ≡ p ∷ rest → first_end (marking_by y last l v).done ≡ Some (end_of end)
+      → ReadsNothing end
+  scanned y true v p rest todo is =
+      let whole = ends.Marked y.marked in
+      whole_end end whole (sym is ∙ first_is l (over.Whole whole) (λ q. []) p rest todo none)
+  scanned y false v p rest todo is = not_yet (marking_by y false l v) refl is
+
+  -- the last giving
+  tended : (t : Terms) (v : DiskHeld) (m : Here) → IsTending l.at → Works t l v m
       → first_end m.done ≡ Some (end_of end) → ReadsNothing end
-  compacted t v m on (compacts (moves p rest y q q' budget frames e₁ e₂ e₃ e₄ e₅ e₆ is)) so =
+  tended t v m on (marks (scans p rest age y e e₁ e₂ e₃ e₄ e₅ is)) so =
+      scanned (with_page (scan_at l.at) (is_new_mark t.clock age e))
+      (((scan_at l.at).page + 1) == t.size) v p rest e₁
+      (sym (ap (λ (k : Here). first_end k.done) is) ∙ so)
+  tended t v m on (compacts (moves p rest y q q' budget frames e₁ e₂ e₃ e₄ e₅ e₆ is)) so =
       not_yet m (ap (λ (k : Here). k.done) is) so
-  compacted t v m on (compacts (rests p rest y q e₁ e₂ e₃ e₄ e₅ is)) so =
+  tended t v m on (compacts (rests p rest y q e₁ e₂ e₃ e₄ e₅ is)) so =
       rested t.chain (compaction_at l.at) ((compaction_at l.at).class == 254) v p rest e₁
       (sym (ap (λ (k : Here). first_end k.done) is) ∙ so)
-  compacted t v m on (compacts (shrinks p rest y k e₁ e₂ e₃ e₄ is)) so =
+  tended t v m on (compacts (shrinks p rest y k e₁ e₂ e₃ e₄ is)) so =
       not_yet m (ap (λ (k : Here). k.done) is) so
-  compacted t v m on (refuses p rest k e₁ e₂ e₃ e₄ is) so = absurd (subst IsCompacting e₂ on)
-  compacted t v m on (pins p rest e o q q' cell e₁ e₂ e₃ e₄ e₅ e₆ is) so = absurd (subst IsCompacting e₂ on)
-  compacted t v m on (unpins p rest e o q q' e₁ e₂ e₃ e₄ e₅ e₆ is) so = absurd (subst IsCompacting e₂ on)
-  compacted t v m on (fetches p rest e b d d' page e₁ e₂ e₃ e₄ e₅ e₆ e₇ is) so = absurd (subst IsCompacting e₂ on)
-  compacted t v m on (misses p rest e b d d' fault e₁ e₂ e₃ e₄ e₅ e₆ is) so = absurd (subst IsCompacting e₂ on)
-  compacted t v m on (counts p rest e k e₁ e₂ e₃ e₄ is) so = absurd (subst IsCompacting e₂ on)
-  compacted t v m on (charges p rest e k q q' class handle need bytes huge e₁ e₂ e₃ e₄ e₅ e₆ e₇ e₈ is) so =
-      absurd (subst IsCompacting e₂ on)
-  compacted t v m on (limits p rest e k q class need e₁ e₂ e₃ e₄ e₅ e₆ is) so = absurd (subst IsCompacting e₂ on)
-  compacted t v m on (starves p rest e k q class e₁ e₂ e₃ e₄ e₅ e₆ is) so = absurd (subst IsCompacting e₂ on)
-  compacted t v m on (stows p rest e q class e₁ e₂ e₃ e₄ e₅ is) so = absurd (subst IsCompacting e₂ on)
-  compacted t v m on (quits p rest e q class last e₁ e₂ e₃ e₄ e₅ is) so = absurd (subst IsCompacting e₂ on)
-  compacted t v m on (frees p rest e o q q' frames e₁ e₂ e₃ e₄ e₅ e₆ is) so = absurd (subst IsCompacting e₂ on)
-  compacted t v m on (releases p rest e b y e₁ e₂ e₃ e₄ e₅ is) so = absurd (subst IsCompacting e₂ on)
-  compacted t v m on (repays p rest e k e₁ e₂ e₃ e₄ is) so = absurd (subst IsCompacting e₂ on)
-  compacted t v m on (puts p rest e f e₁ e₂ e₃ e₄ e₅ is) so = absurd (subst IsCompacting e₂ on)
-  compacted t v m on (reads p rest e f e₁ e₂ e₃ e₄ e₅ e₆ is) so = absurd (subst IsCompacting e₂ on)
-  compacted t v m on (fails p rest e last e₁ e₂ e₃ e₄ e₅ is) so = absurd (subst IsCompacting e₂ on)
-  compacted t v m on (errs p rest e f last e₁ e₂ e₃ e₄ e₅ e₆ e₇ is) so = absurd (subst IsCompacting e₂ on)
-  compacted t v m on (leaves p rest e last e₁ e₂ e₃ e₄ e₅ e₆ is) so = absurd (subst IsCompacting e₂ on)
+  tended t v m on (refuses p rest k e₁ e₂ e₃ e₄ is) so = absurd (subst IsTending e₂ on)
+  tended t v m on (pins p rest e o q q' cell e₁ e₂ e₃ e₄ e₅ e₆ is) so = absurd (subst IsTending e₂ on)
+  tended t v m on (unpins p rest e o q q' e₁ e₂ e₃ e₄ e₅ e₆ is) so = absurd (subst IsTending e₂ on)
+  tended t v m on (fetches p rest e b d d' page e₁ e₂ e₃ e₄ e₅ e₆ e₇ is) so = absurd (subst IsTending e₂ on)
+  tended t v m on (misses p rest e b d d' fault e₁ e₂ e₃ e₄ e₅ e₆ is) so = absurd (subst IsTending e₂ on)
+  tended t v m on (counts p rest e k e₁ e₂ e₃ e₄ is) so = absurd (subst IsTending e₂ on)
+  tended t v m on (charges p rest e k q q' class handle need bytes huge e₁ e₂ e₃ e₄ e₅ e₆ e₇ e₈ is) so =
+      absurd (subst IsTending e₂ on)
+  tended t v m on (limits p rest e k q class need e₁ e₂ e₃ e₄ e₅ e₆ is) so = absurd (subst IsTending e₂ on)
+  tended t v m on (starves p rest e k q class e₁ e₂ e₃ e₄ e₅ e₆ is) so = absurd (subst IsTending e₂ on)
+  tended t v m on (stows p rest e q class e₁ e₂ e₃ e₄ e₅ is) so = absurd (subst IsTending e₂ on)
+  tended t v m on (quits p rest e q class last e₁ e₂ e₃ e₄ e₅ is) so = absurd (subst IsTending e₂ on)
+  tended t v m on (frees p rest e o q q' frames e₁ e₂ e₃ e₄ e₅ e₆ is) so = absurd (subst IsTending e₂ on)
+  tended t v m on (releases p rest e b y e₁ e₂ e₃ e₄ e₅ is) so = absurd (subst IsTending e₂ on)
+  tended t v m on (repays p rest e k e₁ e₂ e₃ e₄ is) so = absurd (subst IsTending e₂ on)
+  tended t v m on (puts p rest e f e₁ e₂ e₃ e₄ e₅ is) so = absurd (subst IsTending e₂ on)
+  tended t v m on (reads p rest e f e₁ e₂ e₃ e₄ e₅ e₆ is) so = absurd (subst IsTending e₂ on)
+  tended t v m on (fails p rest e last e₁ e₂ e₃ e₄ e₅ is) so = absurd (subst IsTending e₂ on)
+  tended t v m on (errs p rest e f last e₁ e₂ e₃ e₄ e₅ e₆ e₇ is) so = absurd (subst IsTending e₂ on)
+  tended t v m on (leaves p rest e last e₁ e₂ e₃ e₄ e₅ e₆ is) so = absurd (subst IsTending e₂ on)
 
 module _ {X : Type 0} (takes : X → LockNo → Next → DiskHeld → X → Type 0)
     (misses : X → LockNo → X → Type 0) (gives : X → LockNo → Next → DiskHeld → X → Type 0) (h g : X)
     (x : Frame) (first : x.done ≡ []) (end : PieceEnd) where
-  compact_reads_nothing : (s : CompactStage) (got : Part → List (List ℕ))
-      → Turned takes misses gives x.terms (compact_here x s) h
-      (ending_by (compact_here x s) (end_of end) got (compact_here x s).todo) g (progress.Done end)
+  tending_reads_nothing : (l : Here) (got : Part → List (List ℕ)) → IsTending l.at
+      → l.todo ≡ x.part ∷ x.rest → l.done ≡ []
+      → Turned takes misses gives x.terms l h (ending_by l (end_of end) got l.todo) g (progress.Done end)
       → ReadsNothing end
-  compact_reads_nothing s got (waited k e miss same none) = absurd none
-  compact_reads_nothing s got (took_it k f v e take is same none) = absurd (subst IsDone none tt)
-  compact_reads_nothing s got (gave_it k f v e give is works moved) =
-      compacted (compact_here x s) first end x.terms v _ (compacting s) works
-      (first_is (compact_here x s) (end_of end) got x.part x.rest refl first)
+  tending_reads_nothing l got on todo none (waited k e miss same never) = absurd never
+  tending_reads_nothing l got on todo none (took_it k f v e take is same never) =
+      absurd (subst IsDone never tt)
+  tending_reads_nothing l got on todo none (gave_it k f v e give is works moved) =
+      tended l none end x.terms v _ on works (first_is l (end_of end) got x.part x.rest todo none)
 
   -- the last turn of a call that does an operation in one piece
   pub ends_alone : {D : Type 0} (c : Call D) (r s : Scratch) → Does c r x → IsCallFit c r → IsCallGoing c
@@ -255,5 +283,7 @@ module _ {X : Type 0} (takes : X → LockNo → Next → DiskHeld → X → Type
       → EndsAs (is_alone c) end
   ends_alone (call.Page c) r s does fit going last on =
       reads_nothing c.head r x first end s.page on does takes misses gives h g c.stage going fit last
+  ends_alone (call.Idle c) r s does fit going last on =
+      tending_reads_nothing (idle_here x c.stage) (λ p. []) (scanning c.stage) refl first last
   ends_alone (call.Compact c) r s does fit going last on =
-      compact_reads_nothing c.stage (λ p. []) last
+      tending_reads_nothing (compact_here x c.stage) (λ p. []) (compacting c.stage) refl first last

@@ -25,7 +25,7 @@ use Rattle.actor_steps.specs.Places.{todo_at, part_at, behind}
 use Rattle.actor_steps.specs.Calls.{Does, local, IsGoing, next_event as call_event, IsFit as IsCallFit}
 use Rattle.actor_steps.specs.Workers.{at_by, held_by, owed_by, stage_of, here, next_event, with_call, frame, Keeps, IsBegun, IsFit, TakesAs, GivesAs, Allows, finished, turned, turn_of, Turned, Advanced}
 use Rattle.actor_steps.proofs.Places.{todo_next, no_todo}
-use Rattle.actor_steps.proofs.Calls.{PagePlans, CompactPlans, plan_is}
+use Rattle.actor_steps.proofs.Calls.{PagePlans, CompactPlans, ScanPlans, plan_is}
 
 -- the worker after a turn in which its call goes on
 abbrev pub gone_on : {D : Type 0} → Worker D → Scratch → Call D → Worker D
@@ -68,6 +68,8 @@ module _ {D : Type 0} (t : Terms) (ops : List Op) (v : Worker D) (c : Call D)
   pub here_is : (r : Scratch) (d : Call D) (done : List Done)
       → local d r (x done) ≡ here t.size ops (gone_on v r d) done
   here_is r (call.Page d) done = λ i. record (local (call.Page d) r (x done)) { todo = sym todo_is i }
+  here_is r (call.Idle d) done =
+      λ i. record (local {D = D} (call.Idle d) r (x done)) { todo = sym todo_is i }
   here_is r (call.Compact d) done =
       λ i. record (local {D = D} (call.Compact d) r (x done)) { todo = sym todo_is i }
 
@@ -81,11 +83,11 @@ module _ {D : Type 0} (t : Terms) (ops : List Op) (v : Worker D) (c : Call D)
   module _ {X : Type 0} (can_take : X → LockNo → Next → Type 0)
       (takes : X → LockNo → Next → DiskHeld → X → Type 0)
       (can_give : X → LockNo → Next → DiskHeld → Type 0) (h : X)
-      (pages : PagePlans D) (compacts : CompactPlans)
+      (pages : PagePlans D) (compacts : CompactPlans) (scans : ScanPlans)
       (allows : Allows can_take takes can_give t ops w h) where
     next_is : (p : Plan) → call_event c ≡ p → next_event t ops w ≡ p
     next_is p e = sym (ap (plan t) (here_is v.scratch c []))
-        ∙ plan_is pages compacts c v.scratch (x []) fit.call.fit fit.call.going (work []) ∙ e
+        ∙ plan_is pages compacts scans c v.scratch (x []) fit.call.fit fit.call.going (work []) ∙ e
 
     takes_as : (f : Next) → CallTakesAs (Does c v.scratch) (local c v.scratch) f → TakesAs t ops w f
     takes_as f says done u = subst (λ (l : Here). f l u ≡ took t l u) (here_is v.scratch c done)
@@ -136,6 +138,7 @@ module _ {D : Type 0} (t : Terms) (ops : List Op) (v : Worker D) (c : Call D)
       → ((y : Frame) → Does c v.scratch y → Does d r y) → r.table ≡ v.scratch.table
       → IsFit t ops (gone_on v r d)
   still_fit r d going fits works table = record {
+    some = fit.some;
     requests = fit.requests;
     few = fit.few;
     place = fit.place;
@@ -253,6 +256,7 @@ module _ {D : Type 0} (t : Terms) (ops : List Op) (v : Worker D) (empty : None �
 
   pub begun_fit : IsFit t ops now
   begun_fit = record {
+    some = fit.some;
     requests = fit.requests;
     few = fit.few;
     place = fit.place;

@@ -18,7 +18,8 @@ pub struct Place {
     pub left: u32,
 }
 
-/// Whether an operation is over in one piece: a compaction, or a request beyond the disk.
+/// Whether an operation is over in one piece: a scan that marks pages, a compaction, or a request
+/// beyond the disk.
 pub(crate) fn is_single(size: u32, op: &Op) -> bool
     requires { IsRequest op.now }
     ensures { result ≡ is_single size op.now }

@@ -4,6 +4,7 @@ pub mod Ends
 pub mod Operations
 pub mod Actors
 pub mod Alone
+pub mod Marks
 pub mod Sums
 pub mod Grown
 pub mod Phases

@@ -140,7 +140,7 @@ module _ (t : Ground) (b : Bounds) where
   single_may op (ends.Compacted moves frames) may = may
   single_may op _ may = absurd may
 
-  single_stands : (op : Op) (end : OpEnd) (p : ℕ) → MayBeSingle t op end
+  pub single_stands : (op : Op) (end : OpEnd) (p : ℕ) → MayBeSingle t op end
       → stands_on op end p ≡ false
   single_stands op ends.Range p may = refl
   single_stands op (ends.Marked pages) p may = refl

@@ -30,7 +30,9 @@ use Rattle.call_history.proofs.Orders.{Rising, count_is, rises_is, before_is}
 use Rattle.call_history.proofs.Operations.{By, Reads, never_stands, pages_some}
 use Rattle.call_history.proofs.Actors.{stood, actor_noted, actor_ends, actor_reads, stood_rises, stood_once}
 use Rattle.plain_disk.specs.Compactions.{are_tight, MoveNone, moves_after, IsAlone}
+use Rattle.plain_disk.specs.Idles.{Aged, pages_at, pages_after, AreMarked}
 use Rattle.call_history.proofs.Alone.{tell}
+use Rattle.call_history.proofs.Marks.{tell_marks}
 use Rattle.call_history.proofs.Sums.{IsSteady, failed_read-is, failed_write-is, starved-is, tells_fault-is, compacted-is, beyond-is, all_sum}
 
 -- ---- lists
@@ -330,7 +332,7 @@ module _ (form : List ℕ → Weight) (r : Rest) (actors : List (List Op)) (done
       → now ≡ at_most_end (old + ends_sum w actors ends_now)
   counted w is old now e = e ∙ ap (λ (n : ℕ). at_most_end (old + n)) (ends_are w is)
 
-  module _ (c : Counters) (told : Tallies form r actors dones orders c m) (never : ⊥) where
+  module _ (c : Counters) (told : Tallies form r actors dones orders c m) where
     leaves : Leaves form r actors ends_now orders m
     leaves = record {
       pages = told.pages;
@@ -367,6 +369,8 @@ module _ (form : List ℕ → Weight) (r : Rest) (actors : List (List Op)) (done
           let tight = are_tight r.set.chain r.used in
           let x = tell t (b 0) 0 ops done tight 0 (some 0 ops named)
           (follows_by 0 ops done named there) in
+          let marks = tell_marks form r t (b 0) 0 ops done (pages_at r) (some 0 ops named)
+          (follows_by 0 ops done named there) in
           let is_es : ends_from 0 ops done ≡ es =
           (let q : ends_from 0 ops done ∷ [] ≡ es ∷ [] =
           sym (λ i. ends_each (one i) (is i)) ∙ ends in cc) in record {
@@ -374,8 +378,10 @@ module _ (form : List ℕ → Weight) (r : Rest) (actors : List (List Op)) (done
             least = λ e. over.least (x.least e);
             few = let le = x.few in let most = over.few in
                 let same = ap (moves_after 0 ops) is_es in omega arith;
-            marks = absurd never;
-            idle = absurd never;
+            marks = subst (AreMarked form r (pages_at r) ops) is_es (marks.marks over.marks);
+            idle = λ p lt. over.idle p lt ∙ ap (λ (s : Aged). s.idle)
+                (sym (marks.pages_are p) ∙ ap (λ (x : List OpEnd).
+                pages_after form r (pages_at r) ops x p) is_es);
           }
 
     pub is_phase : IsPhase form r actors

@@ -23,7 +23,6 @@ pub fn histories_go_on()
 /// allows, where the account's counters are sums over orders and ends; and these are then the
 /// statistics of the rest that the phase leaves.
 pub fn histories_tell()
-    requires never { ⊥ }
     ensures phase { TellsPhase }
     ensures account { TellsAccount }
 {}

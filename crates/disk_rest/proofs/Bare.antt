@@ -61,7 +61,8 @@ module _ (m : Rest) (none : m.size ≡ 0) (unused : IsUnused m) where
 
   pub no_states : report page_weight m states ≡ []
   no_states =
-      ap (λ (n : ℕ). flat_map (λ p. state_line p (kept_at page_weight m p) (m.touched p))
+      ap (λ (n : ℕ). flat_map
+      (λ p. state_line p (kept_at page_weight m p) (m.idle p) (m.touched p))
       (range_with_len 0 n)) none
 
   pub no_classes : report page_weight m classes ≡ []

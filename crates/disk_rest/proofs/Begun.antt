@@ -32,7 +32,8 @@ zero_is = (
 
 new_empties : (g : Begin) (k : ℕ) (v : DiskHeld) → IsNewValue g k v
     → IsNewValue g k (without_calls v)
-new_empties g k (holds.Slot e) is = (is.0, is.1, refl, is.3, is.4, is.5)
+new_empties g k (holds.Slot e) is =
+    (is.0, is.1, refl, is.3, is.4, is.5, is.6, is.7, is.8)
 new_empties g k (holds.Class x) is = is
 new_empties g k (holds.Account x) is = is
 new_empties g k (holds.Blocks x) is = is
@@ -90,6 +91,7 @@ module _ (r : Rest) (n : ℕ) (row : Row) (at_rest : NewIsAtRest)
     plain = record {
       sectors = λ s. zero_is;
       blanks = λ p k lt e. refl;
+      times = λ p lt. omega arith;
       least = low;
       most = high;
     };

@@ -1,15 +1,17 @@
 -- What a page in the form that it has to have weighs.
-use Rattle.std.proofs.Common.{◌≡◌, ℕ, Bool, true, false, ◌&&◌, cond, List, refl, sym, ap, ◌∙◌}
+use Rattle.std.proofs.Common.{◌≡◌, ℕ, Bool, true, false, ◌&&◌, cond, List, [], refl, sym, ap, ◌∙◌}
 use Rattle.std.proofs.lemmas.Bool.{true≢false}
 use Rattle.zr_base.specs.declared.op.Tag.{Tag}
 use Rattle.mem_account.specs.declared.weight.Weight.{Weight}
 use Rattle.mem_account.specs.declared.weight.Weight.TheVariants as weights
 use Rattle.plain_disk.specs.Calls.{kept_as}
+use Rattle.plain_disk.specs.Idles.{is_marked_in}
 use Rattle.slot_entry.specs.declared.kept.Kept.{Kept}
 use Rattle.slot_entry.specs.declared.kept.Kept.TheVariants as kept
-use Rattle.slot_entry.specs.Entries.{weight_of}
+use Rattle.slot_entry.specs.Entries.{EntryState, weight_of}
 use Rattle.slot_entry.specs.Forms.{PageForm, Blank, Word, Pooled, form_of, form_weight, page_weight}
 use Rattle.joint_rule.specs.Begins.{Begin, content, form_by, form_at, found_after}
+use Rattle.joint_rule.specs.Joint.{MarkFits}
 use Rattle.joint_rule.specs.Stages.{IsForm, is_wb}
 
 -- the account counts a kept form as the form, where its page isn't on the device
@@ -57,3 +59,15 @@ form_keeps g p order =
 pub back_still : (back : Bool) → (back && true) ≡ back
 back_still true = refl
 back_still false = refl
+
+-- two marks are the same where each is set by the other
+same_mark : (x y : Bool) → (x ≡ true → y ≡ true) → (y ≡ true → x ≡ true) → x ≡ y
+same_mark true y to from = sym (to refl)
+same_mark false true to from = from refl
+same_mark false false to from = refl
+
+-- without calls, and where no operation marks pages, a page is idle where it was
+pub mark_still : (g : Begin) (p : ℕ) (e : EntryState) → e.order ≡ []
+    → is_marked_in g.given.actors ≡ false → MarkFits g p e → g.idle p ≡ e.idle
+mark_still g p e none unmarked fits =
+    same_mark (g.idle p) e.idle (fits.stays none) (λ idle. (fits.only unmarked idle).1)

@@ -14,6 +14,7 @@ use Rattle.call_history.specs.Laws.{TellsPhase, TellsAccount}
 use Rattle.call_history.specs.Histories.{HasSomeEach, ends_each, told_each}
 use Rattle.lock_row.specs.declared.names.Held.TheVariants as holds
 use Rattle.lock_row.specs.declared.names.State.{State}
+use Rattle.slot_entry.specs.Entries.{EntryState}
 use Rattle.slot_entry.specs.Forms.{page_weight}
 use Rattle.page_steps.specs.Pages.{new_class}
 use Rattle.page_steps.specs.Steps.{DiskHeld, class_by, entry_in, plan_by}
@@ -101,6 +102,7 @@ module _ (laws : Ending) (r : Rest) (actors : List (List Op)) (w : State DiskHel
 
   roomy : IsRoomy h
   roomy = record {
+    some = λ lt. absurd (omega arith);
     least = proper.least;
     most = proper.most;
     few = let few = proper.few in omega arith;
@@ -109,11 +111,13 @@ module _ (laws : Ending) (r : Rest) (actors : List (List Op)) (w : State DiskHel
 
   next_proper : Proper h
   next_proper = laws.proper r actors [] r.set w proper rule finished no_requests roomy
+      (omega arith)
 
   plain : IsPlain m
   plain = let p = next_proper in record {
     sectors = p.sectors [];
     blanks = p.blanks;
+    times = p.times;
     least = p.least;
     most = p.most;
   }
@@ -121,10 +125,10 @@ module _ (laws : Ending) (r : Rest) (actors : List (List Op)) (w : State DiskHel
   renewed : (k : ℕ) (v : DiskHeld) → slice_get w.row k ≡ Some (Some v)
       → Renewed g h k v (without_calls v)
   renewed k (holds.Slot e) at =
-      slots e (record { kept = e.kept; order = []; room = 0; touched = e.touched }) refl refl
-      (laws.entry r actors [] r.set w k e
-      (record { kept = e.kept; order = []; room = 0; touched = e.touched }) proper rule finished at
-      refl refl refl)
+      let emptied : EntryState = record e { order = []; room = 0 } in
+      slots e emptied refl refl
+      (laws.entry r actors [] r.set w k e emptied proper rule finished at
+      refl refl refl refl refl)
   renewed k (holds.Class x) at = pools x refl refl
   renewed k (holds.Account x) at = accounts x x refl refl refl (λ le. le)
   renewed k (holds.Blocks x) at = maps x x refl refl refl

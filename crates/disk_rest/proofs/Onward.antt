@@ -1,4 +1,5 @@
--- A row that stands for a rest, and what may follow: a phase, another limit, or a lower maximum.
+-- A row that stands for a rest, and what may follow: a phase, another limit, a later time, or a
+-- lower maximum.
 use Rattle.std.proofs.Common.{◌≡◌, ◌≢◌, ℕ, ◌+◌, ◌<◌, ◌≤◌, List, [], length, Some, None, slice_get, slice_set, get_or-set_same, get_or-set_other, length-set, refl, sym, ap, ◌∙◌, subst, arith, inl, inr}
 use Rattle.std.proofs.lemmas.Bool.{cases_eq}
 use Rattle.std.proofs.lemmas.Option.{slice_get_within}
@@ -18,33 +19,51 @@ use Rattle.joint_rule.specs.Laws.{RestGoesOn}
 use Rattle.joint_rule.specs.Starts.{AtRest, IsStart, Renewed, slots, accounts, pools, maps, devices}
 use Rattle.joint_rule.specs.Ends.{begin_at, value_at, used_in, account_in, account_of}
 use Rattle.disk_rest.specs.Rows.{Row, used_at, without_calls, without_orders, IsKept, KeepsValues}
-use Rattle.disk_rest.specs.Resting.{StandsFor, IsSetUp}
-use Rattle.disk_rest.proofs.Forms.{back_still}
+use Rattle.disk_rest.specs.Resting.{IsPlain, StandsFor, IsSetUp}
+use Rattle.disk_rest.proofs.Forms.{back_still, mark_still}
 use Rattle.disk_rest.proofs.Places.{value_is}
 use Rattle.disk_rest.proofs.Tight.{no_pool_loose}
 use Rattle.disk_rest.proofs.Matches.{matched, value_there, was_at, was_slot, emptied_long, emptied_at}
 use Rattle.disk_rest.proofs.Reports.{pool_tells, account_tells}
 
--- the rest at another limit and another greatest number of frames
-abbrev changed : Rest → ℕ → ℕ → Rest
-changed r n most = record r { most = most; set = record r.set { limit = n } }
+-- the rest at another limit, another time and another greatest number of frames
+abbrev changed : Rest → ℕ → ℕ → ℕ → Rest
+changed r limit time most =
+    record r { most = most; set = record r.set { limit = limit; clock = time } }
+
+no_less : (n : ℕ) → n ≤ n
+no_less n = omega arith
+
+-- what is plain stays so at a later time
+later_plain : (r : Rest) (limit time most : ℕ) → IsPlain r → r.set.clock ≤ time
+    → IsPlain (changed r limit time most)
+later_plain r limit time most plain later = record {
+  sectors = plain.sectors;
+  blanks = plain.blanks;
+  times = λ p lt. let touched = plain.times p lt in omega arith;
+  least = plain.least;
+  most = plain.most;
+}
 
 -- ---- values that are kept
 
 self_kept : (v : DiskHeld) → IsKept v v
-self_kept (holds.Slot e) = (e, refl, refl, refl)
+self_kept (holds.Slot e) = (e, refl, refl)
 self_kept (holds.Class x) = refl
 self_kept (holds.Account x) = refl
 self_kept (holds.Blocks x) = refl
 self_kept (holds.Device x) = refl
 
+-- a row keeps its values
+row_kept : (row : Row) → KeepsValues row row
+row_kept row = record { size = refl; each = λ k v at. (v, at, self_kept v) }
+
 -- without its order a value is kept too
 kept_still : (v u : DiskHeld) → IsKept v u → IsKept v (without_calls u)
 kept_still (holds.Slot e) u is = (
-  record { kept = is.0.kept; order = []; room = 0; touched = is.0.touched },
+  record is.0 { order = []; room = 0 },
   ap without_calls is.1,
-  is.2,
-  is.3,
+  ap (λ (x : EntryState). record x { order = []; room = 0 }) is.2,
 )
 kept_still (holds.Class x) u is = ap without_calls is
 kept_still (holds.Account x) u is = ap without_calls is
@@ -73,23 +92,26 @@ device_known r row st k v at home d is =
 
 -- ---- rows that go on from one that stands for a rest
 
-module _ (r : Rest) (n most : ℕ) (actors : List (List Op)) where
+module _ (r : Rest) (limit time most : ℕ) (actors : List (List Op)) where
   abbrev g : Begin
   g = begin_at r []
 
   abbrev h : Begin
-  h = begin_at (changed r n most) actors
+  h = begin_at (changed r limit time most) actors
 
   -- a value that is kept, with an empty order, is one with which the next phase begins
   renews : (k : ℕ) (v u : DiskHeld) → IsKept v u → NoCalls u → AtHome g k (without_calls v)
       → ((d : DeviceState) → v ≡ holds.Device d → r.device ≡ d)
       → Renewed g h k (without_calls v) u
   renews k (holds.Slot e) u is none home known =
-      slots (record { kept = e.kept; order = []; room = 0; touched = e.touched }) is.0 refl is.1
+      slots (record e { order = []; room = 0 }) is.0 refl is.1
       (record {
-        kept = is.2;
+        kept = ap (λ (x : EntryState). x.kept) is.2;
         order = none is.0 is.1;
-        touched = is.3;
+        under = ap (λ (x : EntryState). x.under) is.2;
+        idle = ap (λ (x : EntryState). x.idle) is.2;
+        mark = mark_still g k (record e { order = []; room = 0 }) refl refl home.sound.mark;
+        touched = ap (λ (x : EntryState). x.touched) is.2;
         time = sym home.sound.touched;
         blank = refl;
         back = sym (back_still (r.back k));
@@ -130,11 +152,11 @@ used_still r row ys st keeps k lt =
 module _ (r : Rest) (actors : List (List Op)) (row : Row) (w : State DiskHeld)
     (next : RestGoesOn) (st : StandsFor r row) (up : IsSetUp r actors row w) where
   next_rest : AtRest (begin_at r actors) w.row
-  next_rest = goes_on r r.set.limit r.most actors row w.row next st.rest up.row.size
+  next_rest = goes_on r r.set.limit r.set.clock r.most actors row w.row next st.rest up.row.size
       (λ k v at home. let u = up.row.each k v at in (
         u.0,
         u.1,
-        renews r r.set.limit r.most actors k v u.0 u.2
+        renews r r.set.limit r.set.clock r.most actors k v u.0 u.2
             (λ f e. (up.orders k f (u.1 ∙ ap (λ (x : DiskHeld). Some (Some x)) e)).0) home
             (device_known r row st k v at home),
       ))
@@ -172,7 +194,7 @@ module _ (r : Rest) (actors : List (List Op)) (row : Row) (w : State DiskHeld)
         (used_still r row w.row st up.row) yes;
   }
 
--- ---- other orders
+-- ---- other orders and a later time
 
 module _ (r : Rest) (row ys : Row) (next : RestGoesOn) (st : StandsFor r row)
     (keeps : KeepsValues row ys) where
@@ -182,15 +204,16 @@ module _ (r : Rest) (row ys : Row) (next : RestGoesOn) (st : StandsFor r row)
       ap account_in (value_is ys (r.size + 255) u.0 u.1)
       ∙ ap (λ (v : DiskHeld). account_in (Some v)) u.2
 
-  pub stands_still : StandsFor r ys
-  stands_still = record {
-    plain = st.plain;
-    rest = goes_on r r.set.limit r.most [] row (without_orders ys) next st.rest
+  later_stands : (time : ℕ) → r.set.clock ≤ time
+      → StandsFor (sets r (record r.set { clock = time })) ys
+  later_stands time later = record {
+    plain = later_plain r r.set.limit time r.most st.plain later;
+    rest = goes_on r r.set.limit time r.most [] row (without_orders ys) next st.rest
         (emptied_long ys ∙ keeps.size)
         (λ k v at home. let u = keeps.each k v at in (
           without_calls u.0,
           emptied_at ys k u.0 u.1,
-          renews r r.set.limit r.most [] k v (without_calls u.0) (kept_still v u.0 u.2)
+          renews r r.set.limit time r.most [] k v (without_calls u.0) (kept_still v u.0 u.2)
               (no_calls u.0) home (device_known r row st k v at home),
         ));
     used = used_still r row ys st keeps;
@@ -200,10 +223,15 @@ module _ (r : Rest) (row ys : Row) (next : RestGoesOn) (st : StandsFor r row)
         u.1 ∙ ap (λ (x : DiskHeld). Some (Some x)) u.2;
   }
 
--- ---- another limit, or a lower maximum
+  pub stands_still : StandsFor r ys
+  stands_still = later_stands r.set.clock (no_less r.set.clock)
 
-no_less : (n : ℕ) → n ≤ n
-no_less n = omega arith
+pub clock_stands : (r : Rest) (row : Row) (time : ℕ) → RestGoesOn → StandsFor r row
+    → r.set.clock ≤ time → StandsFor (sets r (record r.set { clock = time })) row
+clock_stands r row time next st later =
+    later_stands r row row next st (row_kept row) time later
+
+-- ---- another limit, or a lower maximum
 
 module _ (r : Rest) (row : Row) (n most : ℕ) (next : RestGoesOn) (st : StandsFor r row)
     (keeps : frames_of r.set.chain r.used ≤ r.most → frames_of r.set.chain r.used ≤ most) where
@@ -231,7 +259,7 @@ module _ (r : Rest) (row : Row) (n most : ℕ) (next : RestGoesOn) (st : StandsF
   change_each : (k : ℕ) (v : DiskHeld) → slice_get row k ≡ Some (Some v)
       → AtHome (begin_at r []) k (without_calls v)
       → (u : DiskHeld) × (slice_get (without_orders ys) k ≡ Some (Some u))
-      × Renewed (begin_at r []) (begin_at (changed r n most) []) k (without_calls v) u
+      × Renewed (begin_at r []) (begin_at (changed r n r.set.clock most) []) k (without_calls v) u
   change_each k v e home = elim (cases_eq k (r.size + 255)) [
     | inl here ↦
         let there : slice_get row k ≡ Some (Some (holds.Account was)) =
@@ -245,7 +273,7 @@ module _ (r : Rest) (row : Row) (n most : ℕ) (next : RestGoesOn) (st : StandsF
       without_calls v,
       emptied_at ys k v
           (value_there ys k v (value_else k else ∙ value_is row k v e)),
-      renews r n most [] k v (without_calls v)
+      renews r n r.set.clock most [] k v (without_calls v)
           (kept_still v v (self_kept v)) (no_calls v) home (device_known r row st k v e home),
     )
   ]
@@ -255,15 +283,10 @@ module _ (r : Rest) (row : Row) (n most : ℕ) (next : RestGoesOn) (st : StandsF
       ap used_in (value_else (r.size + k) (λ e. let none : ⊥ = omega arith in none))
       ∙ st.used k lt
 
-  change_stands : StandsFor (changed r n most) ys
+  change_stands : StandsFor (changed r n r.set.clock most) ys
   change_stands = record {
-    plain = record {
-      sectors = st.plain.sectors;
-      blanks = st.plain.blanks;
-      least = st.plain.least;
-      most = st.plain.most;
-    };
-    rest = goes_on r n most [] row (without_orders ys) next st.rest
+    plain = later_plain r n r.set.clock most st.plain (no_less r.set.clock);
+    rest = goes_on r n r.set.clock most [] row (without_orders ys) next st.rest
         (emptied_long ys ∙ length-set row (r.size + 255) (Some (holds.Account now)))
         change_each;
     used = used_same;

@@ -22,13 +22,14 @@ use Rattle.disk_rest.specs.Resting.{StandsFor}
 use Rattle.disk_rest.specs.Printed.{state_in, device_line, row_report}
 use Rattle.disk_rest.proofs.Places.{slot_at, pool_at, account_there, value_is}
 use Rattle.disk_rest.proofs.Matches.{was_at, was_slot, was_pool, was_account}
-use Rattle.disk_rest.proofs.Forms.{weight_kept, form_keeps, back_still}
+use Rattle.disk_rest.proofs.Forms.{weight_kept, form_keeps, back_still, mark_still}
 
--- An entry that keeps page p as the rest says.
+-- An entry that keeps page p, and is marked, as the rest says.
 pub record EntryTells (r : Rest) (row : Row) (p : ℕ) : Type 0 where
   pub entry : EntryState
   pub at : slice_get row p ≡ Some (Some (holds.Slot entry))
   pub weight : weight_of entry.kept ≡ kept_at page_weight r p
+  pub idle : entry.idle ≡ r.idle p
   pub touched : entry.touched ≡ r.touched p
 
 -- A pool of class k with the rest's used cells.
@@ -63,6 +64,7 @@ module _ (r : Rest) (row : Row) (st : StandsFor r row) where
             (s.home.backs ∙ ap (back_at g p) e.order ∙ back_still (r.back p))
             (form_keeps g p s.entry.order
             ∙ ap (λ (order : List Tag). kept_as page_weight p (found_after g p order)) e.order);
+        idle = sym e.idle ∙ sym (mark_still g p s.entry e.order refl s.home.sound.mark);
         touched = sym e.touched ∙ s.home.sound.touched
             ∙ ap (λ (order : List Tag). touched_by order r.set.clock (r.touched p)) e.order;
       }
@@ -93,10 +95,11 @@ module _ (r : Rest) (row : Row) (st : StandsFor r row) where
       ∙ st.account)
 
   state_same : (p : ℕ) → p < r.size
-      → state_in p (value_at row p) ≡ state_line p (kept_at page_weight r p) (r.touched p)
+      → state_in p (value_at row p)
+      ≡ state_line p (kept_at page_weight r p) (r.idle p) (r.touched p)
   state_same p lt = let e = entry_tells p lt in
       ap (state_in p) (value_is row p (holds.Slot e.entry) e.at)
-      ∙ (λ i. state_line p (e.weight i) (e.touched i))
+      ∙ (λ i. state_line p (e.weight i) (e.idle i) (e.touched i))
 
   pub prints : (q : Report) → row_report r.size r.set.chain row q ≡ report page_weight r q
   prints mm_stat = ap (λ (c : Counters). memory (mm_stat_of c) ∷ []) st.account
@@ -104,7 +107,7 @@ module _ (r : Rest) (row : Row) (st : StandsFor r row) where
   prints bd_stat = λ i. device_line ((st.account i).back)
       (value_is row (r.size + 257) (holds.Device r.device) st.device i)
   prints states = lines_same (λ p. state_in p (value_at row p))
-      (λ p. state_line p (kept_at page_weight r p) (r.touched p)) 0 r.size
+      (λ p. state_line p (kept_at page_weight r p) (r.idle p) (r.touched p)) 0 r.size
       (λ p le lt. state_same p (omega arith))
   prints classes = lines_same (λ k. class_line r.set.chain k (used_at r.size row k))
       (λ k. class_line r.set.chain k (r.used k)) 0 255

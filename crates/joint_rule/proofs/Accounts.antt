@@ -58,6 +58,7 @@ module _ (g : Begin) (ok : Known g) (w : State DiskHeld) (j : Joint g w) (a : â„
       owes = refl;
       stands = tt;
       backs = tt;
+      marks = tt;
       partly = tt;
       right = sg.right;
       counts = record {
@@ -68,6 +69,7 @@ module _ (g : Begin) (ok : Known g) (w : State DiskHeld) (j : Joint g w) (a : â„
       blank = sg.blank;
       fails = sg.fails;
       begun = sg.begun;
+      scans = tt;
       compacts = tt;
     }
 
@@ -75,7 +77,7 @@ module _ (g : Begin) (ok : Known g) (w : State DiskHeld) (j : Joint g w) (a : â„
         (on l Ready ((slot p.page, holds.Slot e) âˆ· []) l.fresh l.pin 0 (Some (form_weight new))
         (Some (weight_of e.kept)) l.page l.fail)
     give_repays = record {
-      home = record { sound = refl; stands = tt; backs = tt };
+      home = record { sound = refl; stands = tt; backs = tt; marks = tt };
       fits = goes_on g ok w j a l who p rest todo Ready
           ((slot p.page, holds.Slot e) âˆ· []) l.fresh l.pin 0 (Some (form_weight new))
           (Some (weight_of e.kept)) l.page l.fail refl (all g ok w j a l who p rest todo _ Giving
@@ -123,7 +125,7 @@ module _ (g : Begin) (ok : Known g) (w : State DiskHeld) (j : Joint g w) (a : â„
         (on l Missed ((slot p.page, holds.Slot e) âˆ· []) l.fresh l.pin l.owed l.ahead l.behind l.page
         l.fail)
     give_counts = record {
-      home = record { sound = refl; stands = tt; backs = tt };
+      home = record { sound = refl; stands = tt; backs = tt; marks = tt };
       fits = goes_on g ok w j a l who p rest todo Missed ((slot p.page, holds.Slot e) âˆ· []) l.fresh
           l.pin l.owed l.ahead l.behind l.page l.fail refl
           (all g ok w j a l who p rest todo _ Counting held at).1
@@ -134,12 +136,14 @@ module _ (g : Begin) (ok : Known g) (w : State DiskHeld) (j : Joint g w) (a : â„
             owes = sc.owes;
             stands = sc.stands;
             backs = sc.backs;
+            marks = sc.marks;
             partly = tt;
             right = sc.right;
             counts = sc.counts;
             blank = tt;
             fails = sc.fails;
             begun = sc.begun;
+            scans = tt;
             compacts = tt;
           }) (let lr = ap (held_sum (spot n) (claims g each_one)) held in
           let lx = ap (held_sum (spot n) (ever_at g)) held in

@@ -5,7 +5,7 @@ use Rattle.call_history.specs.declared.part.Part.{Part}
 use Rattle.call_history.specs.declared.part.PartEnd.{PartEnd}
 use Rattle.call_history.specs.declared.part.PartEnd.TheVariants.{AtLimit, Carried, Eio, NoMemory, Whole}
 use Rattle.class_pool.specs.Pool.{PoolState, used_cells}
-use Rattle.joint_rule.proofs.Calm.{AreSame, IsPlain, goes_on, is_over, one_left, only_take, plain_fetched, plain_pinned, plain_quit, plain_settle}
+use Rattle.joint_rule.proofs.Calm.{AreSame, IsPlain, goes_on, is_over, one_left, only_take, plain_fetched, plain_pinned, plain_quit, plain_settle, IsSwept, scan_goes_on, scan_is_over}
 use Rattle.joint_rule.proofs.Events.{Event}
 use Rattle.joint_rule.proofs.Facts.{Known}
 use Rattle.joint_rule.proofs.Gifts.{stage}
@@ -13,7 +13,7 @@ use Rattle.joint_rule.proofs.Givings.{event_is, given_lock}
 use Rattle.joint_rule.proofs.Sums.{gone}
 use Rattle.joint_rule.proofs.Sweeps.{only_closes, only_moves, only_shrinks, only_sweeps}
 use Rattle.joint_rule.proofs.Zspages.{used_sum}
-use Rattle.joint_rule.specs.Alone.{Alone, IsOnly, is_read}
+use Rattle.joint_rule.specs.Alone.{Alone, is_read, Ages, IsOnly}
 use Rattle.joint_rule.specs.Begins.{Begin, terms}
 use Rattle.joint_rule.specs.Joint.{Joint}
 use Rattle.joint_rule.specs.Stages.{Changes, FailBy, IsFault, IsWrite}
@@ -25,16 +25,26 @@ use Rattle.lock_row.specs.declared.names.LockNo.{LockNo}
 use Rattle.lock_row.specs.declared.names.Plan.TheVariants.{Give, Take}
 use Rattle.lock_row.specs.declared.names.State.{State}
 use Rattle.page_steps.specs.Steps.{DiskHeld, Here, plan, spot, took}
-use Rattle.plain_disk.specs.Compactions.{IsIdle, loose}
+use Rattle.plain_disk.specs.Compactions.{MovesNone, loose}
 use Rattle.plain_disk.specs.Ends.{is_single}
 use Rattle.std.proofs.lemmas.Bool.{ltb-true, or_parts}
-use Rattle.zr_base.specs.Plain.{is_beyond, is_compaction}
+use Rattle.zr_base.specs.Plain.{is_beyond, is_maintenance}
 use Rattle.zr_base.specs.declared.op.Op.{Op}
-use Rattle.zr_base.specs.declared.op.Op.TheVariants.{Compact, Discard, Read, Write}
+use Rattle.zr_base.specs.declared.op.Op.TheVariants.{Compact, Discard, Idle, Read, Write}
 use Rattle.joint_rule.proofs.Events as event
 use Rattle.lock_row.specs.declared.names.LockNo.TheVariants as lock
 use Rattle.lock_row.specs.declared.names.Held.TheVariants as holds
 use Rattle.zr_base.specs.declared.op.OpEnd.TheVariants as ends
+
+-- the actor that is left alone by a turn keeps its pages
+abbrev pub KeepsAges : Begin → State DiskHeld → State DiskHeld → Type 0
+KeepsAges g w n = (l m : Here) → w.locals ≡ l ∷ [] → n.locals ≡ m ∷ [] → Ages g w l → Ages g n m
+
+swept : (g : Begin) (w : State DiskHeld) (l : Here) → IsOnly g w l → IsSwept g w l
+swept g w l o = record { still = o.still; calm = o.calm; sweeps = o.sweeps }
+
+only_of : (g : Begin) (w : State DiskHeld) (l : Here) → IsSwept g w l → Ages g w l → IsOnly g w l
+only_of g w l o ages = record { still = o.still; calm = o.calm; ages = ages; sweeps = o.sweeps }
 
 -- ---- operations
 
@@ -42,43 +52,48 @@ no_write : (op : Op) → IsWrite op → is_read op ≡ true → ⊥
 no_write (Write start count stuff) i e = cc
 no_write (Read start count) i e = i
 no_write (Discard start count) i e = i
+no_write (Idle age) i e = i
 no_write Compact i e = i
 
 no_change : (op : Op) → Changes op → is_read op ≡ true → ⊥
 no_change (Write start count stuff) i e = cc
 no_change (Read start count) i e = i
 no_change (Discard start count) i e = cc
+no_change (Idle age) i e = i
 no_change Compact i e = i
 
 -- what is beyond the disk is no compaction
-beyond_other : (size : ℕ) (op : Op) → is_beyond size op ≡ true → is_compaction op ≡ false
+pub beyond_other : (size : ℕ) (op : Op) → is_beyond size op ≡ true → is_maintenance op ≡ false
 beyond_other size (Write start count stuff) e = refl
 beyond_other size (Read start count) e = refl
 beyond_other size (Discard start count) e = refl
+beyond_other size (Idle age) e = absurd (let z = ltb-true (8 * size) (0 + 0) e in
+    let no : ⊥ = omega arith in no)
 beyond_other size Compact e = absurd (let z = ltb-true (8 * size) (0 + 0) e in
     let no : ⊥ = omega arith in no)
 
-on_page : (size : ℕ) (op : Op) → is_single size op ≡ false → is_compaction op ≡ false
-on_page size op e = (or_parts (is_compaction op) (is_beyond size op) e).0
+pub on_page : (size : ℕ) (op : Op) → is_single size op ≡ false → is_maintenance op ≡ false
+on_page size op e = (or_parts (is_maintenance op) (is_beyond size op) e).0
 
 -- a refused piece did nothing
-refused_idle : (g : Begin) (p : Part) (op : Op) (x : PartEnd) → FailBy g p op (Some x)
-    → IsIdle (op_end x 0)
-refused_idle g p op Carried f = tt
-refused_idle g p op (AtLimit c n l) f = tt
-refused_idle g p op NoMemory f = tt
-refused_idle g p op (Eio fault) f = tt
-refused_idle g p (Write start count stuff) (Whole end) f = absurd f
-refused_idle g p (Read start count) (Whole end) f = absurd f
-refused_idle g p (Discard start count) (Whole end) f = absurd f
-refused_idle g p Compact (Whole end) f = absurd f
+refused_still : (g : Begin) (p : Part) (op : Op) (x : PartEnd) → FailBy g p op (Some x)
+    → MovesNone (op_end x 0)
+refused_still g p op Carried f = tt
+refused_still g p op (AtLimit c n l) f = tt
+refused_still g p op NoMemory f = tt
+refused_still g p op (Eio fault) f = tt
+refused_still g p (Write start count stuff) (Whole end) f = absurd f
+refused_still g p (Read start count) (Whole end) f = absurd f
+refused_still g p (Discard start count) (Whole end) f = absurd f
+refused_still g p (Idle age) (Whole end) f = absurd f
+refused_still g p Compact (Whole end) f = absurd f
 
-fault_idle : (g : Begin) (p : Part) (x : PartEnd) → IsFault g p (Some x) → IsIdle (op_end x 0)
-fault_idle g p Carried f = absurd f
-fault_idle g p (AtLimit c n l) f = absurd f
-fault_idle g p NoMemory f = absurd f
-fault_idle g p (Eio fault) f = tt
-fault_idle g p (Whole end) f = absurd f
+fault_still : (g : Begin) (p : Part) (x : PartEnd) → IsFault g p (Some x) → MovesNone (op_end x 0)
+fault_still g p Carried f = absurd f
+fault_still g p (AtLimit c n l) f = absurd f
+fault_still g p NoMemory f = absurd f
+fault_still g p (Eio fault) f = tt
+fault_still g p (Whole end) f = absurd f
 
 -- another use of a cell changes no weight
 pool_same : (q q' : PoolState) → q'.per ≡ q.per → used_each q'.zspages ≡ used_each q.zspages
@@ -100,25 +115,29 @@ module _ (g : Begin) (ok : Known g) (w : State DiskHeld) (j : Joint g w) (a : �
   -- ---- takings
 
   pub alone_take : plan (terms g) l ≡ Take k → slice_get w.row (spot n k) ≡ Some (Some v)
+      → KeepsAges g w (gone n w a l who k None (took (terms g) l v))
       → Alone g w → Alone g (gone n w a l who k None (took (terms g) l v))
-  alone_take what there r l' e =
+  alone_take what there up r l' e =
       let m = took (terms g) l v in
+      let next = gone n w a l who k None m in
       let s = one_left w.locals a l m l' who e in
-      subst (IsOnly g (gone n w a l who k None m)) (sym s.1)
-      (only_take g ok w a l who (r l s.0) k v what there)
+      let left : slice_set w.locals a m ≡ m ∷ [] = e ∙ ap (λ (i : Here). i ∷ []) s.1 in
+      subst (IsOnly g next) (sym s.1)
+      (only_of g next m (only_take g ok w a l who (swept g w l (r l s.0)) k v what there)
+      (up l m s.0 left (r l s.0).ages))
 
   -- ---- givings
 
   module _ (m : Here) (what : plan (terms g) l ≡ Give k)
       (there : slice_get w.row (spot n k) ≡ Some None) (only : w.locals ≡ l ∷ [])
-      (left : slice_set w.locals a m ≡ m ∷ []) (o : IsOnly g w l) where
+      (left : slice_set w.locals a m ≡ m ∷ []) (o : IsSwept g w l) where
     abbrev Kept : Type 0
-    Kept = IsOnly g (gone n w a l who k (Some v) m) m
+    Kept = IsSwept g (gone n w a l who k (Some v) m) m
 
     at_lock : (k₀ : LockNo) (v₀ : DiskHeld) (m₀ : Here) → k₀ ≡ k → v ≡ v₀ → m ≡ m₀
-        → IsOnly g (gone n w a l who k₀ (Some v₀) m₀) m₀ → Kept
+        → IsSwept g (gone n w a l who k₀ (Some v₀) m₀) m₀ → Kept
     at_lock k₀ v₀ m₀ e f h t = subst (λ (x : LockNo × DiskHeld × Here).
-        IsOnly g (gone n w a l who x.0 (Some x.1) x.2) x.2) (λ i. (e i, sym f i, sym h i)) t
+        IsSwept g (gone n w a l who x.0 (Some x.1) x.2) x.2) (λ i. (e i, sym f i, sym h i)) t
 
     was_out : (k₀ : LockNo) → k₀ ≡ k → slice_get w.row (spot n k₀) ≡ Some None
     was_out k₀ e = subst (λ (x : LockNo). slice_get w.row (spot n x) ≡ Some None) (sym e) there
@@ -213,7 +232,7 @@ module _ (g : Begin) (ok : Known g) (w : State DiskHeld) (j : Joint g w) (a : �
         let st = stage g ok w j a l who p rest todo _ Leaving held at in
         is_over g ok w a l who o k v m there p rest todo Leaving at (refl, λ op. refl) x [] m_is
         (on_page n p.op st.begun)
-        (refused_idle g p p.op x (subst (FailBy g p p.op) bad st.fails))
+        (refused_still g p p.op x (subst (FailBy g p p.op) bad st.fails))
         (λ read. weigh_same _ _ _ held v_is (ap (λ (i : Here). i.held) m_is) (omega arith)
         (omega arith))
     alone_event (event.fetches p rest e b d d' page todo at held is reads is_page v_is m_is) =
@@ -234,19 +253,28 @@ module _ (g : Begin) (ok : Known g) (w : State DiskHeld) (j : Joint g w) (a : �
     alone_event (event.errs p rest e f x todo at held bad reads notes v_is m_is) =
         let st = stage g ok w j a l who p rest todo _ Missed held at in
         is_over g ok w a l who o k v m there p rest todo Missed at (refl, λ op. refl) x [] m_is
-        (on_page n p.op st.begun) (fault_idle g p x (subst (IsFault g p) bad st.fails))
+        (on_page n p.op st.begun) (fault_still g p x (subst (IsFault g p) bad st.fails))
         (λ read. weigh_same _ _ _ held v_is (ap (λ (i : Here). i.held) m_is) (omega arith)
         (omega arith))
     alone_event (event.leaves p rest e x todo at held bad other v_is m_is) =
         let st = stage g ok w j a l who p rest todo _ Missed held at in
         is_over g ok w a l who o k v m there p rest todo Missed at (refl, λ op. refl) x [] m_is
-        (on_page n p.op st.begun) (fault_idle g p x (subst (IsFault g p) bad st.fails))
+        (on_page n p.op st.begun) (fault_still g p x (subst (IsFault g p) bad st.fails))
         (λ read. weigh_same _ _ _ held v_is (ap (λ (i : Here). i.held) m_is) (omega arith)
         (omega arith))
     alone_event (event.releases p rest e b x todo at held is v_is m_is) =
         let st = stage g ok w j a l who p rest todo _ Releasing held at in
         on_so p rest todo Releasing at (refl, λ op. refl) Owing (refl, λ op. refl) _ m_is refl refl
         refl (λ read. absurd (no_change p.op st.kind.0 read))
+    alone_event (event.scans p rest age x e todo op at held other v_is m_is) =
+        scan_goes_on g ok w a l who o k v m there p rest todo x at
+        (weigh_same _ _ _ held v_is (ap (λ (i : Here). i.held) m_is) (omega arith) (omega arith)) _
+        (ap (λ (i : Here). i.done) m_is) (ap (λ (i : Here). i.todo) m_is)
+        (ap (λ (i : Here). i.at) m_is)
+    alone_event (event.stops p rest age x e todo op at held last v_is m_is) =
+        scan_is_over g ok w a l who o k v m there p rest todo x at
+        (weigh_same _ _ _ held v_is (ap (λ (i : Here). i.held) m_is) (omega arith) (omega arith)) age
+        op _ m_is
     alone_event (event.moves p rest x q q' u u' budget frames todo at held sh some d v_is m_is) =
         let e = given_lock g ok w j a l who k v m what (lock.Class x.class)
         (event_is g ok w j a l who k v m what p rest _ (Moving x) todo held at) in
@@ -274,9 +302,12 @@ module _ (g : Begin) (ok : Known g) (w : State DiskHeld) (j : Joint g w) (a : �
 
   pub alone_give : (m : Here) → plan (terms g) l ≡ Give k
       → slice_get w.row (spot n k) ≡ Some None
-      → Event g l v m → Alone g w → Alone g (gone n w a l who k (Some v) m)
-  alone_give m what there ev r l' e =
+      → Event g l v m → KeepsAges g w (gone n w a l who k (Some v) m) → Alone g w
+      → Alone g (gone n w a l who k (Some v) m)
+  alone_give m what there ev up r l' e =
+      let next = gone n w a l who k (Some v) m in
       let s = one_left w.locals a l m l' who e in
       let left : slice_set w.locals a m ≡ m ∷ [] = e ∙ ap (λ (i : Here). i ∷ []) s.1 in
-      subst (IsOnly g (gone n w a l who k (Some v) m)) (sym s.1)
-      (alone_event m what there s.0 left (r l s.0) ev)
+      subst (IsOnly g next) (sym s.1)
+      (only_of g next m (alone_event m what there s.0 left (swept g w l (r l s.0)) ev)
+      (up l m s.0 left (r l s.0).ages))

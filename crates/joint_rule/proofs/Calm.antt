@@ -1,6 +1,8 @@
 -- What is known of a phase's only actor while it is at no compaction.
 use Rattle.std.proofs.Common.{◌≡◌, ◌+◌, ◌≤◌, ◌∷◌, ◌++◌, ◌∙◌, ◌⊎◌, ℕ, zero, suc, Bool, true, false, List, [], Option, Some, None, slice_get, slice_set, refl, sym, ap, subst, arith, inl, inr, ⊎_elim}
-use Rattle.call_history.specs.Alone.{AreIdleOver, moves_over, tight_over}
+use Rattle.call_history.specs.declared.part.PartEnd.TheVariants.{Whole}
+use Rattle.lock_row.specs.declared.names.Scan.{Scan}
+use Rattle.call_history.specs.Alone.{MoveNoneOver, moves_over, tight_over}
 use Rattle.call_history.specs.Parts.{left_by, op_end}
 use Rattle.call_history.specs.declared.part.Done.{Done}
 use Rattle.call_history.specs.declared.part.Part.{Part}
@@ -8,29 +10,30 @@ use Rattle.call_history.specs.declared.part.PartEnd.{PartEnd}
 use Rattle.class_pool.specs.Pool.{PoolState}
 use Rattle.joint_rule.proofs.Facts.{Known}
 use Rattle.joint_rule.proofs.Sums.{get_set, gone}
-use Rattle.joint_rule.specs.Alone.{IsCalm, IsOnly, Sweeps, below, compacting, compacting_at, is_calm, is_calm_at, is_read, reached}
+use Rattle.joint_rule.specs.Alone.{IsCalm, Sweeps, below, compacting, compacting_at, is_calm, is_calm_at, is_read, reached}
 use Rattle.joint_rule.specs.Begins.{Begin, terms}
 use Rattle.joint_rule.specs.Weights.{each_one, loose_pools, none, stored}
 use Rattle.lock_row.specs.Totals.{mass, total}
 use Rattle.lock_row.specs.declared.names.At.{At}
-use Rattle.lock_row.specs.declared.names.At.TheVariants.{Away, Backed, Both, Counting, Failing, Fetching, Freeing, Giving, Inside, Leaving, Made, Missed, Moving, Old, Owing, Pinned, Pinning, Ready, Refusing, Releasing, Seen, Shrinking, Shrunk, Start, Sweeping, Unpinning, Wanting}
+use Rattle.lock_row.specs.declared.names.At.TheVariants.{Away, Backed, Both, Counting, Failing, Fetching, Freeing, Giving, Inside, Leaving, Made, Missed, Moving, Old, Owing, Pinned, Pinning, Ready, Refusing, Releasing, Seen, Shrinking, Shrunk, Start, Sweeping, Unpinning, Wanting, Scanning, Marking}
 use Rattle.lock_row.specs.declared.names.Compaction.{Compaction}
 use Rattle.lock_row.specs.declared.names.LockNo.{LockNo}
 use Rattle.lock_row.specs.declared.names.Pin.{Pin}
 use Rattle.lock_row.specs.declared.names.Plan.TheVariants.{Take}
 use Rattle.lock_row.specs.declared.names.State.{State}
 use Rattle.page_steps.specs.Pages.{next_form}
-use Rattle.page_steps.specs.Steps.{DiskHeld, Here, after_take, begun_at, discard_at, entered_at, entry_in, entry_or, fetched_at, first_class, lock_of, made_at, part_at, piece_over, pinned_at, plan, quit_at, seen_at, settle_at, spot, taken_at, took, write_at}
-use Rattle.plain_disk.specs.Compactions.{IsIdle, moves_by, tight_by}
+use Rattle.page_steps.specs.Steps.{DiskHeld, Here, after_take, begun_at, discard_at, entered_at, entry_in, entry_or, fetched_at, first_class, lock_of, made_at, part_at, piece_over, pinned_at, plan, quit_at, seen_at, settle_at, spot, taken_at, took, write_at, first_at}
+use Rattle.plain_disk.specs.Compactions.{MovesNone, moves_by, tight_by}
 use Rattle.slot_entry.specs.Forms.{Blank, PageForm, Pooled, Word}
 use Rattle.slot_entry.specs.declared.kept.Kept.{Kept}
-use Rattle.zr_base.specs.Plain.{has_whole, is_beyond, is_compaction}
+use Rattle.zr_base.specs.Plain.{has_whole, is_beyond, is_maintenance}
 use Rattle.zr_base.specs.declared.op.Op.{Op}
-use Rattle.zr_base.specs.declared.op.Op.TheVariants.{Compact, Discard, Read, Write}
+use Rattle.zr_base.specs.declared.op.Op.TheVariants.{Compact, Discard, Idle, Read, Write}
 use Rattle.zr_base.specs.declared.op.OpEnd.{OpEnd}
 use Rattle.lock_row.specs.declared.names.LockNo.TheVariants as lock
 use Rattle.lock_row.specs.declared.names.Held.TheVariants as holds
 use Rattle.slot_entry.specs.declared.kept.Kept.TheVariants as kept
+use Rattle.zr_base.specs.declared.op.OpEnd.TheVariants as ends
 
 -- ---- stages
 
@@ -75,18 +78,21 @@ pub plain_entered : (op : Op) (page : ℕ) (f : PageForm) (k : Kept) → IsPlain
 plain_entered (Write start count stuff) page f k = plain_write (has_whole start count page) f k
 plain_entered (Read start count) page f k = plain_seen k
 plain_entered (Discard start count) page f k = plain_discard k
+plain_entered (Idle age) page f k = (refl, λ op. refl)
 plain_entered Compact page f k = (refl, λ op. refl)
 
 pub plain_pinned : (op : Op) (f : PageForm) (k : Kept) → IsPlain (pinned_at op f k)
 plain_pinned (Write start count stuff) f k = plain_made f k
 plain_pinned (Read start count) f k = (refl, λ op. refl)
 plain_pinned (Discard start count) f k = (refl, λ op. refl)
+plain_pinned (Idle age) f k = (refl, λ op. refl)
 plain_pinned Compact f k = (refl, λ op. refl)
 
 pub plain_fetched : (op : Op) (f : PageForm) (k : Kept) → IsPlain (fetched_at op f k)
 plain_fetched (Write start count stuff) f k = plain_made f k
 plain_fetched (Read start count) f k = (refl, λ op. refl)
 plain_fetched (Discard start count) f k = (refl, λ op. refl)
+plain_fetched (Idle age) f k = (refl, λ op. refl)
 plain_fetched Compact f k = (refl, λ op. refl)
 
 pub plain_quit : (x : Option Pin) → IsPlain (quit_at x)
@@ -94,9 +100,16 @@ plain_quit None = (refl, λ op. refl)
 plain_quit (Some x) = (refl, λ op. refl)
 
 -- a taking begins no compaction but at class 0
+first_of : (op : Op) (x : Compaction) → compacting_at (first_at op) ≡ Some x → x ≡ first_class
+first_of (Idle age) x e = absurd (cc)
+first_of (Write start count stuff) x e = let q : first_class ≡ x = cc in sym q
+first_of (Read start count) x e = let q : first_class ≡ x = cc in sym q
+first_of (Discard start count) x e = let q : first_class ≡ x = cc in sym q
+first_of Compact x e = let q : first_class ≡ x = cc in sym q
+
 first_begun : (a b : Bool) (p : Part) (f : PageForm) (k : Kept) (x : Compaction)
     → compacting_at (begun_at a b p f k) ≡ Some x → x ≡ first_class
-first_begun true b p f k x e = let q : first_class ≡ x = cc in sym q
+first_begun true b p f k x e = first_of p.op x e
 first_begun false true p f k x e = absurd (cc)
 first_begun false false p f k x e = absurd (let z = (plain_entered p.op p.page f k).0 in cc)
 
@@ -104,7 +117,7 @@ same_after : (size : ℕ) (at : At) (p : Part) (f : PageForm) (k : Kept) (x : Co
     → compacting_at (after_take size at p f k) ≡ Some x
     → (compacting_at at ≡ Some x) ⊎ (x ≡ first_class)
 same_after size Start p f k x e =
-    inr (first_begun (is_compaction p.op) (is_beyond size p.op) p f k x e)
+    inr (first_begun (is_maintenance p.op) (is_beyond size p.op) p f k x e)
 same_after size Refusing p f k x e = inl e
 same_after size Seen p f k x e = inl e
 same_after size Pinning p f k x e = inl e
@@ -127,6 +140,8 @@ same_after size Releasing p f k x e = inl e
 same_after size Owing p f k x e = inl e
 same_after size Giving p f k x e = inl e
 same_after size Ready p f k x e = inl e
+same_after size (Scanning y) p f k x e = inl e
+same_after size (Marking y) p f k x e = inl e
 same_after size (Sweeping y) p f k x e = inl e
 same_after size (Moving y) p f k x e = inl e
 same_after size (Shrunk y) p f k x e = inl e
@@ -163,6 +178,8 @@ calm_after size Releasing p f k e = e
 calm_after size Owing p f k e = e
 calm_after size Giving p f k e = e
 calm_after size Ready p f k e = e
+calm_after size (Scanning x) p f k e = e
+calm_after size (Marking x) p f k e = e
 calm_after size (Sweeping x) p f k e = e
 calm_after size (Moving x) p f k e = e
 calm_after size (Shrunk x) p f k e = e
@@ -189,21 +206,28 @@ pub moves_push : (n : ℕ) (ds : List Done) (d : Done)
 moves_push n [] d = refl
 moves_push n (x ∷ ds) d = moves_push (moves_by x.part.op (op_end x.end 0) n) ds d
 
-pub idle_push : (t : Bool) (ds : List Done) (d : Done) → AreIdleOver t ds
-    → (tight_over t ds ≡ true → IsIdle (op_end d.end 0)) → AreIdleOver t (ds ++ d ∷ [])
-idle_push t [] d i h = (h, tt)
-idle_push t (x ∷ ds) d i h = (i.0, idle_push (tight_by x.part.op t) ds d i.1 h)
+pub still_push : (t : Bool) (ds : List Done) (d : Done) → MoveNoneOver t ds
+    → (tight_over t ds ≡ true → MovesNone (op_end d.end 0)) → MoveNoneOver t (ds ++ d ∷ [])
+still_push t [] d i h = (h, tt)
+still_push t (x ∷ ds) d i h = (i.0, still_push (tight_by x.part.op t) ds d i.1 h)
 
 -- what a piece that is no compaction leaves
-plain_push : (op : Op) (end : OpEnd) (t : Bool) (n loose objects : ℕ) → is_compaction op ≡ false
+plain_push : (op : Op) (end : OpEnd) (t : Bool) (n loose objects : ℕ) → is_maintenance op ≡ false
     → (is_read op ≡ true → (t ≡ true → loose ≡ 0) × (n ≤ objects))
     → (tight_by op t ≡ true → loose ≡ 0) × (moves_by op end n ≤ objects)
 plain_push (Write start count stuff) end t n loose objects e h = ((λ f. absurd (cc)), omega arith)
 plain_push (Read start count) end t n loose objects e h = h refl
 plain_push (Discard start count) end t n loose objects e h = ((λ f. absurd (cc)), omega arith)
+plain_push (Idle age) end t n loose objects e h = absurd (cc)
 plain_push Compact end t n loose objects e h = absurd (cc)
 
 -- ---- an actor alone
+
+-- What an actor's pieces that are over say of its compactions, and what stands of the one in work.
+pub record IsSwept (g : Begin) (w : State DiskHeld) (l : Here) : Type 0 where
+  pub still : MoveNoneOver g.tight l.done
+  pub calm : is_calm l.todo l.at ≡ true → IsCalm g w l.done
+  pub sweeps : (x : Compaction) → compacting l.todo l.at ≡ Some x → Sweeps g w l x
 
 -- where one actor is left, it is the one that moved
 pub one_left : (ls : List Here) (a : ℕ) (l m l' : Here) → slice_get ls a ≡ Some l
@@ -219,14 +243,14 @@ one_left (y ∷ z ∷ ys) (suc (suc a)) l m l' who e = absurd (cc)
 pub first_sweeps : (g : Begin) (w : State DiskHeld) (l : Here) → Sweeps g w l first_class
 first_sweeps g w l = record {
   tight = λ k p at lt. absurd (omega arith);
-  idle = λ t. refl;
+  still = λ t. refl;
   moves = omega arith;
   home = λ q e. tt;
   hand = λ q e. tt;
 }
 
 module _ (g : Begin) (ok : Known g) (w : State DiskHeld) (a : ℕ) (l : Here)
-    (who : slice_get w.locals a ≡ Some l) (o : IsOnly g w l) (k : LockNo) (v : DiskHeld) where
+    (who : slice_get w.locals a ≡ Some l) (o : IsSwept g w l) (k : LockNo) (v : DiskHeld) where
   abbrev n : ℕ
   n = g.given.size
 
@@ -263,7 +287,7 @@ module _ (g : Begin) (ok : Known g) (w : State DiskHeld) (a : ℕ) (l : Here)
     sweeps_take : (x : Compaction) → Sweeps g w l x → Sweeps g taken taker x
     sweeps_take x s = record {
       tight = λ i p at lt. s.tight i p (was_home i (holds.Class p) at) lt;
-      idle = s.idle;
+      still = s.still;
       moves = let r = keeps (stored (below
           (reached x.budget x.class))) in let z = s.moves in
           omega arith;
@@ -271,10 +295,10 @@ module _ (g : Begin) (ok : Known g) (w : State DiskHeld) (a : ℕ) (l : Here)
       hand = λ q e. s.home q (in_hand x.class q e);
     }
 
-    pub only_take : IsOnly g taken taker
+    pub only_take : IsSwept g taken taker
     only_take =
         let kept : Kept = (entry_or v (entry_in l.held)).kept in record {
-          idle = o.idle;
+          still = o.still;
           calm = λ c.
               let c' = o.calm (calm_taken n l.todo l.at l.page kept c) in record {
                 tight = λ t. keeps loose_pools ∙ c'.tight t;
@@ -315,9 +339,9 @@ module _ (g : Begin) (ok : Known g) (w : State DiskHeld) (a : ℕ) (l : Here)
       was_calm read = o.calm ((λ i. is_calm (todo i) (at i)) ∙ plain.1 p.op ∙ read)
 
       pub goes_on : (y : At) → IsPlain y → m.done ≡ l.done → m.todo ≡ l.todo → m.at ≡ y
-          → (is_read p.op ≡ true → AreSame) → IsOnly g given m
+          → (is_read p.op ≡ true → AreSame) → IsSwept g given m
       goes_on y py done same at' h = record {
-        idle = subst (AreIdleOver g.tight) (sym done) o.idle;
+        still = subst (MoveNoneOver g.tight) (sym done) o.still;
         calm = λ c.
             let read : is_read p.op ≡ true = sym (py.1 p.op)
             ∙ sym (λ i. is_calm ((same ∙ todo) i) (at' i)) ∙ c in
@@ -327,9 +351,9 @@ module _ (g : Begin) (ok : Known g) (w : State DiskHeld) (a : ℕ) (l : Here)
       }
 
       pub is_over : (end : PartEnd) (got : List (List ℕ)) → m ≡ piece_over l p end got rest
-          → is_compaction p.op ≡ false → IsIdle (op_end end 0) → (is_read p.op ≡ true → AreSame)
-          → IsOnly g given m
-      is_over end got m_is other idle h =
+          → is_maintenance p.op ≡ false → MovesNone (op_end end 0) → (is_read p.op ≡ true → AreSame)
+          → IsSwept g given m
+      is_over end got m_is other still h =
           let d : Done = record { part = p; end = end; got = got } in
           let both = plain_push p.op (op_end end 0) (tight_over g.tight l.done)
           (moves_over 0 l.done) (total (spot n) loose_pools none given)
@@ -340,11 +364,49 @@ module _ (g : Begin) (ok : Known g) (w : State DiskHeld) (a : ℕ) (l : Here)
             few = let e = moves_push 0 l.done d in let z = both.1 in omega arith;
           } in
           record {
-            idle = subst (λ (y : Here). AreIdleOver g.tight y.done) (sym m_is)
-                (idle_push g.tight l.done d o.idle (λ t. idle));
+            still = subst (λ (y : Here). MoveNoneOver g.tight y.done) (sym m_is)
+                (still_push g.tight l.done d o.still (λ t. still));
             calm = λ c. subst (λ (y : Here). IsCalm g given y.done) (sym m_is) calm;
             sweeps = λ z e. absurd (
                 let q : compacting m.todo m.at ≡ None =
                 ap (λ (y : Here). compacting y.todo y.at) m_is
                 ∙ no_compaction (left_by end p.nr rest) in cc);
+          }
+
+    -- ---- givings of a scan
+
+    module _ (p : Part) (rest : List Part) (todo : l.todo ≡ p ∷ rest) (x : Scan)
+        (at : l.at ≡ Marking x) (same : AreSame) where
+      still_calm : IsCalm g given l.done
+      still_calm = calm_same same (o.calm (λ i. is_calm (todo i) (at i)))
+
+      pub scan_goes_on : (y : Scan) → m.done ≡ l.done → m.todo ≡ l.todo → m.at ≡ Scanning y
+          → IsSwept g given m
+      scan_goes_on y done left at' = record {
+        still = subst (MoveNoneOver g.tight) (sym done) o.still;
+        calm = λ c. subst (IsCalm g given) (sym done) still_calm;
+        sweeps = λ z e. absurd (let q : compacting m.todo m.at ≡ None =
+            (λ i. compacting ((left ∙ todo) i) (at' i)) in cc);
+      }
+
+      pub scan_is_over : (age : Option ℕ) → p.op ≡ Idle age → (n : ℕ)
+          → m ≡ piece_over l p (Whole (ends.Marked n)) [] rest → IsSwept g given m
+      scan_is_over age op n m_is =
+          let d : Done = record { part = p; end = Whole (ends.Marked n); got = [] } in
+          let calm : IsCalm g given (l.done ++ d ∷ []) = record {
+            tight = λ t. still_calm.tight (sym (tight_push g.tight l.done d
+                ∙ ap (λ (i : Op). tight_by i (tight_over g.tight l.done)) op) ∙ t);
+            few = let e = moves_push 0 l.done d in
+                let f : moves_by p.op (ends.Marked n) (moves_over 0 l.done) ≡ moves_over 0 l.done =
+                ap (λ (i : Op). moves_by i (ends.Marked n) (moves_over 0 l.done)) op in
+                let z = still_calm.few in omega arith;
+          } in
+          record {
+            still = subst (λ (y : Here). MoveNoneOver g.tight y.done) (sym m_is)
+                (still_push g.tight l.done d o.still (λ t. tt));
+            calm = λ c. subst (λ (y : Here). IsCalm g given y.done) (sym m_is) calm;
+            sweeps = λ z e. absurd (
+                let q : compacting m.todo m.at ≡ None =
+                ap (λ (y : Here). compacting y.todo y.at) m_is
+                ∙ no_compaction (left_by (Whole (ends.Marked n)) p.nr rest) in cc);
           }

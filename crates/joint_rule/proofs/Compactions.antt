@@ -1,5 +1,5 @@
 -- What each giving of a compaction does.
-use Rattle.std.proofs.Common.{◌≡◌, ◌+◌, ◌-◌, ◌*◌, ◌≤◌, ◌∷◌, ℕ, zero, suc, true, List, [], Some, slice_get, refl, ap, arith, inl}
+use Rattle.std.proofs.Common.{◌≡◌, ◌+◌, ◌-◌, ◌*◌, ◌≤◌, ◌∷◌, ℕ, zero, suc, List, [], Some, slice_get, refl, ap, arith, inl, true}
 use Rattle.call_history.specs.declared.part.Part.{Part}
 use Rattle.call_history.specs.declared.part.PartEnd.TheVariants.{Whole}
 use Rattle.class_pool.specs.Pool.{PoolState}
@@ -27,12 +27,13 @@ use Rattle.slot_entry.specs.Entries.{EntryState}
 use Rattle.zspage.specs.Cells.{UsedCell}
 use Rattle.zr_base.specs.Plain.{is_compaction}
 use Rattle.zr_base.specs.declared.op.Op.{Op}
+use Rattle.zr_base.specs.declared.op.Op.TheVariants.{Compact}
 use Rattle.lock_row.specs.declared.names.LockNo.TheVariants as lock
 use Rattle.lock_row.specs.declared.names.Held.TheVariants as holds
 use Rattle.zr_base.specs.declared.op.OpEnd.TheVariants as ends
 
-compaction_single : (size : ℕ) (op : Op) → is_compaction op ≡ true → is_single size op ≡ true
-compaction_single size op e = rw e refl
+compaction_single : (size : ℕ) (op : Op) → op ≡ Compact → is_single size op ≡ true
+compaction_single size op e = ap (is_single size) e
 
 module _ (g : Begin) (ok : Known g) (w : State DiskHeld) (j : Joint g w) (a : ℕ) (l : Here)
     (who : slice_get w.locals a ≡ Some l) (p : Part) (rest : List Part)
@@ -77,12 +78,14 @@ module _ (g : Begin) (ok : Known g) (w : State DiskHeld) (j : Joint g w) (a : �
         owes = refl;
         stands = tt;
         backs = tt;
+        marks = tt;
         partly = tt;
         right = st.right;
         counts = st.counts;
         blank = tt;
         fails = st.fails;
         begun = st.begun;
+        scans = tt;
         compacts = record { class = st.compacts.class; frames = within };
       }
       moved_stage (suc m) le within = record {
@@ -92,12 +95,14 @@ module _ (g : Begin) (ok : Known g) (w : State DiskHeld) (j : Joint g w) (a : �
         owes = le;
         stands = tt;
         backs = tt;
+        marks = tt;
         partly = tt;
         right = st.right;
         counts = st.counts;
         blank = tt;
         fails = st.fails;
         begun = st.begun;
+        scans = tt;
         compacts = record { class = st.compacts.class; frames = within };
       }
 
@@ -113,6 +118,7 @@ module _ (g : Begin) (ok : Known g) (w : State DiskHeld) (j : Joint g w) (a : �
           );
           stands = tt;
           backs = tt;
+          marks = tt;
         };
         fits = goes_on g ok w j a l who p rest todo (moved_at frames (with_move x budget)) [] l.fresh
             l.pin frames l.ahead l.behind l.page l.fail (moved_locks frames _ _) tt
@@ -144,7 +150,7 @@ module _ (g : Begin) (ok : Known g) (w : State DiskHeld) (j : Joint g w) (a : �
         (on l (Sweeping (with_next g.chain x)) [] l.fresh l.pin l.owed l.ahead l.behind l.page
         l.fail)
     give_sweeps = record {
-      home = record { sound = sound; stands = tt; backs = tt };
+      home = record { sound = sound; stands = tt; backs = tt; marks = tt };
       fits = goes_on g ok w j a l who p rest todo (Sweeping (with_next g.chain x)) [] l.fresh l.pin
           l.owed l.ahead l.behind l.page l.fail refl tt
           (record {
@@ -154,12 +160,14 @@ module _ (g : Begin) (ok : Known g) (w : State DiskHeld) (j : Joint g w) (a : �
             owes = st.owes;
             stands = tt;
             backs = tt;
+            marks = tt;
             partly = tt;
             right = st.right;
             counts = st.counts;
             blank = tt;
             fails = st.fails;
             begun = st.begun;
+            scans = tt;
             compacts = record {
               class = stands_low g.chain (254 - (x.class + 1));
               frames = st.compacts.frames;
@@ -187,12 +195,12 @@ module _ (g : Begin) (ok : Known g) (w : State DiskHeld) (j : Joint g w) (a : �
 
     -- what it tells of its moves and frames
     may_end : MayBeSingle (ground_of g) p.op (ends.Compacted x.moves x.frames)
-    may_end = (st.begun, (let y = st.compacts.frames in omega arith))
+    may_end = (ap is_compaction st.begun, (let y = st.compacts.frames in omega arith))
 
     pub give_closes : Gift g a l (lock.Class x.class) (holds.Class q)
         (piece_over l p (Whole (ends.Compacted x.moves x.frames)) [] rest)
     give_closes = record {
-      home = record { sound = sound; stands = tt; backs = tt };
+      home = record { sound = sound; stands = tt; backs = tt; marks = tt };
       fits = is_over g ok w j a l who p rest todo (Whole (ends.Compacted x.moves x.frames)) []
           (compaction_single n p.op st.begun, may_end);
       alone = λ i. let r = ap (held_sum (spot n) (at_place i)) held in omega arith;
@@ -231,7 +239,7 @@ module _ (g : Begin) (ok : Known g) (w : State DiskHeld) (j : Joint g w) (a : �
     pub give_shrinks : Gift g a l lock.Account (holds.Account (shrunk l.owed c))
         (on l (Sweeping (with_frames x l.owed)) [] l.fresh l.pin 0 l.ahead l.behind l.page l.fail)
     give_shrinks = record {
-      home = record { sound = refl; stands = tt; backs = tt };
+      home = record { sound = refl; stands = tt; backs = tt; marks = tt };
       fits = goes_on g ok w j a l who p rest todo (Sweeping (with_frames x l.owed)) [] l.fresh l.pin
           0 l.ahead l.behind l.page l.fail refl tt
           (record {
@@ -241,12 +249,14 @@ module _ (g : Begin) (ok : Known g) (w : State DiskHeld) (j : Joint g w) (a : �
             owes = refl;
             stands = tt;
             backs = tt;
+            marks = tt;
             partly = tt;
             right = ss.right;
             counts = ss.counts;
             blank = tt;
             fails = ss.fails;
             begun = ss.begun;
+            scans = tt;
             compacts = record {
               class = ss.compacts.class;
               frames = (let y = ss.compacts.frames in omega arith);

@@ -1,5 +1,7 @@
 -- The account's counters of refusals: each giving raises them by what its actor tells then.
 use Rattle.std.proofs.Common.{◌≡◌, ◌+◌, ◌≤◌, ◌∷◌, ◌∙◌, ℕ, zero, suc, List, [], Option, Some, None, slice_get, slice_set, refl, sym, ap, subst, arith}
+use Rattle.slot_entry.specs.Entries.{is_new_mark}
+use Rattle.page_steps.specs.Scans.{with_page}
 use Rattle.call_history.specs.Parts.{done_sum, left_by, piece_gives}
 use Rattle.call_history.specs.declared.part.Part.{Part}
 use Rattle.call_history.specs.declared.part.PartEnd.{PartEnd}
@@ -17,7 +19,7 @@ use Rattle.joint_rule.specs.Stages.{FailAt, IsFault, IsWrite, Looks, NoneOf, Sta
 use Rattle.joint_rule.specs.Weights.{FailedReads, FailedWrites, OutOfRange, Refusal, fails_so, none, on_account, refusal_count, refusal_counter, refusal_of, refusals, refused_by}
 use Rattle.lock_row.specs.Totals.{by_option, held_sum, locals_sum, mass, total}
 use Rattle.lock_row.specs.declared.names.At.{At}
-use Rattle.lock_row.specs.declared.names.At.TheVariants.{Both, Counting, Failing, Fetching, Freeing, Giving, Leaving, Made, Missed, Moving, Pinning, Ready, Refusing, Releasing, Shrinking, Start, Unpinning}
+use Rattle.lock_row.specs.declared.names.At.TheVariants.{Both, Counting, Failing, Fetching, Freeing, Giving, Leaving, Made, Missed, Moving, Pinning, Ready, Refusing, Releasing, Shrinking, Start, Unpinning, Marking}
 use Rattle.lock_row.specs.declared.names.Compaction.{Compaction}
 use Rattle.lock_row.specs.declared.names.LockNo.{LockNo}
 use Rattle.lock_row.specs.declared.names.Object.{Object}
@@ -33,9 +35,9 @@ use Rattle.page_steps.specs.Steps.{DiskHeld, Here, after_take, begun_at, entry_i
 use Rattle.slot_entry.specs.Forms.{Blank, PageForm, Pooled, Word, form_weight}
 use Rattle.slot_entry.specs.declared.kept.Kept.{Kept}
 use Rattle.std.specs.Prelude.{⊤}
-use Rattle.zr_base.specs.Plain.{is_beyond, is_compaction}
+use Rattle.zr_base.specs.Plain.{is_beyond, is_maintenance}
 use Rattle.zr_base.specs.declared.op.Op.{Op}
-use Rattle.zr_base.specs.declared.op.Op.TheVariants.{Compact, Discard, Read, Write}
+use Rattle.zr_base.specs.declared.op.Op.TheVariants.{Compact, Discard, Idle, Read, Write}
 use Rattle.zr_base.specs.declared.op.OpEnd.{OpEnd}
 use Rattle.joint_rule.proofs.Events as event
 use Rattle.lock_row.specs.declared.names.LockNo.TheVariants as lock
@@ -144,12 +146,14 @@ speaks_pinned : (op : Op) (f : PageForm) (k : Kept) → Speaks (pinned_at op f k
 speaks_pinned (Write start count stuff) f k = speaks_made f k
 speaks_pinned (Read start count) f k = tt
 speaks_pinned (Discard start count) f k = tt
+speaks_pinned (Idle age) f k = tt
 speaks_pinned Compact f k = tt
 
 speaks_fetched : (op : Op) (f : PageForm) (k : Kept) → Speaks (fetched_at op f k)
 speaks_fetched (Write start count stuff) f k = speaks_made f k
 speaks_fetched (Read start count) f k = tt
 speaks_fetched (Discard start count) f k = tt
+speaks_fetched (Idle age) f k = tt
 speaks_fetched Compact f k = tt
 
 speaks_quit : (x : Option Pin) → Speaks (quit_at x)
@@ -165,7 +169,7 @@ refused_after : (g : Begin) (q : Refusal) (at : At) (p : Part) (ps : List Part) 
     (k : Kept) (x : Option PartEnd) → FailAt g p at p.op x
     → refused_by q (after_take g.given.size at p f k) (p ∷ ps) x ≡ refused_by q at (p ∷ ps) x
 refused_after g q Start p ps f k x i =
-    refused_no q (begun_at (is_compaction p.op) (is_beyond g.given.size p.op) p f k) (p ∷ ps) x i
+    refused_no q (begun_at (is_maintenance p.op) (is_beyond g.given.size p.op) p f k) (p ∷ ps) x i
     ∙ sym (refused_no q Start (p ∷ ps) x i)
 refused_after g q at p ps f k x i = refl
 
@@ -224,6 +228,15 @@ compacted_gives FailedReads op moves frames = refl
 compacted_gives FailedWrites (Write start count stuff) moves frames = refl
 compacted_gives FailedWrites op moves frames = refl
 compacted_gives OutOfRange op moves frames = refl
+
+-- nor is a scan
+marked_gives : (q : Refusal) (op : Op) (pages : ℕ)
+    → piece_gives (refusal_of q) op (Whole (ends.Marked pages)) ≡ 0
+marked_gives FailedReads (Read start count) pages = refl
+marked_gives FailedReads op pages = refl
+marked_gives FailedWrites (Write start count stuff) pages = refl
+marked_gives FailedWrites op pages = refl
+marked_gives OutOfRange op pages = refl
 
 shrunk_refusals : (q : Refusal) (c : Counters) (n : ℕ)
     → refusal_count q (shrunk n c) ≡ refusal_count q c
@@ -412,6 +425,16 @@ module _ (g : Begin) (ok : Known g) (w : State DiskHeld) (j : Joint g w) (a : �
       (let r = ap (held_sum (spot n) (refusal_counter q)) held in omega arith))
   refuses_of q (event.releases p rest e b x todo at held is v_is m_is) =
       same_refuses q _ _ v_is m_is (stays_so q Releasing _ at tt tt
+      (let r = ap (held_sum (spot n) (refusal_counter q)) held in omega arith))
+  refuses_of q (event.scans p rest age x e todo op at held other v_is m_is) =
+      same_refuses q _ _ v_is m_is (stays_so q (Marking x) _ at tt tt
+      (let r = ap (held_sum (spot n) (refusal_counter q)) held in omega arith))
+  refuses_of q (event.stops p rest age x e todo op at held last v_is m_is) =
+      let st = stage g ok w j a l who p rest todo _ (Marking x) held at in
+      let pages = (with_page x (is_new_mark g.clock age e)).marked in
+      same_refuses q _ _ v_is m_is (still_so q _ _
+      (let s = over_told q p (Whole (ends.Marked pages)) [] rest in
+      let z = marked_gives q p.op pages in let t = none_told q st.fails in omega arith)
       (let r = ap (held_sum (spot n) (refusal_counter q)) held in omega arith))
   refuses_of q (event.moves p rest y x x' u u' budget frames todo at held sh some one v_is m_is) =
       same_refuses q _ _ v_is m_is (stays_so q (Moving y) _ at tt

@@ -31,7 +31,7 @@ use Rattle.slot_entry.specs.Forms.{PageForm}
 use Rattle.slot_entry.specs.declared.kept.Kept.{Kept}
 use Rattle.std.proofs.lemmas.Bool.{and_parts}
 use Rattle.zr_base.specs.declared.op.Op.{Op}
-use Rattle.zr_base.specs.declared.op.Op.TheVariants.{Compact, Discard, Read, Write}
+use Rattle.zr_base.specs.declared.op.Op.TheVariants.{Compact, Discard, Idle, Read, Write}
 use Rattle.lock_row.specs.declared.names.LockNo.TheVariants as lock
 use Rattle.lock_row.specs.declared.names.Held.TheVariants as holds
 use Rattle.slot_entry.specs.declared.kept.Kept.TheVariants as kept
@@ -91,7 +91,7 @@ module _ (g : Begin) (ok : Known g) (w : State DiskHeld) (j : Joint g w) (a : â„
           l.behind (Some page) l.fail
       fetched_stage (Write start count stuff) e_op =
           made_stage g p e l.fresh l.pin l.owed l.ahead l.behind (Some page) l.fail
-          (may_none e.kept l.pin st.pins) st.owes st.stands st.backs
+          (may_none e.kept l.pin st.pins) st.owes st.stands st.backs st.marks
           (write_blank p.op (subst IsWrite (sym e_op) tt) l.ahead _)
           (subst (Î» (x : Op). IsRight x p.page page (content g p.page e.order)) (sym e_op)
           (inr is_content)) st.counts.0 st.counts.1 st.fails st.begun
@@ -103,6 +103,7 @@ module _ (g : Begin) (ok : Known g) (w : State DiskHeld) (j : Joint g w) (a : â„
         owes = st.owes;
         stands = st.stands;
         backs = st.backs;
+        marks = st.marks;
         partly = tt;
         right = subst (Î» (x : Op). IsRight x p.page page (content g p.page e.order))
             (sym e_op) is_content;
@@ -110,9 +111,11 @@ module _ (g : Begin) (ok : Known g) (w : State DiskHeld) (j : Joint g w) (a : â„
         blank = tt;
         fails = subst (Î» (x : Op). FailBy g p x l.fail) (sym e_op) st.fails;
         begun = st.begun;
+        scans = tt;
         compacts = tt;
       }
       fetched_stage (Discard start count) e_op = absurd (subst Looks e_op st.kind.0)
+      fetched_stage (Idle age) e_op = absurd (subst Looks e_op st.kind.0)
       fetched_stage Compact e_op = absurd (subst Looks e_op st.kind.0)
 
       fetched_locks : (op : Op) (f : PageForm) (c d : â„•)
@@ -120,6 +123,7 @@ module _ (g : Begin) (ok : Known g) (w : State DiskHeld) (j : Joint g w) (a : â„
       fetched_locks (Write start count stuff) f c d = made_locks f e.kept p c d
       fetched_locks (Read start count) f c d = refl
       fetched_locks (Discard start count) f c d = refl
+      fetched_locks (Idle age) f c d = refl
       fetched_locks Compact f c d = refl
 
       pub give_fetches : Gift g a l lock.Device (holds.Device d')
@@ -131,6 +135,7 @@ module _ (g : Begin) (ok : Known g) (w : State DiskHeld) (j : Joint g w) (a : â„
           sound = (refl, keeps_read g.device d d' sounds.0.1 b page r);
           stands = tt;
           backs = tt;
+          marks = tt;
         };
         fits = goes_on g ok w j a l who p rest todo
             (fetched_at p.op (next_form p (Some page) e.kept) e.kept)
@@ -171,6 +176,7 @@ module _ (g : Begin) (ok : Known g) (w : State DiskHeld) (j : Joint g w) (a : â„
       may_fault (Write start count stuff) looks part = (fault_at, part)
       may_fault (Read start count) looks part = fault_at
       may_fault (Discard start count) looks part = absurd looks
+      may_fault (Idle age) looks part = absurd looks
       may_fault Compact looks part = absurd looks
 
       missed_stage : Stage g p e Failing l.fresh l.pin l.owed l.ahead l.behind l.page
@@ -182,12 +188,14 @@ module _ (g : Begin) (ok : Known g) (w : State DiskHeld) (j : Joint g w) (a : â„
         owes = st.owes;
         stands = st.stands;
         backs = st.backs;
+        marks = st.marks;
         partly = tt;
         right = st.right;
         counts = st.counts;
         blank = tt;
         fails = (st.begun, may_fault p.op st.kind.0 st.partly);
         begun = st.begun;
+        scans = tt;
         compacts = tt;
       }
 
@@ -199,6 +207,7 @@ module _ (g : Begin) (ok : Known g) (w : State DiskHeld) (j : Joint g w) (a : â„
           sound = (refl, keeps_failed g.device d d' sounds.0.1 fault r);
           stands = tt;
           backs = tt;
+          marks = tt;
         };
         fits = goes_on g ok w j a l who p rest todo Failing ((slot p.page, holds.Slot e) âˆ· [])
             l.fresh l.pin l.owed l.ahead l.behind l.page (Some (Eio fault)) refl sounds.1
@@ -238,6 +247,7 @@ module _ (g : Begin) (ok : Known g) (w : State DiskHeld) (j : Joint g w) (a : â„
       owes = sm.owes;
       stands = sm.stands;
       backs = sm.backs;
+      marks = sm.marks;
       more = sm.counts.0;
       less = sm.counts.1;
       fits = (all g ok w j a l who p rest todo _ Missed held at).0;
@@ -261,6 +271,7 @@ module _ (g : Begin) (ok : Known g) (w : State DiskHeld) (j : Joint g w) (a : â„
       by_op (Read start count) is r = give_noted g ok w j a l who p rest todo e f held bare_missed x
           [] (ends x bad) start count is notes
       by_op (Discard start count) is r = absurd (cc)
+      by_op (Idle age) is r = absurd (cc)
       by_op Compact is r = absurd (cc)
 
     pub give_leaves : (x : PartEnd) â†’ l.fail â‰¡ Some x
@@ -296,6 +307,7 @@ module _ (g : Begin) (ok : Known g) (w : State DiskHeld) (j : Joint g w) (a : â„
       owes = omega arith;
       stands = tt;
       backs = tt;
+      marks = tt;
       partly = tt;
       right = subst (Î» (y : List â„•). IsRight p.op p.page y (content g p.page e.order))
           (emptied_sees l.page e.kept is) sr.right;
@@ -303,6 +315,7 @@ module _ (g : Begin) (ok : Known g) (w : State DiskHeld) (j : Joint g w) (a : â„
       blank = sr.blank;
       fails = sr.fails;
       begun = sr.begun;
+      scans = tt;
       compacts = tt;
     }
 
@@ -311,6 +324,7 @@ module _ (g : Begin) (ok : Known g) (w : State DiskHeld) (j : Joint g w) (a : â„
       page = y.page;
       calls = y.calls;
       touched = y.touched;
+      mark = record { under = y.mark.under; stays = y.mark.stays; only = y.mark.only };
       small = omega arith;
     }
 
@@ -318,7 +332,7 @@ module _ (g : Begin) (ok : Known g) (w : State DiskHeld) (j : Joint g w) (a : â„
         (on l Owing ((slot p.page, holds.Slot (emptied e)) âˆ· []) l.fresh None 0
         (Some (weight_of e.kept)) l.behind l.page l.fail)
     give_releases = record {
-      home = record { sound = refl; stands = tt; backs = tt };
+      home = record { sound = refl; stands = tt; backs = tt; marks = tt };
       fits = goes_on g ok w j a l who p rest todo Owing
           ((slot p.page, holds.Slot (emptied e)) âˆ· []) l.fresh None 0
           (Some (weight_of e.kept)) l.behind l.page l.fail refl

@@ -1,5 +1,7 @@
 -- What a finished phase tells: its histories agree with its orders, and the account with the rest.
 use Rattle.std.proofs.Common.{◌≡◌, ◌+◌, ◌*◌, ◌-◌, ◌/◌, ◌≤◌, ◌<◌, ◌∷◌, ◌++◌, ◌∙◌, ℕ, zero, suc, Bool, true, false, cond, eqb, List, [], length, sum_by, Option, Some, None, slice_get, refl, sym, ap, subst, arith, inl, inr, zero-add}
+use Rattle.plain_disk.specs.Idles.{KeepsMark, is_marked_in}
+use Rattle.joint_rule.proofs.Idles.{ages_end}
 use Rattle.backing_dev.specs.Dev.{DeviceState}
 use Rattle.block_map.specs.BlockMap.{BlockMap}
 use Rattle.call_history.specs.Alone.{IsAloneOver}
@@ -19,11 +21,11 @@ use Rattle.joint_rule.proofs.Ranges.{range_by, range_lone, range_map, range_sum,
 use Rattle.joint_rule.proofs.Rests.{at_rest, left, over}
 use Rattle.joint_rule.proofs.Starts.{account_at, account_sum, device_at, device_sum}
 use Rattle.joint_rule.proofs.Sums.{row_le, total_split}
-use Rattle.joint_rule.proofs.Takes.{IsEntry, IsPoolOf, class_kind, entry_kind}
+use Rattle.joint_rule.proofs.Places.{IsEntry, IsPoolOf, class_kind, entry_kind}
 use Rattle.joint_rule.proofs.Zspages.{each_used, free_most, tight_least, used_length, used_sum}
 use Rattle.joint_rule.specs.Alone.{is_calm}
 use Rattle.joint_rule.specs.Begins.{Begin, back_at, ever, form_at, found_after, ground_of, image}
-use Rattle.joint_rule.specs.Ends.{AllFinished, account_in, account_of, begin_at, device_in, histories, order_in, orders_of, rest_after, used_in, value_at}
+use Rattle.joint_rule.specs.Ends.{AllFinished, account_in, account_of, begin_at, device_in, histories, order_in, orders_of, rest_after, used_in, value_at, idle_in}
 use Rattle.joint_rule.specs.Weights.{used_each}
 use Rattle.joint_rule.specs.Joint.{AtHome, KeepsDevice}
 use Rattle.joint_rule.specs.Rule.{OfOrder, Rule, ShowsOrder, done_by, dones, reach_at}
@@ -44,7 +46,7 @@ use Rattle.plain_disk.specs.Forms.{is_pooled, of_class}
 use Rattle.plain_disk.specs.Phases.{IsMost, LeavesDevice, begun, bounds, held_after, nth_order, phase_sum, reach}
 use Rattle.plain_disk.specs.Rests.{AreUsed, Rest, frames_of, kept_at, kept_pages, page_of}
 use Rattle.size_class.specs.Classes.{chain_of, per_of, stands_of}
-use Rattle.slot_entry.specs.Entries.{EntryState, weight_of}
+use Rattle.slot_entry.specs.Entries.{EntryState, weight_of, is_obj}
 use Rattle.slot_entry.specs.Forms.{Blank, PageForm, Pooled, Word, class_for, form_weight, object_class, page_weight}
 use Rattle.slot_entry.specs.declared.kept.Kept.{Kept}
 use Rattle.std.proofs.lemmas.Bool.{and_from, cases_Bool, cases_eq, cases_lt, eq-eqb, ne_eqb}
@@ -147,6 +149,13 @@ claim_one kept.Empty b = refl
 claim_one (kept.Same w) b = refl
 claim_one (kept.Obj o) b = elim (cases_Bool o.huge) [ inl on ↦ rw on refl | inr off ↦ rw off refl ]
 claim_one (kept.Wb n) b = refl
+
+-- an object is that of a page in the pool
+obj_pooled : (k : Kept) → is_obj k ≡ true → is_pooled (weight_of k) ≡ true
+obj_pooled kept.Empty e = absurd (cc)
+obj_pooled (kept.Same w) e = absurd (cc)
+obj_pooled (kept.Obj o) e = elim (cases_Bool o.huge) [ inl on ↦ rw on refl | inr off ↦ rw off refl ]
+obj_pooled (kept.Wb n) e = absurd (cc)
 
 bytes_same : (f h : ℕ → List ℕ) (a n : ℕ) → ((s : ℕ) → a ≤ s → s < a + n → f s ≡ h s)
     → flat_map f (range_with_len a n) ≡ flat_map h (range_with_len a n)
@@ -621,10 +630,25 @@ module _ (r : Rest) (actors : List (List Op)) (ok : Known (begin_at r actors)) (
       let o = rule.alone l.0 l.1 in
       let c = o.calm (ap (λ (ps : List Part). is_calm ps l.0.at) (over g w rule fin 0 l.0 who)) in
       subst (λ (ds : List Done). IsAloneOver page_weight r ds m) l.2 (record {
-        idle = o.idle;
+        still = o.still;
+        marks = o.ages.marks;
+        idle = λ p lt. ages_end g w rule fin l.0 l.1 p lt;
         least = λ t. class_least (c.tight t);
         few = let e = objects_are in let z = c.few in omega arith;
       })
+
+  -- what a page's mark is
+  marks_are : (p : ℕ) → p < size → KeepsMark (is_pooled (kept_at page_weight m p)) (r.idle p)
+      (is_marked_in actors) (nth_order orders p) (m.idle p)
+  marks_are p lt =
+      let e = entries p lt in let mark = e.2.sound.mark in
+      let is : m.idle p ≡ e.0.idle = ap idle_in e.1 in
+      let order = order_is p lt in record {
+        pooled_one = λ idle. ap is_pooled (sym (weight_is p lt))
+            ∙ obj_pooled e.0.kept (e.2.marks (sym is ∙ idle));
+        stays = λ none was. is ∙ mark.stays (sym order ∙ none) was;
+        only = λ none idle. let z = mark.only none (sym is ∙ idle) in (order ∙ z.0, z.1);
+      }
 
   pub tallies : Tallies page_weight r actors (histories w.locals) orders c m
   tallies = record {
@@ -633,6 +657,7 @@ module _ (r : Rest) (actors : List (List Op)) (ok : Known (begin_at r actors)) (
       holds = λ s lt. refl;
       blank = λ p lt. refl;
       back = λ p lt. refl;
+      idle = marks_are;
       touched = λ p lt. refl;
       used = used_right;
       most = most_is;

@@ -1,5 +1,8 @@
 -- The givings of an actor, by what they do to sums over pools.
-use Rattle.std.proofs.Common.{◌≡◌, ◌∷◌, ◌∙◌, ◌==◌, ◌⊎◌, ℕ, suc, Bool, true, false, List, [], Option, Some, None, refl, ap, subst}
+use Rattle.std.proofs.Common.{◌≡◌, ◌∷◌, ◌∙◌, ◌==◌, ◌⊎◌, ℕ, suc, Bool, true, false, List, [], Option, Some, None, refl, ap, subst, ◌+◌}
+use Rattle.zr_base.specs.declared.op.Op.TheVariants.{Idle}
+use Rattle.lock_row.specs.declared.names.Scan.{Scan}
+use Rattle.page_steps.specs.Scans.{Marks, marking_by, scan_at, with_page}
 use Rattle.backing_dev.specs.Dev.{DeviceState, FailsToRead, ReadsBlock}
 use Rattle.bdi_page.specs.Packing.{IsPage}
 use Rattle.block_map.specs.BlockMap.{BlockMap, with_state}
@@ -19,7 +22,7 @@ use Rattle.joint_rule.specs.Facts.{Facts}
 use Rattle.joint_rule.specs.Joint.{Sound}
 use Rattle.joint_rule.specs.Weights.{HeldAll, used_each}
 use Rattle.lock_row.specs.declared.names.At.{At}
-use Rattle.lock_row.specs.declared.names.At.TheVariants.{Both, Counting, Failing, Fetching, Freeing, Giving, Leaving, Made, Missed, Owing, Pinning, Ready, Refusing, Releasing, Unpinning, Sweeping, Moving, Shrinking}
+use Rattle.lock_row.specs.declared.names.At.TheVariants.{Both, Counting, Failing, Fetching, Freeing, Giving, Leaving, Made, Missed, Owing, Pinning, Ready, Refusing, Releasing, Unpinning, Sweeping, Moving, Shrinking, Scanning, Marking}
 use Rattle.lock_row.specs.declared.names.Compaction.{Compaction}
 use Rattle.lock_row.specs.declared.names.Pin.{Pin}
 use Rattle.mem_account.specs.Counters.{Counters, IsPastLimit, IsWithinLimit, charged, counted}
@@ -29,7 +32,7 @@ use Rattle.page_steps.specs.Nexts.{emptied, ending_by, failing_by, fetch_at, pin
 use Rattle.page_steps.specs.Pages.{next_form, page_in, page_in_cell}
 use Rattle.page_steps.specs.Pools.{DropsPinned, IsNeed, ReturnsBy}
 use Rattle.page_steps.specs.Steps.{DiskHeld, Here, entry_in, fetched_at, on, piece_over, pinned_at, quit_at, settle_at, slot}
-use Rattle.slot_entry.specs.Entries.{EntryState, weight_of}
+use Rattle.slot_entry.specs.Entries.{EntryState, weight_of, is_new_mark, marked}
 use Rattle.slot_entry.specs.Forms.{Pooled, form_weight, object_class}
 use Rattle.slot_entry.specs.declared.kept.Stored.{Stored}
 use Rattle.zs_plan.specs.Plan.{HasNoPlan}
@@ -41,6 +44,7 @@ use Rattle.mem_account.specs.declared.weight.Delta.TheVariants as delta
 use Rattle.zr_base.specs.declared.op.OpEnd.TheVariants as ends
 use Rattle.page_steps.specs.Givings as work
 use Rattle.page_steps.specs.Compactions as compact
+use Rattle.page_steps.specs.Scans as scan
 
 -- The pinned cell, if there is one, is back.
 abbrev pub BackBy : Option Pin → PoolState → PoolState → Type 0
@@ -192,6 +196,22 @@ pub data Event (g : Begin) (l : Here) (v : DiskHeld) (m : Here) : Type 0 where
       → m ≡ on l Owing ((slot p.page, holds.Slot (emptied e)) ∷ []) l.fresh None 0
       (Some (weight_of e.kept)) l.behind l.page l.fail
       → Event g l v m
+  -- a scan marks a page where it may be, and goes on to the next page
+  scans : (p : Part) (rest : List Part) (age : Option ℕ) (x : Scan) (e : EntryState)
+      → l.todo ≡ p ∷ rest → p.op ≡ Idle age → l.at ≡ Marking x
+      → l.held ≡ (slot x.page, holds.Slot e) ∷ [] → ((x.page + 1) == g.given.size) ≡ false
+      → v ≡ holds.Slot (marked g.clock age e)
+      → m ≡ on l (Scanning (with_page x (is_new_mark g.clock age e))) [] l.fresh l.pin l.owed l.ahead
+      l.behind l.page l.fail
+      → Event g l v m
+  -- or there is none
+  stops : (p : Part) (rest : List Part) (age : Option ℕ) (x : Scan) (e : EntryState)
+      → l.todo ≡ p ∷ rest → p.op ≡ Idle age → l.at ≡ Marking x
+      → l.held ≡ (slot x.page, holds.Slot e) ∷ [] → ((x.page + 1) == g.given.size) ≡ true
+      → v ≡ holds.Slot (marked g.clock age e)
+      → m ≡ piece_over l p (Whole (ends.Marked (with_page x (is_new_mark g.clock age e)).marked)) []
+      rest
+      → Event g l v m
   -- a compaction moves an object
   moves : (p : Part) (rest : List Part) (x : Compaction) (q q' : PoolState) (u u' : UsedCell)
       (budget frames : ℕ) → l.todo ≡ p ∷ rest → l.at ≡ Moving x
@@ -256,6 +276,27 @@ module _ (g : Begin) (ok : Known g) (l : Here) (sound : HeldAll g.given.size (So
       sweeps p rest x q todo at held stuck other v_is
       (m_is ∙ (λ i. on l (Sweeping (with_next g.chain x)) (tail_of (held i)) l.fresh l.pin l.owed
       l.ahead l.behind l.page l.fail))
+
+  -- a page was scanned
+  scanned : (p : Part) (rest : List Part) (age : Option ℕ) (x : Scan) (e : EntryState)
+      → l.todo ≡ p ∷ rest → p.op ≡ Idle age → l.at ≡ Marking x
+      → l.held ≡ (slot x.page, holds.Slot e) ∷ [] → v ≡ holds.Slot (marked g.clock age e)
+      → (last : Bool) → ((x.page + 1) == g.given.size) ≡ last
+      → m ≡ marking_by (with_page x (is_new_mark g.clock age e)) last l v → Event g l v m
+  scanned p rest age x e todo op at held v_is true last m_is =
+      stops p rest age x e todo op at held last v_is
+      (m_is ∙ ap (ending_by l (Whole (ends.Marked (with_page x (is_new_mark g.clock age e)).marked))
+      (λ q. [])) todo)
+  scanned p rest age x e todo op at held v_is false other m_is =
+      scans p rest age x e todo op at held other v_is
+      (m_is ∙ (λ i. on l (Scanning (with_page x (is_new_mark g.clock age e))) (tail_of (held i))
+      l.fresh l.pin l.owed l.ahead l.behind l.page l.fail))
+
+  scan_of : Marks (terms g) l v m → Event g l v m
+  scan_of (scan.scans p rest age x e todo op at held v_is m_is) =
+      scanned p rest age x e todo op at held v_is ((x.page + 1) == g.given.size) refl
+      (m_is ∙ ap (λ (s : At). marking_by (with_page (scan_at s) (is_new_mark g.clock age e))
+      (((scan_at s).page + 1) == g.given.size) l v) at)
 
   compact_of : Compacts (terms g) l v m → Event g l v m
   compact_of (compact.moves p rest x q q' budget frames todo at held some d v_is m_is) =
@@ -359,4 +400,5 @@ module _ (g : Begin) (ok : Known g) (l : Here) (sound : HeldAll g.given.size (So
       releases p rest e b x todo at held is v_is
       (m_is ∙ (λ i. on l Owing (slot_by (todo i) (emptied (entry_in (held i)))) l.fresh None 0
       (Some (weight_of (entry_in (held i)).kept)) l.behind l.page l.fail))
+  event_of (work.marks c) = scan_of c
   event_of (work.compacts c) = compact_of c

@@ -22,14 +22,14 @@ use Rattle.joint_rule.specs.Stages.{FailAt, FailBy, IsFault, IsRefusal, NoneOf, 
 use Rattle.joint_rule.specs.Weights.{at_place, device_faults, fails_so, faults_told, none, on_device}
 use Rattle.lock_row.specs.Totals.{held_sum, locals_sum, mass, total}
 use Rattle.lock_row.specs.declared.names.At.{At}
-use Rattle.lock_row.specs.declared.names.At.TheVariants.{Both, Counting, Failing, Fetching, Leaving, Made, Missed, Moving, Pinned, Ready, Refusing, Unpinning}
+use Rattle.lock_row.specs.declared.names.At.TheVariants.{Both, Counting, Failing, Fetching, Leaving, Made, Missed, Moving, Pinned, Ready, Refusing, Unpinning, Marking}
 use Rattle.lock_row.specs.declared.names.LockNo.{LockNo}
 use Rattle.lock_row.specs.declared.names.State.{State}
 use Rattle.page_steps.specs.Steps.{DiskHeld, Here, entry_in, on, piece_over, slot, spot, took}
 use Rattle.plain_disk.specs.Ends.{Bounds, Ground, MayBeSingle, tells_fault}
 use Rattle.std.proofs.lemmas.Bool.{cases_eq, eq-eqb, ne_eqb}
 use Rattle.zr_base.specs.declared.op.Op.{Op}
-use Rattle.zr_base.specs.declared.op.Op.TheVariants.{Compact, Discard, Read, Write}
+use Rattle.zr_base.specs.declared.op.Op.TheVariants.{Compact, Discard, Idle, Read, Write}
 use Rattle.zr_base.specs.declared.op.OpEnd.{OpEnd}
 use Rattle.joint_rule.proofs.Events as event
 use Rattle.lock_row.specs.declared.names.LockNo.TheVariants as lock
@@ -83,6 +83,7 @@ module _ (g : Begin) (p : Part) where
   write_ends (Write start count stuff) x i = refusal_ends x i
   write_ends (Read start count) x i = absurd i
   write_ends (Discard start count) x i = absurd i
+  write_ends (Idle age) x i = absurd i
   write_ends Compact x i = absurd i
 
   -- so did the piece in work, where it is refused
@@ -247,6 +248,14 @@ module _ (g : Begin) (ok : Known g) (w : State DiskHeld) (j : Joint g w) (a : 鈩
       (let r = ap (held_sum (spot size) device_faults) held in omega arith))
   blames_of v m (event.releases p rest e b x todo at held is v_is m_is) =
       same_blames v _ m _ v_is m_is (same (位 n. refl)
+      (let r = ap (held_sum (spot size) device_faults) held in omega arith))
+  blames_of v m (event.scans p rest age x e todo op at held other v_is m_is) =
+      same_blames v _ m _ v_is m_is (same (位 n. refl)
+      (let r = ap (held_sum (spot size) device_faults) held in omega arith))
+  blames_of v m (event.stops p rest age x e todo op at held last v_is m_is) =
+      let st = stage g ok w j a l who p rest todo _ (Marking x) held at in
+      same_blames v _ m _ v_is m_is (same (quiet_over p (Whole (ends.Marked _)) [] rest st.fails
+      (位 n. refl))
       (let r = ap (held_sum (spot size) device_faults) held in omega arith))
   blames_of v m (event.moves p rest y x x' u u' budget frames todo at held sh some one v_is m_is) =
       same_blames v _ m _ v_is m_is (same (位 n. refl)

@@ -1,6 +1,7 @@
 -- The reads of the device: a giving raises their count by one at most, and then for a piece that
 -- hasn't read it before; a piece that is over tells that in its page's order or by its end.
 use Rattle.std.proofs.Common.{◌≡◌, ◌+◌, ◌≤◌, ◌∷◌, ◌++◌, ℕ, List, [], Option, Some, None, slice_get, refl, sym, ap, subst, arith}
+use Rattle.lock_row.specs.declared.names.Scan.{Scan}
 use Rattle.call_history.specs.Parts.{done_sum, left_by, piece_gives}
 use Rattle.call_history.specs.Shows.{tag_by}
 use Rattle.call_history.specs.declared.part.Part.{Part}
@@ -19,7 +20,7 @@ use Rattle.joint_rule.specs.Stages.{FailBy, Looks}
 use Rattle.joint_rule.specs.Weights.{device_reads, fetched_by, fetched_now, fetches_noted, fetches_told, looks, none}
 use Rattle.lock_row.specs.Totals.{held_sum, mass}
 use Rattle.lock_row.specs.declared.names.At.{At}
-use Rattle.lock_row.specs.declared.names.At.TheVariants.{Both, Counting, Fetching, Freeing, Giving, Leaving, Made, Missed, Moving, Pinning, Ready, Refusing, Releasing, Shrinking, Start, Unpinning}
+use Rattle.lock_row.specs.declared.names.At.TheVariants.{Both, Counting, Fetching, Freeing, Giving, Leaving, Made, Missed, Moving, Pinning, Ready, Refusing, Releasing, Shrinking, Start, Unpinning, Marking}
 use Rattle.lock_row.specs.declared.names.LockNo.{LockNo}
 use Rattle.lock_row.specs.declared.names.Object.{Object}
 use Rattle.lock_row.specs.declared.names.Pin.{Pin}
@@ -35,7 +36,7 @@ use Rattle.slot_entry.specs.Forms.{Blank, PageForm, Pooled, Word}
 use Rattle.slot_entry.specs.declared.kept.Kept.{Kept}
 use Rattle.zr_base.specs.Plain.{named}
 use Rattle.zr_base.specs.declared.op.Op.{Op}
-use Rattle.zr_base.specs.declared.op.Op.TheVariants.{Compact, Discard, Read, Write}
+use Rattle.zr_base.specs.declared.op.Op.TheVariants.{Compact, Discard, Idle, Read, Write}
 use Rattle.zr_base.specs.declared.op.Tag.{Tag}
 use Rattle.joint_rule.proofs.Events as event
 use Rattle.lock_row.specs.declared.names.Held.TheVariants as holds
@@ -60,6 +61,7 @@ looks_pinned : (o : Op) (f : PageForm) (k : Kept) (op : Op)
 looks_pinned (Write start count stuff) f k op = looks_made f k op
 looks_pinned (Read start count) f k op = refl
 looks_pinned (Discard start count) f k op = refl
+looks_pinned (Idle age) f k op = refl
 looks_pinned Compact f k op = refl
 
 looks_fetched : (o : Op) (f : PageForm) (k : Kept) (op : Op)
@@ -67,6 +69,7 @@ looks_fetched : (o : Op) (f : PageForm) (k : Kept) (op : Op)
 looks_fetched (Write start count stuff) f k op = looks_made f k op
 looks_fetched (Read start count) f k op = refl
 looks_fetched (Discard start count) f k op = refl
+looks_fetched (Idle age) f k op = refl
 looks_fetched Compact f k op = refl
 
 looks_quit : (x : Option Pin) (op : Op) → fetched_by (quit_at x) op ≡ looks op
@@ -78,6 +81,7 @@ looks_one : (op : Op) → Looks op → looks op ≡ 1
 looks_one (Write start count stuff) i = refl
 looks_one (Read start count) i = refl
 looks_one (Discard start count) i = absurd i
+looks_one (Idle age) i = absurd i
 looks_one Compact i = absurd i
 
 -- a taking loses nothing
@@ -195,6 +199,15 @@ module _ (g : Begin) (ok : Known g) (w : State DiskHeld) (j : Joint g w) (a : �
     slot_is : (p : Part) → Give (slot p.page) ≡ Give k → k ≡ slot p.page
     slot_is p is = sym (given_lock g ok w j a l who k v m what (slot p.page) is)
 
+    -- a page that was scanned has its order as before
+    scan_noted : (p : Part) (rest : List Part) (x : Scan) (e : EntryState)
+        → l.todo ≡ p ∷ rest → l.at ≡ Marking x → l.held ≡ (slot x.page, holds.Slot e) ∷ []
+        → fetches_noted g x.page (holds.Slot e) ≡ fetches_noted g (spot n k) (holds.Slot e)
+    scan_noted p rest x e todo at held =
+        ap (λ (i : LockNo). fetches_noted g (spot n i) (holds.Slot e)) (given_lock g ok w j a l who k
+        v m what (slot x.page) (event_is g ok w j a l who k v m what p rest _ (Marking x) todo held
+        at))
+
     pub reads_of : Event g l v m → Reads v m
     reads_of (event.pins p rest e o x x' u u' cell todo at held is sw named_u free outside is_cell
         in_cell lk v_is m_is) =
@@ -258,6 +271,16 @@ module _ (g : Begin) (ok : Known g) (w : State DiskHeld) (j : Joint g w) (a : �
         same_reads _ _ v_is m_is (goes_so p rest todo Releasing _ at
         (let r = ap (held_sum (spot n) device_reads) held in
         let s = ap (held_sum (spot n) (fetches_noted g)) held in omega arith))
+    reads_of (event.scans p rest age x e todo op at held other v_is m_is) =
+        same_reads _ _ v_is m_is (goes_so p rest todo (Marking x) _ at
+        (let r = ap (held_sum (spot n) device_reads) held in
+        let s = ap (held_sum (spot n) (fetches_noted g)) held in
+        let z = scan_noted p rest x e todo at held in omega arith))
+    reads_of (event.stops p rest age x e todo op at held last v_is m_is) =
+        same_reads _ _ v_is m_is (ends_so p rest (Whole (ends.Marked _)) [] todo (Marking x) at
+        (let r = ap (held_sum (spot n) device_reads) held in
+        let s = ap (held_sum (spot n) (fetches_noted g)) held in
+        let z = scan_noted p rest x e todo at held in omega arith))
     reads_of (event.moves p rest x y y' u u' budget frames todo at held sh some one v_is m_is) =
         same_reads _ _ v_is m_is (goes_so p rest todo (Moving x) _ at
         (let r = ap (held_sum (spot n) device_reads) held in

@@ -1,5 +1,9 @@
 -- What an actor takes fits it.
 use Rattle.std.proofs.Common.{◌≡◌, ◌+◌, ◌*◌, ◌-◌, ◌/◌, ◌≤◌, ◌<◌, ◌∷◌, ◌++◌, ◌∙◌, ℕ, zero, suc, Bool, true, false, cond, eqb, List, [], map, length, sum_by, Option, Some, None, get_or, slice_get, refl, sym, ap, subst, arith, inl, inr}
+use Rattle.zr_base.specs.declared.op.Op.TheVariants.{Compact, Discard, Idle, Read, Write}
+use Rattle.zr_base.specs.declared.op.Op.{Op}
+use Rattle.plain_disk.specs.Phases.{touched_by}
+use Rattle.joint_rule.proofs.Takes.{some_actor}
 use Rattle.backing_dev.specs.Dev.{DeviceState}
 use Rattle.block_map.specs.BlockMap.{BlockMap}
 use Rattle.block_map.specs.declared.state.BlockState.TheVariants.{Owned}
@@ -22,7 +26,7 @@ use Rattle.joint_rule.proofs.Pools.{bit, chain_low, ones, same_pin_is}
 use Rattle.joint_rule.proofs.Rests.{no_held}
 use Rattle.joint_rule.proofs.Stages.{OnDisk, old_low, on_disk, write_changes}
 use Rattle.joint_rule.proofs.Sums.{get_here, gone, locals_le, locals_mono, row_le, total_mono, total_split}
-use Rattle.joint_rule.proofs.Takes.{IsAccount, IsDevice, IsEntry, IsMap, IsPoolOf, account_kind, class_kind, device_kind, entry_kind, map_kind}
+use Rattle.joint_rule.proofs.Places.{IsAccount, IsDevice, IsEntry, IsMap, IsPoolOf, account_kind, class_kind, device_kind, entry_kind, map_kind}
 use Rattle.joint_rule.proofs.Tells.{once}
 use Rattle.joint_rule.specs.Begins.{Begin, content, form_at, form_by, ground_of, piece_on, pieces_on, terms}
 use Rattle.joint_rule.specs.Joint.{AtHome, IsActor, Joint, PoolFits, Sound}
@@ -31,7 +35,7 @@ use Rattle.joint_rule.specs.Stages.{Changes, CountAt, GoneBy, IsForm, IsPinned, 
 use Rattle.joint_rule.specs.Weights.{Backs, Count, HeldAll, Huges, PackedBytes, Packs, Sames, ahead, behind, cell_weight, counter, counters, each_one, ever_at, measure, none, one, out_weight, pages, pin_in, same_pin, shown, stored}
 use Rattle.lock_row.specs.Totals.{by_option, held_sum, locals_sum, mass, total}
 use Rattle.lock_row.specs.declared.names.At.{At}
-use Rattle.lock_row.specs.declared.names.At.TheVariants.{Away, Backed, Failing, Giving, Inside, Moving, Old, Owing, Pinned, Ready, Seen, Shrunk, Start, Sweeping, Wanting}
+use Rattle.lock_row.specs.declared.names.At.TheVariants.{Away, Backed, Failing, Giving, Inside, Moving, Old, Owing, Pinned, Ready, Seen, Shrunk, Start, Sweeping, Wanting, Scanning}
 use Rattle.lock_row.specs.declared.names.Compaction.{Compaction}
 use Rattle.lock_row.specs.declared.names.LockNo.{LockNo}
 use Rattle.lock_row.specs.declared.names.Object.{Object}
@@ -41,10 +45,10 @@ use Rattle.lock_row.specs.declared.names.State.{State}
 use Rattle.mem_account.specs.Counters.{Counters, IsCounted, counted}
 use Rattle.mem_account.specs.declared.weight.Weight.{Weight}
 use Rattle.page_steps.specs.Compactions.{repaid}
-use Rattle.page_steps.specs.Fits.{AsAccount, AsBlocks, AsDevice, AsPool, AsSlot, CanCharge, CanPay, CanPin, CanStore, FetchFits, FitsAt, FitsBy, FreeFits, HasPlace, IsKept, PinFits, PinnedFits, ReleaseFits, StageFits, StartFits, StoreFits, SweepFits, cell_of}
+use Rattle.page_steps.specs.Fits.{AsAccount, AsBlocks, AsDevice, AsPool, AsSlot, CanCharge, CanPay, CanPin, CanStore, FetchFits, FitsAt, FitsBy, FreeFits, HasPlace, IsKept, PinFits, PinnedFits, ReleaseFits, StageFits, StartFits, StoreFits, SweepFits, cell_of, FirstFits, ScanFits}
 use Rattle.page_steps.specs.Givings.{old_weight}
 use Rattle.page_steps.specs.Pages.{new_class, next_form, page_in}
-use Rattle.page_steps.specs.Steps.{DiskHeld, Here, class_by, entry_in, lock_of, on, plan, plan_at, plan_by, slot, spot, start_plan, took}
+use Rattle.page_steps.specs.Steps.{DiskHeld, Here, class_by, entry_in, lock_of, on, plan, plan_at, plan_by, slot, spot, start_plan, took, first_lock}
 use Rattle.plain_disk.specs.Ends.{is_single}
 use Rattle.size_class.specs.Classes.{class_size}
 use Rattle.slot_entry.specs.Entries.{EntryState, weight_of}
@@ -55,7 +59,7 @@ use Rattle.std.proofs.lemmas.Bool.{cases_Bool, or_from}
 use Rattle.std.proofs.lemmas.List.{length-map}
 use Rattle.std.proofs.lemmas.List.Sums.{sum_by-cons}
 use Rattle.std.specs.Prelude.{Contains, ⊤}
-use Rattle.zr_base.specs.Plain.{is_beyond, is_compaction}
+use Rattle.zr_base.specs.Plain.{is_beyond, is_maintenance}
 use Rattle.zr_base.specs.declared.op.Tag.{Tag}
 use Rattle.zspage.specs.Cells.{UsedCell, header_size}
 use Rattle.zspage.specs.Cells.{Fits as CellFits}
@@ -113,6 +117,12 @@ is_slot (holds.Class p) i = absurd i
 is_slot (holds.Account c) i = absurd i
 is_slot (holds.Blocks x) i = absurd i
 is_slot (holds.Device x) i = absurd i
+
+-- a page was touched at the phase's time at last
+pub touched_low : (order : List Tag) (clock most was : ℕ) → was ≤ clock → clock ≤ most
+    → touched_by order clock was ≤ most
+touched_low [] clock most was old le = omega arith
+touched_low (t ∷ ts) clock most was old le = le
 
 -- ---- cells
 
@@ -335,9 +345,26 @@ module _ (g : Begin) (ok : Known g) (w : State DiskHeld) (r : Rule g w) (a : ℕ
     any_account k_is = as_account (λ c. ⊤) v (account_kind g v
         (subst (λ (i : LockNo). Sound g (spot n i) v) k_is home.sound)) (λ c e. tt)
 
-    start_by : (a b : Bool) → is_compaction p.op ≡ a → is_beyond n p.op ≡ b
-        → start_plan a b p ≡ Take k → StartFits g.chain a b v
-    start_by true b a e what_is = sweep_fits 0 (omega arith) (taken_lock (lock.Class 0) what_is)
+    -- the entry of a page that may be marked
+    scan_fits : (page : ℕ) → page < n → k ≡ slot page → ScanFits g.clock v
+    scan_fits page low k_is = as_slot (λ e. e.touched ≤ g.clock) v
+        (entry_kind g page low v (subst (λ (i : LockNo). Sound g (spot n i) v) k_is home.sound))
+        (λ e v_is. let s = (subst (λ (x : LockNo × DiskHeld). Sound g (spot n x.0) x.1)
+        (λ i. (k_is i, v_is i)) home.sound).touched in
+        let t = touched_low e.order g.clock g.clock (g.touched page) (ok.proper.times page low)
+        (omega arith) in omega arith)
+
+    first_fits : (op : Op) → k ≡ first_lock op → FirstFits (terms g) op v
+    first_fits (Idle age) k_is =
+        scan_fits 0 (ok.proper.some (some_actor g.given.actors a fit.ops fit.named)) k_is
+    first_fits (Write start count stuff) k_is = sweep_fits 0 (omega arith) k_is
+    first_fits (Read start count) k_is = sweep_fits 0 (omega arith) k_is
+    first_fits (Discard start count) k_is = sweep_fits 0 (omega arith) k_is
+    first_fits Compact k_is = sweep_fits 0 (omega arith) k_is
+
+    start_by : (a b : Bool) → is_maintenance p.op ≡ a → is_beyond n p.op ≡ b
+        → start_plan a b p ≡ Take k → StartFits (terms g) p.op a b v
+    start_by true b a e what_is = first_fits p.op (taken_lock (first_lock p.op) what_is)
     start_by false true a b what_is = any_account (taken_lock lock.Account what_is)
     start_by false false a b what_is = slot_fits (or_from _ _ a b)
         (taken_lock (slot p.page) what_is)
@@ -645,8 +672,10 @@ module _ (g : Begin) (ok : Known g) (w : State DiskHeld) (r : Rule g w) (a : ℕ
     FitsAs at x = FitsAt (terms g) at p x l.pin l.owed l.ahead l.page v
 
     fits_at : (at : At) → l.at ≡ at → FitsAs at (entry_in l.held)
-    fits_at Start i = start_by (is_compaction p.op) (is_beyond n p.op) refl refl
+    fits_at Start i = start_by (is_maintenance p.op) (is_beyond n p.op) refl refl
         (plan_is Start l.held i refl)
+    fits_at (Scanning x) i = scan_fits x.page (here (Scanning x) i).scans.page
+        (taken_lock (slot x.page) (plan_is (Scanning x) l.held i refl))
     fits_at (Sweeping x) i = sweep_fits x.class (here (Sweeping x) i).compacts.class
         (taken_lock (lock.Class x.class) (plan_is (Sweeping x) l.held i refl))
     fits_at (Shrunk x) i = shrunk_fits x i

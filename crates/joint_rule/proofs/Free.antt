@@ -1,6 +1,9 @@
 -- Takings go from slots to classes, and last to the account, the blocks or the device, so some actor
 -- can always move.
 use Rattle.std.proofs.Common.{◌≡◌, ◌+◌, ◌≤◌, ◌<◌, ◌∷◌, ◌∙◌, ℕ, zero, suc, Bool, true, false, List, [], map, length, Option, Some, None, slice_get, refl, sym, ap, subst, arith, ⊎_elim}
+use Rattle.zr_base.specs.declared.op.Op.TheVariants.{Compact, Discard, Idle, Read, Write}
+use Rattle.zr_base.specs.declared.op.Op.{Op}
+use Rattle.joint_rule.proofs.Takes.{some_actor}
 use Rattle.call_history.specs.Parts.{EndsSo, Follows, program}
 use Rattle.call_history.specs.declared.part.Part.{Part}
 use Rattle.joint_rule.proofs.Facts.{Known}
@@ -18,16 +21,16 @@ use Rattle.joint_rule.specs.Stages.{Stage, locks_at, locks_by}
 use Rattle.joint_rule.specs.Weights.{HeldAll, at_place, none, same}
 use Rattle.lock_row.specs.Totals.{held_sum, locals_sum, mass, row_sum}
 use Rattle.lock_row.specs.declared.names.At.{At}
-use Rattle.lock_row.specs.declared.names.At.TheVariants.{Away, Backed, Both, Counting, Failing, Fetching, Freeing, Giving, Inside, Leaving, Made, Missed, Old, Owing, Pinned, Pinning, Ready, Refusing, Releasing, Seen, Start, Unpinning, Wanting, Sweeping, Moving, Shrunk, Shrinking}
+use Rattle.lock_row.specs.declared.names.At.TheVariants.{Away, Backed, Both, Counting, Failing, Fetching, Freeing, Giving, Inside, Leaving, Made, Missed, Old, Owing, Pinned, Pinning, Ready, Refusing, Releasing, Seen, Start, Unpinning, Wanting, Sweeping, Moving, Shrunk, Shrinking, Scanning, Marking}
 use Rattle.lock_row.specs.declared.names.LockNo.{LockNo}
 use Rattle.lock_row.specs.declared.names.Plan.{Plan}
 use Rattle.lock_row.specs.declared.names.Plan.TheVariants.{Finished, Give, Take}
 use Rattle.lock_row.specs.declared.names.State.{State}
 use Rattle.page_steps.specs.Pages.{new_class, next_form}
-use Rattle.page_steps.specs.Steps.{DiskHeld, Here, class_by, entry_in, plan, plan_at, plan_by, slot, spot, start_plan}
+use Rattle.page_steps.specs.Steps.{DiskHeld, Here, class_by, entry_in, plan, plan_at, plan_by, slot, spot, start_plan, first_lock}
 use Rattle.slot_entry.specs.Forms.{class_in}
 use Rattle.std.proofs.lemmas.Bool.{or_from}
-use Rattle.zr_base.specs.Plain.{is_beyond, is_compaction}
+use Rattle.zr_base.specs.Plain.{is_beyond, is_maintenance}
 use Rattle.lock_row.specs.declared.names.LockNo.TheVariants as lock
 use Rattle.lock_row.specs.declared.names.Held.TheVariants as holds
 
@@ -77,11 +80,20 @@ no_start_gives p k true b e = cc
 no_start_gives p k false true e = cc
 no_start_gives p k false false e = cc
 
+taken_first : (k m : LockNo) → Take m ≡ Take k → m ≡ k
+taken_first k m e = cc
+
 -- what an actor gives it took last
 gives_last : (size : ℕ) (at : At) (p : Part) (c d : ℕ) (k : LockNo) → plan_at size at p c d ≡ Give k
     → (ks : List LockNo) × (locks_at at p c d ≡ k ∷ ks)
-gives_last size Start p c d k e = absurd (no_start_gives p k (is_compaction p.op)
+gives_last size Start p c d k e = absurd (no_start_gives p k (is_maintenance p.op)
     (is_beyond size p.op) e)
+gives_last size (Scanning x) p c d k e = absurd (cc)
+gives_last size (Marking x) p c d k e = (
+  [],
+  (let q : slot x.page ≡ k = cc in
+      ap (λ (y : LockNo). y ∷ []) q),
+)
 gives_last size (Sweeping x) p c d k e = absurd (cc)
 gives_last size (Moving x) p c d k e = (
   [],
@@ -241,10 +253,29 @@ module _ (g : Begin) (ok : Known g) (w : State DiskHeld) (j : Joint g w) where
       locks_here = fit.locks ∙ ap (λ (ps : List Part). locks_by ps l.at c
           (new_class g.chain ps l.page (entry_in l.held).kept)) todo
 
-      above_start : (k : LockNo) (a b : Bool) → is_compaction p.op ≡ a → is_beyond n p.op ≡ b
+      -- there is a page
+      some : 0 < n
+      some = ok.proper.some (some_actor g.given.actors a fit.ops fit.named)
+
+      -- the first lock of what is no request is one of the disk
+      first_is : (op : Op) → IsLock n (first_lock op)
+      first_is (Idle age) = some
+      first_is (Write start count stuff) = omega arith
+      first_is (Read start count) = omega arith
+      first_is (Discard start count) = omega arith
+      first_is Compact = omega arith
+
+      first_low : (m : LockNo) → IsLock n m → spot n m < n + 258
+      first_low (lock.Slot page) i = omega arith
+      first_low (lock.Class x) i = omega arith
+      first_low lock.Account i = omega arith
+      first_low lock.Blocks i = omega arith
+      first_low lock.Device i = omega arith
+
+      above_start : (k : LockNo) (a b : Bool) → is_maintenance p.op ≡ a → is_beyond n p.op ≡ b
           → start_plan a b p ≡ Take k → IsAbove n p c d k Start
-      above_start k true b a b_is e = above_none n p c d k Start (lock.Class 0)
-          (let z : lock.Class 0 ≡ k = cc in z) (omega arith) refl
+      above_start k true b a b_is e = above_none n p c d k Start (first_lock p.op)
+          (taken_first k (first_lock p.op) e) (first_low (first_lock p.op) (first_is p.op)) refl
       above_start k false true a b e = above_none n p c d k Start lock.Account
           (let z : lock.Account ≡ k = cc in z) (omega arith) refl
       above_start k false false a b e =
@@ -253,7 +284,10 @@ module _ (g : Begin) (ok : Known g) (w : State DiskHeld) (j : Joint g w) where
 
       above : (k : LockNo) (at : At) → l.at ≡ at → plan_at n at p c d ≡ Take k
           → IsAbove n p c d k at
-      above k Start is e = above_start k (is_compaction p.op) (is_beyond n p.op) refl refl e
+      above k Start is e = above_start k (is_maintenance p.op) (is_beyond n p.op) refl refl e
+      above k (Scanning x) is e = let low = (here (Scanning x) is).scans.page in
+          above_none n p c d k (Scanning x) (slot x.page)
+          (let q : slot x.page ≡ k = cc in q) (omega arith) refl
       above k (Sweeping x) is e = let low = (here (Sweeping x) is).compacts.class in
           above_none n p c d k (Sweeping x) (lock.Class x.class)
           (let q : lock.Class x.class ≡ k = cc in q) (omega arith) refl
@@ -291,23 +325,26 @@ module _ (g : Begin) (ok : Known g) (w : State DiskHeld) (j : Joint g w) where
       above k Freeing is e = absurd (cc)
       above k Giving is e = absurd (cc)
       above k Ready is e = absurd (cc)
+      above k (Marking x) is e = absurd (cc)
       above k (Moving x) is e = absurd (cc)
       above k (Shrinking x) is e = absurd (cc)
 
       on_new : IsLock n (lock.Class d)
       on_new = form_low g.chain _
 
-      start_lock : (k : LockNo) (a b : Bool) → is_compaction p.op ≡ a → is_beyond n p.op ≡ b
+      start_lock : (k : LockNo) (a b : Bool) → is_maintenance p.op ≡ a → is_beyond n p.op ≡ b
           → start_plan a b p ≡ Take k → IsLock n k
-      start_lock k true b a b_is e = subst (IsLock n) (let q : lock.Class 0 ≡ k = cc in q)
-          (let z : 0 < 255 = omega arith in z)
+      start_lock k true b a b_is e = subst (IsLock n) (taken_first k (first_lock p.op) e)
+          (first_is p.op)
       start_lock k false true a b e = subst (IsLock n) (let q : lock.Account ≡ k = cc in q) tt
       start_lock k false false a b e = subst (IsLock n) (let q : slot p.page ≡ k = cc in q)
           (disk (or_from _ _ a b)).0
 
       -- what it takes is a lock of the disk
       take_lock : (k : LockNo) (at : At) → l.at ≡ at → plan_at n at p c d ≡ Take k → IsLock n k
-      take_lock k Start is e = start_lock k (is_compaction p.op) (is_beyond n p.op) refl refl e
+      take_lock k Start is e = start_lock k (is_maintenance p.op) (is_beyond n p.op) refl refl e
+      take_lock k (Scanning x) is e = subst (IsLock n) (let q : slot x.page ≡ k = cc in q)
+          (here (Scanning x) is).scans.page
       take_lock k (Sweeping x) is e = subst (IsLock n) (let q : lock.Class x.class ≡ k = cc in q)
           (here (Sweeping x) is).compacts.class
       take_lock k (Shrunk x) is e = subst (IsLock n) (let q : lock.Account ≡ k = cc in q) tt
@@ -336,13 +373,16 @@ module _ (g : Begin) (ok : Known g) (w : State DiskHeld) (j : Joint g w) where
       take_lock k Freeing is e = absurd (cc)
       take_lock k Giving is e = absurd (cc)
       take_lock k Ready is e = absurd (cc)
+      take_lock k (Marking x) is e = absurd (cc)
       take_lock k (Moving x) is e = absurd (cc)
       take_lock k (Shrinking x) is e = absurd (cc)
 
       -- and so is what it gives
       give_lock : (k : LockNo) (at : At) → l.at ≡ at → plan_at n at p c d ≡ Give k → IsLock n k
-      give_lock k Start is e = absurd (no_start_gives p k (is_compaction p.op)
+      give_lock k Start is e = absurd (no_start_gives p k (is_maintenance p.op)
           (is_beyond n p.op) e)
+      give_lock k (Marking x) is e = subst (IsLock n) (let q : slot x.page ≡ k = cc in q)
+          (here (Marking x) is).scans.scan.page
       give_lock k (Moving x) is e = subst (IsLock n) (let q : lock.Class x.class ≡ k = cc in q)
           (here (Moving x) is).compacts.class
       give_lock k (Shrinking x) is e = subst (IsLock n) (let q : lock.Account ≡ k = cc in q) tt
@@ -374,6 +414,7 @@ module _ (g : Begin) (ok : Known g) (w : State DiskHeld) (j : Joint g w) where
       give_lock k Inside is e = absurd (cc)
       give_lock k Old is e = absurd (cc)
       give_lock k Owing is e = absurd (cc)
+      give_lock k (Scanning x) is e = absurd (cc)
       give_lock k (Sweeping x) is e = absurd (cc)
       give_lock k (Shrunk x) is e = absurd (cc)
 

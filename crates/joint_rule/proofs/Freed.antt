@@ -20,7 +20,7 @@ use Rattle.joint_rule.specs.Stages.{FailBy, IsFault}
 use Rattle.joint_rule.specs.Weights.{compactions, freed_at, freed_by, none}
 use Rattle.lock_row.specs.Totals.{held_sum, locals_sum, mass}
 use Rattle.lock_row.specs.declared.names.At.{At}
-use Rattle.lock_row.specs.declared.names.At.TheVariants.{Both, Counting, Fetching, Freeing, Giving, Leaving, Made, Missed, Moving, Pinning, Ready, Refusing, Releasing, Shrinking, Shrunk, Start, Sweeping, Unpinning}
+use Rattle.lock_row.specs.declared.names.At.TheVariants.{Both, Counting, Fetching, Freeing, Giving, Leaving, Made, Missed, Moving, Pinning, Ready, Refusing, Releasing, Shrinking, Shrunk, Start, Sweeping, Unpinning, Marking}
 use Rattle.lock_row.specs.declared.names.Compaction.{Compaction}
 use Rattle.lock_row.specs.declared.names.LockNo.{LockNo}
 use Rattle.lock_row.specs.declared.names.Object.{Object}
@@ -32,13 +32,13 @@ use Rattle.mem_account.specs.declared.weight.Weight.{Weight}
 use Rattle.page_steps.specs.Compactions.{compaction_at, moved_at, with_frames, with_move}
 use Rattle.page_steps.specs.Givings.{fails_by, old_weight}
 use Rattle.page_steps.specs.Pages.{next_form}
-use Rattle.page_steps.specs.Steps.{DiskHeld, Here, after_take, begun_at, entry_in, entry_or, lock_of, on, piece_over, plan, spot, taken_at, took}
+use Rattle.page_steps.specs.Steps.{DiskHeld, Here, after_take, begun_at, entry_in, entry_or, lock_of, on, piece_over, plan, spot, taken_at, took, first_at}
 use Rattle.plain_disk.specs.Ends.{compacted}
 use Rattle.slot_entry.specs.Forms.{PageForm, form_weight}
 use Rattle.slot_entry.specs.declared.kept.Kept.{Kept}
-use Rattle.zr_base.specs.Plain.{is_beyond, is_compaction}
+use Rattle.zr_base.specs.Plain.{is_beyond, is_maintenance}
 use Rattle.zr_base.specs.declared.op.Op.{Op}
-use Rattle.zr_base.specs.declared.op.Op.TheVariants.{Compact, Discard, Read, Write}
+use Rattle.zr_base.specs.declared.op.Op.TheVariants.{Compact, Discard, Idle, Read, Write}
 use Rattle.joint_rule.proofs.Events as event
 use Rattle.zr_base.specs.declared.op.OpEnd.TheVariants as ends
 
@@ -60,15 +60,22 @@ freed_moved : (m : ℕ) (x : Compaction) → freed (moved_at m x) ≡ x.frames
 freed_moved zero x = refl
 freed_moved (suc m) x = refl
 
+freed_first : (op : Op) → freed (first_at op) ≡ 0
+freed_first (Idle age) = refl
+freed_first (Write start count stuff) = refl
+freed_first (Read start count) = refl
+freed_first (Discard start count) = refl
+freed_first Compact = refl
+
 freed_begun : (a b : Bool) (p : Part) (f : PageForm) (k : Kept) → freed (begun_at a b p f k) ≡ 0
-freed_begun true b p f k = refl
+freed_begun true b p f k = freed_first p.op
 freed_begun false true p f k = refl
 freed_begun false false p f k = freed_none _ (plain_entered p.op p.page f k).0
 
 -- a taking frees nothing
 freed_after : (size : ℕ) (at : At) (p : Part) (f : PageForm) (k : Kept)
     → freed (after_take size at p f k) ≡ freed at
-freed_after size Start p f k = freed_begun (is_compaction p.op) (is_beyond size p.op) p f k
+freed_after size Start p f k = freed_begun (is_maintenance p.op) (is_beyond size p.op) p f k
 freed_after size at p f k = refl
 
 freed_taken : (size : ℕ) (ps : List Part) (at : At) (page : Option (List ℕ)) (k : Kept)
@@ -94,6 +101,7 @@ refusal_frees g p (Write start count stuff) NoMemory f = refl
 refusal_frees g p (Write start count stuff) (Eio fault) f = absurd f
 refusal_frees g p (Read start count) x f = absurd f
 refusal_frees g p (Discard start count) x f = absurd f
+refusal_frees g p (Idle age) x f = absurd f
 refusal_frees g p Compact x f = absurd f
 
 fault_frees : (g : Begin) (p : Part) (op : Op) (x : PartEnd) → IsFault g p (Some x)
@@ -108,6 +116,7 @@ fault_compacted : (op : Op) (c : Counters) → (fails_by op c).compacted ≡ c.c
 fault_compacted (Write start count stuff) c = refl
 fault_compacted (Read start count) c = refl
 fault_compacted (Discard start count) c = refl
+fault_compacted (Idle age) c = refl
 fault_compacted Compact c = refl
 
 -- ---- givings
@@ -234,6 +243,12 @@ module _ (g : Begin) (ok : Known g) (w : State DiskHeld) (j : Joint g w) (a : �
   frees_of (event.releases p rest e b x todo at held is v_is m_is) =
       same_frees _ _ v_is m_is (stays_so Releasing _ at refl
       (let r = ap (held_sum (spot n) compactions) held in omega arith))
+  frees_of (event.scans p rest age x e todo op at held other v_is m_is) =
+      same_frees _ _ v_is m_is (stays_so (Marking x) _ at refl
+      (let r = ap (held_sum (spot n) compactions) held in omega arith))
+  frees_of (event.stops p rest age x e todo op at held last v_is m_is) =
+      same_frees _ _ v_is m_is (ends_so p rest (Whole (ends.Marked _)) [] todo (Marking x) at refl
+      refl (let r = ap (held_sum (spot n) compactions) held in omega arith))
   frees_of (event.moves p rest x y y' u u' budget frames todo at held sh some one v_is m_is) =
       same_frees _ _ v_is m_is (stays_so (Moving x) _ at (freed_moved frames (with_move x budget))
       (let r = ap (held_sum (spot n) compactions) held in omega arith))

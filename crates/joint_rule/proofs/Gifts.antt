@@ -1,5 +1,5 @@
 -- What each giving does, whatever else there is.
-use Rattle.std.proofs.Common.{◌≡◌, ◌+◌, ◌≤◌, ◌<◌, ◌∷◌, ◌++◌, ◌∙◌, ◌⊎◌, ℕ, zero, suc, true, false, List, [], map, Option, Some, None, option_and_then, slice_get, refl, sym, ap, subst, arith, inl, inr}
+use Rattle.std.proofs.Common.{◌≡◌, ◌+◌, ◌≤◌, ◌<◌, ◌∷◌, ◌++◌, ◌∙◌, ◌⊎◌, ℕ, zero, suc, true, false, List, [], map, Option, Some, None, option_and_then, slice_get, refl, sym, ap, subst, arith, inl, inr, Bool, length, length-append}
 use Rattle.call_history.specs.Parts.{EndsSo, Follows, left_by, program}
 use Rattle.call_history.specs.Shows.{got_from, tag_by}
 use Rattle.call_history.specs.declared.part.Part.{Part}
@@ -14,7 +14,7 @@ use Rattle.joint_rule.proofs.Stages.{on_disk}
 use Rattle.joint_rule.specs.Begins.{AreCarried, Begin, HasEvent, back_at, content, ever, form_at, ground_of, image}
 use Rattle.joint_rule.specs.Joint.{AtHome, EntryFits, IsActor, Joint, Sound}
 use Rattle.joint_rule.specs.Rule.{owed}
-use Rattle.joint_rule.specs.Stages.{Changes, FailBy, GoneBy, IsForm, IsRight, IsSmall, Looks, NoObj, NoneOf, Stage, StageBy, is_wb, locks_at, locks_by}
+use Rattle.joint_rule.specs.Stages.{Changes, FailBy, GoneBy, IsForm, IsRight, IsSmall, Looks, NoObj, NoneOf, Stage, StageBy, is_wb, locks_at, locks_by, MayIdle}
 use Rattle.joint_rule.specs.Weights.{Count, Fixed, HeldAll, Limit, PackedBytes, PinWeigh, Weigh, ahead, at_place, behind, block_by, chains, claim_by, claims, counters, each_one, ever_at, fixed, fresh_claim, lies_by, measure, mosts, none, nothing, object_weight, one, outs, owing, pages, pinned, shown, some_of, stored}
 use Rattle.lock_row.specs.Totals.{by_option, held_sum, mass}
 use Rattle.lock_row.specs.declared.names.At.{At}
@@ -34,9 +34,9 @@ use Rattle.slot_entry.specs.Entries.{EntryState, weight_of}
 use Rattle.slot_entry.specs.Forms.{PageForm, bytes_in, class_in, form_weight}
 use Rattle.slot_entry.specs.declared.kept.Kept.{Kept}
 use Rattle.std.proofs.lemmas.Bool.{cases_Bool}
-use Rattle.zr_base.specs.Plain.{has_event, is_beyond, is_compaction, named}
+use Rattle.zr_base.specs.Plain.{has_event, is_beyond, is_maintenance, named}
 use Rattle.zr_base.specs.declared.op.Op.{Op}
-use Rattle.zr_base.specs.declared.op.Op.TheVariants.{Compact, Discard, Read, Write}
+use Rattle.zr_base.specs.declared.op.Op.TheVariants.{Compact, Discard, Idle, Read, Write}
 use Rattle.zr_base.specs.declared.op.Tag.{Tag}
 use Rattle.lock_row.specs.declared.names.LockNo.TheVariants as lock
 use Rattle.lock_row.specs.declared.names.Held.TheVariants as holds
@@ -87,10 +87,13 @@ none_pin f (Some x) e = absurd e
 
 -- a request beyond the disk is over in one piece
 beyond_single : (size : ℕ) (op : Op) → is_beyond size op ≡ true → is_single size op ≡ true
-beyond_single size op e = elim (cases_Bool (is_compaction op)) [
+beyond_single size op e = elim (cases_Bool (is_maintenance op)) [
   | inl on ↦ rw on refl
   | inr off ↦ rw off e
 ]
+
+pub unmarked : (b : Bool) → b ≡ false → b ≡ true → ⊥
+unmarked b off on = let q : false ≡ true = sym off ∙ on in cc
 
 pub some_one : (n : ℕ) → some_of n ≤ 1
 some_one zero = omega arith
@@ -105,6 +108,7 @@ ends_badly g p (Write start count stuff) (AtLimit c n l) f = f
 ends_badly g p (Write start count stuff) NoMemory f = f
 ends_badly g p (Read start count) x f = absurd f
 ends_badly g p (Discard start count) x f = absurd f
+ends_badly g p (Idle age) x f = absurd f
 ends_badly g p Compact x f = absurd f
 
 -- what was counted of the page is what the entry and the actor tell
@@ -139,12 +143,14 @@ start_stage g (p ∷ ps) e = record {
   owes = refl;
   stands = tt;
   backs = tt;
+  marks = tt;
   partly = tt;
   right = tt;
   counts = (tt, tt);
   blank = tt;
   fails = tt;
   begun = tt;
+  scans = tt;
   compacts = tt;
 }
 
@@ -242,7 +248,7 @@ module _ (g : Begin) (ok : Known g) (w : State DiskHeld) (j : Joint g w) (a : �
       (piece_over l p (Whole ends.Range) [] rest)
   give_refuses c at held =
       let q = stage _ Refusing held at in record {
-        home = record { sound = refl; stands = tt; backs = tt };
+        home = record { sound = refl; stands = tt; backs = tt; marks = tt };
         fits = is_over (Whole ends.Range) [] (beyond_single n p.op q.begun, q.begun);
         alone = λ i. let r = ap (held_sum (spot n) (at_place i)) held in omega arith;
         owners = λ f. let r = ap (held_sum (spot n) (claims g f)) held in
@@ -296,6 +302,12 @@ module _ (g : Begin) (ok : Known g) (w : State DiskHeld) (j : Joint g w) (a : �
       touched = notes.touched ∙ sym (ap (λ (ts : List Tag).
           touched_by ts g.clock (g.touched p.page)) notes.order
           ∙ touched_now x.order (tag_by l.actor p) (g.touched p.page));
+      mark = record {
+        under = notes.under;
+        stays = λ none. absurd (let e = ap length (sym notes.order ∙ none) in
+            let s = length-append x.order (tag_by l.actor p ∷ []) in let no : ⊥ = omega arith in no);
+        only = λ none idle. absurd (unmarked y.idle notes.idle idle);
+      };
     }
 
     module _ (at : l.at ≡ Ready) (notes : Notes g.clock e f
@@ -352,6 +364,7 @@ module _ (g : Begin) (ok : Known g) (w : State DiskHeld) (j : Joint g w) (a : �
               (all _ Ready held at).0 notes put_small;
           stands = put_stands;
           backs = put_backs;
+          marks = λ idle. absurd (unmarked f.idle notes.idle idle);
         };
         fits = is_over Carried [] sr.begun;
         alone = λ i. let r = ap (held_sum (spot n) (at_place i)) held in omega arith;
@@ -387,17 +400,19 @@ module _ (g : Begin) (ok : Known g) (w : State DiskHeld) (j : Joint g w) (a : �
       pub owes : l.owed ≡ 0
       pub stands : IsForm g.chain (form_at g p.page e.order) e.kept
       pub backs : is_wb e.kept ≡ back_at g p.page e.order
+      pub marks : MayIdle e.kept e.idle
       pub more : NoneOf l.ahead
       pub less : NoneOf l.behind
       pub fits : EntryFits g p.page e
       pub begun : is_single n p.op ≡ false
 
-    -- the entry goes back, and has the page as before
+    -- the entry goes back, has the page as before, and is marked as it has to be
     pub record IsSame (v : EntryState) : Type 0 where
       pub kept : v.kept ≡ e.kept
       pub form : form_at g p.page v.order ≡ form_at g p.page e.order
       pub content : content g p.page v.order ≡ content g p.page e.order
       pub back : back_at g p.page v.order ≡ back_at g p.page e.order
+      pub marks : MayIdle v.kept v.idle
       pub up : ever g p.page e.order ≤ ever g p.page v.order
 
     module _ (bare : IsBare) where
@@ -410,6 +425,7 @@ module _ (g : Begin) (ok : Known g) (w : State DiskHeld) (j : Joint g w) (a : �
           stands = subst (λ (x : PageForm × Kept).
               IsForm g.chain x.0 x.1) (λ i. (sym same.form i, sym same.kept i)) bare.stands;
           backs = ap is_wb same.kept ∙ bare.backs ∙ sym same.back;
+          marks = same.marks;
         };
         fits = is_over end got so;
         alone = λ i. let r = ap (held_sum (spot n) (at_place i)) held in omega arith;
@@ -448,6 +464,7 @@ module _ (g : Begin) (ok : Known g) (w : State DiskHeld) (j : Joint g w) (a : �
         form = refl;
         content = refl;
         back = refl;
+        marks = bare.marks;
         up = omega arith;
       })
 
@@ -466,6 +483,7 @@ module _ (g : Begin) (ok : Known g) (w : State DiskHeld) (j : Joint g w) (a : �
                 ∙ content_read g ok p e.order (tag_by l.actor p) is_named start count is;
             back = ap (back_at g p.page) notes.order
                 ∙ back_read g p e.order (tag_by l.actor p) is_named start count is;
+            marks = λ idle. absurd (unmarked f.idle notes.idle idle);
             up = let r = ever_up g p.page e.order (tag_by l.actor p) in
                 let q = ap (ever g p.page) notes.order in omega arith;
           })
@@ -481,6 +499,7 @@ module _ (g : Begin) (ok : Known g) (w : State DiskHeld) (j : Joint g w) (a : �
         owes = sl.owes;
         stands = sl.stands;
         backs = sl.backs;
+        marks = sl.marks;
         more = sl.counts.0;
         less = sl.counts.1;
         fits = (all _ Leaving held at).0;
@@ -498,6 +517,7 @@ module _ (g : Begin) (ok : Known g) (w : State DiskHeld) (j : Joint g w) (a : �
         by_op (Read start count) is k b = give_noted bare_leaving Carried
             (got_from (page_in l.page e.kept) p) sl.begun start count is notes
         by_op (Discard start count) is k b = absurd b
+        by_op (Idle age) is k b = absurd b
         by_op Compact is k b = absurd b
 
       pub give_fails : (x : PartEnd) → l.fail ≡ Some x → Gift g a l (slot p.page) (holds.Slot e)

@@ -1,5 +1,6 @@
 -- What each giving does: the law of its event.
 use Rattle.std.proofs.Common.{◌≡◌, ◌∷◌, ◌∙◌, ℕ, List, Some, slice_get, sym, ap, subst}
+use Rattle.joint_rule.proofs.Scans.{give_scans, give_stops}
 use Rattle.call_history.specs.declared.part.Part.{Part}
 use Rattle.call_history.specs.declared.part.PartEnd.TheVariants.{AtLimit, NoMemory}
 use Rattle.joint_rule.proofs.Accounts.{give_counts, give_repays}
@@ -12,7 +13,7 @@ use Rattle.joint_rule.proofs.Objects.{give_charges, give_frees, give_pins, give_
 use Rattle.joint_rule.specs.Begins.{Begin, terms}
 use Rattle.joint_rule.specs.Joint.{Joint}
 use Rattle.lock_row.specs.declared.names.At.{At}
-use Rattle.lock_row.specs.declared.names.At.TheVariants.{Both, Counting, Fetching, Freeing, Giving, Leaving, Made, Missed, Pinning, Ready, Refusing, Releasing, Unpinning, Moving, Shrinking}
+use Rattle.lock_row.specs.declared.names.At.TheVariants.{Both, Counting, Fetching, Freeing, Giving, Leaving, Made, Missed, Pinning, Ready, Refusing, Releasing, Unpinning, Moving, Shrinking, Marking}
 use Rattle.lock_row.specs.declared.names.LockNo.{LockNo}
 use Rattle.lock_row.specs.declared.names.Plan.TheVariants.{Give}
 use Rattle.lock_row.specs.declared.names.State.{State}
@@ -125,6 +126,14 @@ module _ (g : Begin) (ok : Known g) (w : State DiskHeld) (j : Joint g w) (a : �
   gift (event.releases p rest e b x todo at held is v_is m_is) =
       at_lock _ lock.Blocks _ (given_lock lock.Blocks (event_is p rest _ Releasing todo held at))
       v_is m_is (give_releases g ok w j a l who p rest todo e b x at held is)
+  gift (event.scans p rest age x e todo op at held other v_is m_is) =
+      at_lock _ (slot x.page) _ (given_lock (slot x.page)
+      (event_is p rest _ (Marking x) todo held at)) v_is m_is
+      (give_scans g ok w j a l who p rest todo age op x e at held other)
+  gift (event.stops p rest age x e todo op at held last v_is m_is) =
+      at_lock _ (slot x.page) _ (given_lock (slot x.page)
+      (event_is p rest _ (Marking x) todo held at)) v_is m_is
+      (give_stops g ok w j a l who p rest todo age op x e at held)
   gift (event.moves p rest x q q' u u' budget frames todo at held sh some one v_is m_is) =
       at_lock _ (lock.Class x.class) _ (given_lock (lock.Class x.class)
       (event_is p rest _ (Moving x) todo held at)) v_is m_is

@@ -5,6 +5,7 @@ pub mod Pools
 pub mod Lookups
 pub mod Blocks
 pub mod Stages
+pub mod Places
 pub mod Takes
 pub mod Zspages
 pub mod Classes
@@ -16,6 +17,7 @@ pub mod Objects
 pub mod Accounts
 pub mod Compactions
 pub mod Device
+pub mod Scans
 pub mod Givings
 pub mod Keeps
 pub mod Bounds
@@ -27,12 +29,15 @@ pub mod Sweeps
 pub mod Alone
 pub mod Faults
 pub mod Fetches
+pub mod Aged
+pub mod Ages
 pub mod Turns
 pub mod Starts
 pub mod Gets
 pub mod Fitting
 pub mod Rests
 pub mod Ranges
+pub mod Idles
 pub mod Ended
 pub mod Renewals
 pub mod NewDisks

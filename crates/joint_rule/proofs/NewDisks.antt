@@ -1,5 +1,6 @@
 -- A disk on which nothing was ever written is at rest.
 use Rattle.std.proofs.Common.{◌≡◌, ◌+◌, ◌*◌, ◌<◌, ◌≤◌, ◌&&◌, ◌∷◌, ◌∙◌, ℕ, suc, Bool, true, List, [], length, sum_by, Option, Some, slice_get, refl, sym, ap, subst, arith}
+use Rattle.joint_rule.proofs.Gifts.{unmarked}
 use Rattle.backing_dev.specs.Dev.{DeviceState}
 use Rattle.block_map.specs.declared.state.BlockState.{BlockState}
 use Rattle.class_pool.specs.Pool.{IsPool, PoolState, used_cells}
@@ -64,12 +65,18 @@ module _ (g : Begin) where
     sound = record {
       page = h.0;
       calls = subst (AreCarried g j) (sym h.2) tt;
-      touched = h.3 ∙ sym (ap (λ (ts : List Tag). touched_by ts g.clock (g.touched j)) h.2);
+      touched = h.5 ∙ sym (ap (λ (ts : List Tag). touched_by ts g.clock (g.touched j)) h.2);
+      mark = record {
+        under = h.3;
+        stays = λ none was. absurd (unmarked (g.idle j) h.8 was);
+        only = λ none idle. absurd (unmarked e.idle h.4 idle);
+      };
       small = subst (λ (k : Kept). IsSmall (weight_of k)) (sym h.1) (omega arith);
     };
     stands = subst (λ (x : PageForm × Kept). IsForm g.chain x.0 x.1)
-        (λ i. (sym (blank_form g j e.order h.2 h.4) i, sym h.1 i)) tt;
-    backs = ap is_wb h.1 ∙ sym (ap (λ (b : Bool). b && leave_page g.given.actors e.order) h.5);
+        (λ i. (sym (blank_form g j e.order h.2 h.6) i, sym h.1 i)) tt;
+    backs = ap is_wb h.1 ∙ sym (ap (λ (b : Bool). b && leave_page g.given.actors e.order) h.7);
+    marks = λ idle. absurd (unmarked e.idle h.4 idle);
   }
   new_home j (holds.Class p) h = record {
     sound = (
@@ -86,13 +93,15 @@ module _ (g : Begin) where
     );
     stands = tt;
     backs = tt;
+    marks = tt;
   }
-  new_home j (holds.Account c) h = record { sound = h.0; stands = tt; backs = tt }
-  new_home j (holds.Blocks x) h = record { sound = h.0; stands = tt; backs = tt }
+  new_home j (holds.Account c) h = record { sound = h.0; stands = tt; backs = tt; marks = tt }
+  new_home j (holds.Blocks x) h = record { sound = h.0; stands = tt; backs = tt; marks = tt }
   new_home j (holds.Device d) h = record {
     sound = (h.0, subst (λ (x : DeviceState). KeepsDevice x d) h.1 (keeps_self d h.2));
     stands = tt;
     backs = tt;
+    marks = tt;
   }
 
   no_claim : (f : Weigh) (j : ℕ) (v : DiskHeld) → IsNew g j v → claims g f j v ≡ 0

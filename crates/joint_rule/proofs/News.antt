@@ -2,6 +2,8 @@
 -- that
 -- is noted gives that to its order.
 use Rattle.std.proofs.Common.{◌≡◌, ◌+◌, ◌≤◌, ◌∷◌, ◌++◌, ◌∙◌, ℕ, zero, suc, Bool, true, cond, List, [], Option, Some, None, slice_get, refl, sym, ap, subst, arith}
+use Rattle.lock_row.specs.declared.names.Scan.{Scan}
+use Rattle.page_steps.specs.Scans.{with_page}
 use Rattle.call_history.specs.Parts.{is_read, left_by}
 use Rattle.call_history.specs.Shows.{tag_by}
 use Rattle.call_history.specs.declared.part.Part.{Part}
@@ -22,7 +24,7 @@ use Rattle.joint_rule.specs.Stages.{BlankBy, Changes, FailBy, Looks, NoneOf, Sta
 use Rattle.joint_rule.specs.Weights.{FreedPages, HugeWrites, Huges, News, news_count, news_counter, news_of, none, noted, order_news, same, told_ahead, told_at, told_by}
 use Rattle.lock_row.specs.Totals.{by_option, held_sum, mass, total}
 use Rattle.lock_row.specs.declared.names.At.{At}
-use Rattle.lock_row.specs.declared.names.At.TheVariants.{Both, Counting, Fetching, Freeing, Giving, Leaving, Made, Missed, Pinning, Ready, Refusing, Releasing, Start, Unpinning, Moving, Shrinking}
+use Rattle.lock_row.specs.declared.names.At.TheVariants.{Both, Counting, Fetching, Freeing, Giving, Leaving, Made, Missed, Pinning, Ready, Refusing, Releasing, Start, Unpinning, Moving, Shrinking, Marking}
 use Rattle.lock_row.specs.declared.names.Compaction.{Compaction}
 use Rattle.lock_row.specs.declared.names.LockNo.{LockNo}
 use Rattle.lock_row.specs.declared.names.Object.{Object}
@@ -38,12 +40,12 @@ use Rattle.page_steps.specs.Pages.{next_by, next_form, page_in, page_in_cell}
 use Rattle.page_steps.specs.Steps.{DiskHeld, Here, after_take, begun_at, entry_in, entry_or, fetched_at, lock_of, made_at, piece_over, pinned_at, plan, quit_at, settle_at, slot, spot, taken_at, took}
 use Rattle.plain_disk.specs.Calls.{Found, after, after_all, calls_sum, freed}
 use Rattle.plain_disk.specs.Forms.{is_huge}
-use Rattle.slot_entry.specs.Entries.{EntryState}
+use Rattle.slot_entry.specs.Entries.{EntryState, is_new_mark}
 use Rattle.slot_entry.specs.Forms.{Blank, PageForm, Pooled, Word, form_weight}
 use Rattle.slot_entry.specs.declared.kept.Kept.{Kept}
-use Rattle.zr_base.specs.Plain.{is_beyond, is_compaction, named}
+use Rattle.zr_base.specs.Plain.{is_beyond, is_maintenance, named}
 use Rattle.zr_base.specs.declared.op.Op.{Op}
-use Rattle.zr_base.specs.declared.op.Op.TheVariants.{Compact, Discard, Read, Write}
+use Rattle.zr_base.specs.declared.op.Op.TheVariants.{Compact, Discard, Idle, Read, Write}
 use Rattle.zr_base.specs.declared.op.Tag.{Tag}
 use Rattle.joint_rule.proofs.Events as event
 use Rattle.lock_row.specs.declared.names.Held.TheVariants as holds
@@ -94,6 +96,7 @@ only_read : (g : Begin) (p : Part) (op : Op) → Looks op → FailBy g p op None
 only_read g p (Write start count stuff) i f = absurd f
 only_read g p (Read start count) i f = refl
 only_read g p (Discard start count) i f = absurd f
+only_read g p (Idle age) i f = absurd f
 only_read g p Compact i f = absurd f
 
 told_none : (q : News) (op : Op) → told_by q op None ≡ 0
@@ -101,6 +104,7 @@ told_none HugeWrites op = refl
 told_none FreedPages (Write start count stuff) = refl
 told_none FreedPages (Read start count) = refl
 told_none FreedPages (Discard start count) = refl
+told_none FreedPages (Idle age) = refl
 told_none FreedPages Compact = refl
 
 told_quiet : (q : News) (at : At) (ps : List Part) → told_at q at ps None ≡ 0
@@ -131,6 +135,7 @@ told_pinned : (q : News) (op : Op) (f : PageForm) (k : Kept) (ps : List Part) (x
 told_pinned q (Write start count stuff) f k ps x = told_made q f k ps x
 told_pinned q (Read start count) f k ps x = refl
 told_pinned q (Discard start count) f k ps x = refl
+told_pinned q (Idle age) f k ps x = refl
 told_pinned q Compact f k ps x = refl
 
 told_fetched : (q : News) (op : Op) (f : PageForm) (k : Kept) (ps : List Part) (x : Option Weight)
@@ -138,6 +143,7 @@ told_fetched : (q : News) (op : Op) (f : PageForm) (k : Kept) (ps : List Part) (
 told_fetched q (Write start count stuff) f k ps x = told_made q f k ps x
 told_fetched q (Read start count) f k ps x = refl
 told_fetched q (Discard start count) f k ps x = refl
+told_fetched q (Idle age) f k ps x = refl
 told_fetched q Compact f k ps x = refl
 
 told_quit : (q : News) (y : Option Pin) (ps : List Part) (x : Option Weight)
@@ -157,7 +163,7 @@ told_after : (g : Begin) (q : News) (at : At) (p : Part) (ps : List Part) (e e' 
     → Stage g p e at fresh pin owed x y page fail → told_at q (after_take g.given.size at p f k)
     (p ∷ ps) x ≡ told_at q at (p ∷ ps) x
 told_after g q Start p ps e e' fresh pin owed x y page fail f k s =
-    told_free q (begun_at (is_compaction p.op) (is_beyond g.given.size p.op) p f k) (p ∷ ps) x
+    told_free q (begun_at (is_maintenance p.op) (is_beyond g.given.size p.op) p f k) (p ∷ ps) x
     s.counts.0
 told_after g q at p ps e e' fresh pin owed x y page fail f k s = refl
 
@@ -202,6 +208,7 @@ tells_huge : (op : Op) (c : Counters) → (tells op c).huge_since ≡ c.huge_sin
 tells_huge (Write start count stuff) c = refl
 tells_huge (Read start count) c = refl
 tells_huge (Discard start count) c = refl
+tells_huge (Idle age) c = refl
 tells_huge Compact c = refl
 
 tells_freed : (op : Op) (c : Counters) (w : Weight) → (tells op c).notify_free
@@ -209,6 +216,7 @@ tells_freed : (op : Op) (c : Counters) (w : Weight) → (tells op c).notify_free
 tells_freed (Write start count stuff) c w = refl
 tells_freed (Read start count) c w = refl
 tells_freed (Discard start count) c w = refl
+tells_freed (Idle age) c w = refl
 tells_freed Compact c w = refl
 
 settled_news : (q : News) (op : Op) (n : ℕ) (old new : Weight) (c : Counters)
@@ -227,6 +235,7 @@ told_one HugeWrites op w = huge_one w
 told_one FreedPages (Write start count stuff) w = omega arith
 told_one FreedPages (Read start count) w = omega arith
 told_one FreedPages (Discard start count) w = omega arith
+told_one FreedPages (Idle age) w = omega arith
 told_one FreedPages Compact w = omega arith
 
 same_failed : (q : News) (c : Counters) → news_count q (counted c delta.FailedWrite)
@@ -242,10 +251,12 @@ same_fault : (q : News) (op : Op) (c : Counters) → news_count q (fails_by op c
 same_fault HugeWrites (Write start count stuff) c = refl
 same_fault HugeWrites (Read start count) c = refl
 same_fault HugeWrites (Discard start count) c = refl
+same_fault HugeWrites (Idle age) c = refl
 same_fault HugeWrites Compact c = refl
 same_fault FreedPages (Write start count stuff) c = refl
 same_fault FreedPages (Read start count) c = refl
 same_fault FreedPages (Discard start count) c = refl
+same_fault FreedPages (Idle age) c = refl
 same_fault FreedPages Compact c = refl
 
 same_shrunk : (q : News) (c : Counters) (n : ℕ) → news_count q (shrunk n c) ≡ news_count q c
@@ -319,6 +330,7 @@ module _ (g : Begin) (ok : Known g) (w : State DiskHeld) (j : Joint g w) (a : �
           (kept_is g p.page (e.order ++ tag_by l.actor p ∷ []) ∙ ap form_weight now_form)
           ∙ huge_bit (form_weight (next_form p l.page e.kept)) ∙ sym (st.counts.ahead Huges)
       huge_told (Read start count) is c = absurd c
+      huge_told (Idle age) is c = absurd c
       huge_told Compact is c = absurd c
       huge_told (Discard start count) is c = sym (st.counts.ahead Huges
           ∙ ap (λ (o : Op). huge_of (form_weight (next_by o p (page_in l.page e.kept)))) is)
@@ -328,6 +340,7 @@ module _ (g : Begin) (ok : Known g) (w : State DiskHeld) (j : Joint g w) (a : �
           (found_after g p.page (e.order ++ tag_by l.actor p ∷ [])) ≡ told_by FreedPages op x
       blank_told (Write start count stuff) x b c i = refl
       blank_told (Read start count) x b c i = absurd c
+      blank_told (Idle age) x b c i = absurd c
       blank_told Compact x b c i = absurd c
       blank_told (Discard start count) None b c i = ap (λ (y : Bool). cond {A = ℕ} y 0 1) i
       blank_told (Discard start count) (Some x) b c i = ap (λ (y : Bool). cond {A = ℕ} y 0 1) i
@@ -357,6 +370,7 @@ module _ (g : Begin) (ok : Known g) (w : State DiskHeld) (j : Joint g w) (a : �
         → order_news g q p.page f.order ≡ order_news g q p.page e.order
     read_order q (Write start count stuff) is i notes = absurd (cc)
     read_order q (Discard start count) is i notes = absurd (cc)
+    read_order q (Idle age) is i notes = absurd (cc)
     read_order q Compact is i notes = absurd (cc)
     read_order q (Read start count) is i notes =
         let s = ap (order_news g q p.page) notes.order in let o = order_more q p e.order is_op in
@@ -380,6 +394,14 @@ module _ (g : Begin) (ok : Known g) (w : State DiskHeld) (j : Joint g w) (a : �
             (let x = ap (held_sum (spot n) (news_counter q)) held in omega arith)
 
   module _ (what : plan (terms g) l ≡ Give k) where
+    -- a page that was scanned has its order as before
+    scan_noted : (q : News) (p : Part) (rest : List Part) (x : Scan) (e : EntryState)
+        → l.todo ≡ p ∷ rest → l.at ≡ Marking x → l.held ≡ (slot x.page, holds.Slot e) ∷ []
+        → order_news g q (spot n k) e.order ≡ order_news g q x.page e.order
+    scan_noted q p rest x e todo at held = ap (λ (i : LockNo). order_news g q (spot n i) e.order)
+        (sym (given_lock g ok w j a l who k v m what (slot x.page)
+        (event_is g ok w j a l who k v m what p rest _ (Marking x) todo held at)))
+
     pub news_gives : (q : News) → Event g l v m → Announces q v m
     news_gives q (event.refuses p rest c todo at held v_is m_is) =
         same_news q _ _ v_is m_is (quietly q _ _ (let x = ap (held_sum (spot n) (noted g q)) held in
@@ -475,6 +497,16 @@ module _ (g : Begin) (ok : Known g) (w : State DiskHeld) (j : Joint g w) (a : �
     news_gives q (event.releases p rest e b x todo at held is v_is m_is) =
         same_news q _ _ v_is m_is (quietly q _ _ (let y = ap (held_sum (spot n) (noted g q)) held in
         let z = silent q Releasing at refl in omega arith)
+        (let y = ap (held_sum (spot n) (news_counter q)) held in omega arith))
+    news_gives q (event.scans p rest age x e todo op at held other v_is m_is) =
+        same_news q _ _ v_is m_is (quietly q _ _ (let y = ap (held_sum (spot n) (noted g q)) held in
+        let z = silent q (Marking x) at refl in let r = scan_noted q p rest x e todo at held in
+        omega arith) (let y = ap (held_sum (spot n) (news_counter q)) held in omega arith))
+    news_gives q (event.stops p rest age x e todo op at held last v_is m_is) =
+        let pages = (with_page x (is_new_mark g.clock age e)).marked in
+        same_news q _ _ v_is m_is (quietly q _ _ (let y = ap (held_sum (spot n) (noted g q)) held in
+        let z = silent q (Marking x) at refl in let r = scan_noted q p rest x e todo at held in
+        let s = told_quiet q Start (left_by (Whole (ends.Marked pages)) p.nr rest) in omega arith)
         (let y = ap (held_sum (spot n) (news_counter q)) held in omega arith))
     news_gives q (event.moves p rest x y y' u u' budget frames todo at held sh some one v_is m_is) =
         same_news q _ _ v_is m_is (quietly q _ _ (let z = ap (held_sum (spot n) (noted g q)) held in

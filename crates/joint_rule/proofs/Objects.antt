@@ -13,7 +13,7 @@ use Rattle.joint_rule.proofs.Lookups.{class_is, lone, mine_account, none_weight,
 use Rattle.joint_rule.proofs.Pages.{class_weight, content_page, ever_now, image_form, image_len, kept_small, pooled_weight, put_page}
 use Rattle.joint_rule.proofs.Pools.{Allocates, Swaps, chain_low, fits_less, fits_more, fits_swap}
 use Rattle.joint_rule.proofs.Stages.{made_locks, made_stage, settle_locks, settle_stage, write_blank}
-use Rattle.joint_rule.proofs.Takes.{form_claim}
+use Rattle.joint_rule.proofs.Places.{form_claim}
 use Rattle.joint_rule.specs.Begins.{Begin, content, form_at, ground_of, image}
 use Rattle.joint_rule.specs.Joint.{AtHome, EntryFits, Joint, PoolFits, Sound}
 use Rattle.joint_rule.specs.Stages.{Bears, Changes, FailBy, IsForm, IsObj, IsPinned, IsRefusal, IsRight, IsSmall, IsWrite, Looks, MadeBy, MayFail, MayPin, Names, NoneOf, Stage, locks_at}
@@ -37,7 +37,7 @@ use Rattle.slot_entry.specs.declared.kept.Kept.{Kept}
 use Rattle.slot_entry.specs.declared.kept.Stored.{Stored}
 use Rattle.zr_base.specs.Plain.{has_whole}
 use Rattle.zr_base.specs.declared.op.Op.{Op}
-use Rattle.zr_base.specs.declared.op.Op.TheVariants.{Compact, Discard, Read, Write}
+use Rattle.zr_base.specs.declared.op.Op.TheVariants.{Compact, Discard, Idle, Read, Write}
 use Rattle.zr_base.specs.declared.op.Stuff.{Stuff}
 use Rattle.zspage.specs.Cells.{CellState, IsStored, UsedCell, object_in}
 use Rattle.lock_row.specs.declared.names.LockNo.TheVariants as lock
@@ -77,6 +77,7 @@ module _ (g : Begin) (ok : Known g) (w : State DiskHeld) (j : Joint g w) (a : â„
       );
       stands = tt;
       backs = tt;
+      marks = tt;
     }
 
     module _ (q' : PoolState) (u u' : UsedCell) (sw : Swaps q q' u u')
@@ -116,7 +117,7 @@ module _ (g : Begin) (ok : Known g) (w : State DiskHeld) (j : Joint g w) (a : â„
             l.ahead l.behind (Some page) l.fail
         pinned_stage (Write start count stuff) e_op =
             made_stage g p e l.fresh pinned_cell l.owed l.ahead l.behind
-            (Some page) l.fail names_it st.owes st.stands st.backs
+            (Some page) l.fail names_it st.owes st.stands st.backs st.marks
             (write_blank p.op (subst IsWrite (sym e_op) tt) l.ahead _)
             (subst (Î» (x : Op). IsRight x p.page page (content g p.page e.order)) (sym e_op)
             (inr is_content)) st.counts.0 st.counts.1 st.fails st.begun
@@ -128,6 +129,7 @@ module _ (g : Begin) (ok : Known g) (w : State DiskHeld) (j : Joint g w) (a : â„
           owes = st.owes;
           stands = st.stands;
           backs = st.backs;
+          marks = st.marks;
           partly = tt;
           right = subst (Î» (x : Op). IsRight x p.page page (content g p.page e.order))
               (sym e_op) is_content;
@@ -135,9 +137,11 @@ module _ (g : Begin) (ok : Known g) (w : State DiskHeld) (j : Joint g w) (a : â„
           blank = tt;
           fails = subst (Î» (x : Op). FailBy g p x l.fail) (sym e_op) st.fails;
           begun = st.begun;
+          scans = tt;
           compacts = tt;
         }
         pinned_stage (Discard start count) e_op = absurd (subst Looks e_op st.kind.0)
+        pinned_stage (Idle age) e_op = absurd (subst Looks e_op st.kind.0)
         pinned_stage Compact e_op = absurd (subst Looks e_op st.kind.0)
 
         is_pin : (y : UsedCell) â†’ y.handle â‰¡ o.handle.0 â†’ y.cell â‰¡ cell
@@ -156,6 +160,7 @@ module _ (g : Begin) (ok : Known g) (w : State DiskHeld) (j : Joint g w) (a : â„
         pinned_locks (Write start count stuff) f c d = made_locks f e.kept p c d
         pinned_locks (Read start count) f c d = refl
         pinned_locks (Discard start count) f c d = refl
+        pinned_locks (Idle age) f c d = refl
         pinned_locks Compact f c d = refl
 
         pub give_pins : Gift g a l (lock.Class o.class) (holds.Class q')
@@ -221,12 +226,14 @@ module _ (g : Begin) (ok : Known g) (w : State DiskHeld) (j : Joint g w) (a : â„
                 owes = su.owes;
                 stands = su.stands;
                 backs = su.backs;
+                marks = su.marks;
                 partly = tt;
                 right = su.right;
                 counts = su.counts;
                 blank = tt;
                 fails = su.fails;
                 begun = su.begun;
+                scans = tt;
                 compacts = tt;
               }) (let lr =
               ap (held_sum (spot n) (claims g each_one)) held in
@@ -309,6 +316,7 @@ module _ (g : Begin) (ok : Known g) (w : State DiskHeld) (j : Joint g w) (a : â„
         owes = few_frames;
         stands = tt;
         backs = tt;
+        marks = tt;
         partly = tt;
         right = subst (Î» (x : List â„•). IsRight p.op p.page x (content g p.page e.order))
             (emptied_sees l.page e.kept is) sf.right;
@@ -316,6 +324,7 @@ module _ (g : Begin) (ok : Known g) (w : State DiskHeld) (j : Joint g w) (a : â„
         blank = sf.blank;
         fails = sf.fails;
         begun = sf.begun;
+        scans = tt;
         compacts = tt;
       }
 
@@ -324,6 +333,7 @@ module _ (g : Begin) (ok : Known g) (w : State DiskHeld) (j : Joint g w) (a : â„
         page = x.page;
         calls = x.calls;
         touched = x.touched;
+        mark = record { under = x.mark.under; stays = x.mark.stays; only = x.mark.only };
         small = omega arith;
       }
 
@@ -410,12 +420,14 @@ module _ (g : Begin) (ok : Known g) (w : State DiskHeld) (j : Joint g w) (a : â„
         owes = sb.owes;
         stands = sb.stands;
         backs = sb.backs;
+        marks = sb.marks;
         partly = tt;
         right = sb.right;
         counts = sb.counts;
         blank = tt;
         fails = may_by l.fail sb.fails;
         begun = sb.begun;
+        scans = tt;
         compacts = tt;
       } where
         made_by : (x : Option PartEnd) â†’ NoneOf x â†’ MadeBy g.chain x (next_form p l.page e.kept)
@@ -432,7 +444,7 @@ module _ (g : Begin) (ok : Known g) (w : State DiskHeld) (j : Joint g w) (a : â„
           (on l Made ((lock.Class cl, holds.Class q') âˆ· (slot p.page, holds.Slot e) âˆ· [])
           (Some new_object) l.pin l.owed l.ahead l.behind l.page l.fail)
       give_charges = record {
-        home = record { sound = refl; stands = tt; backs = tt };
+        home = record { sound = refl; stands = tt; backs = tt; marks = tt };
         fits = goes_on g ok w j a l who p rest todo Made
             ((lock.Class cl, holds.Class q') âˆ· (slot p.page, holds.Slot e) âˆ· [])
             (Some new_object) l.pin l.owed l.ahead l.behind l.page l.fail
@@ -499,6 +511,7 @@ module _ (g : Begin) (ok : Known g) (w : State DiskHeld) (j : Joint g w) (a : â„
         âˆ™ pooled_weight (next_form p l.page e.kept) sb.kind.1
     may_want (Read start count) e_op i = absurd i
     may_want (Discard start count) e_op i = absurd i
+    may_want (Idle age) e_op i = absurd i
     may_want Compact e_op i = absurd i
 
     class_num : cl â‰¡ class_in g.chain (next_form p l.page e.kept)
@@ -513,6 +526,7 @@ module _ (g : Begin) (ok : Known g) (w : State DiskHeld) (j : Joint g w) (a : â„
         class_num in omega arith)
     of_class_is (Read start count) e_op i = absurd i
     of_class_is (Discard start count) e_op i = absurd i
+    of_class_is (Idle age) e_op i = absurd i
     of_class_is Compact e_op i = absurd i
 
     pub memory_refusal : IsRefusal g p NoMemory
@@ -550,7 +564,7 @@ module _ (g : Begin) (ok : Known g) (w : State DiskHeld) (j : Joint g w) (a : â„
         ((lock.Class cl, holds.Class q) âˆ· (slot p.page, holds.Slot e) âˆ· []) l.fresh l.pin l.owed
         l.ahead l.behind l.page (Some x))
     give_refused x is = record {
-      home = record { sound = refl; stands = tt; backs = tt };
+      home = record { sound = refl; stands = tt; backs = tt; marks = tt };
       fits = goes_on g ok w j a l who p rest todo Made ((lock.Class cl, holds.Class q) âˆ·
           (slot p.page, holds.Slot e) âˆ· []) l.fresh l.pin l.owed l.ahead l.behind l.page (Some x)
           (ap (Î» (k : LockNo). k âˆ· slot p.page âˆ· []) in_class_lock) sounds.1
@@ -561,12 +575,14 @@ module _ (g : Begin) (ok : Known g) (w : State DiskHeld) (j : Joint g w) (a : â„
             owes = sb.owes;
             stands = sb.stands;
             backs = sb.backs;
+            marks = sb.marks;
             partly = tt;
             right = sb.right;
             counts = sb.counts;
             blank = tt;
             fails = is;
             begun = sb.begun;
+            scans = tt;
             compacts = tt;
           }) (let lr = ap (held_sum (spot n) (claims g each_one)) held in
           let lx = ap (held_sum (spot n) (ever_at g)) held in
@@ -600,19 +616,25 @@ module _ (g : Begin) (ok : Known g) (w : State DiskHeld) (j : Joint g w) (a : â„
     writes_change (Write start count stuff) i = tt
     writes_change (Read start count) i = absurd i
     writes_change (Discard start count) i = absurd i
+    writes_change (Idle age) i = absurd i
     writes_change Compact i = absurd i
 
     pub give_stows : l.fail â‰¡ None â†’ Gift g a l (lock.Class cl) (holds.Class q)
         (on l (settle_at e.kept) ((slot p.page, holds.Slot e) âˆ· []) l.fresh l.pin l.owed l.ahead
         l.behind l.page l.fail)
     give_stows well = record {
-      home = record { sound = (all g ok w j a l who p rest todo _ Made held at).0; stands = tt; backs = tt };
+      home = record {
+        sound = (all g ok w j a l who p rest todo _ Made held at).0;
+        stands = tt;
+        backs = tt;
+        marks = tt;
+      };
       fits = goes_on g ok w j a l who p rest todo (settle_at e.kept)
           ((slot p.page, holds.Slot e) âˆ· []) l.fresh l.pin l.owed l.ahead l.behind l.page l.fail
           (settle_locks e.kept p _ _) (all g ok w j a l who p rest todo _ Made held at).1
           (settle_stage g p e l.fresh l.pin l.owed l.ahead l.behind l.page l.fail sm.pins sm.owes
-          sm.stands sm.backs (write_blank p.op sm.kind.0 l.ahead _) sm.right sm.counts.0 sm.counts.1
-          (subst NoneOf (sym well) tt) sm.begun (writes_change p.op sm.kind.0)
+          sm.stands sm.backs sm.marks (write_blank p.op sm.kind.0 l.ahead _) sm.right sm.counts.0
+          sm.counts.1 (subst NoneOf (sym well) tt) sm.begun (writes_change p.op sm.kind.0)
           (subst (Î» (x : Option PartEnd). MadeBy g.chain x (next_form p l.page e.kept) l.fresh) well
           sm.made) e.kept refl) (let lr = ap (held_sum (spot n) (claims g each_one)) held in
           let lx = ap (held_sum (spot n) (ever_at g)) held in
@@ -647,12 +669,14 @@ module _ (g : Begin) (ok : Known g) (w : State DiskHeld) (j : Joint g w) (a : â„
       write_fails (Write start count stuff) (Some y) i k f = f
       write_fails (Read start count) y i k f = absurd k
       write_fails (Discard start count) y i k f = absurd k
+      write_fails (Idle age) y i k f = absurd k
       write_fails Compact y i k f = absurd k
 
       write_looks : (op : Op) â†’ IsWrite op â†’ Looks op
       write_looks (Write start count stuff) k = tt
       write_looks (Read start count) k = absurd k
       write_looks (Discard start count) k = absurd k
+      write_looks (Idle age) k = absurd k
       write_looks Compact k = absurd k
 
       named_obj : (k : Kept) (y : Pin) â†’ Names k y â†’ IsObj k
@@ -670,12 +694,14 @@ module _ (g : Begin) (ok : Known g) (w : State DiskHeld) (j : Joint g w) (a : â„
         owes = sm.owes;
         stands = sm.stands;
         backs = sm.backs;
+        marks = sm.marks;
         partly = tt;
         right = sm.right;
         counts = sm.counts;
         blank = tt;
         fails = write_fails p.op l.fail bad sm.kind.0 sm.fails;
         begun = sm.begun;
+        scans = tt;
         compacts = tt;
       }
       quit_stage (Some y) i = record {
@@ -685,12 +711,14 @@ module _ (g : Begin) (ok : Known g) (w : State DiskHeld) (j : Joint g w) (a : â„
         owes = sm.owes;
         stands = sm.stands;
         backs = sm.backs;
+        marks = sm.marks;
         partly = tt;
         right = sm.right;
         counts = sm.counts;
         blank = tt;
         fails = write_fails p.op l.fail bad sm.kind.0 sm.fails;
         begun = sm.begun;
+        scans = tt;
         compacts = tt;
       }
 
@@ -702,7 +730,12 @@ module _ (g : Begin) (ok : Known g) (w : State DiskHeld) (j : Joint g w) (a : â„
           (on l (quit_at l.pin) ((slot p.page, holds.Slot e) âˆ· []) l.fresh l.pin l.owed l.ahead
           l.behind l.page l.fail)
       give_quits = record {
-        home = record { sound = (all g ok w j a l who p rest todo _ Made held at).0; stands = tt; backs = tt };
+        home = record {
+          sound = (all g ok w j a l who p rest todo _ Made held at).0;
+          stands = tt;
+          backs = tt;
+          marks = tt;
+        };
         fits = goes_on g ok w j a l who p rest todo (quit_at l.pin)
             ((slot p.page, holds.Slot e) âˆ· []) l.fresh l.pin l.owed l.ahead l.behind l.page l.fail
             (quit_locks l.pin _ _) (all g ok w j a l who p rest todo _ Made held at).1

@@ -27,7 +27,7 @@ use Rattle.std.specs.Prelude.{All}
 use Rattle.zr_base.specs.Plain.{content as sectors, covers, has_whole, named, sector_after, sector_after_named, stuff_sector, zero_sector}
 use Rattle.zr_base.specs.Sectors.{page_sector}
 use Rattle.zr_base.specs.declared.op.Op.{Op}
-use Rattle.zr_base.specs.declared.op.Op.TheVariants.{Compact, Discard, Read, Write}
+use Rattle.zr_base.specs.declared.op.Op.TheVariants.{Compact, Discard, Idle, Read, Write}
 use Rattle.zr_base.specs.declared.op.Stuff.{Stuff}
 use Rattle.zr_base.specs.declared.op.Tag.{Tag}
 use Rattle.slot_entry.specs.declared.kept.Kept.TheVariants as kept
@@ -87,7 +87,7 @@ module _ (g : Begin) where
   holds_after f [] s = refl
   holds_after f (t ∷ ts) s = holds_after (after (named g.given.actors t) f) ts s
 
-  after_push : (f : Found) (order : List Tag) (t : Tag)
+  pub after_push : (f : Found) (order : List Tag) (t : Tag)
       → after_all g.given.actors f (order ++ t ∷ [])
       ≡ after (named g.given.actors t) (after_all g.given.actors f order)
   after_push f [] t = refl
@@ -170,6 +170,7 @@ module _ (g : Begin) (ok : Known g) where
   blank_step None p k lt ev b old zeros e = zeros e
   blank_step (Some (Read start count)) p k lt ev b old zeros e = zeros e
   blank_step (Some (Write start count stuff)) p k lt ev b old zeros e = absurd (cc)
+  blank_step (Some (Idle age)) p k lt ev b old zeros e = zeros e
   blank_step (Some Compact) p k lt ev b old zeros e = zeros e
   blank_step (Some (Discard start count)) p k lt ev b old zeros e =
       let q : (8 * p + k) / 8 ≡ p = omega arith in
@@ -376,6 +377,7 @@ module _ (g : Begin) (ok : Known g) (p : Part) (order : List Tag) (t : Tag)
       (λ s. ap (page_after p) (sym s)) r)
   next_is (Read start count) page e c r = absurd c
   next_is (Discard start count) page e c r = refl
+  next_is (Idle age) page e c r = absurd c
   next_is Compact page e c r = absurd c
 
   pub form_next : (page : List ℕ) → Changes p.op → IsRight p.op p.page page (content g p.page order)
@@ -539,6 +541,7 @@ change_goes : (op : Op) → Changes op → leaves_page (Some op) ≡ false
 change_goes (Write start count stuff) c = refl
 change_goes (Read start count) c = absurd c
 change_goes (Discard start count) c = refl
+change_goes (Idle age) c = absurd c
 change_goes Compact c = absurd c
 
 module _ (g : Begin) (p : Part) (order : List Tag) (t : Tag)

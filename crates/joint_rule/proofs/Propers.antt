@@ -1,5 +1,6 @@
 -- Sectors keep their 512 bytes, whatever the calls, and blank pages their zeros.
 use Rattle.std.proofs.Common.{◌≡◌, ◌+◌, ◌*◌, ◌-◌, ◌/◌, ◌≤◌, ◌<◌, ◌∷◌, ◌∙◌, ◌^◌, ◌%◌, ℕ, zero, suc, true, leb, ltb, List, [], length, drop, sum_by, Option, Some, None, get_or, slice_get, refl, sym, ap, subst, arith, inl, inr, ⊎_elim, length-append}
+use Rattle.joint_rule.proofs.Fitting.{touched_low}
 use Rattle.backing_dev.specs.Dev.{DeviceState}
 use Rattle.joint_rule.proofs.Ended.{entries, order_is}
 use Rattle.joint_rule.proofs.Facts.{Known}
@@ -7,7 +8,7 @@ use Rattle.joint_rule.proofs.Pages.{blank_zero, holds_after}
 use Rattle.joint_rule.proofs.Ranges.{range_by, range_map, range_none}
 use Rattle.joint_rule.proofs.Rests.{at_rest}
 use Rattle.joint_rule.specs.Begins.{AreCarried, AreRequests, Begin, IsRoomy, IsSector, Proper, back_at, found_after}
-use Rattle.joint_rule.specs.Ends.{AllFinished, begin_at, new_rest, order_in, orders_of, rest_after, value_at}
+use Rattle.joint_rule.specs.Ends.{AllFinished, begin_at, new_rest, order_in, orders_of, rest_after, value_at, idle_in}
 use Rattle.joint_rule.specs.Rule.{Rule}
 use Rattle.joint_rule.specs.Starts.{IsRenewed}
 use Rattle.lock_row.specs.declared.names.State.{State}
@@ -34,7 +35,7 @@ use Rattle.std.specs.Prelude.{All}
 use Rattle.zr_base.specs.Plain.{HasBytes, HasSectors, covers, has_whole, named, sector_after_named, stuff_sector, words_from, zero_sector}
 use Rattle.zr_base.specs.Plain.{content as contents}
 use Rattle.zr_base.specs.declared.op.Op.{Op}
-use Rattle.zr_base.specs.declared.op.Op.TheVariants.{Compact, Discard, Read, Write}
+use Rattle.zr_base.specs.declared.op.Op.TheVariants.{Compact, Discard, Idle, Read, Write}
 use Rattle.zr_base.specs.declared.op.Stuff.{Stuff}
 use Rattle.zr_base.specs.declared.op.Stuff.TheVariants.{Fill, Hex, Seq}
 use Rattle.zr_base.specs.declared.op.Tag.{Tag}
@@ -108,6 +109,7 @@ module _ (actors : List (List Op)) (requests : AreRequests actors) where
         put_sector stuff count (s - start) q.1 q.2 (omega arith))
     | inr off ↦ rw off h
   ]
+  one_call t (Some (Idle age)) s old e h = h
   one_call t (Some Compact) s old e h = h
   one_call t (Some (Discard start count)) s old e h = elim
       (cases_Bool (has_whole start count (s / 8))) [ inl on ↦ rw on zero_is | inr off ↦ rw off h ]
@@ -120,8 +122,10 @@ module _ (actors : List (List Op)) (requests : AreRequests actors) where
 
 pub proper_is : (h : Begin) → AreRequests h.given.actors → ((s : ℕ) → IsSector (h.given.before s))
     → ((p k : ℕ) → k < 8 → h.blank p ≡ true → h.given.before (8 * p + k) ≡ zero_sector)
-    → IsRoomy h → Proper h
-proper_is h requests before blanks room = record {
+    → ((p : ℕ) → p < h.given.size → h.touched p ≤ h.clock) → IsRoomy h → Proper h
+proper_is h requests before blanks times room = record {
+  some = room.some;
+  times = times;
   blanks = blanks;
   sectors = λ order s. all_calls h.given.actors requests order s (h.given.before s) (before s);
   least = room.least;
@@ -154,8 +158,9 @@ module _ (r : Rest) (actors : List (List Op)) (ok : Known (begin_at r actors)) (
 
   -- the phase after may begin
   pub next_proper : (set : Settings) (more : List (List Op)) → AreRequests more
-      → IsRoomy (begin_at (sets m set) more) → Proper (begin_at (sets m set) more)
-  next_proper set more requests room = proper_is (begin_at (sets m set) more) requests
+      → IsRoomy (begin_at (sets m set) more) → r.set.clock ≤ set.clock
+      → Proper (begin_at (sets m set) more)
+  next_proper set more requests room later = proper_is (begin_at (sets m set) more) requests
       (λ s. ok.proper.sectors (nth_order (orders_of r.size w.row) (s / 8)) s)
       (λ p k lt blank. ap (λ (q : ℕ). held_after (begun r actors)
       (nth_order (orders_of r.size w.row) q) (8 * p + k))
@@ -163,14 +168,16 @@ module _ (r : Rest) (actors : List (List Op)) (ok : Known (begin_at r actors)) (
       ∙ sym (holds_after g (page_of r p) (nth_order (orders_of r.size w.row) p) (8 * p + k))
       ∙ blank_zero g ok (nth_order (orders_of r.size w.row) p) p k lt (carried p) (page_of r p)
       (λ b. ok.proper.blanks p k lt b) blank)
+      (λ p lt. touched_low (nth_order (orders_of r.size w.row) p) r.set.clock set.clock (r.touched p)
+      (ok.proper.times p lt) later)
       room
 
   -- an entry whose order is emptied is one of the phase after
   pub next_entry : (set : Settings) (more : List (List Op)) (j : ℕ) (e f : EntryState)
       → slice_get w.row j ≡ Some (Some (holds.Slot e)) → f.kept ≡ e.kept → f.order ≡ []
-      → f.touched ≡ e.touched
+      → f.under ≡ e.under → f.idle ≡ e.idle → f.touched ≡ e.touched
       → IsRenewed g (begin_at (sets m set) more) j e f
-  next_entry set more j e f at kept_same order touched =
+  next_entry set more j e f at kept_same order under idle touched =
       let home = (at_rest g w rule fin).home j (holds.Slot e) at in
       let lt : j < r.size = home.sound.page in
       let there = (entries r actors ok w rule fin j lt).1 in
@@ -181,6 +188,9 @@ module _ (r : Rest) (actors : List (List Op)) (ok : Known (begin_at r actors)) (
       order_is r actors ok w rule fin j lt ∙ ap (λ (x : EntryState). x.order) same in record {
         kept = kept_same;
         order = order;
+        under = under;
+        idle = idle;
+        mark = ap idle_in (get_or_from_slice_get w.row j (Some (holds.Slot e)) None at);
         touched = touched;
         time = ap (λ (o : List Tag). touched_by o r.set.clock (r.touched j)) order_e
             ∙ sym home.sound.touched;
@@ -199,7 +209,7 @@ pub new_proper : (n : ℕ) (set : Settings) (device : DeviceState) (actors : Lis
     → Proper (begin_at (new_rest n set device) actors)
 new_proper n set device actors requests room =
     proper_is (begin_at (new_rest n set device) actors) requests
-    (λ s. zero_is) (λ p k lt b. refl) room
+    (λ s. zero_is) (λ p k lt b. refl) (λ p lt. omega arith) room
 
 none_kept : (f : Weight → ℕ) → f weight.Empty ≡ 0 → (n : ℕ) (set : Settings)
     (device : DeviceState) → sum_by f (kept_pages page_weight (new_rest n set device)) ≡ 0
@@ -228,6 +238,7 @@ new_plain r n = record {
   holds = λ s lt. refl;
   blank = λ p lt. refl;
   back = λ p lt. refl;
+  idle = λ p lt. refl;
   touched = λ p lt. refl;
   unused = record { used = λ k lt. refl; most = refl; so_far = refl };
   device = refl;

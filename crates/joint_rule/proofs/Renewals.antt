@@ -14,7 +14,7 @@ use Rattle.lock_row.specs.Totals.{row_sum}
 use Rattle.mem_account.specs.Counters.{Counters}
 use Rattle.page_steps.specs.Steps.{DiskHeld}
 use Rattle.plain_disk.specs.Phases.{held_after, touched_by}
-use Rattle.slot_entry.specs.Entries.{EntryState, weight_of}
+use Rattle.slot_entry.specs.Entries.{EntryState, weight_of, is_obj}
 use Rattle.slot_entry.specs.Forms.{PageForm, bytes_in, form_of}
 use Rattle.slot_entry.specs.declared.kept.Kept.{Kept}
 use Rattle.zr_base.specs.declared.op.Tag.{Tag}
@@ -160,6 +160,7 @@ module _ (g h : Begin) where
       );
       stands = tt;
       backs = tt;
+      marks = tt;
     }
 
     device_home : (j : ℕ) (d : DeviceState) → h.device ≡ d → AtHome g j (holds.Device d)
@@ -171,6 +172,7 @@ module _ (g h : Begin) where
       );
       stands = tt;
       backs = tt;
+      marks = tt;
     }
 
     slot_home : (j : ℕ) (e d : EntryState) → IsRenewed g h j e d → AtHome g j (holds.Slot e)
@@ -181,12 +183,18 @@ module _ (g h : Begin) where
         calls = subst (AreCarried h j) (sym r.order) tt;
         touched = r.touched ∙ sym r.time ∙ sym (ap (λ (ts : List Tag).
             touched_by ts h.clock (h.touched j)) r.order);
+        mark = record {
+          under = r.under ∙ x.sound.mark.under;
+          stays = λ none was. r.idle ∙ sym r.mark ∙ was;
+          only = λ none idle. (r.order, r.mark ∙ sym r.idle ∙ idle);
+        };
         small = subst (λ (k : Kept). IsSmall (weight_of k)) (sym r.kept) x.sound.small;
       };
       stands = subst (λ (y : ℕ × PageForm × Kept). IsForm y.0 y.1 y.2)
           (λ i. (sym on_it.chain i, sym (same_form j e d r) i, sym r.kept i)) x.stands;
       backs = ap is_wb r.kept ∙ x.backs ∙ sym (ap (back_at h j) r.order ∙ and_true (h.back j)
           ∙ r.back);
+      marks = λ idle. ap is_obj r.kept ∙ x.marks (sym r.idle ∙ idle);
     }
 
     home_same : (j : ℕ) (v u : DiskHeld) → Renewed g h j v u → AtHome g j v → AtHome h j u
@@ -198,6 +206,7 @@ module _ (g h : Begin) where
               (let q = (subst (AtHome g j) is_v x).sound in let s = on_it.size in omega arith);
           stands = tt;
           backs = tt;
+          marks = tt;
         })
     home_same j v u (renewed.pools p is_v is_u) x =
         subst (AtHome h j) (sym is_u) (pool_home j p (subst (AtHome g j) is_v x))
@@ -207,6 +216,7 @@ module _ (g h : Begin) where
               (let q = (subst (AtHome g j) is_v x).sound in let s = on_it.size in omega arith);
           stands = tt;
           backs = tt;
+          marks = tt;
         })
     home_same j v u (renewed.devices d is_v is_u e) x =
         subst (AtHome h j) (sym is_u) (device_home j d e (subst (AtHome g j) is_v x))

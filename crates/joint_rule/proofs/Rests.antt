@@ -19,7 +19,7 @@ use Rattle.lock_row.specs.declared.names.State.{State}
 use Rattle.mem_account.specs.Counters.{at_most_end}
 use Rattle.page_steps.specs.Pages.{new_class}
 use Rattle.page_steps.specs.Steps.{DiskHeld, Here, class_by, entry_in, plan_at, plan_by, spot, start_plan}
-use Rattle.zr_base.specs.Plain.{is_beyond, is_compaction}
+use Rattle.zr_base.specs.Plain.{is_beyond, is_maintenance}
 
 -- ---- a finished phase
 
@@ -32,7 +32,7 @@ no_held [] e = refl
 no_held (x ∷ xs) e = absurd (cc)
 
 never_finished : (size : ℕ) (at : At) (p : Part) (c d : ℕ) → plan_at size at p c d ≡ Finished → ⊥
-never_finished size Start p c d e = started (is_compaction p.op) (is_beyond size p.op) e where
+never_finished size Start p c d e = started (is_maintenance p.op) (is_beyond size p.op) e where
   started : (a b : Bool) → start_plan a b p ≡ Finished → ⊥
   started true b x = cc
   started false true x = cc

@@ -6,7 +6,7 @@ use Rattle.call_history.specs.declared.part.Part.{Part}
 use Rattle.call_history.specs.declared.part.PartEnd.{PartEnd}
 use Rattle.joint_rule.proofs.Pages.{form_low}
 use Rattle.joint_rule.specs.Begins.{Begin, back_at, content, form_at, found_after}
-use Rattle.joint_rule.specs.Stages.{Bears, BlankAt, Changes, GoneBy, IsForm, IsObj, IsPooled, IsRight, IsWb, IsWrite, MayPin, NoObj, NoneOf, Stage, is_wb, locks_at}
+use Rattle.joint_rule.specs.Stages.{Bears, BlankAt, Changes, GoneBy, IsForm, IsObj, IsPooled, IsRight, IsWb, IsWrite, MayPin, NoObj, NoneOf, Stage, is_wb, locks_at, MayIdle}
 use Rattle.lock_row.specs.declared.names.At.TheVariants.{Old, Owing}
 use Rattle.lock_row.specs.declared.names.Object.{Object}
 use Rattle.lock_row.specs.declared.names.Pin.{Pin}
@@ -20,9 +20,9 @@ use Rattle.slot_entry.specs.declared.kept.Kept.{Kept}
 use Rattle.std.proofs.lemmas.Bool.{cases_Bool, eqb-false, ltb-false, or_parts}
 use Rattle.std.specs.List.{AllByRecursion}
 use Rattle.zr_base.specs.Pieces.{first_page, pages_of}
-use Rattle.zr_base.specs.Plain.{count_of, has_event, is_beyond, is_compaction, start_of}
+use Rattle.zr_base.specs.Plain.{count_of, has_event, is_beyond, is_maintenance, start_of}
 use Rattle.zr_base.specs.declared.op.Op.{Op}
-use Rattle.zr_base.specs.declared.op.Op.TheVariants.{Compact, Discard, Read, Write}
+use Rattle.zr_base.specs.declared.op.Op.TheVariants.{Compact, Discard, Idle, Read, Write}
 use Rattle.slot_entry.specs.declared.kept.Kept.TheVariants as kept
 
 gone_none : (x : Option Weight) (k : Kept) → NoneOf x → GoneBy x k
@@ -49,8 +49,9 @@ module _ (g : Begin) (p : Part) (e : EntryState) (fresh : Option Object) (pin : 
     (owed : ℕ) (ahead behind : Option Weight) (page : Option (List ℕ)) (fail : Option PartEnd)
     (pins : MayPin e.kept pin) (owes : owed ≡ 0) (stands : IsForm g.chain
     (form_at g p.page e.order) e.kept) (backs : is_wb e.kept ≡ back_at g p.page e.order)
-    (blank : BlankAt Old p.op ahead (found_after g p.page e.order).blank) (right : IsRight p.op p.page (page_in page e.kept)
-    (content g p.page e.order))
+    (marks : MayIdle e.kept e.idle)
+    (blank : BlankAt Old p.op ahead (found_after g p.page e.order).blank)
+    (right : IsRight p.op p.page (page_in page e.kept) (content g p.page e.order))
     (more : NoneOf ahead) (less : NoneOf behind) (well : NoneOf fail)
     (begun : is_single g.given.size p.op ≡ false) where
   abbrev f : PageForm
@@ -68,12 +69,14 @@ module _ (g : Begin) (p : Part) (e : EntryState) (fresh : Option Object) (pin : 
       owes = few_owed;
       stands = tt;
       backs = tt;
+      marks = tt;
       partly = tt;
       right = right;
       counts = (gone_none ahead e.kept more, less);
       blank = blank;
       fails = well;
       begun = begun;
+      scans = tt;
       compacts = tt;
     }
 
@@ -88,12 +91,14 @@ module _ (g : Begin) (p : Part) (e : EntryState) (fresh : Option Object) (pin : 
       owes = owes;
       stands = stands;
       backs = backs;
+      marks = marks;
       partly = tt;
       right = right;
       counts = (more, less);
       blank = blank;
       fails = well;
       begun = begun;
+      scans = tt;
       compacts = tt;
     }
     settle_stage (kept.Wb b) is = record {
@@ -103,12 +108,14 @@ module _ (g : Begin) (p : Part) (e : EntryState) (fresh : Option Object) (pin : 
       owes = owes;
       stands = stands;
       backs = backs;
+      marks = marks;
       partly = tt;
       right = right;
       counts = (more, less);
       blank = blank;
       fails = well;
       begun = begun;
+      scans = tt;
       compacts = tt;
     }
 
@@ -116,6 +123,7 @@ module _ (g : Begin) (p : Part) (e : EntryState) (fresh : Option Object) (pin : 
   writes_change (Write start count stuff) w = tt
   writes_change (Read start count) w = absurd w
   writes_change (Discard start count) w = absurd w
+  writes_change (Idle age) w = absurd w
   writes_change Compact w = absurd w
 
   pub made_stage : IsWrite p.op → NoneOf fresh → (h : PageForm) → f ≡ h → (k : Kept) → e.kept ≡ k
@@ -131,12 +139,14 @@ module _ (g : Begin) (p : Part) (e : EntryState) (fresh : Option Object) (pin : 
     owes = owes;
     stands = stands;
     backs = backs;
+    marks = marks;
     partly = tt;
     right = right;
     counts = (more, less);
     blank = tt;
     fails = well;
     begun = begun;
+    scans = tt;
     compacts = tt;
   }
 
@@ -144,12 +154,14 @@ pub write_changes : (op : Op) → IsWrite op → Changes op
 write_changes (Write start count stuff) i = tt
 write_changes (Read start count) i = absurd i
 write_changes (Discard start count) i = absurd i
+write_changes (Idle age) i = absurd i
 write_changes Compact i = absurd i
 
 pub write_blank : (op : Op) → IsWrite op → (x : Option Weight) (b : Bool) → BlankAt Old op x b
 write_blank (Write start count stuff) i x b = tt
 write_blank (Read start count) i x b = absurd i
 write_blank (Discard start count) i x b = absurd i
+write_blank (Idle age) i x b = absurd i
 write_blank Compact i x b = absurd i
 
 -- ---- locks
@@ -230,7 +242,7 @@ module _ (size nr : ℕ) (op : Op) where
   op_disk = elim (cases_Bool (is_single size op)) [
     | inl on ↦ rw on ((λ b. absurd (let q : true ≡ false = sym on ∙ b in cc)), tt)
     | inr off ↦ rw off (from_disk (first_page op) (pages_of op)
-        (last_page (or_parts (is_compaction op) (is_beyond size op) off).1))
+        (last_page (or_parts (is_maintenance op) (is_beyond size op) off).1))
   ]
 
 program_disk : (size nr : ℕ) (ops : List Op) → Every (OnDisk size) (program size nr ops)

@@ -1,8 +1,9 @@
 -- A prepared start has the rule.
 use Rattle.std.proofs.Common.{◌≡◌, ◌≢◌, ◌+◌, ◌≤◌, ◌<◌, ◌∷◌, ◌∙◌, ◌^◌, ℕ, zero, suc, List, [], map, length, Option, Some, None, slice_get, refl, sym, ap, subst, arith}
+use Rattle.joint_rule.proofs.Ages.{ages_start}
 use Rattle.backing_dev.specs.Dev.{DeviceState}
 use Rattle.block_map.specs.BlockMap.{BlockMap}
-use Rattle.call_history.specs.Alone.{AreIdleOver}
+use Rattle.call_history.specs.Alone.{MoveNoneOver}
 use Rattle.call_history.specs.Parts.{EndsSo, Follows, done_sum, noted_on, ops_of, program}
 use Rattle.call_history.specs.declared.part.Done.{Done}
 use Rattle.call_history.specs.declared.part.Part.{Part}
@@ -15,7 +16,7 @@ use Rattle.joint_rule.proofs.Freed.{freed_start}
 use Rattle.joint_rule.proofs.Gifts.{start_locks, start_stage}
 use Rattle.joint_rule.proofs.Pages.{content_sector}
 use Rattle.joint_rule.proofs.Sums.{row_none, row_nothing}
-use Rattle.joint_rule.proofs.Takes.{IsAccount, IsDevice, IsMap, account_kind, device_kind, map_kind}
+use Rattle.joint_rule.proofs.Places.{IsAccount, IsDevice, IsMap, account_kind, device_kind, map_kind}
 use Rattle.joint_rule.specs.Alone.{IsCalm, compacting}
 use Rattle.joint_rule.specs.Begins.{Begin, ground_of, pieces_each, pieces_on}
 use Rattle.joint_rule.specs.Joint.{AtHome, IsActor, Joint, KeepsDevice, Sound}
@@ -386,11 +387,12 @@ module _ (g : Begin) (ok : Known g) (w : State DiskHeld) (s : IsStart g w) where
         let y = device_of (λ d. d.reads) in omega arith;
     alone = λ l e.
         let h = s.actors 0 l (ap (λ (ls : List Here). slice_get ls 0) e) in record {
-          idle = subst (AreIdleOver g.tight) (sym h.done) tt;
+          still = subst (MoveNoneOver g.tight) (sym h.done) tt;
           calm = λ c. subst (IsCalm g w) (sym h.done) (record {
             tight = λ t. only loose_pools none (λ a l e. refl) ∙ s.tight t;
             few = omega arith;
           });
+          ages = ages_start g w l s e;
           sweeps = λ x at. absurd (let q : compacting l.todo l.at ≡ None =
               ap (compacting l.todo) h.at ∙ no_compaction l.todo in cc);
         };

@@ -1,13 +1,13 @@
 -- What the events of a compaction do where its actor is the only one.
 use Rattle.std.proofs.Common.{◌≡◌, ◌+◌, ◌-◌, ◌*◌, ◌≤◌, ◌<◌, ◌∷◌, ◌++◌, ◌∙◌, ◌==◌, ◌⊎◌, ℕ, zero, suc, Bool, true, false, cond, eqb, unwrap_or, List, [], length, sum_by, Option, Some, None, slice_get, slice_set, refl, sym, ap, subst, arith, inl, inr, ⊎_elim, Contains}
-use Rattle.call_history.specs.Alone.{AreIdleOver, moves_over, tight_over}
+use Rattle.call_history.specs.Alone.{MoveNoneOver, moves_over, tight_over}
 use Rattle.call_history.specs.Parts.{left_by}
 use Rattle.call_history.specs.declared.part.Done.{Done}
 use Rattle.call_history.specs.declared.part.Part.{Part}
 use Rattle.call_history.specs.declared.part.PartEnd.TheVariants.{Whole}
 use Rattle.class_pool.specs.Compaction.{IsNothingOut, MayMove}
 use Rattle.class_pool.specs.Pool.{PoolState, objects, used_cells}
-use Rattle.joint_rule.proofs.Calm.{idle_push, moves_push, no_compaction, same_total}
+use Rattle.joint_rule.proofs.Calm.{still_push, moves_push, no_compaction, same_total, IsSwept}
 use Rattle.joint_rule.proofs.Classes.{stands_between, stands_high, strange, strange_none}
 use Rattle.joint_rule.proofs.Events.{IsStuck}
 use Rattle.joint_rule.proofs.Facts.{Known}
@@ -16,7 +16,7 @@ use Rattle.joint_rule.proofs.Balances.{none_fresh, shift_stored}
 use Rattle.joint_rule.proofs.Pools.{Shifts, ones, sum_zero}
 use Rattle.joint_rule.proofs.Sums.{get_set, gone, held_nothing, locals_le, row_le, row_none, row_nothing, total_mono, total_up_over}
 use Rattle.joint_rule.proofs.Zspages.{each_used, empty_none, none_tight, tight_none, used_sum}
-use Rattle.joint_rule.specs.Alone.{IsCalm, IsOnly, Sweeps, Within, below, compacting, is_calm, reached, spare}
+use Rattle.joint_rule.specs.Alone.{IsCalm, Sweeps, Within, below, compacting, is_calm, reached, spare}
 use Rattle.joint_rule.specs.Begins.{Begin, form_at, image}
 use Rattle.joint_rule.specs.Joint.{AtHome, Joint, Sound}
 use Rattle.joint_rule.specs.Stages.{Stage}
@@ -29,15 +29,14 @@ use Rattle.lock_row.specs.declared.names.State.{State}
 use Rattle.mem_account.specs.Counters.{Counters}
 use Rattle.page_steps.specs.Compactions.{MovesOne, budget_in, moved_at, with_frames, with_move, with_next}
 use Rattle.page_steps.specs.Steps.{DiskHeld, Here, entry_in, on, piece_over, spot}
-use Rattle.plain_disk.specs.Compactions.{IsIdle, loose, moves_by}
+use Rattle.plain_disk.specs.Compactions.{MovesNone, loose, moves_by}
 use Rattle.size_class.specs.Classes.{stands_below, stands_of}
 use Rattle.std.proofs.lemmas.Bool.{cases_eq, cases_lt, eqb-false, eqb-true, le-ltb, lt-ltb, ne_eqb}
 use Rattle.std.proofs.lemmas.List.{length-map}
 use Rattle.std.proofs.lemmas.List.Sums.{sum_by-cons}
 use Rattle.zspage.specs.Cells.{UsedCell}
-use Rattle.zr_base.specs.Plain.{is_compaction}
 use Rattle.zr_base.specs.declared.op.Op.{Op}
-use Rattle.zr_base.specs.declared.op.Op.TheVariants.{Compact, Discard, Read, Write}
+use Rattle.zr_base.specs.declared.op.Op.TheVariants.{Compact, Discard, Idle, Read, Write}
 use Rattle.lock_row.specs.declared.names.LockNo.TheVariants as lock
 use Rattle.lock_row.specs.declared.names.Held.TheVariants as holds
 use Rattle.zr_base.specs.declared.op.OpEnd.TheVariants as ends
@@ -70,11 +69,12 @@ none_left : (q : PoolState) (n : ℕ) → n ≤ 0 → MayMove q n → MayMove q 
 none_left q n le may = let e : n ≡ 0 = omega arith in subst (MayMove q) e may
 
 -- what a compaction leaves that is over
-compact_push : (op : Op) (a b n objects : ℕ) → is_compaction op ≡ true
+compact_push : (op : Op) (a b n objects : ℕ) → op ≡ Compact
     → n ≤ objects → a ≤ objects → moves_by op (ends.Compacted a b) n ≤ objects
 compact_push (Write start count stuff) a b n objects e x y = absurd (cc)
 compact_push (Read start count) a b n objects e x y = absurd (cc)
 compact_push (Discard start count) a b n objects e x y = absurd (cc)
+compact_push (Idle age) a b n objects e x y = absurd (cc)
 compact_push Compact a b n objects e x y = omega arith
 
 -- ---- objects of the classes below one
@@ -116,7 +116,7 @@ stored_up f h e k (holds.Blocks x) = omega arith
 stored_up f h e k (holds.Device x) = omega arith
 
 module _ (g : Begin) (ok : Known g) (w : State DiskHeld) (j : Joint g w) (a : ℕ) (l : Here)
-    (who : slice_get w.locals a ≡ Some l) (only : w.locals ≡ l ∷ []) (o : IsOnly g w l)
+    (who : slice_get w.locals a ≡ Some l) (only : w.locals ≡ l ∷ []) (o : IsSwept g w l)
     (p : Part) (rest : List Part) (todo : l.todo ≡ p ∷ rest) (x : Compaction) where
   abbrev n : ℕ
   n = g.given.size
@@ -271,7 +271,7 @@ module _ (g : Begin) (ok : Known g) (w : State DiskHeld) (j : Joint g w) (a : �
             (λ t. s.tight k r t.1 lt)
             (get_set w.row (n + x.class) k (Some (holds.Class q')) (Some (holds.Class r)) None there
             at);
-        idle = λ t. absurd (not_tight t);
+        still = λ t. absurd (not_tight t);
         moves = let e = same_objects (below (x.class + 1)) in
             let r = room x.budget some s.moves in omega arith;
         home = λ r at i may. ⊎_elim
@@ -287,9 +287,9 @@ module _ (g : Begin) (ok : Known g) (w : State DiskHeld) (j : Joint g w) (a : �
       stage_is zero y = refl
       stage_is (suc i) y = refl
 
-      pub only_moves : IsOnly g next after
+      pub only_moves : IsSwept g next after
       only_moves = record {
-        idle = o.idle;
+        still = o.still;
         calm = λ c. record {
           tight = λ t. absurd (not_tight t);
           few = let e = same_objects each_one in let z = was_calm.few in omega arith;
@@ -401,7 +401,7 @@ module _ (g : Begin) (ok : Known g) (w : State DiskHeld) (j : Joint g w) (a : �
               → Sweeps g left m onward
           goes_up m_is = record {
             tight = λ k r at lt. ⊎_elim (λ t. t) (λ t. between k r t.1 t.0 lt) (up_to k r at);
-            idle = λ t. s.idle (sym (ap (λ (y : Here). tight_over g.tight y.done) m_is) ∙ t);
+            still = λ t. s.still (sym (ap (λ (y : Here). tight_over g.tight y.done) m_is) ∙ t);
             moves = let r = same_left (ap (λ (y : Here). y.held) m_is)
                 (stored (below (stands_below g.chain d))) in
                 let z = room_up x.budget s.moves in omega arith;
@@ -410,9 +410,9 @@ module _ (g : Begin) (ok : Known g) (w : State DiskHeld) (j : Joint g w) (a : �
           }
 
           pub only_sweeps : m ≡ on l (Sweeping onward) [] l.fresh l.pin l.owed l.ahead l.behind
-              l.page l.fail → IsOnly g left m
+              l.page l.fail → IsSwept g left m
           only_sweeps m_is = record {
-            idle = subst (λ (y : Here). AreIdleOver g.tight y.done) (sym m_is) o.idle;
+            still = subst (λ (y : Here). MoveNoneOver g.tight y.done) (sym m_is) o.still;
             calm = λ c. subst (λ (y : Here). IsCalm g left y.done) (sym m_is) (record {
               tight = λ t. same_left (ap (λ (y : Here). y.held) m_is) loose_pools
                   ∙ was_calm.tight t;
@@ -469,17 +469,17 @@ module _ (g : Begin) (ok : Known g) (w : State DiskHeld) (j : Joint g w) (a : �
               (total (spot n) (stored each_one) none w) st.begun was_calm.few
               (room_all x.budget s.moves) in omega arith
 
-          idle_end : tight_over g.tight l.done ≡ true → IsIdle (ends.Compacted x.moves x.frames)
-          idle_end t =
-              let none_moved = s.idle t in
+          still_end : tight_over g.tight l.done ≡ true → MovesNone (ends.Compacted x.moves x.frames)
+          still_end t =
+              let none_moved = s.still t in
               let f = st.compacts.frames in
               let z : g.chain * x.moves ≡ 0 = ap (λ (i : ℕ). g.chain * i) none_moved ∙ omega arith in
               (none_moved, (let e : x.frames ≡ 0 = omega arith in e))
 
-          pub only_closes : IsOnly g left m
+          pub only_closes : IsSwept g left m
           only_closes = record {
-            idle = subst (λ (y : Here). AreIdleOver g.tight y.done) (sym m_is)
-                (idle_push g.tight l.done done o.idle idle_end);
+            still = subst (λ (y : Here). MoveNoneOver g.tight y.done) (sym m_is)
+                (still_push g.tight l.done done o.still still_end);
             calm = λ c. subst (λ (y : Here). IsCalm g left y.done) (sym m_is)
                 (record { tight = λ t. all_tight; few = few_moves });
             sweeps = λ y e. absurd (
@@ -518,16 +518,16 @@ module _ (g : Begin) (ok : Known g) (w : State DiskHeld) (j : Joint g w) (a : �
     goes_back : Sweeps g settled paid (with_frames x owed)
     goes_back = record {
       tight = λ k r e lt. so.tight k r (was_there k r e) lt;
-      idle = so.idle;
+      still = so.still;
       moves = let r = same_settled (stored (below (reached x.budget x.class))) (λ k y. refl) in
           let z = so.moves in omega arith;
       home = λ r e. so.home r (was_there (n + x.class) r e);
       hand = λ r e. absurd (cc);
     }
 
-    pub only_shrinks : IsOnly g settled paid
+    pub only_shrinks : IsSwept g settled paid
     only_shrinks = record {
-      idle = o.idle;
+      still = o.still;
       calm = λ e. record {
         tight = λ t. same_settled loose_pools (λ k y. refl) ∙ calm_before.tight t;
         few = let r = same_settled (stored each_one) (λ k y. refl) in let z = calm_before.few in

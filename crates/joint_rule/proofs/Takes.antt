@@ -1,131 +1,45 @@
 -- Each taking keeps what the stage says of the actor.
-use Rattle.std.proofs.Common.{◌≡◌, ◌+◌, ◌≤◌, ◌<◌, ◌∷◌, ◌∙◌, ℕ, Bool, true, false, List, [], map, Option, Some, None, refl, sym, ap, subst, arith, inl, inr}
+use Rattle.std.proofs.Common.{◌≡◌, ◌+◌, ◌<◌, ◌∷◌, ◌∙◌, ℕ, Bool, true, false, List, [], map, Option, Some, None, refl, sym, ap, subst, arith, inl, inr, length, slice_get}
+use Rattle.lock_row.specs.declared.names.Scan.{Scan}
 use Rattle.call_history.specs.Parts.{EndsSo, Follows, program}
 use Rattle.call_history.specs.declared.part.Part.{Part}
 use Rattle.call_history.specs.declared.part.PartEnd.{PartEnd}
 use Rattle.joint_rule.proofs.Facts.{Known}
+use Rattle.joint_rule.proofs.Places.{IsAccount, IsDevice, IsEntry, IsMap, IsPoolOf, account_kind, class_kind, device_kind, entry_kind, home_lean, map_kind}
 use Rattle.joint_rule.proofs.Lookups.{none_weight, nothing_shown}
-use Rattle.joint_rule.proofs.Pages.{blank_empty, blank_some, ever_now, form_low, plain_right}
+use Rattle.joint_rule.proofs.Pages.{blank_empty, blank_some, form_low, plain_right}
 use Rattle.joint_rule.proofs.Stages.{OnDisk, made_locks, made_stage, may_none, old_low, on_disk, settle_locks, settle_stage}
-use Rattle.joint_rule.specs.Begins.{Begin, back_at, content, form_at, found_after, ground_of, image, terms}
-use Rattle.joint_rule.specs.Joint.{AtHome, Backs, EntryFits, IsActor, Sound, Stands}
-use Rattle.joint_rule.specs.Stages.{Bears, BlankAt, BlankBy, Changes, FailBy, IsForm, IsNothing, IsObj, IsPartly, IsRight, IsSmall, IsWb, IsWrite, Looks, NoObj, NoneOf, Stage, StageBy, WasBlank, is_wb, locks_at, locks_by}
-use Rattle.joint_rule.specs.Weights.{claim_by, claims, each_one, ever_at, measure}
+use Rattle.joint_rule.specs.Begins.{Begin, back_at, content, form_at, found_after, ground_of, terms}
+use Rattle.joint_rule.specs.Joint.{AtHome, Backs, EntryFits, IsActor, Sound, Stands, Marks}
+use Rattle.joint_rule.specs.Stages.{Bears, BlankAt, BlankBy, Changes, FailBy, IsForm, IsNothing, IsObj, IsPartly, IsRight, IsSmall, IsWb, IsWrite, Looks, NoObj, NoneOf, Stage, StageBy, WasBlank, is_wb, locks_at, locks_by, MayIdle, IsScan}
+use Rattle.joint_rule.specs.Weights.{measure}
 use Rattle.lock_row.specs.declared.names.At.{At}
-use Rattle.lock_row.specs.declared.names.At.TheVariants.{Away, Backed, Both, Counting, Failing, Fetching, Freeing, Giving, Inside, Leaving, Made, Missed, Old, Owing, Pinned, Pinning, Ready, Refusing, Releasing, Seen, Start, Unpinning, Wanting, Sweeping, Moving, Shrunk, Shrinking}
+use Rattle.lock_row.specs.declared.names.At.TheVariants.{Away, Backed, Both, Counting, Failing, Fetching, Freeing, Giving, Inside, Leaving, Made, Missed, Old, Owing, Pinned, Pinning, Ready, Refusing, Releasing, Seen, Start, Unpinning, Wanting, Sweeping, Moving, Shrunk, Shrinking, Scanning, Marking}
 use Rattle.lock_row.specs.declared.names.LockNo.{LockNo}
 use Rattle.lock_row.specs.declared.names.Object.{Object}
 use Rattle.lock_row.specs.declared.names.Pin.{Pin}
 use Rattle.lock_row.specs.declared.names.Plan.TheVariants.{Take}
 use Rattle.mem_account.specs.declared.weight.Weight.{Weight}
 use Rattle.page_steps.specs.Pages.{new_class, next_by, next_form, page_in}
-use Rattle.page_steps.specs.Steps.{DiskHeld, Here, after_take, begun_at, class_by, discard_at, entered_at, entry_in, entry_or, first_class, lock_of, made_at, part_at, plan, plan_at, plan_by, seen_at, settle_at, slot, spot, start_plan, taken_at, took, write_at}
+use Rattle.page_steps.specs.Steps.{DiskHeld, Here, after_take, begun_at, class_by, discard_at, entered_at, entry_in, entry_or, first_class, lock_of, made_at, part_at, plan, plan_at, plan_by, seen_at, settle_at, slot, spot, start_plan, taken_at, took, write_at, first_at, first_lock, first_scan}
 use Rattle.plain_disk.specs.Ends.{is_single}
 use Rattle.slot_entry.specs.Entries.{EntryState, weight_of}
-use Rattle.slot_entry.specs.Forms.{Blank, PageForm, Pooled, Word, class_in, form_weight, pooled}
+use Rattle.slot_entry.specs.Forms.{Blank, PageForm, class_in, form_weight}
 use Rattle.slot_entry.specs.declared.kept.Kept.{Kept}
 use Rattle.std.proofs.lemmas.Bool.{or_from}
-use Rattle.std.specs.Prelude.{⊤}
-use Rattle.zr_base.specs.Plain.{has_whole, is_beyond, is_compaction}
+use Rattle.zr_base.specs.Plain.{has_whole, is_beyond, is_maintenance, is_marking}
 use Rattle.zr_base.specs.declared.op.Op.{Op}
-use Rattle.zr_base.specs.declared.op.Op.TheVariants.{Compact, Discard, Read, Write}
+use Rattle.zr_base.specs.declared.op.Op.TheVariants.{Compact, Discard, Idle, Read, Write}
 use Rattle.zr_base.specs.declared.op.Stuff.{Stuff}
 use Rattle.lock_row.specs.declared.names.LockNo.TheVariants as lock
 use Rattle.lock_row.specs.declared.names.Held.TheVariants as holds
 use Rattle.slot_entry.specs.declared.kept.Kept.TheVariants as kept
 
--- an entry at home claims no more than its page was pooled
-pub form_claim : (chain : ℕ) (f : PageForm) (k : Kept) (b : List ℕ) → IsForm chain f k
-    → claim_by each_one k b ≤ pooled f
-form_claim chain f kept.Empty b i = omega arith
-form_claim chain f (kept.Same w) b i = omega arith
-form_claim chain f (kept.Wb x) b i = omega arith
-form_claim chain Blank (kept.Obj o) b i = absurd i
-form_claim chain (Word w) (kept.Obj o) b i = absurd i
-form_claim chain (Pooled x h) (kept.Obj o) b i = omega arith
-
-pub home_lean : (g : Begin) (j : ℕ) (v : DiskHeld) → Stands g j v
-    → claims g each_one j v ≤ ever_at g j v
-home_lean g j (holds.Slot e) s = let r = form_claim g.chain (form_at g j e.order) e.kept
-    (image g j e.order) s in let q = ever_now g j e.order in omega arith
-home_lean g j (holds.Class x) s = omega arith
-home_lean g j (holds.Account x) s = omega arith
-home_lean g j (holds.Blocks x) s = omega arith
-home_lean g j (holds.Device x) s = omega arith
-
-abbrev pub IsEntry : DiskHeld → Type 0
-IsEntry (holds.Slot e) = ⊤
-IsEntry (holds.Class x) = ⊥
-IsEntry (holds.Account x) = ⊥
-IsEntry (holds.Blocks x) = ⊥
-IsEntry (holds.Device x) = ⊥
-
-abbrev pub IsPoolOf : DiskHeld → Type 0
-IsPoolOf (holds.Slot e) = ⊥
-IsPoolOf (holds.Class x) = ⊤
-IsPoolOf (holds.Account x) = ⊥
-IsPoolOf (holds.Blocks x) = ⊥
-IsPoolOf (holds.Device x) = ⊥
-
-abbrev pub IsAccount : DiskHeld → Type 0
-IsAccount (holds.Slot e) = ⊥
-IsAccount (holds.Class x) = ⊥
-IsAccount (holds.Account x) = ⊤
-IsAccount (holds.Blocks x) = ⊥
-IsAccount (holds.Device x) = ⊥
-
-abbrev pub IsMap : DiskHeld → Type 0
-IsMap (holds.Slot e) = ⊥
-IsMap (holds.Class x) = ⊥
-IsMap (holds.Account x) = ⊥
-IsMap (holds.Blocks x) = ⊤
-IsMap (holds.Device x) = ⊥
-
-abbrev pub IsDevice : DiskHeld → Type 0
-IsDevice (holds.Slot e) = ⊥
-IsDevice (holds.Class x) = ⊥
-IsDevice (holds.Account x) = ⊥
-IsDevice (holds.Blocks x) = ⊥
-IsDevice (holds.Device x) = ⊤
-
-module _ (g : Begin) where
-  abbrev size : ℕ
-  size = g.given.size
-
-  pub entry_kind : (p : ℕ) → p < size → (v : DiskHeld) → Sound g p v → IsEntry v
-  entry_kind p lt (holds.Slot e) s = tt
-  entry_kind p lt (holds.Class x) s = let q = s.0 in absurd (omega arith)
-  entry_kind p lt (holds.Account x) s = absurd (omega arith)
-  entry_kind p lt (holds.Blocks x) s = absurd (omega arith)
-  entry_kind p lt (holds.Device x) s = let q = s.0 in absurd (omega arith)
-
-  pub class_kind : (c : ℕ) → c < 255 → (v : DiskHeld) → Sound g (size + c) v → IsPoolOf v
-  class_kind c lt (holds.Slot e) s = let q = s.page in absurd (omega arith)
-  class_kind c lt (holds.Class x) s = tt
-  class_kind c lt (holds.Account x) s = absurd (omega arith)
-  class_kind c lt (holds.Blocks x) s = absurd (omega arith)
-  class_kind c lt (holds.Device x) s = let q = s.0 in absurd (omega arith)
-
-  pub account_kind : (v : DiskHeld) → Sound g (size + 255) v → IsAccount v
-  account_kind (holds.Slot e) s = let q = s.page in absurd (omega arith)
-  account_kind (holds.Class x) s = let q = s.0 in let r = s.1.class in absurd (omega arith)
-  account_kind (holds.Account x) s = tt
-  account_kind (holds.Blocks x) s = absurd (omega arith)
-  account_kind (holds.Device x) s = let q = s.0 in absurd (omega arith)
-
-  pub map_kind : (v : DiskHeld) → Sound g (size + 256) v → IsMap v
-  map_kind (holds.Slot e) s = let q = s.page in absurd (omega arith)
-  map_kind (holds.Class x) s = let q = s.0 in let r = s.1.class in absurd (omega arith)
-  map_kind (holds.Account x) s = absurd (omega arith)
-  map_kind (holds.Blocks x) s = tt
-  map_kind (holds.Device x) s = let q = s.0 in absurd (omega arith)
-
-  pub device_kind : (v : DiskHeld) → Sound g (size + 257) v → IsDevice v
-  device_kind (holds.Slot e) s = let q = s.page in absurd (omega arith)
-  device_kind (holds.Class x) s = let q = s.0 in let r = s.1.class in absurd (omega arith)
-  device_kind (holds.Account x) s = absurd (omega arith)
-  device_kind (holds.Blocks x) s = absurd (omega arith)
-  device_kind (holds.Device x) s = tt
+-- where there is an actor there are some
+pub some_actor : (xs : List (List Op)) (a : ℕ) (x : List Op) → slice_get xs a ≡ Some x
+    → 0 < length xs
+some_actor [] a x e = absurd (cc)
+some_actor (y ∷ ys) a x e = omega arith
 
 module _ (g : Begin) (ok : Known g) (p : Part) (fresh : Option Object) (pin : Option Pin) (owed : ℕ)
     (ahead behind : Option Weight) (page : Option (List ℕ)) (fail : Option PartEnd) where
@@ -142,7 +56,7 @@ module _ (g : Begin) (ok : Known g) (p : Part) (fresh : Option Object) (pin : Op
   -- a slot is taken
   module _ (e : EntryState) (start : Stays e Start) (x : EntryState) (fit : EntryFits g p.page x)
       (stands : IsForm g.chain (form_at g p.page x.order) x.kept)
-      (backs : is_wb x.kept ≡ back_at g p.page x.order)
+      (backs : is_wb x.kept ≡ back_at g p.page x.order) (marks : MayIdle x.kept x.idle)
       (begun : is_single n p.op ≡ false) where
     abbrev Goes : At → Type 0
     Goes at = (slot p.page ∷ [] ≡ locks_at at p (class_by x.kept)
@@ -158,6 +72,7 @@ module _ (g : Begin) (ok : Known g) (p : Part) (fresh : Option Object) (pin : Op
     no_blank (Write start_ count stuff) i = tt
     no_blank (Read start_ count) i = absurd i
     no_blank (Discard start_ count) i = absurd i
+    no_blank (Idle age) i = absurd i
     no_blank Compact i = absurd i
 
     made_there : IsWrite p.op → IsRight p.op p.page (page_in page x.kept) (content g p.page x.order)
@@ -166,7 +81,7 @@ module _ (g : Begin) (ok : Known g) (p : Part) (fresh : Option Object) (pin : Op
       made_locks (next_form p page x.kept) x.kept p (class_by x.kept)
           (class_in g.chain (next_form p page x.kept)),
       made_stage g p x fresh pin owed ahead behind page fail
-          (may_none x.kept pin start.pins) start.owes stands backs
+          (may_none x.kept pin start.pins) start.owes stands backs marks
           (no_blank p.op wr) right start.counts.0 start.counts.1 start.fails begun wr start.made
           (next_form p page x.kept) refl x.kept refl,
     )
@@ -181,6 +96,7 @@ module _ (g : Begin) (ok : Known g) (p : Part) (fresh : Option Object) (pin : Op
         owes = start.owes;
         stands = stands;
         backs = backs;
+        marks = marks;
         partly = tt;
         right = subst (λ (o : Op). IsRight o p.page (page_in page x.kept)
             (content g p.page x.order)) (sym is) (is_right page start.right free);
@@ -188,6 +104,7 @@ module _ (g : Begin) (ok : Known g) (p : Part) (fresh : Option Object) (pin : Op
         blank = tt;
         fails = subst (λ (o : Op). FailBy g p o fail) (sym is) start.fails;
         begun = begun;
+        scans = tt;
         compacts = tt;
       },
     )
@@ -202,12 +119,14 @@ module _ (g : Begin) (ok : Known g) (p : Part) (fresh : Option Object) (pin : Op
         owes = start.owes;
         stands = stands;
         backs = backs;
+        marks = marks;
         partly = tt;
         right = start.right;
         counts = start.counts;
         blank = tt;
         fails = start.fails;
         begun = begun;
+        scans = tt;
         compacts = tt;
       },
     )
@@ -222,12 +141,14 @@ module _ (g : Begin) (ok : Known g) (p : Part) (fresh : Option Object) (pin : Op
         owes = start.owes;
         stands = stands;
         backs = backs;
+        marks = marks;
         partly = part;
         right = start.right;
         counts = start.counts;
         blank = tt;
         fails = start.fails;
         begun = begun;
+        scans = tt;
         compacts = tt;
       },
     )
@@ -288,7 +209,7 @@ module _ (g : Begin) (ok : Known g) (p : Part) (fresh : Option Object) (pin : Op
       settles some = (
         settle_locks x.kept p (class_by x.kept) (class_in g.chain (next_form p page x.kept)),
         settle_stage g p x fresh pin owed ahead behind page fail
-            (may_none x.kept pin start.pins) start.owes stands backs
+            (may_none x.kept pin start.pins) start.owes stands backs marks
             (was_blank false (blank_some g p.page x.order x.kept some stands))
             (subst (λ (o : Op). IsRight o p.page (page_in page x.kept) (content g p.page x.order))
             (sym is) tt) start.counts.0 start.counts.1 start.fails begun drops bears x.kept refl,
@@ -309,6 +230,7 @@ module _ (g : Begin) (ok : Known g) (p : Part) (fresh : Option Object) (pin : Op
           owes = start.owes;
           stands = tt;
           backs = tt;
+          marks = tt;
           partly = tt;
           right = subst (λ (o : Op). IsRight o p.page (page_in page x.kept)
               (content g p.page x.order)) (sym is) tt;
@@ -324,6 +246,7 @@ module _ (g : Begin) (ok : Known g) (p : Part) (fresh : Option Object) (pin : Op
               stands)));
           fails = start.fails;
           begun = begun;
+          scans = tt;
           compacts = tt;
         },
       )
@@ -342,11 +265,13 @@ module _ (g : Begin) (ok : Known g) (p : Part) (fresh : Option Object) (pin : Op
         (has_whole start_ count p.page) refl
     entered (Read start_ count) is = read_by start_ count is x.kept refl
     entered (Discard start_ count) is = discard_by start_ count is x.kept refl
+    entered (Idle age) is = absurd (let e = on_page (Idle age) is in cc)
     entered Compact is = absurd (let e = on_page Compact is in cc)
 
   -- ---- takings
 
-  module _ (e : EntryState) (v : DiskHeld) (k : LockNo) (ks : List LockNo) (disk : OnDisk n p) where
+  module _ (e : EntryState) (v : DiskHeld) (k : LockNo) (ks : List LockNo) (disk : OnDisk n p)
+      (some : 0 < n) where
     abbrev Taken : LockNo → At → Type 0
     Taken m at = Moved ks m (entry_or v e) at
 
@@ -395,14 +320,51 @@ module _ (g : Begin) (ok : Known g) (p : Part) (fresh : Option Object) (pin : Op
       device (holds.Blocks y) i = absurd i
       device (holds.Device y) i = (locks, s)
 
-    start_take : (a b : Bool) → is_compaction p.op ≡ a → is_beyond n p.op ≡ b
-        → start_plan a b p ≡ Take k
-        → Sound g (spot n (lock_of (start_plan a b p))) v
-        → Stands g (spot n (lock_of (start_plan a b p))) v
-        → Backs g (spot n (lock_of (start_plan a b p))) v
-        → ks ≡ [] → Stays e Start → Taken (lock_of (start_plan a b p))
-        (begun_at a b p (next_form p page (entry_or v e).kept) (entry_or v e).kept)
-    start_take true b a c what kind stands backs locks s = by_pool 0 (Moving first_class) (omega arith) kind
+    -- the slot of a page that may be marked is taken
+    scan_take : (y : Scan) → IsScan n y → is_marking p.op ≡ true → Sound g y.page v
+        → Stands g y.page v → Backs g y.page v → Marks v → ks ≡ [] → Stays e Start
+        → Taken (slot y.page) (Marking y)
+    scan_take y scan marking kind stands backs marks locks s =
+        slot_of v (entry_kind g y.page scan.page v kind) stands backs marks where
+          slot_of : (u : DiskHeld) → IsEntry u → Stands g y.page u → Backs g y.page u → Marks u
+              → Moved ks (slot y.page) (entry_or u e) (Marking y)
+          slot_of (holds.Slot x) i st ba ma = (
+            ap (λ (xs : List LockNo). slot y.page ∷ xs) locks,
+            record {
+              kind = tt;
+              made = s.made;
+              pins = s.pins;
+              owes = s.owes;
+              stands = tt;
+              backs = tt;
+              marks = tt;
+              partly = tt;
+              right = s.right;
+              counts = s.counts;
+              blank = tt;
+              fails = s.fails;
+              begun = marking;
+              scans = record { scan = scan; stands = st; backs = ba; marks = ma };
+              compacts = tt;
+            },
+          )
+          slot_of (holds.Class c) i st ba ma = absurd i
+          slot_of (holds.Account c) i st ba ma = absurd i
+          slot_of (holds.Blocks c) i st ba ma = absurd i
+          slot_of (holds.Device c) i st ba ma = absurd i
+
+    -- what is no request takes its first lock
+    first_take : (op : Op) → p.op ≡ op → is_maintenance op ≡ true → Sound g (spot n (first_lock op)) v
+        → Stands g (spot n (first_lock op)) v → Backs g (spot n (first_lock op)) v → Marks v
+        → ks ≡ [] → Stays e Start → Taken (first_lock op) (first_at op)
+    first_take (Write start count stuff) is a kind stands backs marks locks s = absurd (cc)
+    first_take (Read start count) is a kind stands backs marks locks s = absurd (cc)
+    first_take (Discard start count) is a kind stands backs marks locks s = absurd (cc)
+    first_take (Idle age) is a kind stands backs marks locks s =
+        scan_take first_scan (record { page = some; marked = omega arith }) (ap is_marking is) kind
+        stands backs marks locks s
+    first_take Compact is a kind stands backs marks locks s =
+        by_pool 0 (Moving first_class) (omega arith) kind
         (ap (λ (xs : List LockNo). lock.Class 0 ∷ xs) locks)
         (record {
           kind = tt;
@@ -411,49 +373,65 @@ module _ (g : Begin) (ok : Known g) (p : Part) (fresh : Option Object) (pin : Op
           owes = s.owes;
           stands = tt;
           backs = tt;
+          marks = tt;
           partly = tt;
           right = s.right;
           counts = s.counts;
           blank = tt;
           fails = s.fails;
-          begun = a;
+          begun = is;
+          scans = tt;
           compacts = record { class = omega arith; frames = (let o = s.owes in omega arith) };
         })
-    start_take false true a b what kind stands backs locks s = account v (account_kind g v kind) where
-      account : (u : DiskHeld) → IsAccount u → Moved ks lock.Account (entry_or u e) Refusing
-      account (holds.Account c) i = (
-        ap (λ (xs : List LockNo). lock.Account ∷ xs) locks,
-        record {
-          kind = tt;
-          made = s.made;
-          pins = s.pins;
-          owes = s.owes;
-          stands = tt;
-          backs = tt;
-          partly = tt;
-          right = s.right;
-          counts = s.counts;
-          blank = tt;
-          fails = s.fails;
-          begun = b;
-          compacts = tt;
-        },
-      )
-      account (holds.Slot c) i = absurd i
-      account (holds.Class c) i = absurd i
-      account (holds.Blocks c) i = absurd i
-      account (holds.Device c) i = absurd i
-    start_take false false a b what kind stands backs locks s = slot_of v
-        (entry_kind g p.page (disk (or_from _ _ a b)).0 v kind) kind stands backs where
+
+    start_take : (a b : Bool) → is_maintenance p.op ≡ a → is_beyond n p.op ≡ b
+        → start_plan a b p ≡ Take k
+        → Sound g (spot n (lock_of (start_plan a b p))) v
+        → Stands g (spot n (lock_of (start_plan a b p))) v
+        → Backs g (spot n (lock_of (start_plan a b p))) v → Marks v
+        → ks ≡ [] → Stays e Start → Taken (lock_of (start_plan a b p))
+        (begun_at a b p (next_form p page (entry_or v e).kept) (entry_or v e).kept)
+    start_take true b a c what kind stands backs marks locks s =
+        first_take p.op refl a kind stands backs marks locks s
+    start_take false true a b what kind stands backs marks locks s =
+        account v (account_kind g v kind) where
+          account : (u : DiskHeld) → IsAccount u → Moved ks lock.Account (entry_or u e) Refusing
+          account (holds.Account c) i = (
+            ap (λ (xs : List LockNo). lock.Account ∷ xs) locks,
+            record {
+              kind = tt;
+              made = s.made;
+              pins = s.pins;
+              owes = s.owes;
+              stands = tt;
+              backs = tt;
+              marks = tt;
+              partly = tt;
+              right = s.right;
+              counts = s.counts;
+              blank = tt;
+              fails = s.fails;
+              begun = b;
+              scans = tt;
+              compacts = tt;
+            },
+          )
+          account (holds.Slot c) i = absurd i
+          account (holds.Class c) i = absurd i
+          account (holds.Blocks c) i = absurd i
+          account (holds.Device c) i = absurd i
+    start_take false false a b what kind stands backs marks locks s = slot_of v
+        (entry_kind g p.page (disk (or_from _ _ a b)).0 v kind) kind stands backs marks where
           slot_of : (u : DiskHeld) → IsEntry u → Sound g p.page u → Stands g p.page u
-              → Backs g p.page u → Moved ks (slot p.page) (entry_or u e) (entered_at p.op p.page
-              (next_form p page (entry_or u e).kept) (entry_or u e).kept)
-          slot_of (holds.Slot x) i so st ba = let r = entered e s x so st ba (or_from _ _ a b) p.op refl in
+              → Backs g p.page u → Marks u → Moved ks (slot p.page) (entry_or u e)
+              (entered_at p.op p.page (next_form p page (entry_or u e).kept) (entry_or u e).kept)
+          slot_of (holds.Slot x) i so st ba ma =
+              let r = entered e s x so st ba ma (or_from _ _ a b) p.op refl in
               (ap (λ (xs : List LockNo). slot p.page ∷ xs) locks ∙ r.0, r.1)
-          slot_of (holds.Class c) i so st ba = absurd i
-          slot_of (holds.Account c) i so st ba = absurd i
-          slot_of (holds.Blocks c) i so st ba = absurd i
-          slot_of (holds.Device c) i so st ba = absurd i
+          slot_of (holds.Class c) i so st ba ma = absurd i
+          slot_of (holds.Account c) i so st ba ma = absurd i
+          slot_of (holds.Blocks c) i so st ba ma = absurd i
+          slot_of (holds.Device c) i so st ba ma = absurd i
 
     abbrev c : ℕ
     c = class_by e.kept
@@ -464,12 +442,12 @@ module _ (g : Begin) (ok : Known g) (p : Part) (fresh : Option Object) (pin : Op
     at_take : (at : At) → plan_at n at p c d ≡ Take k → Sound g
         (spot n (lock_of (plan_at n at p c d))) v → Stands g
         (spot n (lock_of (plan_at n at p c d))) v → Backs g
-        (spot n (lock_of (plan_at n at p c d))) v
+        (spot n (lock_of (plan_at n at p c d))) v → Marks v
         → ks ≡ locks_at at p c d → Stays e at → Taken (lock_of (plan_at n at p c d))
         (after_take n at p (next_form p page (entry_or v e).kept) (entry_or v e).kept)
-    at_take Start what kind stands backs locks s = start_take (is_compaction p.op)
-        (is_beyond n p.op) refl refl what kind stands backs locks s
-    at_take Seen what kind stands backs locks s = by_pool c Pinning
+    at_take Start what kind stands backs marks locks s = start_take (is_maintenance p.op)
+        (is_beyond n p.op) refl refl what kind stands backs marks locks s
+    at_take Seen what kind stands backs marks locks s = by_pool c Pinning
         (old_low g.chain (form_at g p.page e.order) e.kept s.stands) kind
         (ap (λ (xs : List LockNo). lock.Class c ∷ xs) locks)
         (record {
@@ -479,15 +457,17 @@ module _ (g : Begin) (ok : Known g) (p : Part) (fresh : Option Object) (pin : Op
           owes = s.owes;
           stands = s.stands;
           backs = s.backs;
+          marks = s.marks;
           partly = tt;
           right = s.right;
           counts = s.counts;
           blank = s.blank;
           fails = s.fails;
           begun = s.begun;
+          scans = tt;
           compacts = tt;
         })
-    at_take Pinned what kind stands backs locks s = by_pool c Unpinning
+    at_take Pinned what kind stands backs marks locks s = by_pool c Unpinning
         (old_low g.chain (form_at g p.page e.order) e.kept s.stands) kind
         (ap (λ (xs : List LockNo). lock.Class c ∷ xs) locks)
         (record {
@@ -497,15 +477,17 @@ module _ (g : Begin) (ok : Known g) (p : Part) (fresh : Option Object) (pin : Op
           owes = s.owes;
           stands = s.stands;
           backs = s.backs;
+          marks = s.marks;
           partly = tt;
           right = s.right;
           counts = s.counts;
           blank = s.blank;
           fails = s.fails;
           begun = s.begun;
+          scans = tt;
           compacts = tt;
         })
-    at_take Away what kind stands backs locks s = by_device Fetching kind
+    at_take Away what kind stands backs marks locks s = by_device Fetching kind
         (ap (λ (xs : List LockNo). lock.Device ∷ xs) locks)
         (record {
           kind = s.kind;
@@ -514,15 +496,17 @@ module _ (g : Begin) (ok : Known g) (p : Part) (fresh : Option Object) (pin : Op
           owes = s.owes;
           stands = s.stands;
           backs = s.backs;
+          marks = s.marks;
           partly = s.partly;
           right = s.right;
           counts = s.counts;
           blank = s.blank;
           fails = s.fails;
           begun = s.begun;
+          scans = tt;
           compacts = tt;
         })
-    at_take Failing what kind stands backs locks s = by_account Counting kind
+    at_take Failing what kind stands backs marks locks s = by_account Counting kind
         (ap (λ (xs : List LockNo). lock.Account ∷ xs) locks)
         (record {
           kind = s.kind;
@@ -531,15 +515,17 @@ module _ (g : Begin) (ok : Known g) (p : Part) (fresh : Option Object) (pin : Op
           owes = s.owes;
           stands = s.stands;
           backs = s.backs;
+          marks = s.marks;
           partly = tt;
           right = s.right;
           counts = s.counts;
           blank = s.blank;
           fails = s.fails;
           begun = s.begun;
+          scans = tt;
           compacts = tt;
         })
-    at_take Wanting what kind stands backs locks s = by_pool d Inside
+    at_take Wanting what kind stands backs marks locks s = by_pool d Inside
         (form_low g.chain (next_form p page e.kept)) kind
         (ap (λ (xs : List LockNo). lock.Class d ∷ xs) locks)
         (record {
@@ -549,15 +535,17 @@ module _ (g : Begin) (ok : Known g) (p : Part) (fresh : Option Object) (pin : Op
           owes = s.owes;
           stands = s.stands;
           backs = s.backs;
+          marks = s.marks;
           partly = tt;
           right = s.right;
           counts = s.counts;
           blank = s.blank;
           fails = s.fails;
           begun = s.begun;
+          scans = tt;
           compacts = tt;
         })
-    at_take Inside what kind stands backs locks s = by_account Both kind
+    at_take Inside what kind stands backs marks locks s = by_account Both kind
         (ap (λ (xs : List LockNo). lock.Account ∷ xs) locks)
         (record {
           kind = s.kind;
@@ -566,15 +554,17 @@ module _ (g : Begin) (ok : Known g) (p : Part) (fresh : Option Object) (pin : Op
           owes = s.owes;
           stands = s.stands;
           backs = s.backs;
+          marks = s.marks;
           partly = tt;
           right = s.right;
           counts = s.counts;
           blank = s.blank;
           fails = s.fails;
           begun = s.begun;
+          scans = tt;
           compacts = tt;
         })
-    at_take Old what kind stands backs locks s = by_pool c Freeing
+    at_take Old what kind stands backs marks locks s = by_pool c Freeing
         (old_low g.chain (form_at g p.page e.order) e.kept s.stands) kind
         (ap (λ (xs : List LockNo). lock.Class c ∷ xs) locks)
         (record {
@@ -584,15 +574,17 @@ module _ (g : Begin) (ok : Known g) (p : Part) (fresh : Option Object) (pin : Op
           owes = s.owes;
           stands = s.stands;
           backs = s.backs;
+          marks = s.marks;
           partly = tt;
           right = s.right;
           counts = s.counts;
           blank = s.blank;
           fails = s.fails;
           begun = s.begun;
+          scans = tt;
           compacts = tt;
         })
-    at_take Backed what kind stands backs locks s = by_map Releasing kind
+    at_take Backed what kind stands backs marks locks s = by_map Releasing kind
         (ap (λ (xs : List LockNo). lock.Blocks ∷ xs) locks)
         (record {
           kind = s.kind;
@@ -601,15 +593,17 @@ module _ (g : Begin) (ok : Known g) (p : Part) (fresh : Option Object) (pin : Op
           owes = s.owes;
           stands = s.stands;
           backs = s.backs;
+          marks = s.marks;
           partly = tt;
           right = s.right;
           counts = s.counts;
           blank = s.blank;
           fails = s.fails;
           begun = s.begun;
+          scans = tt;
           compacts = tt;
         })
-    at_take Owing what kind stands backs locks s = by_account Giving kind
+    at_take Owing what kind stands backs marks locks s = by_account Giving kind
         (ap (λ (xs : List LockNo). lock.Account ∷ xs) locks)
         (record {
           kind = s.kind;
@@ -618,15 +612,36 @@ module _ (g : Begin) (ok : Known g) (p : Part) (fresh : Option Object) (pin : Op
           owes = s.owes;
           stands = s.stands;
           backs = s.backs;
+          marks = s.marks;
           partly = tt;
           right = s.right;
           counts = s.counts;
           blank = s.blank;
           fails = s.fails;
           begun = s.begun;
+          scans = tt;
           compacts = tt;
         })
-    at_take (Sweeping x) what kind stands backs locks s = by_pool x.class (Moving x) s.compacts.class kind
+    at_take (Scanning x) what kind stands backs marks locks s =
+        scan_take x s.scans s.begun kind stands backs marks locks (record {
+          kind = tt;
+          made = s.made;
+          pins = s.pins;
+          owes = s.owes;
+          stands = tt;
+          backs = tt;
+          marks = tt;
+          partly = tt;
+          right = s.right;
+          counts = s.counts;
+          blank = tt;
+          fails = s.fails;
+          begun = tt;
+          scans = tt;
+          compacts = tt;
+        })
+    at_take (Sweeping x) what kind stands backs marks locks s =
+        by_pool x.class (Moving x) s.compacts.class kind
         (ap (λ (xs : List LockNo). lock.Class x.class ∷ xs) locks)
         (record {
           kind = tt;
@@ -635,15 +650,17 @@ module _ (g : Begin) (ok : Known g) (p : Part) (fresh : Option Object) (pin : Op
           owes = s.owes;
           stands = tt;
           backs = tt;
+          marks = tt;
           partly = tt;
           right = s.right;
           counts = s.counts;
           blank = tt;
           fails = s.fails;
           begun = s.begun;
+          scans = tt;
           compacts = s.compacts;
         })
-    at_take (Shrunk x) what kind stands backs locks s = by_account (Shrinking x) kind
+    at_take (Shrunk x) what kind stands backs marks locks s = by_account (Shrinking x) kind
         (ap (λ (xs : List LockNo). lock.Account ∷ xs) locks)
         (record {
           kind = tt;
@@ -652,40 +669,44 @@ module _ (g : Begin) (ok : Known g) (p : Part) (fresh : Option Object) (pin : Op
           owes = s.owes;
           stands = tt;
           backs = tt;
+          marks = tt;
           partly = tt;
           right = s.right;
           counts = s.counts;
           blank = tt;
           fails = s.fails;
           begun = s.begun;
+          scans = tt;
           compacts = s.compacts;
         })
-    at_take Refusing what kind stands backs locks s = absurd (cc)
-    at_take Pinning what kind stands backs locks s = absurd (cc)
-    at_take Unpinning what kind stands backs locks s = absurd (cc)
-    at_take Leaving what kind stands backs locks s = absurd (cc)
-    at_take Fetching what kind stands backs locks s = absurd (cc)
-    at_take Counting what kind stands backs locks s = absurd (cc)
-    at_take Missed what kind stands backs locks s = absurd (cc)
-    at_take Both what kind stands backs locks s = absurd (cc)
-    at_take Made what kind stands backs locks s = absurd (cc)
-    at_take Freeing what kind stands backs locks s = absurd (cc)
-    at_take Releasing what kind stands backs locks s = absurd (cc)
-    at_take Giving what kind stands backs locks s = absurd (cc)
-    at_take Ready what kind stands backs locks s = absurd (cc)
-    at_take (Moving x) what kind stands backs locks s = absurd (cc)
-    at_take (Shrinking x) what kind stands backs locks s = absurd (cc)
+    at_take Refusing what kind stands backs marks locks s = absurd (cc)
+    at_take Pinning what kind stands backs marks locks s = absurd (cc)
+    at_take Unpinning what kind stands backs marks locks s = absurd (cc)
+    at_take Leaving what kind stands backs marks locks s = absurd (cc)
+    at_take Fetching what kind stands backs marks locks s = absurd (cc)
+    at_take Counting what kind stands backs marks locks s = absurd (cc)
+    at_take Missed what kind stands backs marks locks s = absurd (cc)
+    at_take Both what kind stands backs marks locks s = absurd (cc)
+    at_take Made what kind stands backs marks locks s = absurd (cc)
+    at_take Freeing what kind stands backs marks locks s = absurd (cc)
+    at_take Releasing what kind stands backs marks locks s = absurd (cc)
+    at_take Giving what kind stands backs marks locks s = absurd (cc)
+    at_take Ready what kind stands backs marks locks s = absurd (cc)
+    at_take (Marking x) what kind stands backs marks locks s = absurd (cc)
+    at_take (Moving x) what kind stands backs marks locks s = absurd (cc)
+    at_take (Shrinking x) what kind stands backs marks locks s = absurd (cc)
 
 module _ (g : Begin) (ok : Known g) where
   by_take : (l : Here) (v : DiskHeld) (k : LockNo) (ps : List Part) (e : EntryState)
-      (ks : List LockNo) → ((p : Part) (rest : List Part) → ps ≡ p ∷ rest → OnDisk g.given.size p)
+      (ks : List LockNo) → 0 < g.given.size
+      → ((p : Part) (rest : List Part) → ps ≡ p ∷ rest → OnDisk g.given.size p)
       → plan_by g.given.size ps l.at (class_by e.kept) (new_class g.chain ps l.page e.kept) ≡ Take k
       → Sound g (spot g.given.size (lock_of (plan_by g.given.size ps l.at (class_by e.kept)
       (new_class g.chain ps l.page e.kept)))) v
       → Stands g (spot g.given.size (lock_of (plan_by g.given.size ps l.at (class_by e.kept)
       (new_class g.chain ps l.page e.kept)))) v
       → Backs g (spot g.given.size (lock_of (plan_by g.given.size ps l.at (class_by e.kept)
-      (new_class g.chain ps l.page e.kept)))) v
+      (new_class g.chain ps l.page e.kept)))) v → Marks v
       → ks ≡ locks_by ps l.at (class_by e.kept) (new_class g.chain ps l.page e.kept)
       → StageBy g ps e l.at l.fresh l.pin l.owed l.ahead l.behind l.page l.fail
       → (lock_of (plan_by g.given.size ps l.at (class_by e.kept)
@@ -694,10 +715,10 @@ module _ (g : Begin) (ok : Known g) where
       (new_class g.chain ps l.page (entry_or v e).kept))
       × StageBy g ps (entry_or v e) (taken_at g.given.size ps l.at l.page (entry_or v e).kept)
       l.fresh l.pin l.owed l.ahead l.behind l.page l.fail
-  by_take l v k [] e ks disk what kind stands backs locks s = absurd (cc)
-  by_take l v k (p ∷ ps) e ks disk what kind stands backs locks s =
+  by_take l v k [] e ks some disk what kind stands backs marks locks s = absurd (cc)
+  by_take l v k (p ∷ ps) e ks some disk what kind stands backs marks locks s =
       at_take g ok p l.fresh l.pin l.owed l.ahead l.behind l.page l.fail e v k ks
-      (disk p ps refl) l.at what kind stands backs locks s
+      (disk p ps refl) some l.at what kind stands backs marks locks s
 
   pub fits_take : (a : ℕ) (l : Here) (k : LockNo) (v : DiskHeld) → plan (terms g) l ≡ Take k
       → IsActor g a l → AtHome g (spot g.given.size k) v → IsActor g a (took (terms g) l v)
@@ -707,9 +728,10 @@ module _ (g : Begin) (ok : Known g) where
       let stands = subst (λ (m : LockNo). Stands g (spot g.given.size m) v) q home.stands in
       let backs = subst (λ (m : LockNo). Backs g (spot g.given.size m) v) q home.backs in
       let t = by_take l v k l.todo (entry_in l.held) (map (λ (x : LockNo × DiskHeld). x.0) l.held)
+      (ok.proper.some (some_actor g.given.actors a f.ops f.named))
       (λ p rest is. on_disk (EndsSo (ground_of g)) g.given.size f.ops l.done p rest
       (subst (Follows (EndsSo (ground_of g)) (program g.given.size 0 f.ops) l.done) is
-      f.follows)) what kind stands backs f.locks f.stage in
+      f.follows)) what kind stands backs home.marks f.locks f.stage in
       record {
         who = f.who;
         ops = f.ops;

@@ -19,7 +19,7 @@ use Rattle.joint_rule.specs.Rule.{OfOrder, ShowsOrder, Told, done_by, dones, owe
 use Rattle.joint_rule.specs.Stages.{Changes, FailBy, IsFault, IsRight, Looks}
 use Rattle.joint_rule.specs.Weights.{HeldAll, at_place, none, same}
 use Rattle.lock_row.specs.Totals.{held_sum, mass}
-use Rattle.lock_row.specs.declared.names.At.TheVariants.{Leaving, Missed, Ready}
+use Rattle.lock_row.specs.declared.names.At.TheVariants.{Leaving, Missed, Ready, Marking}
 use Rattle.lock_row.specs.declared.names.LockNo.{LockNo}
 use Rattle.lock_row.specs.declared.names.Plan.TheVariants.{Give, Take}
 use Rattle.lock_row.specs.declared.names.State.{State}
@@ -32,7 +32,7 @@ use Rattle.std.proofs.lemmas.Bool.{and_left, and_right, cases_Bool, eq-eqb, ne_e
 use Rattle.zr_base.specs.Plain.{named}
 use Rattle.zr_base.specs.Sectors.{page_sector}
 use Rattle.zr_base.specs.declared.op.Op.{Op}
-use Rattle.zr_base.specs.declared.op.Op.TheVariants.{Compact, Discard, Read, Write}
+use Rattle.zr_base.specs.declared.op.Op.TheVariants.{Compact, Discard, Idle, Read, Write}
 use Rattle.zr_base.specs.declared.op.Tag.{Tag}
 use mathlib.Core.Logic.{dite}
 use mathlib.Core.Path.{fun_ext}
@@ -145,6 +145,7 @@ no_got : (op : Op) (p : Part) (page : List ℕ) → p.op ≡ op → Changes op
 no_got (Write start count stuff) p page e c = ap (λ (o : Op). got_at o p page) (sym e)
 no_got (Read start count) p page e c = absurd c
 no_got (Discard start count) p page e c = ap (λ (o : Op). got_at o p page) (sym e)
+no_got (Idle age) p page e c = absurd c
 no_got Compact p page e c = absurd c
 
 bad_stands : (g : Begin) (p : Part) (op : Op) (x : PartEnd) → FailBy g p op (Some x)
@@ -156,6 +157,7 @@ bad_stands g p (Write start count stuff) NoMemory f = refl
 bad_stands g p (Write start count stuff) (Eio fault) f = absurd f
 bad_stands g p (Read start count) x f = absurd f
 bad_stands g p (Discard start count) x f = absurd f
+bad_stands g p (Idle age) x f = absurd f
 bad_stands g p Compact x f = absurd f
 
 -- a piece of which the device failed stands where it is a read, and has read nothing
@@ -180,6 +182,7 @@ right_read : (g : Begin) (q : Part) (op : Op) (p : ℕ) (page was : List ℕ) �
 right_read g q (Write start count stuff) p page was k f r = absurd f
 right_read g q (Read start count) p page was k f r = r
 right_read g q (Discard start count) p page was k f r = absurd k
+right_read g q (Idle age) p page was k f r = absurd k
 right_read g q Compact p page was k f r = absurd k
 
 module _ (g : Begin) (ok : Known g) (w : State DiskHeld) (j : Joint g w) (a : ℕ) (l : Here)
@@ -289,6 +292,20 @@ module _ (g : Begin) (ok : Known g) (w : State DiskHeld) (j : Joint g w) (a : �
         tt,
         (subst (HeldAll g.given.size (OfOrder P)) held h).1,
       )))
+  tells_of (event.scans p rest age x e todo op at held other v_is m_is) =
+      let k_is = given_lock g ok w j a l who k v m what (slot x.page)
+      (event_is g ok w j a l who k v m what p rest _ (Marking x) todo held at) in
+      same_tells _ _ v_is m_is (quiet refl refl (λ h. (
+        subst (λ (c : LockNo). OfOrder P (spot g.given.size c) (holds.Slot e)) k_is
+            (subst (HeldAll g.given.size (OfOrder P)) held h).0,
+        tt,
+      )))
+  tells_of (event.stops p rest age x e todo op at held last v_is m_is) =
+      let k_is = given_lock g ok w j a l who k v m what (slot x.page)
+      (event_is g ok w j a l who k v m what p rest _ (Marking x) todo held at) in
+      same_tells _ m v_is refl (refused p rest (Whole (ends.Marked _)) todo refl (λ h.
+      subst (λ (c : LockNo). OfOrder P (spot g.given.size c) (holds.Slot e)) k_is
+      (subst (HeldAll g.given.size (OfOrder P)) held h).0) m_is)
   tells_of (event.moves p rest x q q' u u' budget frames todo at held sh some one v_is m_is) =
       same_tells _ _ v_is m_is (quiet refl refl (λ h. (tt, tt)))
   tells_of (event.sweeps p rest x q todo at held stuck other v_is m_is) =

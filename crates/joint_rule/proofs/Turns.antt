@@ -1,12 +1,13 @@
 -- Each turn keeps the rule.
 use Rattle.std.proofs.Common.{◌≡◌, ◌*◌, ◌≤◌, ◌<◌, ◌∷◌, ◌++◌, ◌⊎◌, ℕ, zero, suc, List, [], Option, Some, None, slice_get, slice_set, refl, sym, ap, subst, arith, inl, inr, ⊎_elim}
+use Rattle.joint_rule.proofs.Ages.{ages_turn}
 use Rattle.call_history.specs.Parts.{KeepsTo}
 use Rattle.call_history.specs.declared.part.Done.{Done}
 use Rattle.call_history.specs.declared.part.Part.{Part}
 use Rattle.call_history.specs.declared.part.PartEnd.{PartEnd}
 use Rattle.call_history.specs.declared.part.PartEnd.TheVariants.{AtLimit, Carried, Eio, NoMemory, Whole}
 use Rattle.class_pool.specs.Pool.{PoolState}
-use Rattle.joint_rule.proofs.Alone.{alone_give, alone_take}
+use Rattle.joint_rule.proofs.Alone.{alone_give, alone_take, KeepsAges}
 use Rattle.joint_rule.proofs.Balances.{none_fresh}
 use Rattle.joint_rule.proofs.Bounds.{below, most_give, most_take, risen, times_le}
 use Rattle.joint_rule.proofs.Counts.{refusals_give, refusals_take, refuses_of}
@@ -23,7 +24,7 @@ use Rattle.joint_rule.proofs.News.{news_give, news_gives, news_take}
 use Rattle.joint_rule.proofs.Pages.{ever_now}
 use Rattle.joint_rule.proofs.Pools.{chain_low}
 use Rattle.joint_rule.proofs.Sums.{get_here, get_set, gone, row_le}
-use Rattle.joint_rule.proofs.Takes.{form_claim}
+use Rattle.joint_rule.proofs.Places.{form_claim}
 use Rattle.joint_rule.proofs.Tells.{tells_of, told_give, told_take}
 use Rattle.joint_rule.specs.Begins.{Begin, form_at, ground_of, image, terms}
 use Rattle.joint_rule.specs.Joint.{Joint, PoolFits, Sound}
@@ -190,6 +191,11 @@ module _ (g : Begin) (ok : Known g) (w : State DiskHeld) (j : Joint g w) (a : �
       (fail_up g (reach_at g w) c up (Some x) (subst (FailKeeps g (reach_at g w)) bad h.now)) h)
   limits_of c up low (event.releases p rest e b x todo at held is v_is m_is) h =
       subst (KeepsLimits g c) (sym m_is) (limits_same g (reach_at g w) c up l _ refl refl h)
+  limits_of c up low (event.scans p rest age x e todo op at held other v_is m_is) h =
+      subst (KeepsLimits g c) (sym m_is) (limits_same g (reach_at g w) c up l _ refl refl h)
+  limits_of c up low (event.stops p rest age x e todo op at held last v_is m_is) h =
+      subst (KeepsLimits g c) (sym m_is) (limits_over g (reach_at g w) c up l p
+      (Whole (ends.Marked _)) [] rest tt h)
   limits_of c up low (event.moves p rest x q q' u u' budget frames todo at held sh some one v_is
       m_is) h =
       subst (KeepsLimits g c) (sym m_is) (limits_same g (reach_at g w) c up l _ refl refl h)
@@ -209,8 +215,9 @@ module _ (g : Begin) (ok : Known g) (w : State DiskHeld) (r : Rule g w) (a : ℕ
   size = g.given.size
 
   rule_take : plan (terms g) l ≡ Take k → slice_get w.row (spot size k) ≡ Some (Some v)
+      → KeepsAges g w (gone size w a l who k None (took (terms g) l v))
       → Rule g (gone size w a l who k None (took (terms g) l v))
-  rule_take what there =
+  rule_take what there ages =
       let m = took (terms g) l v in
       let held = ap (λ p. (lock_of p, v) ∷ l.held) what in
       let same = ok.facts.take (spot size) (ever_at g) one w a l k v m who there held refl in
@@ -230,12 +237,13 @@ module _ (g : Begin) (ok : Known g) (w : State DiskHeld) (r : Rule g w) (a : ℕ
             (get_set w.locals a i m y l who e);
         faults = faults_take g ok w a l who k v r.faults;
         fetches = fetches_take g ok w a l who k v what there r.fetches;
-        alone = alone_take g ok w r.joint a l who k v what there r.alone;
+        alone = alone_take g ok w r.joint a l who k v what there ages r.alone;
       }
 
   rule_give : (m : Here) → plan (terms g) l ≡ Give k → slice_get w.row (spot size k) ≡ Some None
-      → Event g l v m → Rule g (gone size w a l who k (Some v) m)
-  rule_give m what there ev =
+      → Event g l v m → KeepsAges g w (gone size w a l who k (Some v) m)
+      → Rule g (gone size w a l who k (Some v) m)
+  rule_give m what there ev ages =
       let x = gift g ok w r.joint a l who k v m what ev in
       let b = blames_of g ok w r.joint a l who k v m ev in
       let now = reach_at g (gone size w a l who k (Some v) m) in
@@ -263,7 +271,7 @@ module _ (g : Begin) (ok : Known g) (w : State DiskHeld) (r : Rule g w) (a : ℕ
         faults = faults_give g ok w r.joint a l who k v m r.limits b r.faults;
         fetches = fetches_give g ok w r.joint a l who k v m there
             (reads_of g ok w r.joint a l who k v m what ev) r.fetches;
-        alone = alone_give g ok w r.joint a l who k v m what there ev r.alone;
+        alone = alone_give g ok w r.joint a l who k v m what there ev ages r.alone;
       }
 
 module _ (g : Begin) (ok : Known g) where
@@ -271,10 +279,12 @@ module _ (g : Begin) (ok : Known g) where
   rule_turn a w n r (turn.finished l who what e) = subst (Rule g) (sym e) r
   rule_turn a w n r (turn.missed l k who what there e) = subst (Rule g) (sym e) r
   rule_turn a w n r (turn.taken l k v t) = subst (Rule g) (sym t.after)
-      (rule_take g ok w r a l t.who k v t.what t.there)
+      (rule_take g ok w r a l t.who k v t.what t.there
+      (subst (KeepsAges g w) t.after (ages_turn g ok a w n r (turn.taken l k v t))))
   rule_turn a w n r (turn.given l k v m t) = subst (Rule g) (sym t.after)
       (rule_give g ok w r a l t.who k v m t.what t.there
-      (event_at g ok w r.joint a l t.who v m t.work))
+      (event_at g ok w r.joint a l t.who v m t.work)
+      (subst (KeepsAges g w) t.after (ages_turn g ok a w n r (turn.given l k v m t))))
 
   pub rule_run : (turns : List ℕ) (u w : State DiskHeld) → Rule g u
       → Run (spot g.given.size) (plan (terms g)) (took (terms g)) (Works (terms g)) turns u w

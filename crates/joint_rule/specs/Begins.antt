@@ -16,9 +16,9 @@ use Rattle.slot_entry.specs.Forms.{PageForm, Blank, form_of, bytes_in, page_weig
 use Rattle.page_steps.specs.Steps.{Terms}
 
 -- What a phase begins with: a plain disk and its calls; the pages on which no write stands; those that
--- are on the device; those that are marked idle; when each page was touched; the most frames of a chain; the time; the account's
--- counters, the limit among them; the device; and whether each class is known to have at most one
--- zspage with a free cell.
+-- are on the device; those that are marked idle; when each page was touched; the most frames of a
+-- chain; the time; the account's counters, the limit among them; the device; and whether each class is
+-- known to have at most one zspage with a free cell.
 pub record Begin : Type 0 where
   pub given : Given
   pub blank : ℕ → Bool

@@ -60,12 +60,14 @@ pub record Starts (g : Begin) (a : ℕ) (l : Here) : Type 0 where
   pub page : l.page ≡ None
   pub fail : l.fail ≡ None
 
--- The state before the first turn: orders are empty, with room for the phase's pieces, and the
+-- The state before the first turn: orders are empty, with room for the phase's pieces, and marks, the
 -- account and the device are as the phase finds them.
 pub record IsStart (g : Begin) (w : State DiskHeld) : Type 0 where
   pub rest : AtRest g w.row
   pub orders : (k : ℕ) (e : EntryState) → slice_get w.row k ≡ Some (Some (holds.Slot e))
       → (e.order ≡ []) × (owed g.given.size w.locals k ≤ e.room)
+  pub marks : (k : ℕ) (e : EntryState) → slice_get w.row k ≡ Some (Some (holds.Slot e))
+      → e.idle ≡ g.idle k
   pub account : (k : ℕ) (c : Counters) → slice_get w.row k ≡ Some (Some (holds.Account c))
       → c ≡ g.was
   pub device : (k : ℕ) (d : DeviceState) → slice_get w.row k ≡ Some (Some (holds.Device d))

@@ -1,7 +1,8 @@
 -- The events of a compaction: what a taken value is, which local an event may name, and where it leads.
-use Rattle.std.proofs.Common.{◌≡◌, ℕ, zero, suc, ◌+◌, ◌≤◌, ◌⊎◌, ◌==◌, Bool, [], None, refl, sym, ap, subst, arith}
+use Rattle.std.proofs.Common.{◌≡◌, ℕ, zero, suc, ◌+◌, ◌≤◌, ◌⊎◌, ◌==◌, [], None, refl, sym, ap, subst, arith}
 use Rattle.std.proofs.lemmas.Bool.{ne_eqb}
-use Rattle.zr_base.specs.Plain.{is_beyond}
+use Rattle.zr_base.specs.declared.op.Op.{Op}
+use Rattle.zr_base.specs.Plain.{is_beyond, is_maintenance}
 use Rattle.zs_plan.specs.Plan.{HasNoPlan}
 use Rattle.class_pool.specs.Pool.{PoolState}
 use Rattle.class_pool.specs.Rows.{rows}
@@ -38,7 +39,8 @@ module _ (chain : ℕ) where
       → AsPool (λ q. q.chain ≤ chain) v
   fits_start v (x, w, fits) =
       subst (λ (n : ℕ). AsPool (λ q. q.chain ≤ n) v) (sym w.chain_is)
-      (subst (λ (b : Bool). StartFits x.terms.chain b (is_beyond x.terms.size x.part.op) v) w.op fits)
+      (subst (λ (op : Op).
+      StartFits x.terms op (is_maintenance op) (is_beyond x.terms.size x.part.op) v) w.op fits)
 
   pub fits_sweeping : (y : Compaction) (v : DiskHeld)
       → FitsSome (IsWork chain) (λ x. here x (stage.Sweeping y)) v
@@ -55,12 +57,12 @@ module _ (chain : ℕ) where
 
   pub begins : TakesAs (IsWork chain) (λ x. here x stage.Start) beginning
   begins x v w =
-      let e = sym w.op in
-      λ i. with_lock (here x stage.Start)
-      (begun_at (e i) (is_beyond x.terms.size x.part.op) x.part
+      ap (λ (op : Op). with_lock (here x stage.Start)
+      (begun_at (is_maintenance op) (is_beyond x.terms.size x.part.op) (record x.part { op = op })
       (next_form x.part None (entry_or v (entry_in [])).kept)
       (entry_or v (entry_in [])).kept)
-      (lock_of (start_plan (e i) (is_beyond x.terms.size x.part.op) x.part)) v
+      (lock_of (start_plan (is_maintenance op) (is_beyond x.terms.size x.part.op)
+      (record x.part { op = op }))) v) (sym w.op)
 
   pub can_move : (y : Compaction) (q q' : PoolState) (budget frames : ℕ)
       → budget_in y q ≡ budget + 1 → MovesOne q q' frames

@@ -1,6 +1,7 @@
 -- Turns of a compaction from what its hand did.
-use Rattle.std.proofs.Common.{◌≡◌, ℕ, refl, sym, ◌∙◌, subst}
-use Rattle.zr_base.specs.Plain.{is_beyond}
+use Rattle.std.proofs.Common.{◌≡◌, ℕ, refl, sym, ap, ◌∙◌, subst}
+use Rattle.zr_base.specs.declared.op.Op.{Op}
+use Rattle.zr_base.specs.Plain.{is_beyond, is_maintenance}
 use Rattle.lock_row.specs.declared.names.LockNo.{LockNo}
 use Rattle.lock_row.specs.declared.names.Plan.TheVariants.{Take, Give}
 use Rattle.page_steps.specs.Steps.{DiskHeld, Here, start_plan, plan, took}
@@ -18,8 +19,8 @@ use Rattle.post_steps.specs.declared.compact.CompactStage.TheVariants as stage
 -- what a compaction does next is what its actor's plan says
 pub plan_is : (chain : ℕ) (x : Frame) (s : CompactStage) → IsGoing s → IsWork chain x
     → plan x.terms (here x s) ≡ next_event s
-plan_is chain x stage.Start on w =
-    λ i. start_plan (w.op i) (is_beyond x.terms.size x.part.op) x.part
+plan_is chain x stage.Start on w = ap (λ (op : Op).
+    start_plan (is_maintenance op) (is_beyond x.terms.size x.part.op) (record x.part { op = op })) w.op
 plan_is chain x (stage.Sweeping y) on w = refl
 plan_is chain x (stage.Moving y q) on w = refl
 plan_is chain x (stage.Shrunk y frames) on w = refl

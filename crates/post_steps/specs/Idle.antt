@@ -1,5 +1,5 @@
 -- A call that marks pages idle: what it stands for as an actor's local, and what its values are.
-use Rattle.std.specs.Prelude.{◌≡◌, ◌<◌, ◌≤◌, ⊤, List, [], ◌∷◌, Option, Some, None}
+use Rattle.std.specs.Prelude.{◌≡◌, ◌<◌, ◌≤◌, ⊤, List, [], ◌∷◌, None}
 use Rattle.zr_base.specs.declared.op.Op.TheVariants.{Idle}
 use Rattle.lock_row.specs.declared.names.LockNo.{LockNo}
 use Rattle.lock_row.specs.declared.names.Held.TheVariants as holds

@@ -8,7 +8,8 @@
 //! | `Marking` | slot | gives the slot | `mark` | marks the page where it may be marked |
 //! | `Over` | | none | | |
 
-ghost use Rattle.std.specs.Prelude.{◌≡◌, ◌<◌};
+ghost use Rattle.std.specs.Prelude.{◌≡◌, ◌-◌, ◌^◌, ◌<◌, ◌≤◌};
+ghost use Rattle.page_steps.specs.Scans.{with_page};
 ghost use Rattle.post_steps.specs.declared.idle.IdleStage.TheVariants as stage;
 ghost use Rattle.post_steps.specs.Idle.{IsFit, IsGoing, IsOnward, IsWork, here, next_event, IsReady, HasAdvanced};
 ghost use Rattle.post_steps.specs.Turns.{Allows, Advanced};
@@ -73,14 +74,27 @@ impl IdleCall {
     {
         let head = self.head;
         let at = mem::replace(&mut self.stage, IdleStage::Over);
-        let (next, progress) = match at {
-            IdleStage::Start => enter(head, hand),
-            IdleStage::Scanning(x) => scan(x, head, hand),
-            IdleStage::Marking(x, entry) => mark(x, entry, head, hand),
-            IdleStage::Over => unreachable!(),
-        };
+        let (next, progress) = step(at, head, hand);
         self.stage = next;
         progress
+    }
+}
+
+// One event, or a miss, of a call that isn't over.
+fn step<D: Backing, H: Hand<Value = DiskHeld<D>>>(
+    at: IdleStage,
+    head: IdleHead,
+    hand: &mut H,
+) -> (IdleStage, Progress)
+    requires going { IsGoing at }
+    requires ready { IsReady H.can_take H.takes H.can_give head at hand.old }
+    ensures { HasAdvanced H.takes H.misses H.gives head at hand.old result.0 hand.new result.1 }
+{
+    match at {
+        IdleStage::Start => enter(head, hand),
+        IdleStage::Scanning(x) => scan(x, head, hand),
+        IdleStage::Marking(x, entry) => mark(x, entry, head, hand),
+        IdleStage::Over => unreachable!(),
     }
 }
 
@@ -98,10 +112,7 @@ fn enter<D: Backing, H: Hand<Value = DiskHeld<D>>>(
         None => (IdleStage::Start, Progress::Waits(lock)),
         Some(value) => {
             let first = Scan { page: 0, marked: 0 };
-            (
-                IdleStage::Marking(first, entry_of(value)),
-                Progress::Moved,
-            )
+            (IdleStage::Marking(first, entry_of(value)), Progress::Moved)
         }
     }
 }
@@ -119,10 +130,23 @@ fn scan<D: Backing, H: Hand<Value = DiskHeld<D>>>(
     let lock = LockNo::Slot(PageIx(x.page));
     match hand.try_take::<Takes>(lock) {
         None => (IdleStage::Scanning(x), Progress::Waits(lock)),
-        Some(value) => (
-            IdleStage::Marking(x, entry_of(value)),
-            Progress::Moved,
-        ),
+        Some(value) => (IdleStage::Marking(x, entry_of(value)), Progress::Moved),
+    }
+}
+
+// The scan once its page is behind it, with one mark more where it is new.
+fn passed(x: Scan, new: bool) -> Scan
+    requires { (x.page < 2 ^ 32 - 1) × (x.marked ≤ x.page) }
+    ensures { result ≡ with_page x new }
+{
+    let page = x.page + 1;
+    if new {
+        Scan {
+            page,
+            marked: x.marked + 1,
+        }
+    } else {
+        Scan { page, ..x }
     }
 }
 
@@ -141,10 +165,7 @@ fn mark<D: Backing, H: Hand<Value = DiskHeld<D>>>(
     let lock = LockNo::Slot(PageIx(x.page));
     let mut page = entry;
     let new = page.mark_idle(head.now, head.age);
-    let next = Scan {
-        page: x.page + 1,
-        marked: x.marked + new as u32,
-    };
+    let next = passed(x, new);
     give_by::<D, H, Brand, u32, bool, LockNo>(
         hand,
         lock,
@@ -154,7 +175,10 @@ fn mark<D: Backing, H: Hand<Value = DiskHeld<D>>>(
         &lock,
     );
     if next.page == head.pages {
-        (IdleStage::Over, Progress::Done(PieceEnd::Marked(next.marked)))
+        (
+            IdleStage::Over,
+            Progress::Done(PieceEnd::Marked(next.marked)),
+        )
     } else {
         (IdleStage::Scanning(next), Progress::Moved)
     }

@@ -18,4 +18,6 @@ pub use laws::{
 pub use limits::{HUGE_CLASS, MOST_PACKED};
 
 #[cfg(test)]
+mod mark_tests;
+#[cfg(test)]
 mod tests;

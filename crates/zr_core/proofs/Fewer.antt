@@ -1,13 +1,22 @@
--- Whatever is over, no class has more objects than there are pages and actors in a phase that can go on.
-use Rattle.std.proofs.Common.{◌≡◌, ℕ, zero, suc, ◌+◌, List, [], ◌∷◌, length, Some, slice_get, refl, ap, subst, arith}
+-- Whatever is over, no class has more objects than there are pages and actors in a phase that can go
+-- on, and scans are at pages of the disk.
+use Rattle.std.proofs.Common.{◌≡◌, ℕ, zero, suc, ◌+◌, ◌<◌, List, [], ◌∷◌, length, Some, slice_get, refl, ap, subst, arith}
 use Rattle.std.proofs.lemmas.Option.{slice_get_within}
 use Rattle.zr_base.specs.declared.op.Op.{Op}
 use Rattle.call_history.specs.declared.part.Done.{Done}
-use Rattle.page_steps.specs.Steps.{Terms, Here}
+use Rattle.call_history.specs.declared.part.Part.{Part}
+use Rattle.lock_row.specs.declared.names.At.{At}
+use Rattle.lock_row.specs.declared.names.At.TheVariants as at
+use Rattle.lock_row.specs.declared.names.State.{State}
+use Rattle.page_steps.specs.Pages.{new_class}
+use Rattle.page_steps.specs.Scans.{scan_at}
+use Rattle.page_steps.specs.Steps.{Terms, DiskHeld, Here, slot, class_by, entry_in, plan, plan_at, plan_by}
 use Rattle.actor_steps.specs.declared.worker.Worker.{Worker}
 use Rattle.actor_steps.specs.Workers.{here}
-use Rattle.joint_rule.specs.Laws.{CompactedIsFew}
-use Rattle.zr_core.specs.Runs.{nothing_over, Few, AreFew}
+use Rattle.joint_rule.specs.Begins.{Begin, terms, Proper}
+use Rattle.joint_rule.specs.Laws.{TakesLock, GivesLock, CompactedIsFew}
+use Rattle.joint_rule.specs.Rule.{Rule}
+use Rattle.zr_core.specs.Runs.{nothing_over, Few, IsOnDisk, AreFew}
 use Rattle.zr_core.specs.States.{heres, Playing, state_of, AreKept, CanGoOn}
 use Rattle.zr_core.proofs.Lists.{there_is}
 use Rattle.zr_core.proofs.States.{heres_get}
@@ -36,13 +45,61 @@ count_same t (ops ∷ more) (w ∷ ws) [] e = absurd (let q : 0 ≡ suc (length 
 count_same t (ops ∷ more) (w ∷ ws) (d ∷ ds) e =
     ap (λ (k : ℕ). suc k) (count_same t more ws ds (omega arith))
 
--- no class has more objects than there are pages and actors
+-- no class has more objects than there are pages and actors, and scans are at pages of the disk
 abbrev pub AllFew : {D : Type 0} → Playing D → Type 0
 AllFew x = (dones : List (List Done)) → AreKept x.workers dones
     → AreFew x.terms.size (state_of x dones)
 
-pub can_few : {D : Type 0} → CompactedIsFew → (x : Playing D) → CanGoOn x → AllFew x
-can_few law x can dones kept a l who =
+module _ (takes : TakesLock) (gives : GivesLock) (g : Begin) (w : State DiskHeld) (a : ℕ) (l : Here)
+    (p : Part) (rest : List Part) (proper : Proper g) (rule : Rule g w)
+    (who : slice_get w.locals a ≡ Some l) (todo : l.todo ≡ p ∷ rest) (some : 0 < g.given.size) where
+  -- the next event, by the stage
+  planned : (at : At) → l.at ≡ at → (c : ℕ) × (d : ℕ)
+      × (plan (terms g) l ≡ plan_at g.given.size at p c d)
+  planned at stage = (
+    class_by (entry_in l.held).kept,
+    new_class g.chain l.todo l.page (entry_in l.held).kept,
+    λ i. plan_by g.given.size (todo i) (stage i) (class_by (entry_in l.held).kept)
+        (new_class g.chain l.todo l.page (entry_in l.held).kept),
+  )
+
+  -- the page that a scan takes or gives next is one of the disk
+  page_low : (at : At) → l.at ≡ at → (scan_at at).page < g.given.size
+  page_low at.Start stage = some
+  page_low at.Refusing stage = some
+  page_low at.Seen stage = some
+  page_low at.Pinning stage = some
+  page_low at.Pinned stage = some
+  page_low at.Unpinning stage = some
+  page_low at.Leaving stage = some
+  page_low at.Away stage = some
+  page_low at.Fetching stage = some
+  page_low at.Failing stage = some
+  page_low at.Counting stage = some
+  page_low at.Missed stage = some
+  page_low at.Wanting stage = some
+  page_low at.Inside stage = some
+  page_low at.Both stage = some
+  page_low at.Made stage = some
+  page_low at.Old stage = some
+  page_low at.Freeing stage = some
+  page_low at.Backed stage = some
+  page_low at.Releasing stage = some
+  page_low at.Owing stage = some
+  page_low at.Giving stage = some
+  page_low at.Ready stage = some
+  page_low (at.Scanning x) stage =
+      takes g w a l (slot x.page) proper rule who (planned (at.Scanning x) stage).2
+  page_low (at.Marking x) stage =
+      (gives g w a l (slot x.page) proper rule who (planned (at.Marking x) stage).2).0
+  page_low (at.Sweeping x) stage = some
+  page_low (at.Moving x) stage = some
+  page_low (at.Shrunk x) stage = some
+  page_low (at.Shrinking x) stage = some
+
+pub can_few : {D : Type 0} → CompactedIsFew → TakesLock → GivesLock → (x : Playing D) → CanGoOn x
+    → AllFew x
+can_few law takes gives x can dones kept a l who =
     let o = of_here x.terms x.actors x.workers dones a l who in
     let r = ruled_by x a o.0 can.ruled o.3.0 in
     let j = r.1 in
@@ -56,4 +113,10 @@ can_few law x can dones kept a l who =
     λ p rest y q todo at held.
     let z = law r.0 (state_of x j.dones) a (here x.terms.size o.0 o.1 d.0) p rest y q j.rule there todo
     at held in (z.0, (let b = z.1 in omega arith)) in
-    subst (Few (x.terms.size + length (state_of x dones).locals)) o.4 few
+    let on : IsOnDisk x.terms.size (here x.terms.size o.0 o.1 o.2) = λ p rest todo.
+    let some = j.of.some in
+    let z = page_low takes gives r.0 (state_of x j.dones) a (here x.terms.size o.0 o.1 d.0) p rest
+    j.of.proper j.rule there todo (omega arith) (here x.terms.size o.0 o.1 d.0).at refl in
+    omega arith in
+    subst (λ (m : Here). Few (x.terms.size + length (state_of x dones).locals) m
+    × IsOnDisk x.terms.size m) o.4 (few, on)

@@ -177,7 +177,8 @@ zero_is = (
 new_proper : RequestsAreProper → (pages limit : ℕ) (device : DeviceState) → pages ≤ MOST_PAGES
     → Proper (new_disk pages limit device)
 new_proper law pages limit device most = law (new_disk pages limit device) (λ tag op e. absurd (cc))
-    (λ s. zero_is) (λ p k lt e. refl) record {
+    (λ s. zero_is) (λ p k lt e. refl) (λ p lt. omega arith) record {
+      some = λ lt. absurd (let none : ⊥ = omega arith in none);
       least = omega arith;
       most = omega arith;
       few = omega arith;
@@ -185,7 +186,8 @@ new_proper law pages limit device most = law (new_disk pages limit device) (λ t
     }
 
 without_new : (g : Begin) (k : ℕ) (v : DiskHeld) → IsNew g k v → IsNew g k (without_calls v)
-without_new g k (holds.Slot e) is = (is.0, is.1, refl, is.3, is.4, is.5)
+without_new g k (holds.Slot e) is =
+    (is.0, is.1, refl, is.3, is.4, is.5, is.6, is.7, is.8)
 without_new g k (holds.Class q) is = is
 without_new g k (holds.Account c) is = is
 without_new g k (holds.Blocks x) is = is

@@ -66,12 +66,8 @@ was_whole row whole k lt =
     let u = was_at row k v.0 v.1 in (u.0, u.1)
 
 kept_same : (v u : DiskHeld) → IsKept v u → without_calls u ≡ without_calls v
-kept_same (holds.Slot e) u is = ap without_calls is.1 ∙ (λ i. holds.Slot (record {
-  kept = is.2 i;
-  order = [];
-  room = 0;
-  touched = is.3 i;
-}))
+kept_same (holds.Slot e) u is = ap without_calls is.1
+    ∙ ap (λ (f : EntryState). without_calls (holds.Slot f)) is.2
 kept_same (holds.Class q) u is = ap without_calls is
 kept_same (holds.Account c) u is = ap without_calls is
 kept_same (holds.Blocks x) u is = ap without_calls is

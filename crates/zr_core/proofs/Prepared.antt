@@ -29,7 +29,7 @@ use Rattle.zr_core.specs.declared.spare.Spare.{Spare}
 use Rattle.zr_core.specs.Machines.{order_at, without_calls, IsKept, KeepsValues, Begins, IsSetUp}
 use Rattle.zr_core.specs.Noted.{is_in, AreCounted, HasAllOrders}
 use Rattle.zr_core.specs.Preparing.{IsReserved, KeepsPage, AreReserved}
-use Rattle.zr_core.specs.Rests.{HasEntries, RestsAs, IsAtRest, IsBare, begun}
+use Rattle.zr_core.specs.Rests.{HasEntries, IsTime, RestsAs, IsAtRest, IsBare, begun}
 use Rattle.zr_core.specs.Runs.{nothing_over}
 use Rattle.zr_core.specs.States.{heres, Playing, state_of, AreKept, IsOf, IsPrepared, IsSetUpOn, IsEmpty, HasRule, CanGoOn}
 use Rattle.zr_core.proofs.Blanks.{begins_proper}
@@ -38,13 +38,20 @@ use Rattle.zr_core.proofs.Ended.{each_same}
 use Rattle.zr_core.proofs.Lists.{there_is}
 use Rattle.zr_core.proofs.Matches.{Row, emptied_at, order_is}
 use Rattle.zr_core.proofs.Noted.{was_in, wasn_t_in, or_false}
-use Rattle.zr_core.proofs.Rests.{rests_on, begins}
+use Rattle.zr_core.proofs.Rests.{rests_on, entry_known, begins}
 
 -- ---- the row
 
 same_entry : (e f : EntryState) (c : Option (Option DiskHeld)) → c ≡ Some (Some (holds.Slot e))
     → c ≡ Some (Some (holds.Slot f)) → e ≡ f
 same_entry e f c p q = let r : c ≡ Some (Some (holds.Slot f)) = q in cc
+
+-- an entry is as one before it, but for its order, where each step keeps it so
+kept_on : (a b c d : EntryState) → b ≡ record a { order = b.order; room = b.room } → c ≡ b
+    → d ≡ record c { order = d.order; room = d.room }
+    → d ≡ record a { order = d.order; room = d.room }
+kept_on a b c d first same then = then
+    ∙ ap (λ (e : EntryState). record e { order = d.order; room = d.room }) (same ∙ first)
 
 pub reserved_none : (size : ℕ) (counts : BTreeMap ℕ ℕ) (cells : List (Option DiskHeld))
     → HasEntries size cells → AreReserved (is_in []) counts size cells cells
@@ -57,7 +64,6 @@ reserved_none size counts cells rest = record {
     before = e.1;
     after = e.1;
     kept = refl;
-    touched = refl;
     order = λ none. absurd (cc);
     room = λ none. absurd (cc);
     same = λ off. refl;
@@ -80,8 +86,7 @@ reserved_more counts xs size page n low old mid new count r x = record {
         is = x.is;
         before = k.before;
         after = ap (slice_get new) s ∙ x.after;
-        kept = x.kept ∙ ap (λ (e : EntryState). e.kept) mine ∙ k.kept;
-        touched = x.touched ∙ ap (λ (e : EntryState). e.touched) mine ∙ k.touched;
+        kept = kept_on k.was k.is x.was x.is k.kept mine x.kept;
         order = λ done. x.order;
         room = λ done. let q = x.room in let t = ap (count_at counts) s in omega arith;
         same = λ off. absurd ((wasn_t_in xs page p off).1 s);
@@ -92,7 +97,6 @@ reserved_more counts xs size page n low old mid new count r x = record {
         before = k.before;
         after = x.others p ne ∙ k.after;
         kept = k.kept;
-        touched = k.touched;
         order = λ done. k.order (before_it p ne done);
         room = λ done. k.room (before_it p ne done);
         same = λ off. k.same (wasn_t_in xs page p off).0;
@@ -120,8 +124,7 @@ reserved_both d e counts size old mid new r s = record {
         is = l.is;
         before = k.before;
         after = l.after;
-        kept = l.kept ∙ ap (λ (x : EntryState). x.kept) mine ∙ k.kept;
-        touched = l.touched ∙ ap (λ (x : EntryState). x.touched) mine ∙ k.touched;
+        kept = kept_on k.was k.is l.was l.is k.kept mine l.kept;
         order = λ done. elim (cases_Bool (e p)) [
           | inl on ↦ l.order on
           | inr off ↦ ap (λ (x : EntryState). x.order) (l.same off ∙ mine)
@@ -179,7 +182,6 @@ all_reserved size counts noted pages old mid new orders c r s = record {
     before = k.before;
     after = k.after;
     kept = k.kept;
-    touched = k.touched;
     order = λ on. elim (cases_Bool (is_in pages p || is_in noted p)) [
       | inl done ↦ k.order done
       | inr off ↦ ap (λ (x : EntryState). x.order) (k.same off)
@@ -199,7 +201,7 @@ all_reserved size counts noted pages old mid new orders c r s = record {
 
 -- each value is as before, but for the orders
 kept_refl : (v : DiskHeld) → IsKept v v
-kept_refl (holds.Slot e) = (e, refl, refl, refl)
+kept_refl (holds.Slot e) = (e, refl, refl)
 kept_refl (holds.Class q) = refl
 kept_refl (holds.Account c) = refl
 kept_refl (holds.Blocks x) = refl
@@ -231,7 +233,7 @@ keeps_values size d counts old new r = record { size = r.size; each = each } whe
       p.after,
       subst (λ (x : DiskHeld). IsKept x (holds.Slot p.is))
           (let q : Some (Some (holds.Slot p.was)) ≡ Some (Some v) = sym p.before ∙ at in
-          let s : holds.Slot p.was ≡ v = cc in s) (p.is, refl, p.kept, p.touched),
+          let s : holds.Slot p.was ≡ v = cc in s) (p.is, refl, p.kept),
     ))
     | inr ge ↦ (v, r.others k ge ∙ at, kept_refl v)
   ]
@@ -256,6 +258,12 @@ still_rests pages noted old new rest d counts r = record {
       inr (g, rests_on g pages old rests new (keeps_values pages d counts old new r))
 
 -- ---- the workers
+
+-- where there are actors the disk has a page
+pub has_page : (pages : ℕ) (actors : List (List Op)) → (pages ≡ 0 → actors ≡ [])
+    → 0 < length actors → 0 < pages
+has_page zero actors none lt = absurd (let q = ap length (none refl) in let no : ⊥ = omega arith in no)
+has_page (suc n) actors none lt = omega arith
 
 none_over : {D : Type 0} (ws : List (Worker D)) (a : ℕ) (done : List Done)
     → slice_get (nothing_over ws) a ≡ Some done
@@ -393,7 +401,14 @@ module _ {D : Type 0} (t : Terms) (actors : List (List Op)) (cells cells' : Row)
   set_up_on = record { dones = nothing_over ws; kept = kept; set_up = is_set_up }
 
   module _ (g : Begin) (rests : RestsAs g t.size cells) (work : IsWork actors)
-      (chain : t.chain ≡ MOST_CHAIN) (next : RestGoesOn) (law : RequestsAreProper) where
+      (time : IsTime t.clock cells) (chain : t.chain ≡ MOST_CHAIN) (next : RestGoesOn)
+      (law : RequestsAreProper) where
+    -- no page was touched after the phase's time
+    times : (p : ℕ) → p < g.given.size → g.touched p ≤ t.clock
+    times p lt =
+        let e = entry_known g t.size cells rests p (let s = rests.size in omega arith) in
+        let q = time p e.0 e.1 in let same = e.2 in omega arith
+
     begins_so : IsOf (begun g actors t.clock) now
     begins_so = record {
       goes_by = λ i. record {
@@ -404,7 +419,8 @@ module _ {D : Type 0} (t : Terms) (actors : List (List Op)) (cells cells' : Row)
       actors = refl;
       some = rests.some;
       most = rests.most;
-      proper = begins_proper law g rests.proper (begun g actors t.clock) work refl refl refl
+      proper = begins_proper law g rests.proper (begun g actors t.clock) work refl refl refl times
+          (λ lt. let s = rests.size in let a = rests.some in omega arith)
           (let a = rests.size in let b = rests.most in let c = work.few in omega arith)
           (λ p lt. pieces_few g.given.size p actors work);
     }
@@ -430,9 +446,9 @@ module _ {D : Type 0} (t : Terms) (actors : List (List Op)) (cells cells' : Row)
 
   -- the phase can go on, also on a disk without pages
   pub may_go_on : (before : List ℕ) → IsAtRest t.size before cells → (t.size ≡ 0 → actors ≡ [])
-      → IsWork actors → t.chain ≡ MOST_CHAIN → AreCounted t.size counts noted
+      → IsWork actors → IsTime t.clock cells → t.chain ≡ MOST_CHAIN → AreCounted t.size counts noted
       → StartHasRule → RestGoesOn → RequestsAreProper → CanGoOn now
-  may_go_on before rest none work chain c start next law = record {
+  may_go_on before rest none work time chain c start next law = record {
     fit = record {
       count = new.count;
       each =
@@ -456,4 +472,4 @@ module _ {D : Type 0} (t : Terms) (actors : List (List Op)) (cells cells' : Row)
       none bare.0,
     )
     by (inr (g, rests)) =
-        inr (begun g actors t.clock, ruled g rests work chain next law start)
+        inr (begun g actors t.clock, ruled g rests work time chain next law start)

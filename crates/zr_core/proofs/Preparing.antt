@@ -94,9 +94,9 @@ module _ (places : NamesHavePlaces) (size : ℕ) (r : Row DiskHeld) (names : r.n
 module _ (size page : ℕ) (old new : List (Option DiskHeld)) (v w : DiskHeld)
     (there : slice_get old page ≡ Some (Some v)) (set : new ≡ slice_set old page (Some w)) where
   pub reserved_is : (n : ℕ) (e f : EntryState) → v ≡ holds.Slot e → w ≡ holds.Slot f
-      → f.kept ≡ e.kept → f.touched ≡ e.touched → f.order ≡ [] → n ≤ f.room
+      → f ≡ record e { order = f.order; room = f.room } → f.order ≡ [] → n ≤ f.room
       → IsReserved page n old new
-  reserved_is n e f was is kept touched order room = record {
+  reserved_is n e f was is kept order room = record {
     size = ap length set ∙ length-set old page (Some w);
     others = λ p ne. ap (λ (cs : List (Option DiskHeld)). slice_get cs p) set
         ∙ get_else old page p (Some w) ne;
@@ -107,7 +107,6 @@ module _ (size page : ℕ) (old new : List (Option DiskHeld)) (v w : DiskHeld)
         ∙ get_here old page (Some w) (Some v) there
         ∙ ap (λ (x : DiskHeld). Some (Some x)) is;
     kept = kept;
-    touched = touched;
     order = order;
     room = room;
   }

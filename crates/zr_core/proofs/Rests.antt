@@ -10,15 +10,16 @@ use Rattle.mem_account.specs.Counters.{Counters, no_counts}
 use Rattle.block_map.specs.BlockMap.{BlockMap}
 use Rattle.backing_dev.specs.Dev.{DeviceState}
 use Rattle.call_history.specs.Parts.{program}
-use Rattle.plain_disk.specs.Phases.{held_after}
+use Rattle.plain_disk.specs.Idles.{is_marked_in}
+use Rattle.plain_disk.specs.Phases.{held_after, touched_by}
 use Rattle.lock_row.specs.declared.names.Held.TheVariants as holds
 use Rattle.lock_row.specs.declared.names.State.{State}
 use Rattle.slot_entry.specs.Entries.{EntryState}
 use Rattle.page_steps.specs.Pages.{new_class}
 use Rattle.page_steps.specs.Steps.{DiskHeld, class_by, entry_in, plan_by}
 use Rattle.joint_rule.specs.Begins.{Begin, found_after, back_at, pieces_each, AreCarried, Proper}
-use Rattle.joint_rule.specs.Ends.{device_in}
-use Rattle.joint_rule.specs.Joint.{Sound}
+use Rattle.joint_rule.specs.Ends.{idle_in, device_in}
+use Rattle.joint_rule.specs.Joint.{MarkFits, EntryFits, Sound}
 use Rattle.joint_rule.specs.Laws.{RestGoesOn, FinishedIsAtRest, RequestsAreProper}
 use Rattle.joint_rule.specs.Rule.{Rule, owed}
 use Rattle.joint_rule.specs.Starts.{AtRest, Renewed, slots, accounts, pools, maps, devices, IsStart}
@@ -76,6 +77,23 @@ and_true : (b : Bool) → b ≡ (b && true)
 and_true true = refl
 and_true false = refl
 
+-- without calls, and where no operation marks pages, a page is idle where it was
+same_mark : (x y : Bool) → (x ≡ true → y ≡ true) → (y ≡ true → x ≡ true) → x ≡ y
+same_mark true y to from = sym (to refl)
+same_mark false true to from = from refl
+same_mark false false to from = refl
+
+mark_still : (g : Begin) (j : ℕ) (e : EntryState) → e.order ≡ []
+    → is_marked_in g.given.actors ≡ false → MarkFits g j e → g.idle j ≡ e.idle
+mark_still g j e none unmarked fits =
+    same_mark (g.idle j) e.idle (fits.stays none) (λ idle. (fits.only unmarked idle).1)
+
+-- a page that was touched before a time is touched at it or before
+touched_before : (order : List Tag) (clock touched : ℕ) → touched ≤ clock
+    → touched_by order clock touched ≤ clock
+touched_before [] clock touched before = before
+touched_before (tag ∷ tags) clock touched before = omega arith
+
 get_or_none : (row : Row) (p : ℕ) → slice_get row p ≡ None → get_or row p None ≡ None
 get_or_none [] p e = refl
 get_or_none (x ∷ row) zero e = absurd (cc)
@@ -116,7 +134,7 @@ module _ (g : Begin) (row : Row) (rest : AtRest g row) where
 -- the value as the phase after finds it
 abbrev IsNext : DiskHeld → DiskHeld → Type 0
 IsNext (holds.Slot e) u =
-    (f : EntryState) × (u ≡ holds.Slot f) × (f.kept ≡ e.kept) × (f.touched ≡ e.touched)
+    (f : EntryState) × (u ≡ holds.Slot f) × (f ≡ record e { order = f.order; room = f.room })
     × (f.order ≡ [])
 IsNext (holds.Class q) u = u ≡ holds.Class q
 IsNext (holds.Account c) u = (d : Counters) × (u ≡ holds.Account d)
@@ -160,6 +178,18 @@ module _ (g : Begin) (pages : ℕ) (cells : Row) (rests : RestsAs g pages cells)
         (f.0, v.1 ∙ ap (λ (u : DiskHeld). Some (Some u)) f.1);
   }
 
+  -- an entry without its order is that of a page of the disk
+  fits_so : (p : ℕ) (e : EntryState) → slice_get cells p ≡ Some (Some (holds.Slot e))
+      → EntryFits g p (record e { order = []; room = 0 })
+  fits_so p e at = (rests.row.home p (without_calls (holds.Slot e))
+      (emptied_at cells p (Some (holds.Slot e)) at)).sound
+
+  -- each page's entry was touched when the disk's page was
+  pub entry_known : (p : ℕ) → p < pages
+      → (e : EntryState) × (slice_get cells p ≡ Some (Some (holds.Slot e)))
+      × (e.touched ≡ g.touched p)
+  entry_known p lt = let e = rests_entries.each p lt in (e.0, e.1, (fits_so p e.0 e.1).touched)
+
   -- the map of blocks is at home
   pub rests_blocks : (x : BlockMap)
       × (slice_get cells (pages + 256) ≡ Some (Some (holds.Blocks x)))
@@ -199,7 +229,8 @@ module _ (g : Begin) (pages : ℕ) (cells : Row) (rests : RestsAs g pages cells)
 
   module _ (h : Begin) (size : h.given.size ≡ g.given.size) (chain : h.chain ≡ g.chain)
       (touched : (j : ℕ) → h.touched j ≡ g.touched j) (blank : (p : ℕ) → h.blank p ≡ g.blank p)
-      (back : (p : ℕ) → h.back p ≡ g.back p) (device : h.device ≡ g.device)
+      (back : (p : ℕ) → h.back p ≡ g.back p) (idle : (p : ℕ) → h.idle p ≡ g.idle p)
+      (device : h.device ≡ g.device)
       (before : (s : ℕ) → h.given.before s ≡ g.given.before s) (next : RestGoesOn) (after : Row)
       (long : length after ≡ length cells)
       (each : (k : ℕ) (v : DiskHeld) → slice_get cells k ≡ Some (Some v)
@@ -209,6 +240,13 @@ module _ (g : Begin) (pages : ℕ) (cells : Row) (rests : RestsAs g pages cells)
         → h.touched j ≡ e.touched
     touched_was e j at = touched j
         ∙ sym (rests.row.home j (without_calls (holds.Slot e)) at).sound.touched
+
+    idle_was : (e : EntryState) (j : ℕ)
+        → slice_get (without_orders cells) j ≡ Some (Some (without_calls (holds.Slot e)))
+        → h.idle j ≡ e.idle
+    idle_was e j at = idle j ∙ mark_still g j (record e { order = []; room = 0 }) refl
+        (ap is_marked_in rests.none)
+        (rests.row.home j (without_calls (holds.Slot e)) at).sound.mark
 
     device_was : (x : DeviceState) (j : ℕ)
         → slice_get (without_orders cells) j ≡ Some (Some (holds.Device x)) → g.device ≡ x
@@ -223,11 +261,14 @@ module _ (g : Begin) (pages : ℕ) (cells : Row) (rests : RestsAs g pages cells)
         → slice_get (without_orders cells) j ≡ Some (Some (without_calls v)) → IsNext v u
         → Renewed g h j (without_calls v) u
     renewed j (holds.Slot e) u at is =
-        slots (record { kept = e.kept; order = []; room = 0; touched = e.touched }) is.0 refl is.1
+        slots (record e { order = []; room = 0 }) is.0 refl is.1
         record {
-          kept = is.2;
-          order = is.4;
-          touched = is.3;
+          kept = ap (λ (f : EntryState). f.kept) is.2;
+          order = is.3;
+          under = ap (λ (f : EntryState). f.under) is.2;
+          idle = ap (λ (f : EntryState). f.idle) is.2;
+          mark = idle_was e j at;
+          touched = ap (λ (f : EntryState). f.touched) is.2;
           time = touched_was e j at;
           blank = blank j;
           back = back j ∙ and_true (g.back j);
@@ -265,7 +306,6 @@ module _ (g : Begin) (pages : ℕ) (cells : Row) (rests : RestsAs g pages cells)
       is.0,
       is.1,
       is.2,
-      is.3,
       (up.orders k is.0 (there ∙ ap (λ (x : DiskHeld). Some (Some x)) is.1)).0,
     )
     next_is k (holds.Class q) u there is = is
@@ -274,8 +314,8 @@ module _ (g : Begin) (pages : ℕ) (cells : Row) (rests : RestsAs g pages cells)
     next_is k (holds.Device x) u there is = is
 
     begins_rest : AtRest new w.row
-    begins_rest = goes_on new refl refl (λ j. refl) (λ p. refl) (λ p. refl) refl (λ s. refl) next
-        w.row up.row.size
+    begins_rest = goes_on new refl refl (λ j. refl) (λ p. refl) (λ p. refl) (λ p. refl) refl
+        (λ s. refl) next w.row up.row.size
         (λ k v at. let u = up.row.each k v at in (u.0, u.1, next_is k v u.0 u.1 u.2))
 
     -- the account of the row that is set up
@@ -335,13 +375,7 @@ module _ (g : Begin) (pages : ℕ) (cells : Row) (rests : RestsAs g pages cells)
       (goes : IsNext was (without_calls now)) (after : Row)
       (is : after ≡ slice_set cells at (Some now)) where
     same_next : (v : DiskHeld) → IsNext v (without_calls v)
-    same_next (holds.Slot e) = (
-      record { kept = e.kept; order = []; room = 0; touched = e.touched },
-      refl,
-      refl,
-      refl,
-      refl,
-    )
+    same_next (holds.Slot e) = (record e { order = []; room = 0 }, refl, refl, refl)
     same_next (holds.Class q) = refl
     same_next (holds.Account c) = (c, refl, refl, λ le. le)
     same_next (holds.Blocks x) = (x, refl, refl)
@@ -385,6 +419,8 @@ module _ (g : Begin) (pages : ℕ) (cells : Row) (rests : RestsAs g pages cells)
       none = rests.none;
       chain = rests.chain;
       proper = record {
+        some = rests.proper.some;
+        times = rests.proper.times;
         blanks = rests.proper.blanks;
         sectors = rests.proper.sectors;
         least = rests.proper.least;
@@ -392,8 +428,8 @@ module _ (g : Begin) (pages : ℕ) (cells : Row) (rests : RestsAs g pages cells)
         few = rests.proper.few;
         pieces = rests.proper.pieces;
       };
-      row = goes_on (with_account g d) refl refl (λ j. refl) (λ p. refl) (λ p. refl) refl (λ s. refl)
-          next (without_orders after)
+      row = goes_on (with_account g d) refl refl (λ j. refl) (λ p. refl) (λ p. refl) (λ p. refl) refl
+          (λ s. refl) next (without_orders after)
           (set_long (pages + 255) (holds.Account g.was) (holds.Account d) rests.account goes after is)
           (set_each (pages + 255) (holds.Account g.was) (holds.Account d) rests.account goes after is);
       account =
@@ -418,7 +454,7 @@ module _ (g : Begin) (pages : ℕ) (cells : Row) (rests : RestsAs g pages cells)
       none = rests.none;
       chain = rests.chain;
       proper = rests.proper;
-      row = goes_on g refl refl (λ j. refl) (λ p. refl) (λ p. refl) refl (λ s. refl) next
+      row = goes_on g refl refl (λ j. refl) (λ p. refl) (λ p. refl) (λ p. refl) refl (λ s. refl) next
           (without_orders after)
           (set_long (pages + 256) (holds.Blocks x) (holds.Blocks y) there maps_go after is)
           (set_each (pages + 256) (holds.Blocks x) (holds.Blocks y) there maps_go after is);
@@ -458,9 +494,12 @@ module _ (g : Begin) (w : State DiskHeld) (proper : Proper g) (rule : Rule g w)
       → Renewed g gone j v (without_calls v)
   gone_at j (holds.Slot e) at =
       let order = order_is w.row j e at in
-      slots e (record { kept = e.kept; order = []; room = 0; touched = e.touched }) refl refl record {
+      slots e (record e { order = []; room = 0 }) refl refl record {
         kept = refl;
         order = refl;
+        under = refl;
+        idle = refl;
+        mark = ap idle_in (get_or_from_slice_get w.row j (Some (holds.Slot e)) None at);
         touched = refl;
         time = ap touched_in (get_or_from_slice_get w.row j (Some (holds.Slot e)) None at);
         blank = ap (λ (o : List Tag). (found_after g j o).blank) order;
@@ -494,6 +533,15 @@ module _ (g : Begin) (w : State DiskHeld) (proper : Proper g) (rule : Rule g w)
     by (Some c) is = subst (λ (d : Option DiskHeld). AreCarried g p (order_in d))
         (sym (get_or_from_slice_get w.row p c None is)) (by_cell c is)
 
+  -- no page was touched after the phase's time
+  gone_times : (p : ℕ) → p < g.given.size → gone.touched p ≤ g.clock
+  gone_times p lt =
+      let e = entry_there g w.row ends p lt in
+      let is = ap touched_in (get_or_from_slice_get w.row p (Some (holds.Slot e.0)) None e.1)
+      ∙ (ends.home p (holds.Slot e.0) e.1).sound.touched in
+      let before = proper.times p lt in
+      let after = touched_before e.0.order g.clock (g.touched p) before in omega arith
+
   pub left_rests : RestsAs gone g.given.size w.row
   left_rests =
       let a = account_there g w.row ends in
@@ -504,7 +552,7 @@ module _ (g : Begin) (w : State DiskHeld) (proper : Proper g) (rule : Rule g w)
         none = refl;
         chain = chain;
         proper = leaves_proper law g proper gone (order_at w.row) refl refl refl carried
-            (λ p. refl) (λ s. refl);
+            (λ p. refl) (λ s. refl) gone_times;
         row = next g gone w.row (without_orders w.row) record { size = refl; chain = refl }
             (matched (Renewed g gone) w.row (without_orders w.row) (emptied_long w.row) ends.whole
             (λ k v at. (without_calls v, emptied_at w.row k (Some v) at, gone_at k v at)))

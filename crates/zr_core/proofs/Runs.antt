@@ -74,21 +74,21 @@ module _ (sums : SumMoves DiskHeld) (t : Terms) where
 -- what is left doesn't depend on what is over
 sum_same : {D : Type 0} (n : ℕ) (t : Terms) (actors : List (List Op)) (ws : List (Worker D))
     (dones : List (List Done)) → length dones ≡ length ws
-    → locals_sum (left_by n) (heres t actors ws dones)
-    ≡ locals_sum (left_by n) (heres t actors ws (nothing_over ws))
+    → locals_sum (left_by t.size n) (heres t actors ws dones)
+    ≡ locals_sum (left_by t.size n) (heres t actors ws (nothing_over ws))
 sum_same n t [] ws ds e = refl
 sum_same n t (ops ∷ more) [] ds e = refl
 sum_same n t (ops ∷ more) (w ∷ ws) [] e = absurd (let q : 0 ≡ suc (length ws) = e in
     let none : ⊥ = omega arith in none)
 sum_same n t (ops ∷ more) (w ∷ ws) (d ∷ ds) e =
-    ap (λ (k : ℕ). left_by n (here t.size ops w d) + k) (sum_same n t more ws ds (omega arith))
+    ap (λ (k : ℕ). left_by t.size n (here t.size ops w d) + k) (sum_same n t more ws ds (omega arith))
 
 pub left_same : {D : Type 0} (x : Playing D) (dones : List (List Done)) → length dones ≡ length x.workers
     → all_left x.terms.size (state_of x dones) ≡ left_of x
 left_same x dones e =
     sum_same (x.terms.size + length (heres x.terms x.actors x.workers dones)) x.terms x.actors
     x.workers dones e
-    ∙ ap (λ (k : ℕ). locals_sum (left_by (x.terms.size + k))
+    ∙ ap (λ (k : ℕ). locals_sum (left_by x.terms.size (x.terms.size + k))
     (heres x.terms x.actors x.workers (nothing_over x.workers)))
     (count_same x.terms x.actors x.workers dones e)
 

@@ -1,7 +1,7 @@
 -- What replies show is what the histories tell.
 use Rattle.std.proofs.Common.{◌≡◌, ℕ, suc, ◌+◌, List, [], ◌∷◌, map, length, Option, Some, slice_get, refl, sym, ap, ◌∙◌, subst, arith}
 use Rattle.zr_base.specs.declared.op.Op.{Op}
-use Rattle.zr_base.specs.declared.op.Op.TheVariants.{Write, Read, Discard, Compact}
+use Rattle.zr_base.specs.declared.op.Op.TheVariants.{Write, Read, Discard, Idle, Compact}
 use Rattle.zr_base.specs.declared.op.OpEnd.{OpEnd}
 use Rattle.zr_base.specs.declared.op.OpEnd.TheVariants as ends
 use Rattle.plain_disk.specs.Output.{phase_lines}
@@ -69,6 +69,7 @@ nothing_told ends.Range = refl
 nothing_told (ends.AtLimit pages need limit done) = refl
 nothing_told (ends.NoMemory done) = refl
 nothing_told (ends.Eio fault done) = refl
+nothing_told (ends.Marked pages) = refl
 nothing_told (ends.Compacted moves frames) = refl
 
 read_told : (start count : ℕ) (end : OpEnd) (got : List (List ℕ))
@@ -78,6 +79,7 @@ read_told start count ends.Range got = refl
 read_told start count (ends.AtLimit pages need limit done) got = refl
 read_told start count (ends.NoMemory done) got = refl
 read_told start count (ends.Eio fault done) got = refl
+read_told start count (ends.Marked pages) got = refl
 read_told start count (ends.Compacted moves frames) got = refl
 
 -- what is told of an operation is what its reply shows
@@ -88,6 +90,7 @@ told_is size pl k (Write start count stuff) r fits =
 told_is size pl k (Read start count) r fits = read_told start count r.end r.sectors.items
 told_is size pl k (Discard start count) r fits =
     sym (ap (told_by r.end) fits ∙ nothing_told r.end)
+told_is size pl k (Idle age) r fits = sym (ap (told_by r.end) fits ∙ nothing_told r.end)
 told_is size pl k Compact r fits = sym (ap (told_by r.end) fits ∙ nothing_told r.end)
 
 each_reply : {D : Type 0} (t : Terms) (ops : List Op) (w : Worker D) (done : List Done) → IsFit t ops w

@@ -1,7 +1,7 @@
 -- The state that a row and its workers stand for, and its turns.
 use Rattle.std.proofs.Common.{◌≡◌, ℕ, zero, suc, ◌<◌, Bool, true, false, List, [], ◌∷◌, length, Option, Some, None, slice_get, slice_set, refl, sym, ap, ◌∙◌, subst, arith, ⊎_elim, length-set}
 use Rattle.zr_base.specs.declared.op.Op.{Op}
-use Rattle.zr_base.specs.Plain.{is_beyond, is_compaction}
+use Rattle.zr_base.specs.Plain.{is_beyond, is_maintenance}
 use Rattle.call_history.specs.declared.part.Part.{Part}
 use Rattle.call_history.specs.declared.part.Done.{Done}
 use Rattle.lock_row.specs.declared.names.LockNo.{LockNo}
@@ -98,7 +98,7 @@ no_plan t l e = todo l.todo refl where
       (sym (ap (λ (qs : List Part). plan_by t.size qs l.at (class_by (entry_in l.held).kept)
       (new_class t.chain qs l.page (entry_in l.held).kept)) is) ∙ e)) where
         going : (at : At) (c d : ℕ) → plan_at t.size at p c d ≡ Finished → ⊥
-        going at.Start c d f = started (is_compaction p.op) (is_beyond t.size p.op) f where
+        going at.Start c d f = started (is_maintenance p.op) (is_beyond t.size p.op) f where
           started : (c b : Bool) → start_plan c b p ≡ Finished → ⊥
           started true b g = cc
           started false true g = cc
@@ -125,6 +125,8 @@ no_plan t l e = todo l.todo refl where
         going at.Owing c d f = cc
         going at.Giving c d f = cc
         going at.Ready c d f = cc
+        going (at.Scanning x) c d f = cc
+        going (at.Marking x) c d f = cc
         going (at.Sweeping x) c d f = cc
         going (at.Moving x) c d f = cc
         going (at.Shrunk x) c d f = cc

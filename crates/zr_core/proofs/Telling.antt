@@ -118,7 +118,7 @@ module _ (pages : ℕ) (noted : List ℕ) (cells : Row) (rest : IsAtRest pages n
       (limit : ℕ) (was now : Counters) (after : Row) (told : was ≡ account_of limit pages cells)
       (is : now ≡ f was) (set : after ≡ slice_set cells (pages + 255) (Some (holds.Account now)))
     where
-      put_back : (c : Counters) → slice_get cells (pages + 255) ≡ Some (Some (holds.Account c))
+      pub put_back : (c : Counters) → slice_get cells (pages + 255) ≡ Some (Some (holds.Account c))
           → after ≡ slice_set cells (pages + 255) (Some (holds.Account (f c)))
       put_back c at = set ∙ ap (λ (x : Counters). slice_set cells (pages + 255) (Some (holds.Account x)))
           (is ∙ ap f (told ∙ account_told limit pages cells c some at))

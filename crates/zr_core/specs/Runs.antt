@@ -17,6 +17,7 @@ use Rattle.lock_row.specs.declared.names.Compaction.{Compaction}
 use Rattle.lock_row.specs.declared.names.Plan.TheVariants.{Finished, Take}
 use Rattle.lock_row.specs.declared.names.State.{State}
 use Rattle.lock_row.specs.Totals.{locals_sum}
+use Rattle.page_steps.specs.Scans.{scan_at}
 use Rattle.page_steps.specs.Steps.{Terms, DiskHeld, Here, spot, plan}
 use Rattle.actor_steps.specs.declared.worker.Worker.{Worker}
 use Rattle.zr_core.specs.Machines.{Turns as Makes, rounds_of, AllFinished}
@@ -133,10 +134,9 @@ Few n l = (p : Part) (rest : List Part) (x : Compaction) (q : PoolState)
     → l.held ≡ (lock.Class x.class, holds.Class q) ∷ []
     → (x.class < 255) × (length (objects q) ≤ n)
 
--- a scan in hand is at a page of the disk
+-- a scan is at a page of the disk, the first one before it has taken any
 abbrev pub IsOnDisk : ℕ → Here → Type 0
-IsOnDisk size l = (p : Part) (rest : List Part) (x : Scan) → l.todo ≡ p ∷ rest
-    → l.at ≡ Marking x → x.page < size
+IsOnDisk size l = (p : Part) (rest : List Part) → l.todo ≡ p ∷ rest → (scan_at l.at).page < size
 
 -- no class has more objects than there are pages and actors, and scans are at pages of the disk
 abbrev pub AreFew : ℕ → State DiskHeld → Type 0

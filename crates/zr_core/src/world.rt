@@ -31,9 +31,9 @@ use std::alloc::AllocError;
 use zr_base::{ActorOps, Turns};
 
 impl<D: Backing> World<D> {
-    /// Sets a phase up, at this time, which isn't before the last access of any page: empties the orders, makes their room for the phase's calls, and
-    /// takes the memory for what its reads will tell. On Err every order is unspecified until a call
-    /// that succeeds, and all else is as before.
+    /// Sets a phase up, at this time, which isn't before the last access of any page: empties the
+    /// orders, makes their room for the phase's calls, and takes the memory for what its reads will
+    /// tell. On Err every order is unspecified until a call that succeeds, and all else is as before.
     pub fn prepare(&mut self, actors: &[ActorOps], now: u64) -> Result<Phase<D>, AllocError>
         requires rest { IsAtRest self.old.pages self.old.noted.items self.old.row.cells }
         requires work { IsWork actors.now }
@@ -127,6 +127,7 @@ impl<D: Backing> World<D> {
     {
         rule_keeps();
         values_fit();
+        locks_are_of_the_disk();
         sums_move::<DiskHeld<D>>();
         for actor in 0..actors.len() as u32 {
             let _turn = self.step(phase, actors, actor);

@@ -21,6 +21,10 @@ push_worker-requires-clause-few g c =
     let f = few_of c.args.ops.now c.loop-actor.actor-index c.as_slice.result.now (ops_at g a) in
     let m = c.requires.work.most in omega arith
 
+pub push_worker-requires-clause-some : goal.push_worker-requires-clause-some
+push_worker-requires-clause-some g c =
+    let t = c.loop-actor-test.true in c.requires.some (omega arith)
+
 pub push_worker-requires-clause-actors : goal.push_worker-requires-clause-actors
 push_worker-requires-clause-actors g c =
     let i = c.loop-actor.invariant.len in

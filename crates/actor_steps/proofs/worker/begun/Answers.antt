@@ -1,12 +1,12 @@
 use Rattle.std.proofs.Common.{◌≡◌, ℕ, false, Some, slice_get, IsTrue, sym, ap, ◌∙◌, refl, subst}
 use Rattle.zr_base.specs.declared.op.Op.{Op}
-use Rattle.zr_base.specs.Plain.{start_of, count_of, touches, is_compaction, IsRequest}
+use Rattle.zr_base.specs.Plain.{start_of, count_of, touches, is_maintenance, IsRequest}
 use Rattle.zr_base.specs.Pieces.{IsPieceOf}
 use Rattle.page_steps.specs.declared.stage.Work.TheVariants as work
 use Rattle.page_steps.specs.Calls.{Asks}
 use Rattle.actor_steps.specs.declared.call.Call.TheVariants as call
 use Rattle.actor_steps.proofs.Places.{at_index, touches_here, is_touched}
-use Rattle.actor_steps.proofs.Begun.{begun_count, begun_as, begun_compact, begun_for}
+use Rattle.actor_steps.proofs.Begun.{begun_count, begun_as, begun_idle, begun_compact, begun_for}
 use Rattle.actor_steps.proofs.worker.begun.Goals as goal
 use Rattle.actor_steps.proofs.worker.begun.Goals.{After-index-ops-nr}
 
@@ -17,7 +17,7 @@ op_at g c = at_index c.args.ops.now c.args.place.nr c.index-ops-nr.result c.requ
 asked : (g : _) (c : After-index-ops-nr g) → IsRequest c.index-ops-nr.result
 asked g c = c.requires.requests c.args.place.nr c.index-ops-nr.result (op_at g c)
 
-touched : (g : _) (c : After-index-ops-nr g) → is_compaction c.index-ops-nr.result ≡ false
+touched : (g : _) (c : After-index-ops-nr g) → is_maintenance c.index-ops-nr.result ≡ false
     → IsTrue (touches (start_of c.index-ops-nr.result) (count_of c.index-ops-nr.result)
     c.args.place.page)
 touched g c request =
@@ -52,7 +52,7 @@ returns-in-Write g c =
     (op_at g (goal.at.returns-in-Write g c).After-index-ops-nr) (call.Page c.write.result) _
     (ap call.Page (sym c.write.ensures))
     (begun_as c.args.size c.args.now _ c.index-ops-nr.result c.args.place.page c.bring.new.fresh
-    work.Writes c.piece_on-piece.result (ap is_compaction c.in-Write.is)
+    work.Writes c.piece_on-piece.result (ap is_maintenance c.in-Write.is)
     (sym c.is_beyond.ensures ∙ c.if-is_beyond.false) refl
     c.piece_on-piece.ensures.sectors.page_is c.piece_on-piece.ensures.sectors.within
     (subst (Asks work.Writes c.piece_on-piece.result c.bring.new.fresh) (sym c.in-Write.is)
@@ -67,7 +67,7 @@ returns-in-Write g c =
 pub piece_on-piece-requires-clause-touched : goal.piece_on-piece-requires-clause-touched
 piece_on-piece-requires-clause-touched g c =
     touched g (goal.at.piece_on-piece-requires-clause-touched g c).After-index-ops-nr
-    (ap is_compaction c.in-Write.is)
+    (ap is_maintenance c.in-Write.is)
 
 pub piece_on-requires-clause-request : goal.piece_on-requires-clause-request
 piece_on-requires-clause-request g c =
@@ -76,7 +76,7 @@ piece_on-requires-clause-request g c =
 pub piece_on-requires-clause-touched : goal.piece_on-requires-clause-touched
 piece_on-requires-clause-touched g c =
     touched g (goal.at.piece_on-requires-clause-touched g c).After-index-ops-nr
-    (ap is_compaction c.in-Read.is)
+    (ap is_maintenance c.in-Read.is)
 
 pub piece_on-requires-in-Discard-clause-request : goal.piece_on-requires-in-Discard-clause-request
 piece_on-requires-in-Discard-clause-request g c =
@@ -85,7 +85,7 @@ piece_on-requires-in-Discard-clause-request g c =
 pub piece_on-requires-in-Discard-clause-touched : goal.piece_on-requires-in-Discard-clause-touched
 piece_on-requires-in-Discard-clause-touched g c =
     touched g (goal.at.piece_on-requires-in-Discard-clause-touched g c).After-index-ops-nr
-    (ap is_compaction c.in-Discard.is)
+    (ap is_maintenance c.in-Discard.is)
 
 pub returns-in-Read : goal.returns-in-Read
 returns-in-Read g c =
@@ -94,7 +94,7 @@ returns-in-Read g c =
     (op_at g (goal.at.returns-in-Read g c).After-index-ops-nr) (call.Page c.read.result) _
     (ap call.Page (sym c.read.ensures))
     (begun_as c.args.size c.args.now _ c.index-ops-nr.result c.args.place.page c.args.fresh.now
-    work.Reads c.piece_on.result (ap is_compaction c.in-Read.is)
+    work.Reads c.piece_on.result (ap is_maintenance c.in-Read.is)
     (sym c.is_beyond.ensures ∙ c.if-is_beyond.false) refl
     c.piece_on.ensures.sectors.page_is c.piece_on.ensures.sectors.within
     (subst (Asks work.Reads c.piece_on.result c.args.fresh.now) (sym c.in-Read.is) tt))
@@ -106,15 +106,23 @@ returns-in-Discard g c =
     (op_at g (goal.at.returns-in-Discard g c).After-index-ops-nr) (call.Page c.discard.result) _
     (ap call.Page (sym c.discard.ensures))
     (begun_as c.args.size c.args.now _ c.index-ops-nr.result c.args.place.page c.args.fresh.now
-    work.Discards c.piece_on-in-Discard.result (ap is_compaction c.in-Discard.is)
+    work.Discards c.piece_on-in-Discard.result (ap is_maintenance c.in-Discard.is)
     (sym c.is_beyond.ensures ∙ c.if-is_beyond.false) refl
     c.piece_on-in-Discard.ensures.sectors.page_is c.piece_on-in-Discard.ensures.sectors.within
     (subst (Asks work.Discards c.piece_on-in-Discard.result c.args.fresh.now) (sym c.in-Discard.is) tt))
+
+pub returns-in-Idle : goal.returns-in-Idle
+returns-in-Idle g c =
+    begun_for c.args.size c.args.now (record { actor = c.args.actor; op = c.args.place.nr })
+    c.args.place.page c.args.fresh.now c.args.ops.now c.args.place.nr c.index-ops-nr.result
+    (op_at g (goal.at.returns-in-Idle g c).After-index-ops-nr) (call.Idle c.new.result) _ refl
+    (begun_idle c.args.size c.args.now _ c.index-ops-nr.result c.args.place.page c.args.fresh.now
+    c.new.result _ c.requires.some c.new.ensures c.in-Idle.is)
 
 pub returns-in-Compact : goal.returns-in-Compact
 returns-in-Compact g c =
     begun_for c.args.size c.args.now (record { actor = c.args.actor; op = c.args.place.nr })
     c.args.place.page c.args.fresh.now c.args.ops.now c.args.place.nr c.index-ops-nr.result
-    (op_at g (goal.at.returns-in-Compact g c).After-index-ops-nr) (call.Compact c.new.result) _ refl
+    (op_at g (goal.at.returns-in-Compact g c).After-index-ops-nr) (call.Compact c.new-in-Compact.result) _ refl
     (begun_compact c.args.size c.args.now _ c.index-ops-nr.result c.args.place.page c.args.fresh.now
-    c.new.result c.new.ensures (ap is_compaction c.in-Compact.is))
+    c.new-in-Compact.result c.new-in-Compact.ensures c.in-Compact.is)

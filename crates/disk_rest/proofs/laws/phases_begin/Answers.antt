@@ -10,9 +10,10 @@ returns-clause-start c r actors row w st up =
     starts r actors row w c.phases_go_on.ensures.next st up
 
 pub returns-clause-proper : goal.returns-clause-proper
-returns-clause-proper c r actors row st asks few short =
+returns-clause-proper c r actors row st asks some few short =
     c.disks_begin.ensures.proper (begin_at r actors) (are_requests actors asks) st.plain.sectors
-    st.plain.blanks (record {
+    st.plain.blanks st.plain.times (record {
+      some = some;
       least = st.plain.least;
       most = st.plain.most;
       few = few;

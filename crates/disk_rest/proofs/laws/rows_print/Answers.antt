@@ -1,3 +1,4 @@
+use Rattle.std.proofs.Common.{arith}
 use Rattle.disk_rest.proofs.Bare.{nothing_counted, none_on_device, no_states, no_classes}
 use Rattle.disk_rest.proofs.Reports.{prints, entry_tells, pool_tells, account_tells}
 use Rattle.disk_rest.proofs.laws.rows_print.Goals as goal
@@ -7,7 +8,8 @@ returns-clause-reports c r row q st = prints r row st q
 
 pub returns-clause-entries : goal.returns-clause-entries
 returns-clause-entries c r row p st lt =
-    let e = entry_tells r row st p lt in (e.entry, e.at, e.weight, e.touched)
+    let e = entry_tells r row st p lt in let time = st.plain.times p lt in
+    let touched = e.touched in (e.entry, e.at, e.weight, e.idle, touched, omega arith)
 
 pub returns-clause-pools : goal.returns-clause-pools
 returns-clause-pools c r row k st lt =

@@ -19,11 +19,12 @@ pub returns-clause-next : goal.returns-clause-next
 returns-clause-next c g h xs ys on m a = rest_goes_on g h on xs ys m a
 
 pub returns-clause-entry : goal.returns-clause-entry
-returns-clause-entry c r actors more set w j e f ok rule fin at kept order touched =
+returns-clause-entry c r actors more set w j e f ok rule fin at kept order under idle
+    touched =
     next_entry r actors (record { proper = ok; facts = c.lower_laws.ensures }) w rule fin set more j e
-    f at kept order touched
+    f at kept order under idle touched
 
 pub returns-clause-proper : goal.returns-clause-proper
-returns-clause-proper c r actors more set w ok rule fin requests room =
+returns-clause-proper c r actors more set w ok rule fin requests room later =
     next_proper r actors (record { proper = ok; facts = c.lower_laws.ensures }) w rule fin set more
-    requests room
+    requests room later

@@ -106,5 +106,5 @@ returns-clause-reserved o c =
     c.in-Some.value (at_home o b) c.try_take.new.self.row.now (taken_row o b)
     (holds.Slot c.reserve_order-reserved.new.self) c.row-2-1.given.0 (given_row o b))
     c.args.count c.entry_of-entry.result c.reserve_order-reserved.new.self
-    c.entry_of-entry.ensures refl n.kept n.touched order room)
+    c.entry_of-entry.ensures refl n.rest order room)
     n.emptied n.room

@@ -23,7 +23,10 @@ loop-page-preserved o c = let i = c.loop-page.invariant in record {
         c.loop-page-test.true,
         c.new.ensures.kept,
         c.new.ensures.order,
+        c.new.ensures.under,
+        c.new.ensures.idle,
         c.new.ensures.touched,
+        refl,
         refl,
         refl,
       ));

@@ -3,7 +3,7 @@ use Rattle.post_steps.specs.Turns.{Allows}
 use Rattle.actor_steps.specs.declared.call.Call.{Call}
 use Rattle.actor_steps.specs.declared.call.Call.TheVariants as call
 use Rattle.actor_steps.specs.Calls.{Does, local, next_event, Advanced}
-use Rattle.actor_steps.proofs.Calls.{page_allows, page_turn, compact_turn}
+use Rattle.actor_steps.proofs.Calls.{page_allows, page_turn, idle_turn, compact_turn}
 use Rattle.actor_steps.proofs.call.Call.advance.Goals as goal
 
 pub advance-requires-clause-allows : goal.advance-requires-clause-allows
@@ -12,6 +12,12 @@ advance-requires-clause-allows g c =
     page_allows c.in-Page.call r
     (subst (λ (d : Call _). Allows g.H.Hand.can_take g.H.Hand.takes g.H.Hand.can_give (Does d r) (local d r)
     (next_event d) c.args.hand.now) c.in-Page.is c.requires.allows)
+
+pub advance-requires-in-Idle-clause-allows : goal.advance-requires-in-Idle-clause-allows
+advance-requires-in-Idle-clause-allows g c =
+    let r = c.args.scratch.now in
+    subst (λ (d : Call _). Allows g.H.Hand.can_take g.H.Hand.takes g.H.Hand.can_give (Does d r) (local d r)
+    (next_event d) c.args.hand.now) c.in-Idle.is c.requires.allows
 
 pub advance-requires-in-Compact-clause-allows : goal.advance-requires-in-Compact-clause-allows
 advance-requires-in-Compact-clause-allows g c =
@@ -26,6 +32,15 @@ returns-in-Page-clause-turn g c =
     c.advance.result) (sym c.in-Page.is)
     (page_turn c.args.scratch.now c.advance.new.scratch c.advance.result c.in-Page.call
     c.advance.new.self c.advance.ensures.turn)
+
+pub returns-in-Idle-clause-turn : goal.returns-in-Idle-clause-turn
+returns-in-Idle-clause-turn g c =
+    let r = c.args.scratch.now in
+    subst (λ (d : Call _). Advanced g.H.Hand.takes g.H.Hand.misses g.H.Hand.gives d r c.args.hand.now
+    (call.Idle c.advance-in-Idle.new.self) r c.advance-in-Idle.new.hand
+    c.advance-in-Idle.result) (sym c.in-Idle.is)
+    (idle_turn r r c.advance-in-Idle.result g.row.D.Denot c.in-Idle.call c.advance-in-Idle.new.self
+    c.advance-in-Idle.ensures.turn)
 
 pub returns-in-Compact-clause-turn : goal.returns-in-Compact-clause-turn
 returns-in-Compact-clause-turn g c =

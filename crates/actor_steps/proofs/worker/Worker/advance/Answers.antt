@@ -27,6 +27,7 @@ go_on-requires-clause-begun g c =
 pub begun-requires : goal.begun-requires
 begun-requires g c =
     record {
+      some = c.requires.fit.some;
       requests = c.requires.fit.requests;
       few = c.requires.fit.few;
       more = leb-false (length c.args.ops.now) c.args.self.now.place.nr

@@ -46,7 +46,7 @@ advance-requires-clause-allows g c =
     let op = there_is ops w.place.nr c.requires.more in
     call_allows t ops (beside w) call fit op.0 op.1 g.H.Hand.can_take g.H.Hand.takes
     g.H.Hand.can_give c.args.hand.now c.calls_are_events.ensures.plan
-    c.compactions_are_events.ensures.plan
+    c.compactions_are_events.ensures.plan c.scans_are_events.ensures.plan
     (allows_with t ops w call c.in-Some.is g.H.Hand.can_take g.H.Hand.takes g.H.Hand.can_give
     c.args.hand.now c.requires.allows)
 

@@ -3,7 +3,7 @@ use Rattle.page_steps.specs.Steps.{Terms}
 use Rattle.zr_core.specs.declared.limits.TheConstants.{MOST_CHAIN}
 use Rattle.zr_core.proofs.Preparing.{on_err_any}
 use Rattle.zr_core.proofs.Noted.{are_counted}
-use Rattle.zr_core.proofs.Prepared.{keeps_same, keeps_values, still_rests, no_entry, set_up_on, prepared, may_go_on}
+use Rattle.zr_core.proofs.Prepared.{has_page, keeps_same, keeps_values, still_rests, no_entry, set_up_on, prepared, may_go_on}
 use Rattle.zr_core.proofs.Rests.{rests_on}
 use Rattle.zr_core.proofs.Spares.{device_same, blocks_same}
 use Rattle.zr_core.proofs.disk.World.prepare.Goals as goal
@@ -14,6 +14,10 @@ reserve_all-requires-clause-counted o c =
     are_counted c.args.self.now.pages c.in_ok-counts.counts _
     (c.deref-2.ensures.value ∙ c.in_ok-noted.ensures.keys) c.noted_pages.ensures.ordered
     c.in_ok-counts.ensures.only
+
+-- where there are actors the disk has a page
+pub new_workers-requires-clause-some : goal.new_workers-requires-clause-some
+new_workers-requires-clause-some o c = has_page c.args.self.now.pages c.args.actors.now c.requires.none
 
 -- ---- want of memory
 
@@ -93,7 +97,7 @@ returns-clause-start o c g rests =
     c.in_ok-workers.ensures c.in_ok-counts.ensures.counted c.in_ok-reserve_all.ensures.reserved
     (no_entry c.args.self.now.pages c.args.self.now.noted.items c.args.self.now.row.cells
     c.requires.rest)
-    g rests c.requires.work refl c.phases_go_on.ensures.next c.disks_begin.ensures.proper
+    g rests c.requires.work c.requires.time refl c.phases_go_on.ensures.next c.disks_begin.ensures.proper
 
 pub returns-clause-can : goal.returns-clause-can
 returns-clause-can o c =
@@ -104,7 +108,8 @@ returns-clause-can o c =
     c.in_ok-workers.ensures c.in_ok-counts.ensures.counted c.in_ok-reserve_all.ensures.reserved
     (no_entry c.args.self.now.pages c.args.self.now.noted.items c.args.self.now.row.cells
     c.requires.rest)
-    c.args.self.now.noted.items c.requires.rest c.requires.none c.requires.work refl
+    c.args.self.now.noted.items c.requires.rest c.requires.none c.requires.work
+    c.requires.time refl
     (are_counted c.args.self.now.pages c.in_ok-counts.counts c.in_ok-noted.noted.items
     c.in_ok-noted.ensures.keys c.noted_pages.ensures.ordered c.in_ok-counts.ensures.only)
     c.rule_keeps.ensures.start c.phases_go_on.ensures.next c.disks_begin.ensures.proper

@@ -25,7 +25,8 @@ loop-actor-preserved o c =
           (playing c.step-turn.new.self c.step-turn.new.phase c.args.actors.now) t.same
           c.loop-actor.actor
           c.step-turn.result
-          (can_few c.values_fit.ensures.compacted
+          (can_few c.values_fit.ensures.compacted c.locks_are_of_the_disk.ensures.takes
+          c.locks_are_of_the_disk.ensures.gives
           (playing c.loop-actor.self c.loop-actor.phase c.args.actors.now) i.plays.can)
           (i.falls dones kept) t.turn;
     }

@@ -1,5 +1,5 @@
 use Rattle.std.proofs.Common.{refl, arith}
-use Rattle.zr_core.proofs.Telling.{account_home, no_account, put_as, put_rests}
+use Rattle.zr_core.proofs.Telling.{account_home, no_account, put_back, put_as, put_rests}
 use Rattle.zr_core.proofs.disk.World.set_limit.Goals as goal
 
 -- a disk without pages
@@ -19,6 +19,15 @@ pub put_account-requires-clause-home : goal.put_account-requires-clause-home
 put_account-requires-clause-home o c =
     account_home c.args.self.now.pages c.args.self.now.noted.items c.args.self.now.row.cells
     c.requires.rest (let b = c.if-self-eq0.false in omega arith)
+
+pub returns-clause-cells : goal.returns-clause-cells
+returns-clause-cells o c counters at =
+    put_back
+    c.args.self.now.pages c.args.self.now.noted.items c.args.self.now.row.cells c.requires.rest
+    (let b = c.if-self-eq0.false in omega arith) (λ d. record d { limit = c.args.pages }) (λ d. refl)
+    (λ d le. le) c.phases_go_on.ensures.next c.args.self.now.limit
+    c.account-account.result c.set_limit.new.self c.put_account.new.row.cells
+    c.account-account.ensures c.set_limit.ensures.limit c.put_account.ensures.cells counters at
 
 pub returns-clause-rest : goal.returns-clause-rest
 returns-clause-rest o c =

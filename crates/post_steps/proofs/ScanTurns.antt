@@ -1,0 +1,86 @@
+-- Turns of a call that marks pages from what its hand did.
+use Rattle.std.proofs.Common.{◌≡◌, refl, ap, ◌∙◌, sym, subst}
+use Rattle.zr_base.specs.declared.op.Op.{Op}
+use Rattle.zr_base.specs.Plain.{is_beyond, is_maintenance}
+use Rattle.lock_row.specs.declared.names.LockNo.{LockNo}
+use Rattle.lock_row.specs.declared.names.Plan.TheVariants.{Take, Give}
+use Rattle.page_steps.specs.Steps.{DiskHeld, Here, start_plan, plan, took}
+use Rattle.page_steps.specs.Givings.{Works}
+use Rattle.page_steps.specs.Nexts.{Next}
+use Rattle.page_steps.specs.Calls.{Frame}
+use Rattle.page_steps.specs.Turns.{HasMoved, waited, took_it, gave_it}
+use Rattle.page_steps.specs.declared.stage.Progress.{Progress}
+use Rattle.page_steps.specs.declared.stage.Progress.TheVariants as progress
+use Rattle.post_steps.specs.Turns.{TakesAs, GivesAs, after}
+use Rattle.post_steps.specs.Idle.{here, next_event, IsWork, IsFit, IsGoing, IsOnward, IsReady, HasAdvanced}
+use Rattle.post_steps.specs.declared.idle.IdleHead.{IdleHead}
+use Rattle.post_steps.specs.declared.idle.IdleStage.{IdleStage}
+use Rattle.post_steps.specs.declared.idle.IdleStage.TheVariants as stage
+
+-- what the call does next is what its actor's plan says
+pub plan_is : (c : IdleHead) (x : Frame) (s : IdleStage) → IsGoing s → IsWork c x
+    → plan x.terms (here x s) ≡ next_event s
+plan_is c x stage.Start on w = ap (λ (op : Op).
+    start_plan (is_maintenance op) (is_beyond x.terms.size x.part.op) (record x.part { op = op })) w.op
+plan_is c x (stage.Scanning y) on w = refl
+plan_is c x (stage.Marking y e) on w = refl
+plan_is c x stage.Over on w = absurd on
+
+module _ {X : Type 0} {can_take : X → LockNo → Next → Type 0}
+    {takes : X → LockNo → Next → DiskHeld → X → Type 0} {misses : X → LockNo → X → Type 0}
+    {can_give : X → LockNo → Next → DiskHeld → Type 0}
+    {gives : X → LockNo → Next → DiskHeld → X → Type 0}
+    {c : IdleHead} {s : IdleStage} {h g : X} {k : LockNo} where
+  -- its next lock was held
+  pub waits : IsReady can_take takes can_give c s h → IsGoing s → next_event s ≡ Take k
+      → misses h k g → HasAdvanced takes misses gives c s h s g (progress.Waits k)
+  waits ready on what miss = record {
+    fit = ready.fit;
+    turn = λ x w. waited k (plan_is c x s on w ∙ what) miss refl refl;
+    onward = on;
+  }
+
+  -- it took its next lock
+  pub takes_it : {f : Next} {v : DiskHeld} {s' : IdleStage}
+      → IsReady can_take takes can_give c s h → IsGoing s → next_event s ≡ Take k
+      → TakesAs (IsWork c) (λ x. here x s) f → takes h k f v g → IsFit c s' → IsGoing s'
+      → ((x : Frame) → IsWork c x → here x s' ≡ took x.terms (here x s) v)
+      → HasAdvanced takes misses gives c s h s' g progress.Moved
+  takes_it {f} {v} {s'} ready on what so take fit on' is = record {
+    fit = fit;
+    turn = λ x w. took_it k f v (plan_is c x s on w ∙ what) take (so x v w) (is x w) refl;
+    onward = on';
+  }
+
+  -- it gave a lock back
+  pub gives_it : (f : Next) {v : DiskHeld} {s' : IdleStage} {p : Progress}
+      → IsReady can_take takes can_give c s h → IsGoing s → next_event s ≡ Give k
+      → GivesAs (IsWork c) (λ x. here x s) f v → gives h k f v g → IsFit c s'
+      → IsOnward p s' → ((x : Frame) → HasMoved p (here x s))
+      → ((x : Frame) → IsWork c x → f (here x s) v ≡ after (here x s) (here x s') p)
+      → HasAdvanced takes misses gives c s h s' g p
+  gives_it f {v} {s'} {p} ready on what so give fit on' moved is = record {
+    fit = fit;
+    turn = λ x w. gave_it k f v (plan_is c x s on w ∙ what) give (is x w)
+        (subst (λ (m : Here). Works x.terms (here x s) v m) (is x w) (so x w)) (moved x);
+    onward = on';
+  }
+
+-- the same turn where the stage before is told otherwise
+pub from_stage : {X : Type 0} {takes : X → LockNo → Next → DiskHeld → X → Type 0}
+    {misses : X → LockNo → X → Type 0} {gives : X → LockNo → Next → DiskHeld → X → Type 0}
+    {c : IdleHead} {s s' s'' : IdleStage} {h g : X} {p : Progress} → s ≡ s''
+    → HasAdvanced takes misses gives c s h s' g p
+    → HasAdvanced takes misses gives c s'' h s' g p
+from_stage {takes} {misses} {gives} {c} {s} {s'} {s''} {h} {g} {p} is adv =
+    subst (λ (y : IdleStage). HasAdvanced takes misses gives c y h s' g p) is adv
+
+-- the same turn where what follows is told otherwise
+pub told_so : {X : Type 0} {takes : X → LockNo → Next → DiskHeld → X → Type 0}
+    {misses : X → LockNo → X → Type 0} {gives : X → LockNo → Next → DiskHeld → X → Type 0}
+    {c : IdleHead} {s s' s'' : IdleStage} {h g : X} {p p' : Progress} → s'' ≡ s' → p' ≡ p
+    → HasAdvanced takes misses gives c s h s' g p
+    → HasAdvanced takes misses gives c s h s'' g p'
+told_so {takes} {misses} {gives} {c} {s} {s'} {s''} {h} {g} {p} {p'} is done adv =
+    subst (λ (y : IdleStage). HasAdvanced takes misses gives c s h y g p') (sym is)
+    (subst (λ (t : Progress). HasAdvanced takes misses gives c s h s' g t) (sym done) adv)
