@@ -24,7 +24,7 @@ use Rattle.disk_rest.proofs.Forms.{back_still, mark_still}
 use Rattle.disk_rest.proofs.Places.{value_is}
 use Rattle.disk_rest.proofs.Tight.{no_pool_loose}
 use Rattle.disk_rest.proofs.Matches.{matched, value_there, was_at, was_slot, emptied_long, emptied_at}
-use Rattle.disk_rest.proofs.Reports.{pool_tells, account_tells}
+use Rattle.disk_rest.proofs.Reports.{entry_tells, pool_tells, account_tells}
 
 -- the rest at another limit, another time and another greatest number of frames
 abbrev changed : Rest → ℕ → ℕ → ℕ → Rest
@@ -179,10 +179,22 @@ module _ (r : Rest) (actors : List (List Op)) (row : Row) (w : State DiskHeld)
       let u = up.row.each (r.size + 257) _ st.device in
       let a = u.1 in let b = u.2 in cc
 
+  -- marks are kept
+  marks_are : (k : ℕ) (e : EntryState) → slice_get w.row k ≡ Some (Some (holds.Slot e))
+      → e.idle ≡ r.idle k
+  marks_are k e at =
+      let old = entry_tells r row st k (next_rest.home k (holds.Slot e) at).sound.page in
+      let u = up.row.each k (holds.Slot old.entry) old.at in
+      let q : Some (Some (holds.Slot e)) ≡ Some (Some (holds.Slot u.2.0)) =
+      sym at ∙ u.1 ∙ ap (λ (v : DiskHeld). Some (Some v)) u.2.1 in
+      let same : e ≡ u.2.0 = cc in
+      ap (λ (x : EntryState). x.idle) (same ∙ u.2.2) ∙ old.idle
+
   pub starts : IsStart (begin_at r actors) w
   starts = record {
     rest = next_rest;
     orders = up.orders;
+    marks = marks_are;
     account = account_is;
     device = device_is;
     actors = up.starts;

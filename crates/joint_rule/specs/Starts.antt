@@ -60,8 +60,8 @@ pub record Starts (g : Begin) (a : ℕ) (l : Here) : Type 0 where
   pub page : l.page ≡ None
   pub fail : l.fail ≡ None
 
--- The state before the first turn: orders are empty, with room for the phase's pieces, and marks, the
--- account and the device are as the phase finds them.
+-- The state before the first turn: orders are empty, with room for the phase's pieces, and the marks,
+-- the account and the device are as the phase finds them.
 pub record IsStart (g : Begin) (w : State DiskHeld) : Type 0 where
   pub rest : AtRest g w.row
   pub orders : (k : ℕ) (e : EntryState) → slice_get w.row k ≡ Some (Some (holds.Slot e))

@@ -340,6 +340,14 @@ module _ (g : Begin) (pages : ℕ) (cells : Row) (rests : RestsAs g pages cells)
         ∙ ap (slice_get w.row) e
         ∙ u.1 ∙ ap (λ (x : DiskHeld). Some (Some x)) u.2 in cc
 
+    -- and the marks
+    marks_are : (k : ℕ) (e : EntryState) → slice_get w.row k ≡ Some (Some (holds.Slot e))
+        → e.idle ≡ g.idle k
+    marks_are k e at = sym (mark_still g k (record e { order = []; room = 0 }) refl
+        (ap is_marked_in rests.none)
+        ((rests_on w.row up.row).row.home k (without_calls (holds.Slot e))
+        (emptied_at w.row k (Some (holds.Slot e)) at)).sound.mark)
+
     pub begins : IsStart new w
     begins = record {
       rest = begins_rest;
@@ -348,6 +356,7 @@ module _ (g : Begin) (pages : ℕ) (cells : Row) (rests : RestsAs g pages cells)
         o.0,
         subst (λ (n : ℕ). owed n w.locals k ≤ e.room) (sym rests.size) o.1,
       );
+      marks = marks_are;
       account = account_is;
       device = device_is;
       actors = λ a l at. let b = up.begin a l at in record {
