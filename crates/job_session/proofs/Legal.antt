@@ -289,6 +289,7 @@ module _ (laws : Laws) where
         let both = phase_on r actors d.row laws.starts laws.reached laws.begin laws.prints laws.leaves
         (laws.proper r actors d.row has.stands
         (λ a ops k op is. requests_each u actors may a ops is k op)
+        (λ acts. omega (arith, s.size, has.some))
         (omega (arith, s.size, s.most, few))
         (few_operations actors (work_by u actors few may)))
         turns lines m.row has.stands (has_some_each u actors may)

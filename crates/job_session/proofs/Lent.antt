@@ -64,7 +64,7 @@ job_refs (item ∷ job) r lines last is =
 -- ---- jobs that were told
 
 -- the disk of a new world
-bare_disk : (d : Disk) → d.size ≡ 0 → d.limit ≡ 0 → d.clock ≡ 0 → d.row ≡ [] → d.blocks ≡ no_blocks
+pub bare_disk : (d : Disk) → d.size ≡ 0 → d.limit ≡ 0 → d.clock ≡ 0 → d.row ≡ [] → d.blocks ≡ no_blocks
     → d ≡ without_pages d.device
 bare_disk d size limit clock row blocks = λ i. record {
   size = size i;

@@ -1,6 +1,6 @@
 -- No page was touched after the time that is set, where the disk stands for a rest; and it stands for
 -- one after each item.
-use Rattle.std.proofs.Common.{◌≡◌, ◌⊎◌, ℕ, ◌<◌, ◌≤◌, false, List, [], ◌∷◌, Option, Some, slice_get, sym, ap, ◌∙◌, inl, inr, arith, Ok}
+use Rattle.std.proofs.Common.{◌≡◌, ◌⊎◌, ℕ, ◌<◌, ◌≤◌, false, List, [], ◌∷◌, Option, Some, slice_get, sym, ap, ◌∙◌, subst, inl, inr, arith, Ok}
 use Rattle.std.specs.Option.{option_map}
 use Rattle.std.proofs.lemmas.Option.{slice_get-map}
 use Rattle.plain_disk.specs.Output.{OutLine}
@@ -10,7 +10,7 @@ use Rattle.page_steps.specs.Steps.{DiskHeld}
 use Rattle.slot_entry.specs.Entries.{EntryState}
 use Rattle.disk_rest.specs.Rows.{cell_without_calls}
 use Rattle.disk_rest.specs.Resting.{StandsFor}
-use Rattle.zr_core.specs.Rests.{IsTime}
+use Rattle.zr_core.specs.Rests.{no_blocks, IsTime}
 use Rattle.job_text.specs.declared.job.Item.{Item}
 use Rattle.job_text.specs.Jobs.{Used, MayFollow}
 use Rattle.job_session.specs.Legal.{Legal}
@@ -19,6 +19,9 @@ use Rattle.job_session.specs.Stepped.{Disk, Stepped}
 use Rattle.job_session.specs.Telling.{OutputState, MayStand, StandsForSome, ItemsTold}
 use Rattle.job_session.proofs.Jobs.{all_stepped}
 use Rattle.job_session.proofs.Lawful.{no_item}
+use Rattle.job_session.proofs.Legal.{first_rest}
+use Rattle.job_session.proofs.Lent.{bare_disk}
+use Rattle.job_session.proofs.Written.{first_stands}
 
 -- ---- the time
 
@@ -57,3 +60,14 @@ stands_on legal d m item o p may some told =
     let all = legal may.used some.0 d (item ∷ []) told.turns told.lines m may.may may.sized may.timed
     some.1 (all_stepped (item ∷ []) d m o p told) in
     (all.0, all.2)
+
+-- ---- before the first item
+
+-- the disk of a new world stands for the first rest
+pub first_some : (d : Disk) → d.size ≡ 0 → d.limit ≡ 0 → d.clock ≡ 0 → d.row ≡ []
+    → d.blocks ≡ no_blocks → StandsForSome d
+first_some d size limit clock row blocks = (
+  first_rest d.device,
+  subst (Stands (first_rest d.device)) (sym (bare_disk d size limit clock row blocks))
+      (first_stands d.device),
+)

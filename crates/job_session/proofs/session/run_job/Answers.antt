@@ -3,7 +3,13 @@ use Rattle.backing_dev.specs.Dev.{DeviceState}
 use Rattle.job_session.specs.Runs.{IsUncounted}
 use Rattle.job_session.specs.Stepped.{disk_of}
 use Rattle.job_session.proofs.Lent.{lent_back, told_over}
+use Rattle.job_session.proofs.Times.{first_some}
 use Rattle.job_session.proofs.session.run_job.Goals as goal
+
+pub run_items-run-requires-clause-stands : goal.run_items-run-requires-clause-stands
+run_items-run-requires-clause-stands g c =
+    let new = c.new-world.ensures in
+    first_some (disk_of 0 c.new-world.result) new.pages new.limit refl new.cells new.blocks
 
 pub returns-clause-told : goal.returns-clause-told
 returns-clause-told g c =
