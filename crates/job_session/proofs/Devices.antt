@@ -1,5 +1,5 @@
 -- What becomes of the device of a world, and of the map of its blocks.
-use Rattle.std.proofs.Common.{◌≡◌, ◌≢◌, ◌⊎◌, ℕ, ◌+◌, ◌<◌, ◌≤◌, zero, suc, true, false, List, [], get_or, is_some, Option, Some, None, slice_get, slice_set, get_or-set_other, refl, sym, ap, ◌∙◌, subst, inl, inr, arith}
+use Rattle.std.proofs.Common.{◌≡◌, ◌⊎◌, ℕ, ◌+◌, ◌≤◌, zero, suc, true, false, List, Option, Some, None, slice_get, slice_set, get_or-set_other, refl, sym, ap, ◌∙◌, subst, inl, inr, arith}
 use Rattle.std.proofs.lemmas.Bool.{eqb-true}
 use Rattle.std.proofs.lemmas.Option.{get_or_from_slice_get}
 use Rattle.mem_account.specs.Counters.{Counters}
@@ -9,7 +9,7 @@ use Rattle.lock_row.specs.declared.names.Held.TheVariants as holds
 use Rattle.page_steps.specs.Steps.{DiskHeld}
 use Rattle.joint_rule.specs.Begins.{Begin}
 use Rattle.joint_rule.specs.Starts.{IsNew}
-use Rattle.joint_rule.specs.Ends.{value_at, device_in, device_of}
+use Rattle.joint_rule.specs.Ends.{device_in, device_of}
 use Rattle.zr_core.specs.declared.spare.Spare.{Spare}
 use Rattle.zr_core.specs.Rests.{no_device, blocks_in, IsEarly, device_by, blocks_by, IsBare, RestsAs, new_disk}
 use Rattle.zr_core.specs.Rows.{AreNew}

@@ -1,6 +1,6 @@
 -- No page was touched after the time that is set, where the disk stands for a rest; and it stands for
 -- one after each item.
-use Rattle.std.proofs.Common.{◌≡◌, ◌⊎◌, ℕ, ◌<◌, ◌≤◌, false, List, [], ◌∷◌, Option, Some, slice_get, sym, ap, ◌∙◌, subst, inl, inr, arith, Ok}
+use Rattle.std.proofs.Common.{◌≡◌, ◌⊎◌, ℕ, ◌≤◌, false, List, [], ◌∷◌, Option, Some, slice_get, sym, ap, ◌∙◌, subst, inl, inr, arith, Ok}
 use Rattle.std.specs.Option.{option_map}
 use Rattle.std.proofs.lemmas.Option.{slice_get-map}
 use Rattle.plain_disk.specs.Output.{OutLine}

@@ -1,4 +1,4 @@
-use Rattle.std.proofs.Common.{◌≡◌, List, [], ap, sym, ◌∙◌, refl, rules, subst}
+use Rattle.std.proofs.Common.{ap, sym, ◌∙◌, refl, rules, subst}
 use Rattle.backing_dev.specs.Dev.{DeviceState}
 use Rattle.job_session.specs.Runs.{IsUncounted}
 use Rattle.job_session.specs.Stepped.{disk_of}
