@@ -3,7 +3,7 @@ use Rattle.std.specs.Prelude.{◌≡◌, ℕ, ◌+◌, ◌-◌, ◌*◌, ◌^◌
 use Rattle.std.specs.List.{AllByRecursion}
 use Rattle.zr_base.specs.declared.op.Tag.{Tag}
 use Rattle.zr_base.specs.declared.op.Op.{Op}
-use Rattle.zr_base.specs.Plain.{Finds, named, has_event, sector_after, zero_sector, IsRequest}
+use Rattle.zr_base.specs.Plain.{Finds, named, has_event, sector_after, zero_sector, IsSector, IsRequest}
 use Rattle.mem_account.specs.Counters.{Counters}
 use Rattle.backing_dev.specs.Dev.{DeviceState, IsHonestDevice}
 use Rattle.plain_disk.specs.Forms.{page_bytes}
@@ -124,10 +124,6 @@ pub record IsRoomy (g : Begin) : Type 0 where
   pub most : g.chain ≤ 16
   pub few : g.given.size + length g.given.actors < 2 ^ 32 - 1
   pub pieces : (p : ℕ) → p < g.given.size → pieces_each g.given.size g.given.actors p < 2 ^ 32
-
--- 512 bytes
-abbrev pub IsSector : List ℕ → Type 0
-IsSector s = (length s ≡ 512) × All (λ b. b < 256) s
 
 -- Calls find sectors, and over an honest device what sectors hold.
 pub record FindsRight (g : Begin) : Type 0 where

@@ -1,7 +1,7 @@
 -- What the rule of pages, pools and the account gives: statements that the laws claim.
 use Rattle.std.specs.Prelude.{◌≡◌, ℕ, ◌+◌, ◌*◌, ◌<◌, ◌≤◌, true, List, [], ◌∷◌, length, Option, Some, None, slice_get, ⊤}
 use Rattle.zr_base.specs.declared.op.Op.{Op}
-use Rattle.zr_base.specs.Plain.{zero_sector}
+use Rattle.zr_base.specs.Plain.{zero_sector, IsSector}
 use Rattle.mem_account.specs.Counters.{no_counts}
 use Rattle.backing_dev.specs.Dev.{DeviceState}
 use Rattle.plain_disk.specs.Rests.{Settings, Rest, stats}
@@ -26,7 +26,7 @@ use Rattle.slot_entry.specs.Forms.{page_weight}
 use Rattle.page_steps.specs.Steps.{DiskHeld, Here, spot, plan, took}
 use Rattle.page_steps.specs.Givings.{Works}
 use Rattle.page_steps.specs.Fits.{StageFits}
-use Rattle.joint_rule.specs.Begins.{Begin, finding, FindsRight, terms, ground_of, AreRequests, IsSector, IsRoomy, Proper}
+use Rattle.joint_rule.specs.Begins.{Begin, finding, FindsRight, terms, ground_of, AreRequests, IsRoomy, Proper}
 use Rattle.joint_rule.specs.Weights.{none, stored, each_one}
 use Rattle.joint_rule.specs.Rule.{Rule}
 use Rattle.joint_rule.specs.Starts.{AtRest, IsStart, IsRenewed, Renewed, Matched, IsNextDisk, IsNew}

@@ -5,7 +5,7 @@ use Rattle.std.specs.List.{range_with_len}
 use Rattle.zr_base.specs.declared.op.Tag.{Tag}
 use Rattle.zr_base.specs.declared.op.Op.{Op}
 use Rattle.zr_base.specs.declared.op.OpEnd.{OpEnd}
-use Rattle.zr_base.specs.Plain.{Finds, PageCalls, content, order_before, IsOrder}
+use Rattle.zr_base.specs.Plain.{Finds, IsSector, PageCalls, content, order_before, IsOrder}
 use Rattle.mem_account.specs.declared.weight.Weight.{Weight}
 use Rattle.mem_account.specs.Counters.{at_most_end}
 use Rattle.backing_dev.specs.Dev.{DeviceState, IsHonestDevice}
@@ -69,10 +69,12 @@ begun r actors finds =
 abbrev pub back_after : Rest → List (List Op) → ℕ → List Tag → Bool
 back_after r actors p order = r.back p && leave_page actors order
 
--- What calls find is what sectors hold, over an honest device; and over any other, where their page
--- isn't on it.
+-- Calls find sectors: what is held, over an honest device; and over any other, where their page isn't
+-- on it.
 pub record FindsHeld (r : Rest) (actors : List (List Op)) (orders : List (List Tag))
     (finds : ℕ → Finds) : Type 0 where
+  pub sectors : (p : ℕ) (tag : Tag) (s : ℕ) (old : List ℕ) → IsSector old
+      → IsSector (finds p tag s old)
   pub honest : IsHonestDevice r.device → (p : ℕ) (tag : Tag) (s : ℕ) (old : List ℕ)
       → finds p tag s old ≡ old
   pub pooled : (p at : ℕ) (tag : Tag) → p < r.size

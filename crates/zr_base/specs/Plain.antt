@@ -1,6 +1,6 @@
 -- What a job's calls do to a plain disk: a list of sectors, and for each page the order of the
 -- calls on it.
-use Rattle.std.specs.Prelude.{◌≡◌, ℕ, ◌+◌, ◌-◌, ◌*◌, ◌<◌, ◌≤◌, ◌^◌, ◌/◌, ◌%◌, Bool, true, false, ◌&&◌, nat_lt, nat_le, ◌==◌, List, [], ◌∷◌, length, take, drop, get_or, replicate, count_by, Option, Some, None, option_and_then, slice_get, if◌then◌else◌}
+use Rattle.std.specs.Prelude.{◌≡◌, ℕ, ◌+◌, ◌-◌, ◌*◌, ◌<◌, ◌≤◌, ◌^◌, ◌/◌, ◌%◌, Bool, true, false, ◌&&◌, nat_lt, nat_le, ◌==◌, List, [], ◌∷◌, length, All, take, drop, get_or, replicate, count_by, Option, Some, None, option_and_then, slice_get, if◌then◌else◌}
 use Rattle.std.specs.List.{flat_map, range_with_len, AllByRecursion}
 use Rattle.std.specs.Int.{w64, to_le_bytes}
 use Rattle.zr_base.specs.declared.limits.TheConstants.{MOST_SECTORS}
@@ -35,6 +35,10 @@ abbrev pub HasBytes : Stuff → Type 0
 HasBytes (Fill word) = Unit {0}
 HasBytes (Seq base step) = Unit {0}
 HasBytes (Hex bytes) = (k : ℕ) → get_or bytes k 0 < 256
+
+-- 512 bytes
+abbrev pub IsSector : List ℕ → Type 0
+IsSector s = (length s ≡ 512) × All (λ b. b < 256) s
 
 -- a sector of zeros
 unfoldable pub zero_sector : List ℕ

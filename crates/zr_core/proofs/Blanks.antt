@@ -5,11 +5,11 @@ use Rattle.std.specs.Prelude.{option_and_then}
 use Rattle.zr_base.specs.declared.op.Tag.{Tag}
 use Rattle.zr_base.specs.declared.op.Op.{Op}
 use Rattle.zr_base.specs.declared.op.Op.TheVariants.{Write, Read, Discard, Idle, Compact}
-use Rattle.zr_base.specs.Plain.{content, named, has_whole, sector_after_named, zero_sector, IsRequest}
+use Rattle.zr_base.specs.Plain.{content, named, has_whole, sector_after_named, zero_sector, IsRequest, IsSector}
 use Rattle.plain_disk.specs.Calls.{Found, after, after_all, blank_by}
 use Rattle.plain_disk.specs.Phases.{held_after}
 use Rattle.actor_steps.specs.Places.{IsWork}
-use Rattle.joint_rule.specs.Begins.{Begin, found, found_after, HasEvent, AreCarried, AreRequests, IsSector, Proper, pieces_each}
+use Rattle.joint_rule.specs.Begins.{Begin, found, found_after, HasEvent, AreCarried, AreRequests, Proper, pieces_each}
 use Rattle.joint_rule.specs.Laws.{RequestsAreProper}
 
 -- a call that is carried out leaves zeros where it leaves the page blank

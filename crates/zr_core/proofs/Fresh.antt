@@ -5,7 +5,7 @@ use Rattle.std.proofs.lemmas.List.{length-append, length_push, get_or-replicate,
 use Rattle.std.proofs.lemmas.List.FromFn.{map-range_with_len_more}
 use Rattle.std.proofs.lemmas.Option.{slice_get_within, get_or_from_slice_get}
 use Rattle.zr_base.specs.declared.limits.TheConstants.{MOST_PAGES}
-use Rattle.zr_base.specs.Plain.{zero_sector}
+use Rattle.zr_base.specs.Plain.{zero_sector, IsSector}
 use Rattle.mem_account.specs.Counters.{Counters, no_counts}
 use Rattle.block_map.specs.BlockMap.{BlockMap}
 use Rattle.backing_dev.specs.Dev.{DeviceState}
@@ -13,7 +13,7 @@ use Rattle.lock_row.specs.declared.names.LockNo.{LockNo}
 use Rattle.lock_row.specs.declared.names.LockNo.TheVariants as lock
 use Rattle.lock_row.specs.declared.names.Held.TheVariants as holds
 use Rattle.page_steps.specs.Steps.{DiskHeld, slot}
-use Rattle.joint_rule.specs.Begins.{Begin, IsSector, Proper}
+use Rattle.joint_rule.specs.Begins.{Begin, Proper}
 use Rattle.joint_rule.specs.Laws.{NewIsAtRest, RequestsAreProper}
 use Rattle.joint_rule.specs.Starts.{AreFree, IsNew}
 use Rattle.zr_core.specs.Machines.{order_in, without_calls, without_orders}
