@@ -8,11 +8,11 @@ use Rattle.plain_disk.specs.Calls.{kept_as}
 use Rattle.plain_disk.specs.Idles.{is_marked_in}
 use Rattle.slot_entry.specs.declared.kept.Kept.{Kept}
 use Rattle.slot_entry.specs.declared.kept.Kept.TheVariants as kept
-use Rattle.slot_entry.specs.Entries.{EntryState, weight_of}
+use Rattle.slot_entry.specs.Entries.{EntryState, weight_of, is_wb}
 use Rattle.slot_entry.specs.Forms.{PageForm, Blank, Word, Pooled, form_of, form_weight, page_weight}
 use Rattle.joint_rule.specs.Begins.{Begin, content, form_by, form_at, found_after}
 use Rattle.joint_rule.specs.Joint.{MarkFits}
-use Rattle.joint_rule.specs.Stages.{IsForm, is_wb}
+use Rattle.joint_rule.specs.Stages.{IsForm}
 
 -- the account counts a kept form as the form, where its page isn't on the device
 weight_same : (chain : ℕ) (f : PageForm) (k : Kept) → IsForm chain f k → is_wb k ≡ false

@@ -12,7 +12,7 @@ use Rattle.joint_rule.proofs.Sums.{get_set, gone}
 use Rattle.joint_rule.specs.Alone.{Ages, CountsSo, IsAged, aged_at, aged_done, aged_in, aged_now, scanned_by}
 use Rattle.joint_rule.specs.Begins.{Begin, back_at, form_at, found, found_after, terms}
 use Rattle.joint_rule.specs.Joint.{Joint}
-use Rattle.joint_rule.specs.Stages.{IsForm, Scans, is_wb}
+use Rattle.joint_rule.specs.Stages.{IsForm, Scans}
 use Rattle.joint_rule.specs.Weights.{HeldAll}
 use Rattle.lock_row.specs.declared.names.At.{At}
 use Rattle.lock_row.specs.declared.names.At.TheVariants.{Away, Backed, Both, Counting, Failing, Fetching, Freeing, Giving, Inside, Leaving, Made, Marking, Missed, Moving, Old, Owing, Pinned, Pinning, Ready, Refusing, Releasing, Scanning, Seen, Shrinking, Shrunk, Start, Sweeping, Unpinning, Wanting}
@@ -29,7 +29,7 @@ use Rattle.page_steps.specs.Steps.{DiskHeld, Here, after_take, begun_at, discard
 use Rattle.plain_disk.specs.Calls.{after, leave_page, leaves_page}
 use Rattle.plain_disk.specs.Forms.{is_pooled}
 use Rattle.plain_disk.specs.Idles.{Aged, IsMarked, accessed, may_mark as may_mark_page, new_mark, passed}
-use Rattle.slot_entry.specs.Entries.{EntryState, is_new_mark, is_obj, marked, may_mark}
+use Rattle.slot_entry.specs.Entries.{EntryState, is_new_mark, is_obj, marked, may_mark, is_wb}
 use Rattle.slot_entry.specs.Forms.{Blank, PageForm, Pooled, Word, form_weight, page_weight}
 use Rattle.slot_entry.specs.declared.kept.Kept.{Kept}
 use Rattle.std.proofs.lemmas.Bool.{and_right, cases_lt, eq-eqb, le-ltb, lt-ltb, ne_eqb}

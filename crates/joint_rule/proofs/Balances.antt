@@ -5,7 +5,7 @@ use Rattle.class_pool.specs.Pool.{PoolState, used_cells}
 use Rattle.joint_rule.proofs.Events.{BackBy}
 use Rattle.joint_rule.proofs.Pools.{Alike, Allocates, GivesUp, Shifts, Swaps, fits_swap}
 use Rattle.joint_rule.specs.Joint.{PoolFits}
-use Rattle.joint_rule.specs.Stages.{Bears, IsForm, NoneOf, is_wb}
+use Rattle.joint_rule.specs.Stages.{Bears, IsForm, NoneOf}
 use Rattle.joint_rule.specs.Weights.{Backs, Count, FailedReads, FailedWrites, Fixed, Huges, Limit, OutOfRange, PackedBytes, Packs, PinWeigh, Refusal, Sames, Weigh, cell_weight, claim_by, counter, fixed_count, measure, object_weight, out_weight, pin_in, refusal_count}
 use Rattle.lock_row.specs.Totals.{by_option}
 use Rattle.lock_row.specs.declared.names.Object.{Object}
@@ -14,7 +14,7 @@ use Rattle.mem_account.specs.Counters.{Counters, charged, counted, with_one, wit
 use Rattle.mem_account.specs.declared.weight.Weight.{Weight}
 use Rattle.page_steps.specs.Compactions.{repaid}
 use Rattle.page_steps.specs.Givings.{fails_by, kept_by, settled, tells}
-use Rattle.slot_entry.specs.Entries.{weight_of}
+use Rattle.slot_entry.specs.Entries.{weight_of, is_wb}
 use Rattle.slot_entry.specs.Forms.{Blank, PageForm, Pooled, Word, bytes_in, form_weight}
 use Rattle.zr_base.specs.declared.op.Op.{Op}
 use Rattle.zr_base.specs.declared.op.Op.TheVariants.{Compact, Discard, Idle, Read, Write}

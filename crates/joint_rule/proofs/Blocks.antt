@@ -12,14 +12,13 @@ use Rattle.joint_rule.proofs.Pools.{bit, list_self, pick, same_is, same_lists, s
 use Rattle.joint_rule.proofs.Sums.{Under, locals_le, total_mono}
 use Rattle.joint_rule.specs.Begins.{Begin, content}
 use Rattle.joint_rule.specs.Joint.{Joint, Sound}
-use Rattle.joint_rule.specs.Stages.{is_wb}
 use Rattle.joint_rule.specs.Weights.{BlockWeigh, at_place, block_by, block_claims, device_size, has_block, lies_at, lies_by, map_size, none, on_blocks, on_device, same, same_bytes, stored_at, use_by, used_blocks, used_from}
 use Rattle.lock_row.specs.Totals.{by_option, held_sum, mass, total}
 use Rattle.lock_row.specs.declared.names.LockNo.{LockNo}
 use Rattle.lock_row.specs.declared.names.State.{State}
 use Rattle.mem_account.specs.Counters.{Counters}
 use Rattle.page_steps.specs.Steps.{DiskHeld, Here, slot, spot}
-use Rattle.slot_entry.specs.Entries.{EntryState}
+use Rattle.slot_entry.specs.Entries.{EntryState, is_wb}
 use Rattle.slot_entry.specs.Forms.{same_list}
 use Rattle.slot_entry.specs.declared.kept.Kept.{Kept}
 use Rattle.std.proofs.lemmas.Bool.{eq-eqb}

@@ -29,7 +29,7 @@ use Rattle.joint_rule.specs.Ends.{AllFinished, account_in, account_of, begin_at,
 use Rattle.joint_rule.specs.Weights.{used_each}
 use Rattle.joint_rule.specs.Joint.{AtHome, KeepsDevice}
 use Rattle.joint_rule.specs.Rule.{OfOrder, Rule, ShowsOrder, done_by, dones, reach_at}
-use Rattle.joint_rule.specs.Stages.{IsForm, is_wb}
+use Rattle.joint_rule.specs.Stages.{IsForm}
 use Rattle.joint_rule.specs.Starts.{AtRest}
 use Rattle.joint_rule.specs.Weights.{Backs, Count, FailedReads, FailedWrites, Fixed, FreedPages, HugeWrites, Huges, Limit, News, OutOfRange, PackedBytes, Packs, Refusal, Sames, Weigh, cell_weight, claim_by, compactions, counter, device_faults, device_reads, each_one, ever_at, fails_so, faults_told, fetched_now, fetches_noted, fetches_told, fixed, fixed_count, freed_at, freed_by, loose_pools, measure, mosts, news_count, news_counter, news_of, none, noted, on_account, on_device, on_entry, on_pool, one, order_news, pages, refusal_count, refusal_counter, refusal_of, refusals, refused_by, stored, told_ahead, told_at}
 use Rattle.lock_row.specs.Totals.{by_option, locals_sum, row_sum, total}
@@ -46,7 +46,7 @@ use Rattle.plain_disk.specs.Forms.{is_pooled, of_class}
 use Rattle.plain_disk.specs.Phases.{IsMost, LeavesDevice, begun, bounds, held_after, nth_order, phase_sum, reach}
 use Rattle.plain_disk.specs.Rests.{AreUsed, Rest, frames_of, kept_at, kept_pages, page_of}
 use Rattle.size_class.specs.Classes.{chain_of, per_of, stands_of}
-use Rattle.slot_entry.specs.Entries.{EntryState, weight_of, is_obj}
+use Rattle.slot_entry.specs.Entries.{EntryState, weight_of, is_obj, is_wb}
 use Rattle.slot_entry.specs.Forms.{Blank, PageForm, Pooled, Word, class_for, form_weight, object_class, page_weight}
 use Rattle.slot_entry.specs.declared.kept.Kept.{Kept}
 use Rattle.std.proofs.lemmas.Bool.{and_from, cases_Bool, cases_eq, cases_lt, eq-eqb, ne_eqb}

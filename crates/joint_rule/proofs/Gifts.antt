@@ -14,7 +14,7 @@ use Rattle.joint_rule.proofs.Stages.{on_disk}
 use Rattle.joint_rule.specs.Begins.{AreCarried, Begin, HasEvent, back_at, content, ever, form_at, ground_of, image}
 use Rattle.joint_rule.specs.Joint.{AtHome, EntryFits, IsActor, Joint, Sound}
 use Rattle.joint_rule.specs.Rule.{owed}
-use Rattle.joint_rule.specs.Stages.{Changes, FailBy, GoneBy, IsForm, IsRight, IsSmall, Looks, NoObj, NoneOf, Stage, StageBy, is_wb, locks_at, locks_by, MayIdle}
+use Rattle.joint_rule.specs.Stages.{Changes, FailBy, GoneBy, IsForm, IsRight, IsSmall, Looks, NoObj, NoneOf, Stage, StageBy, locks_at, locks_by, MayIdle}
 use Rattle.joint_rule.specs.Weights.{Count, Fixed, HeldAll, Limit, PackedBytes, PinWeigh, Weigh, ahead, at_place, behind, block_by, chains, claim_by, claims, counters, each_one, ever_at, fixed, fresh_claim, lies_by, measure, mosts, none, nothing, object_weight, one, outs, owing, pages, pinned, shown, some_of, stored}
 use Rattle.lock_row.specs.Totals.{by_option, held_sum, mass}
 use Rattle.lock_row.specs.declared.names.At.{At}
@@ -30,7 +30,7 @@ use Rattle.page_steps.specs.Pages.{new_class, next_form, page_in}
 use Rattle.page_steps.specs.Steps.{DiskHeld, Here, class_by, entry_in, on, piece_over, slot, spot}
 use Rattle.plain_disk.specs.Ends.{is_single}
 use Rattle.plain_disk.specs.Phases.{begun, touched_by}
-use Rattle.slot_entry.specs.Entries.{EntryState, weight_of}
+use Rattle.slot_entry.specs.Entries.{EntryState, weight_of, is_wb}
 use Rattle.slot_entry.specs.Forms.{PageForm, bytes_in, class_in, form_weight}
 use Rattle.slot_entry.specs.declared.kept.Kept.{Kept}
 use Rattle.std.proofs.lemmas.Bool.{cases_Bool}

@@ -10,7 +10,7 @@ use Rattle.joint_rule.proofs.Starts.{device_at, device_sum, keeps_self, map_at, 
 use Rattle.joint_rule.proofs.Sums.{row_none}
 use Rattle.joint_rule.specs.Begins.{AreCarried, Begin, content, form_at, form_by, found_after, image}
 use Rattle.joint_rule.specs.Joint.{AtHome, KeepsDevice}
-use Rattle.joint_rule.specs.Stages.{IsForm, IsSmall, is_wb}
+use Rattle.joint_rule.specs.Stages.{IsForm, IsSmall}
 use Rattle.joint_rule.specs.Starts.{AreFree, AtRest, IsNew}
 use Rattle.joint_rule.specs.Weights.{Backs, BlockWeigh, Count, FailedReads, FailedWrites, FreedPages, HugeWrites, Huges, News, OutOfRange, PackedBytes, Packs, PinWeigh, Refusal, Sames, Weigh, block_by, block_claims, cell_weight, chains, claim_by, claims, compactions, counter, counters, device_size, lies_at, lies_by, map_size, measure, names, news_count, news_counter, on_account, out_weight, outs, pages, refusal_count, refusal_counter, shown, stored, use_by, used_blocks, used_from}
 use Rattle.lock_row.specs.Totals.{row_sum}
@@ -19,7 +19,7 @@ use Rattle.page_steps.specs.Steps.{DiskHeld}
 use Rattle.plain_disk.specs.Calls.{leave_page}
 use Rattle.plain_disk.specs.Phases.{touched_by}
 use Rattle.size_class.specs.Classes.{chain_of, class_size, per_of}
-use Rattle.slot_entry.specs.Entries.{weight_of}
+use Rattle.slot_entry.specs.Entries.{weight_of, is_wb}
 use Rattle.slot_entry.specs.Forms.{Blank, PageForm, form_of}
 use Rattle.slot_entry.specs.declared.kept.Kept.{Kept}
 use Rattle.zr_base.specs.declared.op.Tag.{Tag}

@@ -7,14 +7,14 @@ use Rattle.joint_rule.proofs.Pages.{content_join, join_same}
 use Rattle.joint_rule.proofs.Starts.{account_at, account_sum, keeps_self}
 use Rattle.joint_rule.specs.Begins.{AreCarried, Begin, back_at, content, form_at, form_by, found_after, image}
 use Rattle.joint_rule.specs.Joint.{AtHome, KeepsDevice, PoolFits}
-use Rattle.joint_rule.specs.Stages.{IsForm, IsSmall, is_wb}
+use Rattle.joint_rule.specs.Stages.{IsForm, IsSmall}
 use Rattle.joint_rule.specs.Starts.{AtRest, IsNextDisk, IsRenewed, Matched, Renewed}
 use Rattle.joint_rule.specs.Weights.{Backs, Count, FailedReads, FailedWrites, FreedPages, HugeWrites, Huges, News, OutOfRange, PackedBytes, Packs, Refusal, Sames, Weigh, block_by, block_claims, chains, claim_by, claims, compactions, counter, counters, device_size, lies_at, lies_by, map_size, measure, mosts, news_count, news_counter, on_entry, outs, pages, refusal_count, refusal_counter, shown, stored, stored_at, used_blocks, used_from}
 use Rattle.lock_row.specs.Totals.{row_sum}
 use Rattle.mem_account.specs.Counters.{Counters}
 use Rattle.page_steps.specs.Steps.{DiskHeld}
 use Rattle.plain_disk.specs.Phases.{held_after, touched_by}
-use Rattle.slot_entry.specs.Entries.{EntryState, weight_of, is_obj}
+use Rattle.slot_entry.specs.Entries.{EntryState, weight_of, is_obj, is_wb}
 use Rattle.slot_entry.specs.Forms.{PageForm, bytes_in, form_of}
 use Rattle.slot_entry.specs.declared.kept.Kept.{Kept}
 use Rattle.zr_base.specs.declared.op.Tag.{Tag}

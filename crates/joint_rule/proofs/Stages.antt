@@ -6,7 +6,7 @@ use Rattle.call_history.specs.declared.part.Part.{Part}
 use Rattle.call_history.specs.declared.part.PartEnd.{PartEnd}
 use Rattle.joint_rule.proofs.Pages.{form_low}
 use Rattle.joint_rule.specs.Begins.{Begin, back_at, content, form_at, found_after}
-use Rattle.joint_rule.specs.Stages.{Bears, BlankAt, Changes, GoneBy, IsForm, IsObj, IsPooled, IsRight, IsWb, IsWrite, MayPin, NoObj, NoneOf, Stage, is_wb, locks_at, MayIdle}
+use Rattle.joint_rule.specs.Stages.{Bears, BlankAt, Changes, GoneBy, IsForm, IsObj, IsPooled, IsRight, IsWb, IsWrite, MayPin, NoObj, NoneOf, Stage, locks_at, MayIdle}
 use Rattle.lock_row.specs.declared.names.At.TheVariants.{Old, Owing}
 use Rattle.lock_row.specs.declared.names.Object.{Object}
 use Rattle.lock_row.specs.declared.names.Pin.{Pin}
@@ -14,7 +14,7 @@ use Rattle.mem_account.specs.declared.weight.Weight.{Weight}
 use Rattle.page_steps.specs.Pages.{next_form, page_in}
 use Rattle.page_steps.specs.Steps.{class_by, made_at, on, settle_at, slot}
 use Rattle.plain_disk.specs.Ends.{is_single}
-use Rattle.slot_entry.specs.Entries.{EntryState}
+use Rattle.slot_entry.specs.Entries.{EntryState, is_wb}
 use Rattle.slot_entry.specs.Forms.{Blank, PageForm, Pooled, Word}
 use Rattle.slot_entry.specs.declared.kept.Kept.{Kept}
 use Rattle.std.proofs.lemmas.Bool.{cases_Bool, eqb-false, ltb-false, or_parts}

@@ -11,7 +11,7 @@ use Rattle.joint_rule.proofs.Pages.{blank_empty, blank_some, form_low, plain_rig
 use Rattle.joint_rule.proofs.Stages.{OnDisk, made_locks, made_stage, may_none, old_low, on_disk, settle_locks, settle_stage}
 use Rattle.joint_rule.specs.Begins.{Begin, back_at, content, form_at, found_after, ground_of, terms}
 use Rattle.joint_rule.specs.Joint.{AtHome, Backs, EntryFits, IsActor, Sound, Stands, Marks}
-use Rattle.joint_rule.specs.Stages.{Bears, BlankAt, BlankBy, Changes, FailBy, IsForm, IsNothing, IsObj, IsPartly, IsRight, IsSmall, IsWb, IsWrite, Looks, NoObj, NoneOf, Stage, StageBy, WasBlank, is_wb, locks_at, locks_by, MayIdle, IsScan}
+use Rattle.joint_rule.specs.Stages.{Bears, BlankAt, BlankBy, Changes, FailBy, IsForm, IsNothing, IsObj, IsPartly, IsRight, IsSmall, IsWb, IsWrite, Looks, NoObj, NoneOf, Stage, StageBy, WasBlank, locks_at, locks_by, MayIdle, IsScan}
 use Rattle.joint_rule.specs.Weights.{measure}
 use Rattle.lock_row.specs.declared.names.At.{At}
 use Rattle.lock_row.specs.declared.names.At.TheVariants.{Away, Backed, Both, Counting, Failing, Fetching, Freeing, Giving, Inside, Leaving, Made, Missed, Old, Owing, Pinned, Pinning, Ready, Refusing, Releasing, Seen, Start, Unpinning, Wanting, Sweeping, Moving, Shrunk, Shrinking, Scanning, Marking}
@@ -23,7 +23,7 @@ use Rattle.mem_account.specs.declared.weight.Weight.{Weight}
 use Rattle.page_steps.specs.Pages.{new_class, next_by, next_form, page_in}
 use Rattle.page_steps.specs.Steps.{DiskHeld, Here, after_take, begun_at, class_by, discard_at, entered_at, entry_in, entry_or, first_class, lock_of, made_at, part_at, plan, plan_at, plan_by, seen_at, settle_at, slot, spot, start_plan, taken_at, took, write_at, first_at, first_lock, first_scan}
 use Rattle.plain_disk.specs.Ends.{is_single}
-use Rattle.slot_entry.specs.Entries.{EntryState, weight_of}
+use Rattle.slot_entry.specs.Entries.{EntryState, weight_of, is_wb}
 use Rattle.slot_entry.specs.Forms.{Blank, PageForm, class_in, form_weight}
 use Rattle.slot_entry.specs.declared.kept.Kept.{Kept}
 use Rattle.std.proofs.lemmas.Bool.{or_from}
