@@ -8,6 +8,7 @@ use Rattle.plain_disk.specs.Ends.{failed_read, failed_write, starved, wrote, wri
 use Rattle.plain_disk.specs.Calls.{calls_sum, made_huge, freed, may_fetch}
 use Rattle.plain_disk.specs.Rests.{Rest, kept_pages, frames_of, so_far_of}
 use Rattle.plain_disk.specs.Phases.{Given, calls_on, phase_sum, new_back, LeavesPages, LeavesDevice}
+use Rattle.plain_disk.specs.Idles.{may_write}
 use Rattle.call_history.specs.declared.part.Done.{Done}
 use Rattle.call_history.specs.Alone.{IsAloneOver}
 use Rattle.call_history.specs.Parts.{dones_sum}
@@ -37,4 +38,5 @@ pub record Tallies (form : List ℕ → Weight) (r : Rest) (g : Given)
       (phase_sum (λ p. calls_sum may_fetch (calls_on g p)) r orders + dones_sum starved dones)
       (dones_sum written dones)
   pub few_back : new_back r g.actors orders m ≤ dones_sum wrote dones
-  pub alone : (done : List Done) → dones ≡ done ∷ [] → IsAloneOver form r g.finds done m
+  pub alone : (done : List Done) → dones ≡ done ∷ [] → IsAloneOver form r g.finds
+      (may_write g.backed g.actors) done m

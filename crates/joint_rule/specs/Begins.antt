@@ -10,7 +10,7 @@ use Rattle.plain_disk.specs.Forms.{page_bytes}
 use Rattle.plain_disk.specs.Ends.{Ground, is_single}
 use Rattle.plain_disk.specs.Calls.{Found, leave_page, after_all, ever_pooled}
 use Rattle.plain_disk.specs.Phases.{Given, calls_on}
-use Rattle.plain_disk.specs.Idles.{is_written_in}
+use Rattle.plain_disk.specs.Idles.{may_write}
 use Rattle.call_history.specs.declared.part.Part.{Part}
 use Rattle.call_history.specs.Parts.{program}
 use Rattle.slot_entry.specs.Forms.{PageForm, Blank, form_of, bytes_in, page_weight}
@@ -48,7 +48,7 @@ ground_of g = record {
   chain = g.chain;
   limit = g.was.limit;
   backed = g.given.backed;
-  back = λ p. g.back p || is_written_in g.given.actors;
+  back = λ p. g.back p || may_write g.given.backed g.given.actors;
   faults = g.device.faults;
 }
 

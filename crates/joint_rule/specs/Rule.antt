@@ -3,7 +3,7 @@ use Rattle.std.specs.Prelude.{◌≡◌, ℕ, ◌+◌, ◌*◌, ◌<◌, ◌≤�
 use Rattle.zr_base.specs.declared.op.Tag.{Tag}
 use Rattle.mem_account.specs.Counters.{at_most_end}
 use Rattle.plain_disk.specs.Ends.{Bounds}
-use Rattle.plain_disk.specs.Idles.{is_written_in}
+use Rattle.plain_disk.specs.Idles.{may_write}
 use Rattle.call_history.specs.declared.part.Done.{Done}
 use Rattle.call_history.specs.declared.part.PartEnd.{PartEnd}
 use Rattle.call_history.specs.Parts.{KeepsTo}
@@ -40,7 +40,7 @@ owed size ls page = locals_sum (owed_by size page) ls
 -- the calls of an order find what is held, where their page isn't on the device and nothing is written
 -- back
 abbrev pub FindHeld : Begin → ℕ → List Tag → Type 0
-FindHeld g p order = is_written_in g.given.actors ≡ false → (at : ℕ) (t : Tag) → slice_get order at ≡ Some t
+FindHeld g p order = may_write g.given.backed g.given.actors ≡ false → (at : ℕ) (t : Tag) → slice_get order at ≡ Some t
     → back_at g p (take at order) ≡ false → (s : ℕ) (old : List ℕ) → g.given.finds p t s old ≡ old
 
 -- An order shows what its calls leave, and has spare room for the pieces that are left; with these

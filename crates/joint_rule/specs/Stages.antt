@@ -7,7 +7,7 @@ use Rattle.mem_account.specs.declared.weight.Weight.{Weight}
 use Rattle.mem_account.specs.declared.weight.Weight.TheVariants.{Back}
 use Rattle.mem_account.specs.Tally.{packed_bytes_of}
 use Rattle.plain_disk.specs.Ends.{is_single}
-use Rattle.plain_disk.specs.Idles.{is_written_in}
+use Rattle.plain_disk.specs.Idles.{may_write}
 use Rattle.call_history.specs.declared.part.Part.{Part}
 use Rattle.call_history.specs.declared.part.PartEnd.{PartEnd}
 use Rattle.call_history.specs.declared.part.PartEnd.TheVariants.{Carried, AtLimit, NoMemory, Eio, Whole}
@@ -305,7 +305,7 @@ StandAt chain at f k = IsForm chain f k
 -- nothing is written back only there.
 pub record IsBack (g : Begin) (k : Kept) (back : Bool) : Type 0 where
   pub there : back ≡ true → is_wb k ≡ true
-  pub only : is_written_in g.given.actors ≡ false → is_wb k ≡ back
+  pub only : may_write g.given.backed g.given.actors ≡ false → is_wb k ≡ back
 
 -- until its block is given up
 abbrev pub BackAt : Begin → At → Kept → Bool → Type 0
@@ -360,9 +360,10 @@ PartlyAt Fetching op page = IsPartly op page
 PartlyAt at op page = ⊤
 
 -- an actor may see another page than the one that is held: over a device that isn't honest, where the
--- page is on it
+-- page may be on it
 abbrev pub MaySeeOther : Begin → ℕ → List Tag → Type 0
-MaySeeOther g p order = (IsHonestDevice g.device → ⊥) × (back_at g p order ≡ true)
+MaySeeOther g p order = (IsHonestDevice g.device → ⊥)
+    × ((back_at g p order ≡ true) ⊎ (may_write g.given.backed g.given.actors ≡ true))
 
 -- the page that the actor sees is the one that is held, or another where it may be
 abbrev pub IsSeen : Type 0 → List ℕ → List ℕ → Type 0

@@ -110,6 +110,10 @@ abbrev pub is_written_in : List (List Op) → Bool
 is_written_in [] = false
 is_written_in (ops ∷ more) = writes_some ops || is_written_in more
 
+-- whether pages may be written back: the disk has a backing, and some actor does so
+abbrev pub may_write : Bool → List (List Op) → Bool
+may_write backed actors = backed && is_written_in actors
+
 -- What a page's mark may be after a phase with this order: only a page of the pool is idle; a page
 -- that was idle stays so where no call stands in its order, or it is on the device; and where no
 -- operation marks pages, no other page is idle.

@@ -13,7 +13,7 @@ use Rattle.plain_disk.specs.Ends.{Ground, Bounds, MayEndEach, due_from, ends_sum
 use Rattle.plain_disk.specs.Output.{OutLine, phase_lines}
 use Rattle.plain_disk.specs.Calls.{Found, kept_as, leave_page, after_all, ever_pooled, calls_sum, made_huge, freed, may_fetch}
 use Rattle.plain_disk.specs.Compactions.{IsAlone}
-use Rattle.plain_disk.specs.Idles.{is_marked_in, is_written_in, KeepsMark}
+use Rattle.plain_disk.specs.Idles.{is_marked_in, may_write, KeepsMark}
 use Rattle.plain_disk.specs.Forms.{is_pooled}
 use Rattle.plain_disk.specs.Rests.{SoFar, Rest, is_backed, page_of, kept_at, kept_pages, frames_of, AreUsed}
 
@@ -83,7 +83,7 @@ pub record FindsHeld (r : Rest) (actors : List (List Op)) (orders : List (List T
       → IsSector (finds p tag s old)
   pub honest : IsHonestDevice r.device → (p : ℕ) (tag : Tag) (s : ℕ) (old : List ℕ)
       → finds p tag s old ≡ old
-  pub pooled : is_written_in actors ≡ false → (p at : ℕ) (tag : Tag) → p < r.size
+  pub pooled : may_write (is_backed r) actors ≡ false → (p at : ℕ) (tag : Tag) → p < r.size
       → slice_get (nth_order orders p) at ≡ Some tag
       → back_after r actors p (take at (nth_order orders p)) ≡ false
       → (s : ℕ) (old : List ℕ) → finds p tag s old ≡ old
@@ -96,7 +96,7 @@ phase_ground form r actors = record {
   chain = r.set.chain;
   limit = r.set.limit;
   backed = is_backed r;
-  back = λ p. r.back p || is_written_in actors;
+  back = λ p. r.back p || may_write (is_backed r) actors;
   faults = r.device.faults;
 }
 
@@ -182,7 +182,7 @@ pub record LeavesPages (form : List ℕ → Weight) (r : Rest) (g : Given)
   pub blank : (p : ℕ) → p < r.size
       → m.blank p ≡ (after_all (calls_on g p) (page_of r p) (nth_order orders p)).blank
   pub back : (p : ℕ) → p < r.size → KeepsBack (back_after r g.actors p (nth_order orders p))
-      (is_written_in g.actors) (is_pooled (kept_as form p (page_of m p))) (m.back p)
+      (may_write g.backed g.actors) (is_pooled (kept_as form p (page_of m p))) (m.back p)
   pub idle : (p : ℕ) → p < r.size → KeepsMark (is_pooled (kept_at form m p)) (r.idle p)
       (is_marked_in g.actors) (m.back p) (nth_order orders p) (m.idle p)
   pub touched : (p : ℕ) → p < r.size
