@@ -4,7 +4,7 @@ use Rattle.zr_base.specs.declared.op.Tag.{Tag}
 use Rattle.mem_account.specs.declared.weight.Weight.{Weight}
 use Rattle.mem_account.specs.Counters.{Counters, at_most_end}
 use Rattle.mem_account.specs.Tally.{IsTally}
-use Rattle.plain_disk.specs.Ends.{failed_read, failed_write, starved, wrote, written, beyond, compacted}
+use Rattle.plain_disk.specs.Ends.{failed_read, failed_write, starved, left_back, written, beyond, compacted}
 use Rattle.plain_disk.specs.Calls.{calls_sum, made_huge, freed, may_fetch}
 use Rattle.plain_disk.specs.Rests.{Rest, kept_pages, frames_of, so_far_of}
 use Rattle.plain_disk.specs.Phases.{Given, calls_on, phase_sum, new_back, LeavesPages, LeavesDevice}
@@ -37,6 +37,6 @@ pub record Tallies (form : List ℕ → Weight) (r : Rest) (g : Given)
   pub device : LeavesDevice r.device m.device
       (phase_sum (λ p. calls_sum may_fetch (calls_on g p)) r orders + dones_sum starved dones)
       (dones_sum written dones)
-  pub few_back : new_back r g.actors orders m ≤ dones_sum wrote dones
+  pub few_back : new_back r g.actors orders m ≤ dones_sum left_back dones
   pub alone : (done : List Done) → dones ≡ done ∷ [] → IsAloneOver form r g.finds
       (may_write g.backed g.actors) done m

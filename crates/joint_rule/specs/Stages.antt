@@ -1,5 +1,5 @@
 -- What the stage of an actor's piece says of the actor's parts and of the entry that it holds.
-use Rattle.std.specs.Prelude.{◌≡◌, ℕ, ◌+◌, ◌*◌, ◌<◌, ◌≤◌, ◌⊎◌, Bool, true, false, List, [], ◌∷◌, length, Option, Some, None, is_some, ⊤, if◌then◌else◌}
+use Rattle.std.specs.Prelude.{◌≡◌, ℕ, ◌+◌, ◌*◌, ◌<◌, ◌≤◌, ◌⊎◌, Bool, true, false, List, [], ◌∷◌, length, Option, Some, None, is_some, ⊤}
 use Rattle.zr_base.specs.declared.op.Op.{Op}
 use Rattle.zr_base.specs.declared.op.Op.TheVariants.{Write, Read, Discard, Idle, Writeback, Compact}
 use Rattle.zr_base.specs.Plain.{is_beyond, is_marking, is_writeback, has_whole}
@@ -276,11 +276,16 @@ is_owing step.Owing = true
 is_owing step.Paying = true
 is_owing s = false
 
+-- the frames that are owed, where some may be or none
+abbrev pub OweBy : Bool → ℕ → ℕ → Type 0
+OweBy true chain n = n ≤ chain
+OweBy false chain n = n ≡ 0
+
 -- the frames that are owed
 abbrev pub OweAt : ℕ → At → ℕ → Type 0
 OweAt chain Owing n = n ≤ chain
 OweAt chain Giving n = n ≤ chain
-OweAt chain (Visiting s x) n = if is_owing s then n ≤ chain else n ≡ 0
+OweAt chain (Visiting s x) n = OweBy (is_owing s) chain n
 OweAt chain (Shrunk x) n = n ≤ chain
 OweAt chain (Shrinking x) n = n ≤ chain
 OweAt chain at n = n ≡ 0

@@ -16,7 +16,7 @@ use Rattle.block_map.specs.BlockMap.{BlockMap}
 use Rattle.backing_dev.specs.Dev.{DeviceState}
 use Rattle.mem_account.specs.Tally.{same_of, packed_of, packed_bytes_of, huge_of, back_of}
 use Rattle.mem_account.specs.declared.weight.Weight.{Weight}
-use Rattle.plain_disk.specs.Ends.{failed_read, failed_write, starved, tells_fault, wrote, written, beyond, compacted}
+use Rattle.plain_disk.specs.Ends.{failed_read, failed_write, starved, tells_fault, left_back, written, beyond, compacted}
 use Rattle.plain_disk.specs.Compactions.{loose}
 use Rattle.plain_disk.specs.Calls.{Found, calls_sum, made_huge, freed, may_fetch}
 use Rattle.plain_disk.specs.Phases.{calls_on}
@@ -381,7 +381,7 @@ writes_in at fail = 0
 
 -- the pages that an actor tells to have left on the device
 abbrev pub wrote_told : Here → ℕ
-wrote_told l = done_sum wrote l.done + wrote_in l.at
+wrote_told l = done_sum left_back l.done + wrote_in l.at
 
 -- the writes of the device that it tells
 abbrev pub writes_told : Here → ℕ

@@ -124,10 +124,14 @@ MayEndSo t b op (ends.WriteEio fault wrote lost) =
     MayBeSingle t op (ends.WriteEio fault wrote lost) × (fault ≤ b.faults)
 MayEndSo t b op end = MayBeSingle t op end
 
--- the ends that an operation may have: a writeback without a backing has its own
+-- where it does nothing, a writeback has its own end
+abbrev pub MayEndBy : Bool → Ground → Bounds → Op → OpEnd → Type 0
+MayEndBy true t b op end = end ≡ ends.NoBacking
+MayEndBy false t b op end = MayEndSo t b op end
+
+-- the ends that an operation may have: a writeback without a backing does nothing
 abbrev pub MayEnd : Ground → Bounds → Op → OpEnd → Type 0
-MayEnd t b op end =
-    if is_void t.backed op then end ≡ ends.NoBacking else MayEndSo t b op end
+MayEnd t b op end = MayEndBy (is_void t.backed op) t b op end
 
 -- those of an actor's operations
 abbrev pub MayEndAll : Ground → Bounds → List Op → List OpEnd → Type 0
@@ -202,12 +206,12 @@ tells_fault n op (ends.WriteEio fault wrote lost) = if fault == n then 1 else 0
 tells_fault n op _ = 0
 
 -- the pages that a writeback left on the device
-abbrev pub wrote : Op → OpEnd → ℕ
-wrote op (ends.Written wrote lost) = wrote
-wrote op (ends.Budget wrote lost) = wrote
-wrote op (ends.NoBlock wrote lost) = wrote
-wrote op (ends.WriteEio fault wrote lost) = wrote
-wrote op _ = 0
+abbrev pub left_back : Op → OpEnd → ℕ
+left_back op (ends.Written wrote lost) = wrote
+left_back op (ends.Budget wrote lost) = wrote
+left_back op (ends.NoBlock wrote lost) = wrote
+left_back op (ends.WriteEio fault wrote lost) = wrote
+left_back op _ = 0
 
 -- its writes of the device that succeeded
 abbrev pub written : Op → OpEnd → ℕ

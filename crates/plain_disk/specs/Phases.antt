@@ -9,7 +9,7 @@ use Rattle.zr_base.specs.Plain.{Finds, IsSector, PageCalls, content, order_befor
 use Rattle.mem_account.specs.declared.weight.Weight.{Weight}
 use Rattle.mem_account.specs.Counters.{at_most_end}
 use Rattle.backing_dev.specs.Dev.{DeviceState, IsHonestDevice}
-use Rattle.plain_disk.specs.Ends.{Ground, Bounds, MayEndEach, due_from, ends_sum, failed_read, failed_write, starved, tells_fault, wrote, written, beyond, compacted}
+use Rattle.plain_disk.specs.Ends.{Ground, Bounds, MayEndEach, due_from, ends_sum, failed_read, failed_write, starved, tells_fault, left_back, written, beyond, compacted}
 use Rattle.plain_disk.specs.Output.{OutLine, phase_lines}
 use Rattle.plain_disk.specs.Calls.{Found, kept_as, leave_page, after_all, ever_pooled, calls_sum, made_huge, freed, may_fetch}
 use Rattle.plain_disk.specs.Compactions.{IsAlone}
@@ -204,7 +204,7 @@ pub record Leaves (form : List ℕ → Weight) (r : Rest) (g : Given)
   pub device : LeavesDevice r.device m.device (fetches r g ends orders)
       (ends_sum written g.actors ends)
   -- the pages that are new on the device are at most those that were written back
-  pub few_back : new_back r g.actors orders m ≤ ends_sum wrote g.actors ends
+  pub few_back : new_back r g.actors orders m ≤ ends_sum left_back g.actors ends
 
 -- ---- phases
 
