@@ -1,0 +1,380 @@
+//! A read and a write of a part of a page that is on the device, whose first read fails: event by
+//! event, over the row of a disk of one page.
+//!
+//! | Call | After the page's slot | End | The page's order then | Failed reads, writes |
+//! |---|---|---|---|---|
+//! | a read | device, account, slot | `Eio` with fault 1 | the read | 1, 0 |
+//! | the same again | device, slot | `Read` at 1 | both | 1, 0 |
+//! | a write of a sector | device, account, slot | `Eio` with fault 1 | empty | 0, 1 |
+//! | a read then | device, slot | `Read` at 0 | the read | 0, 1 |
+
+ghost use Rattle.std.specs.Prelude.{◌≡◌, ℕ, suc, ◌+◌, ◌<◌, ◌≤◌, [], IfOk, IsTrue, Some, None};
+ghost use Rattle.lock_row.specs.Rows.{IsIn, cell};
+ghost use Rattle.page_steps.specs.declared.stage.Stage.TheVariants as stage;
+ghost use Rattle.page_steps.specs.declared.stage.Progress.TheVariants as progress;
+ghost use Rattle.page_steps.specs.Calls.{IsFit, IsGoing};
+ghost use Rattle.page_steps.specs.Turns.{IsOnward};
+ghost use Rattle.device_faults.specs.OnePage.{IsDisk, HasRoom, HasAccount, HasBlock, CanGo, DoesWork, Turns, IsReady, Leaves};
+
+use arrayvec::ArrayVec;
+use backing_dev::{Dev, MemBacking};
+use block_map::{Blocks, Reserve};
+use lock_row::{Held, LockNo, SimRow};
+use mem_account::{Account, Delta, Weight};
+use page_steps::{DiskHeld, PageCall, PieceEnd, Progress, Scratch, Stage};
+use size_class::ClassTable;
+use slot_entry::{Entry, Kept};
+use std::alloc::{AllocError, Global};
+use std::test::Fail;
+use zr_base::{Page, PageIx, Piece, Stuff, Tag};
+
+type Disk = SimRow<DiskHeld<MemBacking>>;
+type Call = PageCall<MemBacking>;
+
+const SLOT: LockNo = LockNo::Slot(PageIx(0));
+
+// ---- events
+
+// The next event of a call, by the hand of the row.
+fn turn(call: &mut Call, disk: &mut Disk, scratch: &mut Scratch) -> Progress
+    requires going { IsGoing call.old.stage }
+    requires fit { IsFit call.old.head scratch.old call.old.stage }
+    requires work { DoesWork call.old.head scratch.old }
+    requires disk { IsDisk disk.old }
+    requires can { CanGo call.old.head scratch.old call.old.stage disk.old }
+    ensures head { call.new.head ≡ call.old.head }
+    ensures fit { IsFit call.old.head scratch.new call.new.stage }
+    ensures work { DoesWork call.old.head scratch.new }
+    ensures disk { IsDisk disk.new }
+    ensures turn { Turns call.old.head scratch.old call.old.stage disk.old scratch.new
+        call.new.stage disk.new result }
+    ensures over { IsOnward result call.new.stage }
+{
+    let mut hand = disk.hand(0);
+    call.advance(&mut hand, scratch)
+}
+
+// The first event of a call, which takes the page's slot.
+fn begin(call: &mut Call, disk: &mut Disk, scratch: &mut Scratch) -> Progress
+    requires page { call.old.head.piece.page.0 ≡ 0 }
+    requires start { call.old.stage ≡ stage.Start }
+    requires fit { IsFit call.old.head scratch.old call.old.stage }
+    requires work { DoesWork call.old.head scratch.old }
+    requires disk { IsDisk disk.old }
+    requires room { HasRoom 1 disk.old }
+    ensures head { call.new.head ≡ call.old.head }
+    ensures fit { IsFit call.old.head scratch.new call.new.stage }
+    ensures work { DoesWork call.old.head scratch.new }
+    ensures disk { IsDisk disk.new }
+    ensures left { (n : ℕ) → result ≡ progress.Moved → HasRoom (suc n) disk.old
+        → Leaves n call.new.stage disk.new }
+{
+    turn(call, disk, scratch)
+}
+
+// Whether a lock of the row is held.
+fn is_out(disk: &Disk, lock: LockNo) -> bool
+    requires { IsIn disk.now lock }
+    ensures { IsTrue result → cell disk.now lock ≡ Some None }
+{
+    disk.value(lock).is_none()
+}
+
+// Whether the account is at home.
+fn has_account(disk: &Disk) -> bool
+    ensures { IsTrue result → HasAccount disk.now }
+{
+    matches!(disk.value(LockNo::Account), Some(Held::Account(_)))
+}
+
+// Whether the device is at home, and has this block.
+fn has_block(disk: &Disk, block: u32) -> bool
+    ensures { IsTrue result → HasBlock disk.now block }
+{
+    match disk.value(LockNo::Device) {
+        Some(Held::Device(device)) => block < device.blocks(),
+        _ => false,
+    }
+}
+
+// Whether the row has what the next event takes, or the place of what it gives.
+fn is_ready(call: &Call, disk: &Disk) -> bool
+    requires disk { IsDisk disk.now }
+    ensures ready { IsTrue result → IsReady call.now.stage disk.now }
+{
+    match &call.stage {
+        Stage::Away(_, block) => has_block(disk, *block),
+        Stage::Fetching(_, _, _) => is_out(disk, LockNo::Device),
+        Stage::Failing(_, _) => has_account(disk),
+        Stage::Counting(_, _, _) => is_out(disk, LockNo::Account),
+        Stage::Missed(_, _) => is_out(disk, SLOT),
+        Stage::Leaving(_) => is_out(disk, SLOT),
+        _ => false,
+    }
+}
+
+// A later event; none where the row isn't ready for it.
+fn step(call: &mut Call, disk: &mut Disk, scratch: &mut Scratch) -> Option<Progress>
+    requires page { call.old.head.piece.page.0 ≡ 0 }
+    requires fit { IsFit call.old.head scratch.old call.old.stage }
+    requires work { DoesWork call.old.head scratch.old }
+    requires disk { IsDisk disk.old }
+    ensures head { call.new.head ≡ call.old.head }
+    ensures fit { IsFit call.old.head scratch.new call.new.stage }
+    ensures work { DoesWork call.old.head scratch.new }
+    ensures disk { IsDisk disk.new }
+    ensures left { (n : ℕ) → Leaves n call.old.stage disk.old → Leaves n call.new.stage disk.new }
+{
+    if !is_ready(call, disk) {
+        return None;
+    }
+    Some(turn(call, disk, scratch))
+}
+
+// Whether the call is over.
+fn is_over(call: &Call) -> bool
+    ensures { IsTrue result → call.now.stage ≡ stage.Over }
+{
+    matches!(&call.stage, Stage::Over)
+}
+
+// An event after the first: its lock, whether that is out after it, and the progress.
+type Event = (LockNo, bool, Progress);
+
+// Whether these events follow the taking of the slot, and the call is over then.
+fn goes(call: &mut Call, disk: &mut Disk, scratch: &mut Scratch, events: &[Event]) -> bool
+    requires page { call.old.head.piece.page.0 ≡ 0 }
+    requires start { call.old.stage ≡ stage.Start }
+    requires fit { IsFit call.old.head scratch.old call.old.stage }
+    requires work { DoesWork call.old.head scratch.old }
+    requires disk { IsDisk disk.old }
+    requires room { HasRoom 1 disk.old }
+    ensures disk { IsDisk disk.new }
+    ensures left { IsTrue result → (n : ℕ) → HasRoom (suc n) disk.old → HasRoom n disk.new }
+{
+    if begin(call, disk, scratch) != Progress::Moved {
+        return false;
+    }
+    for event in events {
+        let (lock, out, progress) = event;
+        if step(call, disk, scratch) != Some(*progress) {
+            return false;
+        }
+        if disk.value(*lock).is_none() != *out {
+            return false;
+        }
+    }
+    is_over(call)
+}
+
+// ---- the disk
+
+// A page with words of 1 in its first half, and zeros behind.
+fn half_page() -> Page {
+    let mut page = Page::zero();
+    let mut sector = [0; 512];
+    Stuff::Fill(1).sector(0, &mut sector);
+    for at in 0..4 {
+        page.put_sector(at, &sector);
+    }
+    page
+}
+
+// The entry of a page that is in block 0, last accessed at 3 seconds, with room for 2 tags.
+fn entry_there(alloc: Global) -> Result<Entry, AllocError>
+    ensures room { IfOk result (λ e. 2 ≤ e.room) }
+    ensures order { IfOk result (λ e. e.order ≡ []) }
+{
+    let mut entry = Entry::new(alloc);
+    entry.reserve_order(2)?;
+    entry.accessed(3);
+    entry.put(Kept::Wb(0));
+    Ok(entry)
+}
+
+// The account of that page.
+fn account_there() -> Account {
+    let mut account = Account::new();
+    account.count(Delta::Kept {
+        old: Weight::Empty,
+        new: Weight::Back,
+    });
+    account
+}
+
+// The blocks, of which the page owns the one.
+fn blocks_there(alloc: Global) -> Result<Blocks, Fail> {
+    let mut blocks = Blocks::new(alloc, 1)?;
+    let Reserve::Got(block) = blocks.reserve() else {
+        return Err("no block is free".into());
+    };
+    blocks.commit(block);
+    Ok(blocks)
+}
+
+// The device, which has the page in its one block, and whose first read is to fail.
+fn device_there(alloc: Global) -> Result<Dev<MemBacking>, Fail> {
+    let mut device = Dev::new(MemBacking::new(alloc, 1, &[1], &[])?);
+    device
+        .write(0, &half_page())
+        .map_err(|_fault| "a write failed")?;
+    Ok(device)
+}
+
+// The row of the disk.
+fn new_disk(alloc: Global) -> Result<Disk, Fail>
+    ensures disk { IfOk result IsDisk }
+    ensures room { IfOk result (HasRoom 2) }
+{
+    let names = vec![in alloc; SLOT, LockNo::Account, LockNo::Blocks, LockNo::Device]?;
+    let mut cells = Vec::with_capacity(alloc, 4)?;
+    cells.push(Some(Held::Slot(entry_there(alloc)?)))?;
+    cells.push(Some(Held::Account(account_there())))?;
+    cells.push(Some(Held::Blocks(blocks_there(alloc)?)))?;
+    cells.push(Some(Held::Device(device_there(alloc)?)))?;
+    Ok(SimRow::new(names, cells))
+}
+
+// ---- calls
+
+// The buffers of a call.
+fn new_scratch() -> Scratch {
+    Scratch {
+        page: Page::zero(),
+        fresh: Page::zero(),
+        packed: ArrayVec::new(),
+        table: ClassTable::new(4),
+    }
+}
+
+const WHOLE: Piece = Piece {
+    page: PageIx(0),
+    first: 0,
+    count: 8,
+};
+
+const PART: Piece = Piece {
+    page: PageIx(0),
+    first: 0,
+    count: 1,
+};
+
+// A read of the page, at 7 seconds.
+fn read(op: u32, scratch: &Scratch) -> Call
+    ensures page { result.head.piece.page.0 ≡ 0 }
+    ensures start { result.stage ≡ stage.Start }
+    ensures fit { IsFit result.head scratch.now result.stage }
+    ensures work { DoesWork result.head scratch.now }
+{
+    PageCall::read(WHOLE, Tag { actor: 0, op }, 7)
+}
+
+// A write of the first sector of the page, at 7 seconds.
+fn write(op: u32, scratch: &mut Scratch) -> Call
+    ensures page { result.head.piece.page.0 ≡ 0 }
+    ensures start { result.stage ≡ stage.Start }
+    ensures fit { IsFit result.head scratch.new result.stage }
+    ensures work { DoesWork result.head scratch.new }
+{
+    let mut sector = [0; 512];
+    Stuff::Fill(9).sector(0, &mut sector);
+    scratch.fresh.put_sector(0, &sector);
+    PageCall::write(PART, Tag { actor: 0, op }, 7)
+}
+
+// The events after the first of a call whose read of the device fails.
+const FAILS: [Event; 5] = [
+    (LockNo::Device, true, Progress::Moved),
+    (LockNo::Device, false, Progress::Moved),
+    (LockNo::Account, true, Progress::Moved),
+    (LockNo::Account, false, Progress::Moved),
+    (SLOT, false, Progress::Done(PieceEnd::Eio { fault: 1 })),
+];
+
+// Those of a read that succeeds, after so many calls on the page.
+fn reads(at: u32) -> [Event; 3] {
+    [
+        (LockNo::Device, true, Progress::Moved),
+        (LockNo::Device, false, Progress::Moved),
+        (SLOT, false, Progress::Done(PieceEnd::Read { at })),
+    ]
+}
+
+// The page's entry at home: whether it is as these say, on the device and without a mark.
+fn has_entry(disk: &Disk, order: &[Tag], touched: u64) -> bool {
+    match disk.value(SLOT) {
+        Some(Held::Slot(entry)) => {
+            entry.order() == order
+                && entry.touched() == touched
+                && entry.kept() == Kept::Wb(0)
+                && entry.under().is_none()
+                && !entry.idle()
+        }
+        _ => false,
+    }
+}
+
+// Whether the account has so many failed reads and failed writes, and the page on the device.
+fn has_failed(disk: &Disk, reads: u64, writes: u64) -> bool {
+    match disk.value(LockNo::Account) {
+        Some(Held::Account(account)) => {
+            let stat = account.io_stat();
+            stat.failed_reads == reads && stat.failed_writes == writes && account.bd_count() == 1
+        }
+        _ => false,
+    }
+}
+
+// Whether so many reads of the device succeeded.
+fn has_read(disk: &Disk, reads: u64) -> bool {
+    match disk.value(LockNo::Device) {
+        Some(Held::Device(device)) => device.reads() == reads && device.writes() == 1,
+        _ => false,
+    }
+}
+
+// Whether the page owns its block.
+fn owns_block(disk: &Disk) -> bool {
+    match disk.value(LockNo::Blocks) {
+        Some(Held::Blocks(blocks)) => blocks.owned() == 1,
+        _ => false,
+    }
+}
+
+const FIRST: Tag = Tag { actor: 0, op: 0 };
+const SECOND: Tag = Tag { actor: 0, op: 1 };
+
+#[test]
+fn a_failed_read_is_noted(rt: HostRuntime) -> Result<(), Fail> {
+    let mut disk = new_disk(rt.alloc())?;
+    let mut scratch = new_scratch();
+    let mut call = read(0, &scratch);
+    assert!(rt; goes(&mut call, &mut disk, &mut scratch, &FAILS));
+    assert!(rt; !call.device_read());
+    assert!(rt; has_entry(&disk, &[FIRST], 7));
+    assert!(rt; has_failed(&disk, 1, 0) && has_read(&disk, 0) && owns_block(&disk));
+    let mut again = read(1, &scratch);
+    assert!(rt; goes(&mut again, &mut disk, &mut scratch, &reads(1)));
+    assert!(rt; again.device_read());
+    assert!(rt; scratch.page.bytes() == half_page().bytes());
+    assert!(rt; has_entry(&disk, &[FIRST, SECOND], 7));
+    assert!(rt; has_failed(&disk, 1, 0) && has_read(&disk, 1) && owns_block(&disk));
+    Ok(())
+}
+
+#[test]
+fn a_failed_write_leaves_its_page(rt: HostRuntime) -> Result<(), Fail> {
+    let mut disk = new_disk(rt.alloc())?;
+    let mut scratch = new_scratch();
+    let mut call = write(0, &mut scratch);
+    assert!(rt; goes(&mut call, &mut disk, &mut scratch, &FAILS));
+    assert!(rt; !call.device_read());
+    assert!(rt; has_entry(&disk, &[], 3));
+    assert!(rt; has_failed(&disk, 0, 1) && has_read(&disk, 0) && owns_block(&disk));
+    let mut then = read(1, &scratch);
+    assert!(rt; goes(&mut then, &mut disk, &mut scratch, &reads(0)));
+    assert!(rt; scratch.page.bytes() == half_page().bytes());
+    assert!(rt; has_entry(&disk, &[SECOND], 7));
+    assert!(rt; has_failed(&disk, 0, 1) && has_read(&disk, 1) && owns_block(&disk));
+    Ok(())
+}
