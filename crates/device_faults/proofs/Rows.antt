@@ -181,9 +181,9 @@ module _ {X Y : Type 0} {takes : X → LockNo → Next → DiskHeld → X → Ty
       → ((k : LockNo) → misses h k g → of g ≡ of h)
       → ((k : LockNo) (f : Next) (v : DiskHeld) → gives h k f v g → of g ≡ of h)
       → Turned takes misses gives t l h m g p → of g ≡ of h
-  keeps of took missed given (waited k what miss same w) = missed k miss
-  keeps of took missed given (took_it k f v what take tells is moved) = took k f v take
-  keeps of took missed given (gave_it k f v what give is works moved) = given k f v give
+  keeps of took lost given (waited k what miss same w) = lost k miss
+  keeps of took lost given (took_it k f v what take tells is moved) = took k f v take
+  keeps of took lost given (gave_it k f v what give is works moved) = given k f v give
 
 -- a turn by a hand is one on its row
 pub on_row : {X : Type 0} {takes : X → LockNo → Next → DiskHeld → X → Type 0}
@@ -195,10 +195,10 @@ pub on_row : {X : Type 0} {takes : X → LockNo → Next → DiskHeld → X → 
     → Turned takes misses gives t l h m g p
     → Turned (λ h k f v g. IsTaken h g k v) (λ h k g. IsMissed h g k)
     (λ h k f v g. IsGiven h g k v) t l (of h) m (of g) p
-on_row of took missed given (waited k what miss same w) = waited k what (missed k miss) same w
-on_row of took missed given (took_it k f v what take tells is moved) =
+on_row of took lost given (waited k what miss same w) = waited k what (lost k miss) same w
+on_row of took lost given (took_it k f v what take tells is moved) =
     took_it k f v what (took k f v take) tells is moved
-on_row of took missed given (gave_it k f v what give is works moved) =
+on_row of took lost given (gave_it k f v what give is works moved) =
     gave_it k f v what (given k f v give) is works moved
 
 -- it leaves a disk
