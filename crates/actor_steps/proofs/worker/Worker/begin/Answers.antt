@@ -1,4 +1,4 @@
-use Rattle.std.proofs.Common.{◌≡◌, None, Some, length, refl, sym}
+use Rattle.std.proofs.Common.{◌≡◌, None, Some, refl, sym}
 use Rattle.actor_steps.specs.Workers.{terms_of}
 use Rattle.actor_steps.proofs.Places.{there_is}
 use Rattle.actor_steps.proofs.Turns.{begun_fit, begun_here}
