@@ -34,7 +34,7 @@ pub others_set : (pages : List (List ℕ)) (b : ℕ) (page : List ℕ)
     → ChangesOnly (Some pages) (Some (set pages b page)) b
 others_set pages b page = (length-set pages b page, λ c other. other_set pages b c page other)
 
--- a block of zeros behind the front is one of the blocks already
+-- a block of zeros after the front is one of the blocks already
 pub front_longer : (blocks : ℕ) (front : List (List ℕ)) → length front < blocks
     → all_blocks blocks (front ++ page_full_of 0 ∷ []) ≡ all_blocks blocks front
 front_longer blocks front less =

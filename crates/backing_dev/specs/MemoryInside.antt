@@ -4,7 +4,7 @@ use Rattle.backing_dev.specs.declared.memory.MemBacking.TheInside.{Inside}
 use Rattle.backing_dev.specs.Contents.{page_full_of}
 use Rattle.backing_dev.specs.Memory.{Memory}
 
--- so many blocks whose front are these pages: the blocks behind it are zeros
+-- so many blocks whose front are these pages: the blocks after it are zeros
 abbrev pub all_blocks : ℕ → List (List ℕ) → List (List ℕ)
 all_blocks blocks front = front ++ replicate (blocks - length front) (page_full_of 0)
 

@@ -14,7 +14,7 @@ use zr_base::{Failed, Page};
 /// memory of all blocks is reserved when the device is made; a write fills it up to its block.
 #[derive(Drop)]
 pub struct MemBacking {
-    // The front of the blocks, with room for all. The blocks behind it are zeros.
+    // The front of the blocks, with room for all. The blocks after it are zeros.
     pages: Vec<Page>,
     blocks: u32,
     reads: Plan,

@@ -1,10 +1,11 @@
 -- Sixteen lanes, and the digits that they become.
-use Rattle.std.proofs.Common.{◌≡◌, ℕ, zero, suc, ◌+◌, ◌*◌, ◌/◌, ◌%◌, ◌<◌, ◌≤◌, List, [], ◌∷◌, ◌++◌, length, map, take, get_or, replicate, w8, refl, sym, ap, ◌∙◌, arith, append_assoc}
-use Rattle.std.specs.List.{flat_map}
+use Rattle.std.proofs.Common.{◌≡◌, ℕ, ◌+◌, ◌*◌, ◌/◌, ◌%◌, ◌<◌, ◌≤◌, List, [], ◌∷◌, ◌++◌, length, map, take, get_or, replicate, w8, refl, sym, ap, ◌∙◌, arith, append_assoc, take_all, subst}
+use Rattle.std.specs.List.{flat_map, range_with_len}
 use Rattle.std.specs.Simd.Lanes.{Each1, zip2, put_chunk, pick_l, chunk}
-use Rattle.std.proofs.lemmas.Simd.{swz_l, length-swz_l, get_or-swz_l_below, Each1-get_or, take_more_put_chunk, length-put_chunk}
+use Rattle.std.proofs.lemmas.Simd.{swz_l, length-swz_l, get_or-swz_l_below, Each1-get_or, take_more_put_chunk, length-put_chunk, pick_l-range_with_len}
 use Rattle.std.proofs.lemmas.Grind.{same_number_lists, flat_map-append}
 use Rattle.std.proofs.lemmas.List.{length-map, get_or-map}
+use Rattle.std.proofs.lemmas.List.FromFn.{get_or-map-range_with_len}
 use Rattle.std.proofs.Math.Seq.{take-add}
 use Rattle.job_print.specs.Texts.{hex_digit, hex_byte}
 
@@ -13,23 +14,7 @@ abbrev pub table : List ℕ
 table = 48 ∷ 49 ∷ 50 ∷ 51 ∷ 52 ∷ 53 ∷ 54 ∷ 55 ∷ 56 ∷ 57 ∷ 97 ∷ 98 ∷ 99 ∷ 100 ∷ 101 ∷ 102 ∷ []
 
 digit_at : (d : ℕ) → d < 16 → get_or table d 0 ≡ hex_digit d
-digit_at zero lt = refl
-digit_at (suc zero) lt = refl
-digit_at (suc (suc zero)) lt = refl
-digit_at (suc (suc (suc zero))) lt = refl
-digit_at (suc (suc (suc (suc zero)))) lt = refl
-digit_at (suc (suc (suc (suc (suc zero))))) lt = refl
-digit_at (suc (suc (suc (suc (suc (suc zero)))))) lt = refl
-digit_at (suc (suc (suc (suc (suc (suc (suc zero))))))) lt = refl
-digit_at (suc (suc (suc (suc (suc (suc (suc (suc zero)))))))) lt = refl
-digit_at (suc (suc (suc (suc (suc (suc (suc (suc (suc zero))))))))) lt = refl
-digit_at (suc (suc (suc (suc (suc (suc (suc (suc (suc (suc zero)))))))))) lt = refl
-digit_at (suc (suc (suc (suc (suc (suc (suc (suc (suc (suc (suc zero))))))))))) lt = refl
-digit_at (suc (suc (suc (suc (suc (suc (suc (suc (suc (suc (suc (suc zero)))))))))))) lt = refl
-digit_at (suc (suc (suc (suc (suc (suc (suc (suc (suc (suc (suc (suc (suc zero))))))))))))) lt = refl
-digit_at (suc (suc (suc (suc (suc (suc (suc (suc (suc (suc (suc (suc (suc (suc zero)))))))))))))) lt = refl
-digit_at (suc (suc (suc (suc (suc (suc (suc (suc (suc (suc (suc (suc (suc (suc (suc zero))))))))))))))) lt = refl
-digit_at (suc (suc (suc (suc (suc (suc (suc (suc (suc (suc (suc (suc (suc (suc (suc (suc d)))))))))))))))) lt = absurd (omega arith)
+digit_at d lt = get_or-map-range_with_len hex_digit 0 16 d d 0 lt (omega arith)
 
 -- a look-up in them
 pub looked_up : (js : List ℕ) → length js ≡ 16 → Each1 (λ j. j < 16) js
@@ -55,7 +40,8 @@ splat_16 f y xs long = ap (λ n. zip2 f xs (replicate n y)) (sym long) ∙ zip2_
 
 pub same_maps : (f g : ℕ → ℕ) → ((x : ℕ) → f x ≡ g x) → (xs : List ℕ) → map f xs ≡ map g xs
 same_maps f g same [] = refl
-same_maps f g same (x ∷ xs) = ap (λ y. y ∷ map f xs) (same x) ∙ ap (λ ys. g x ∷ ys) (same_maps f g same xs)
+same_maps f g same (x ∷ xs) =
+    ap (λ y. y ∷ map f xs) (same x) ∙ ap (λ ys. g x ∷ ys) (same_maps f g same xs)
 
 pub map_twice : (f g : ℕ → ℕ) (xs : List ℕ) → map f (map g xs) ≡ map (λ x. f (g x)) xs
 map_twice f g [] = refl
@@ -68,32 +54,24 @@ each_in_map P Q f step (x ∷ xs) all = (step x all.0, each_in_map P Q f step xs
 
 -- the first and the second half of two vectors' lanes by turns
 abbrev pub front : List ℕ → List ℕ
-front xs = pick_l 0 xs (0 ∷ 16 ∷ 1 ∷ 17 ∷ 2 ∷ 18 ∷ 3 ∷ 19 ∷ 4 ∷ 20 ∷ 5 ∷ 21 ∷ 6 ∷ 22 ∷ 7 ∷ 23 ∷ [])
+front xs =
+    pick_l 0 xs (0 ∷ 16 ∷ 1 ∷ 17 ∷ 2 ∷ 18 ∷ 3 ∷ 19 ∷ 4 ∷ 20 ∷ 5 ∷ 21 ∷ 6 ∷ 22 ∷ 7 ∷ 23 ∷ [])
 
 abbrev pub back : List ℕ → List ℕ
-back xs = pick_l 0 xs (8 ∷ 24 ∷ 9 ∷ 25 ∷ 10 ∷ 26 ∷ 11 ∷ 27 ∷ 12 ∷ 28 ∷ 13 ∷ 29 ∷ 14 ∷ 30 ∷ 15 ∷ 31 ∷ [])
+back xs =
+    pick_l 0 xs (8 ∷ 24 ∷ 9 ∷ 25 ∷ 10 ∷ 26 ∷ 11 ∷ 27 ∷ 12 ∷ 28 ∷ 13 ∷ 29 ∷ 14 ∷ 30 ∷ 15 ∷ 31 ∷ [])
 
-woven : (f g : ℕ → ℕ) (xs : List ℕ) → length xs ≡ 16
-    → front (map f xs ++ map g xs) ++ back (map f xs ++ map g xs)
+abbrev ByTurns : (ℕ → ℕ) → (ℕ → ℕ) → List ℕ → Type 0
+ByTurns f g xs =
+    front (map f xs ++ map g xs) ++ back (map f xs ++ map g xs)
     ≡ flat_map (λ x. f x ∷ g x ∷ []) xs
-woven f g [] long = absurd (omega arith)
-woven f g (x0 ∷ []) long = absurd (omega arith)
-woven f g (x0 ∷ x1 ∷ []) long = absurd (omega arith)
-woven f g (x0 ∷ x1 ∷ x2 ∷ []) long = absurd (omega arith)
-woven f g (x0 ∷ x1 ∷ x2 ∷ x3 ∷ []) long = absurd (omega arith)
-woven f g (x0 ∷ x1 ∷ x2 ∷ x3 ∷ x4 ∷ []) long = absurd (omega arith)
-woven f g (x0 ∷ x1 ∷ x2 ∷ x3 ∷ x4 ∷ x5 ∷ []) long = absurd (omega arith)
-woven f g (x0 ∷ x1 ∷ x2 ∷ x3 ∷ x4 ∷ x5 ∷ x6 ∷ []) long = absurd (omega arith)
-woven f g (x0 ∷ x1 ∷ x2 ∷ x3 ∷ x4 ∷ x5 ∷ x6 ∷ x7 ∷ []) long = absurd (omega arith)
-woven f g (x0 ∷ x1 ∷ x2 ∷ x3 ∷ x4 ∷ x5 ∷ x6 ∷ x7 ∷ x8 ∷ []) long = absurd (omega arith)
-woven f g (x0 ∷ x1 ∷ x2 ∷ x3 ∷ x4 ∷ x5 ∷ x6 ∷ x7 ∷ x8 ∷ x9 ∷ []) long = absurd (omega arith)
-woven f g (x0 ∷ x1 ∷ x2 ∷ x3 ∷ x4 ∷ x5 ∷ x6 ∷ x7 ∷ x8 ∷ x9 ∷ x10 ∷ []) long = absurd (omega arith)
-woven f g (x0 ∷ x1 ∷ x2 ∷ x3 ∷ x4 ∷ x5 ∷ x6 ∷ x7 ∷ x8 ∷ x9 ∷ x10 ∷ x11 ∷ []) long = absurd (omega arith)
-woven f g (x0 ∷ x1 ∷ x2 ∷ x3 ∷ x4 ∷ x5 ∷ x6 ∷ x7 ∷ x8 ∷ x9 ∷ x10 ∷ x11 ∷ x12 ∷ []) long = absurd (omega arith)
-woven f g (x0 ∷ x1 ∷ x2 ∷ x3 ∷ x4 ∷ x5 ∷ x6 ∷ x7 ∷ x8 ∷ x9 ∷ x10 ∷ x11 ∷ x12 ∷ x13 ∷ []) long = absurd (omega arith)
-woven f g (x0 ∷ x1 ∷ x2 ∷ x3 ∷ x4 ∷ x5 ∷ x6 ∷ x7 ∷ x8 ∷ x9 ∷ x10 ∷ x11 ∷ x12 ∷ x13 ∷ x14 ∷ []) long = absurd (omega arith)
-woven f g (x0 ∷ x1 ∷ x2 ∷ x3 ∷ x4 ∷ x5 ∷ x6 ∷ x7 ∷ x8 ∷ x9 ∷ x10 ∷ x11 ∷ x12 ∷ x13 ∷ x14 ∷ x15 ∷ []) long = refl
-woven f g (x0 ∷ x1 ∷ x2 ∷ x3 ∷ x4 ∷ x5 ∷ x6 ∷ x7 ∷ x8 ∷ x9 ∷ x10 ∷ x11 ∷ x12 ∷ x13 ∷ x14 ∷ x15 ∷ q ∷ rest) long = absurd (omega arith)
+
+-- a list of sixteen is that of its lanes
+woven : (f g : ℕ → ℕ) (xs : List ℕ) → length xs ≡ 16 → ByTurns f g xs
+woven f g xs long =
+    let lanes : pick_l 0 xs (range_with_len 0 16) ≡ xs =
+    pick_l-range_with_len 0 xs 0 16 (omega arith) ∙ take_all 16 xs (omega arith) in
+    subst (ByTurns f g) lanes refl
 
 halves_put : (i : ℕ) (xs ys zs : List ℕ) → length ys ≡ 16 → length zs ≡ 16 → i + 32 ≤ length xs
     → take (i + 32) (put_chunk (i + 16) (put_chunk i xs ys) zs) ≡ take i xs ++ (ys ++ zs)
@@ -108,15 +86,17 @@ pub sixteen_put : (i : ℕ) (xs high low bytes : List ℕ) → length bytes ≡ 
     → take (i + 32) (put_chunk (i + 16) (put_chunk i xs (front (high ++ low))) (back (high ++ low)))
     ≡ take i xs ++ flat_map hex_byte bytes
 sixteen_put i xs high low bytes long le h l =
+    let highs = map (λ b. hex_digit (b / 16)) bytes in
     halves_put i xs (front (high ++ low)) (back (high ++ low)) refl refl le
     ∙ ap (λ ys. take i xs ++ ys)
     (ap (λ a. front (a ++ low) ++ back (a ++ low)) h
-    ∙ ap (λ b. front (map (λ b. hex_digit (b / 16)) bytes ++ b) ++ back (map (λ b. hex_digit (b / 16)) bytes ++ b)) l
+    ∙ ap (λ b. front (highs ++ b) ++ back (highs ++ b)) l
     ∙ woven (λ b. hex_digit (b / 16)) (λ b. hex_digit (b % 16)) bytes long)
 
 -- sixteen bytes more
 pub sixteen_more : (k : ℕ) (digits bytes : List ℕ)
-    → take (32 * k + 32) digits ≡ flat_map hex_byte (take (16 * k) bytes) ++ flat_map hex_byte (chunk (16 * k) 16 bytes)
+    → take (32 * k + 32) digits
+    ≡ flat_map hex_byte (take (16 * k) bytes) ++ flat_map hex_byte (chunk (16 * k) 16 bytes)
     → take (32 * (k + 1)) digits ≡ flat_map hex_byte (take (16 * (k + 1)) bytes)
 sixteen_more k digits bytes put =
     let to : 32 * (k + 1) ≡ 32 * k + 32 = omega arith in
