@@ -24,7 +24,7 @@ use Rattle.std.proofs.lemmas.List.{take_at}
 use Rattle.std.proofs.lemmas.List.Elements.{All-append}
 use Rattle.std.specs.List.{flat_map, range_with_len}
 use Rattle.std.specs.Prelude.{All}
-use Rattle.zr_base.specs.Plain.{content as sectors, covers, has_whole, named, sector_after, sector_after_named, stuff_sector, zero_sector}
+use Rattle.zr_base.specs.Plain.{PageCalls, content as sectors, covers, has_whole, named, sector_after, sector_after_named, stuff_sector, zero_sector}
 use Rattle.zr_base.specs.Sectors.{page_sector}
 use Rattle.zr_base.specs.declared.op.Op.{Op}
 use Rattle.zr_base.specs.declared.op.Op.TheVariants.{Compact, Discard, Idle, Read, Write}
@@ -35,11 +35,11 @@ use Rattle.mem_account.specs.declared.weight.Weight.TheVariants as weight
 
 -- ---- lists
 
-content_append : (actors : List (List Op)) (s : ℕ) (old : List ℕ) (xs ys : List Tag)
-    → sectors actors s old (xs ++ ys) ≡ sectors actors s (sectors actors s old xs) ys
-content_append actors s old [] ys = refl
-content_append actors s old (x ∷ xs) ys =
-    content_append actors s (sector_after_named (named actors x) s old) xs ys
+content_append : (c : PageCalls) (s : ℕ) (old : List ℕ) (xs ys : List Tag)
+    → sectors c s old (xs ++ ys) ≡ sectors c s (sectors c s old xs) ys
+content_append c s old [] ys = refl
+content_append c s old (x ∷ xs) ys =
+    content_append c s (sector_after_named (named c.actors x) (c.finds x) s old) xs ys
 
 pub join_same : (f h : ℕ → List ℕ) (a n : ℕ) → ((k : ℕ) → a ≤ k → k < a + n → f k ≡ h k)
     → join f a n ≡ join h a n
@@ -94,7 +94,7 @@ module _ (g : Begin) where
   after_push f (x ∷ xs) t = after_push (after (named g.given.actors x) f) xs t
 
   abbrev of_page : ℕ → List Tag → ℕ → List ℕ
-  of_page p order k = held_after g.given order (8 * p + k)
+  of_page p order k = held_after g.given p order (8 * p + k)
 
   -- a page as its eight sectors
   pub content_join : (p : ℕ) (order : List Tag) → content g p order ≡ join (of_page p order) 0 8
@@ -105,7 +105,7 @@ module _ (g : Begin) where
 
 module _ (g : Begin) (ok : Known g) where
   pub content_sector : (p : ℕ) (order : List Tag) (k : ℕ) → k < 8
-      → page_sector (content g p order) k ≡ held_after g.given order (8 * p + k)
+      → page_sector (content g p order) k ≡ held_after g.given p order (8 * p + k)
   content_sector p order k lt = ap (λ page. page_sector page k) (content_join g p order)
       ∙ join_sector (of_page g p order) (λ i. (ok.proper.sectors order (8 * p + i)).0) 0 8 k lt
       ∙ ap (of_page g p order) (let q : 0 + k ≡ k = omega arith in q)
@@ -126,7 +126,7 @@ module _ (g : Begin) (ok : Known g) where
         (λ k. sector_after p.op (8 * p.page + k) (page_sector (content g p.page order) k)) 0 8
         (λ k low high. held_on order t (8 * p.page + k)
         ∙ ap (λ (o : Option Op). sector_after_named o (8 * p.page + k)
-        (held_after g.given order (8 * p.page + k))) is
+        (held_after g.given p.page order (8 * p.page + k))) is
         ∙ ap (sector_after p.op (8 * p.page + k)) (sym (content_sector p.page order k
         (omega arith))))
 
@@ -149,7 +149,7 @@ module _ (g : Begin) (ok : Known g) where
         (of_page g p.page order) 0 8
         (λ k low high. held_on order t (8 * p.page + k)
         ∙ ap (λ (o : Option Op). sector_after_named o (8 * p.page + k)
-        (held_after g.given order (8 * p.page + k))) (is ∙ ap (λ (o : Op). Some o) e))
+        (held_after g.given p.page order (8 * p.page + k))) (is ∙ ap (λ (o : Op). Some o) e))
         ∙ sym (content_join g p.page order)
 
     -- and its form
@@ -507,7 +507,7 @@ module _ (g : Begin) (ok : Known g) (p : Part) (order : List Tag) (actor : ℕ)
     holds = λ k lt. content_sector g ok p.page (order ++ tag_by actor p ∷ []) k lt
         ∙ held_on g ok order (tag_by actor p) (8 * p.page + k)
         ∙ ap (λ (o : Option Op). sector_after_named o (8 * p.page + k)
-        (held_after g.given order (8 * p.page + k))) is
+        (held_after g.given p.page order (8 * p.page + k))) is
         ∙ ap (sector_after p.op (8 * p.page + k)) (sym (content_sector g ok p.page order k lt));
   }
 

@@ -7,7 +7,7 @@ use Rattle.joint_rule.proofs.Facts.{Known}
 use Rattle.joint_rule.proofs.Pages.{blank_zero, holds_after}
 use Rattle.joint_rule.proofs.Ranges.{range_by, range_map, range_none}
 use Rattle.joint_rule.proofs.Rests.{at_rest}
-use Rattle.joint_rule.specs.Begins.{AreCarried, AreRequests, Begin, IsRoomy, Proper, back_at, found_after}
+use Rattle.joint_rule.specs.Begins.{AreCarried, AreRequests, Begin, FindsRight, IsRoomy, Proper, back_at, found_after}
 use Rattle.joint_rule.specs.Ends.{AllFinished, begin_at, new_rest, order_in, orders_of, rest_after, value_at, idle_in}
 use Rattle.joint_rule.specs.Rule.{Rule}
 use Rattle.joint_rule.specs.Starts.{IsRenewed}
@@ -32,7 +32,7 @@ use Rattle.std.proofs.lemmas.Option.{get_or_from_slice_get}
 use Rattle.std.specs.Int.{byte_at, bytes_low_first, to_le_bytes, w64}
 use Rattle.std.specs.List.{AllByRecursion}
 use Rattle.std.specs.Prelude.{All}
-use Rattle.zr_base.specs.Plain.{HasBytes, HasSectors, covers, has_whole, named, sector_after_named, stuff_sector, words_from, zero_sector, IsSector}
+use Rattle.zr_base.specs.Plain.{HasBytes, HasSectors, covers, has_whole, named, sector_after, stuff_sector, words_from, zero_sector, IsSector}
 use Rattle.zr_base.specs.Plain.{content as contents}
 use Rattle.zr_base.specs.declared.op.Op.{Op}
 use Rattle.zr_base.specs.declared.op.Op.TheVariants.{Compact, Discard, Idle, Read, Write}
@@ -97,11 +97,10 @@ put_sector (Hex bytes) count i has low lt = (
 )
 
 module _ (actors : List (List Op)) (requests : AreRequests actors) where
-  one_call : (t : Tag) (o : Option Op) (s : ℕ) (old : List ℕ) → named actors t ≡ o → IsSector old
-      → IsSector (sector_after_named o s old)
-  one_call t None s old e h = h
-  one_call t (Some (Read start count)) s old e h = h
-  one_call t (Some (Write start count stuff)) s old e h = elim (cases_Bool (covers start count s)) [
+  put_by : (t : Tag) (op : Op) (s : ℕ) (old : List ℕ) → named actors t ≡ Some op → IsSector old
+      → IsSector (sector_after op s old)
+  put_by t (Read start count) s old e h = h
+  put_by t (Write start count stuff) s old e h = elim (cases_Bool (covers start count s)) [
     | inl on ↦ rw on (
         let p = and_parts (leb start s) (ltb s (start + count)) on in
         let x = leb-true start s p.0 in let y = ltb-true s (start + count) p.1 in
@@ -109,25 +108,22 @@ module _ (actors : List (List Op)) (requests : AreRequests actors) where
         put_sector stuff count (s - start) q.1 q.2 (omega arith))
     | inr off ↦ rw off h
   ]
-  one_call t (Some (Idle age)) s old e h = h
-  one_call t (Some Compact) s old e h = h
-  one_call t (Some (Discard start count)) s old e h = elim
+  put_by t (Idle age) s old e h = h
+  put_by t Compact s old e h = h
+  put_by t (Discard start count) s old e h = elim
       (cases_Bool (has_whole start count (s / 8))) [ inl on ↦ rw on zero_is | inr off ↦ rw off h ]
 
-  all_calls : (order : List Tag) (s : ℕ) (old : List ℕ) → IsSector old
-      → IsSector (contents actors s old order)
-  all_calls [] s old h = h
-  all_calls (t ∷ ts) s old h = all_calls ts s (sector_after_named (named actors t) s old)
-      (one_call t (named actors t) s old refl h)
-
-pub proper_is : (h : Begin) → AreRequests h.given.actors → ((s : ℕ) → IsSector (h.given.before s))
+pub proper_is : (h : Begin) → AreRequests h.given.actors → FindsRight h
+    → ((s : ℕ) → IsSector (h.given.before s))
     → ((p k : ℕ) → k < 8 → h.blank p ≡ true → h.given.before (8 * p + k) ≡ zero_sector)
     → ((p : ℕ) → p < h.given.size → h.touched p ≤ h.clock) → IsRoomy h → Proper h
-proper_is h requests before blanks times room = record {
+proper_is h requests finds before blanks times room = record {
   some = room.some;
   times = times;
   blanks = blanks;
-  sectors = λ order s. all_calls h.given.actors requests order s (h.given.before s) (before s);
+  before = before;
+  puts = put_by h.given.actors requests;
+  finds = finds;
   least = room.least;
   most = room.most;
   few = room.few;
