@@ -12,7 +12,7 @@ use Rattle.page_steps.specs.Steps.{on}
 use Rattle.plain_disk.specs.Calls.{Found, after, after_all, blank_by, ever_pooled, kept_as, leave_page, leaves_page}
 use Rattle.plain_disk.specs.Ends.{page_put}
 use Rattle.plain_disk.specs.Forms.{in_class, is_pooled, page_bytes}
-use Rattle.plain_disk.specs.Phases.{held_after}
+use Rattle.plain_disk.specs.Phases.{calls_on, held_after}
 use Rattle.size_class.specs.Classes.{shares_next, stands_below, stands_of}
 use Rattle.slot_entry.specs.Entries.{plain_page, weight_of}
 use Rattle.slot_entry.specs.Forms.{Blank, PageForm, Pooled, Word, bytes_in, class_for, class_in, form_of, form_weight, object_class, page_weight, pooled, zero_page}
@@ -82,16 +82,19 @@ flat_join f h a b (suc n) e =
 -- ---- pages
 
 module _ (g : Begin) where
-  pub holds_after : (f : Found) (order : List Tag) (s : ℕ)
-      → (after_all g.given.actors f order).holds s ≡ sectors g.given.actors s (f.holds s) order
-  holds_after f [] s = refl
-  holds_after f (t ∷ ts) s = holds_after (after (named g.given.actors t) f) ts s
+  pub holds_after : (p : ℕ) (f : Found) (order : List Tag) (s : ℕ)
+      → (after_all (calls_on g.given p) f order).holds s
+      ≡ sectors (calls_on g.given p) s (f.holds s) order
+  holds_after p f [] s = refl
+  holds_after p f (t ∷ ts) s =
+      holds_after p (after (named g.given.actors t) (g.given.finds p t) f) ts s
 
-  pub after_push : (f : Found) (order : List Tag) (t : Tag)
-      → after_all g.given.actors f (order ++ t ∷ [])
-      ≡ after (named g.given.actors t) (after_all g.given.actors f order)
-  after_push f [] t = refl
-  after_push f (x ∷ xs) t = after_push (after (named g.given.actors x) f) xs t
+  pub after_push : (p : ℕ) (f : Found) (order : List Tag) (t : Tag)
+      → after_all (calls_on g.given p) f (order ++ t ∷ [])
+      ≡ after (named g.given.actors t) (g.given.finds p t) (after_all (calls_on g.given p) f order)
+  after_push p f [] t = refl
+  after_push p f (x ∷ xs) t =
+      after_push p (after (named g.given.actors x) (g.given.finds p x) f) xs t
 
   abbrev of_page : ℕ → List Tag → ℕ → List ℕ
   of_page p order k = held_after g.given p order (8 * p + k)
@@ -100,7 +103,7 @@ module _ (g : Begin) where
   pub content_join : (p : ℕ) (order : List Tag) → content g p order ≡ join (of_page p order) 0 8
   unfolding content
   content_join p order = flat_join (found_after g p order).holds (of_page p order) (8 * p) 0 8
-      (λ k. holds_after (found g p) order (8 * p + k)
+      (λ k. holds_after p (found g p) order (8 * p + k)
       ∙ ap (of_page p order) (let q : k ≡ 0 + k = omega arith in q))
 
 module _ (g : Begin) (ok : Known g) where
