@@ -43,7 +43,8 @@ use Rattle.plain_disk.specs.Forms.{is_huge}
 use Rattle.slot_entry.specs.Entries.{EntryState, is_new_mark}
 use Rattle.slot_entry.specs.Forms.{Blank, PageForm, Pooled, Word, form_weight}
 use Rattle.slot_entry.specs.declared.kept.Kept.{Kept}
-use Rattle.zr_base.specs.Plain.{is_beyond, is_maintenance, named}
+use Rattle.zr_base.specs.Plain.{PageCalls, is_beyond, is_maintenance, named}
+use Rattle.plain_disk.specs.Phases.{calls_on}
 use Rattle.zr_base.specs.declared.op.Op.{Op}
 use Rattle.zr_base.specs.declared.op.Op.TheVariants.{Compact, Discard, Idle, Read, Write}
 use Rattle.zr_base.specs.declared.op.Tag.{Tag}
@@ -56,19 +57,19 @@ use Rattle.zr_base.specs.declared.op.OpEnd.TheVariants as ends
 
 -- ---- orders
 
-pub push_sum : (f : Option Op → Found → Found → ℕ) (actors : List (List Op)) (x : Found)
+pub push_sum : (f : Option Op → Found → Found → ℕ) (c : PageCalls) (x : Found)
     (order : List Tag) (t : Tag)
-    → calls_sum f actors x (order ++ t ∷ []) ≡ calls_sum f actors x order
-    + f (named actors t) (after_all actors x order) (after (named actors t)
-    (after_all actors x order))
-push_sum f actors x [] t = omega arith
-push_sum f actors x (y ∷ ys) t = let r = push_sum f actors (after (named actors y) x) ys t in
-    omega arith
+    → calls_sum f c x (order ++ t ∷ []) ≡ calls_sum f c x order
+    + f (named c.actors t) (after_all c x order)
+    (after (named c.actors t) (c.finds t) (after_all c x order))
+push_sum f c x [] t = omega arith
+push_sum f c x (y ∷ ys) t =
+    let r = push_sum f c (after (named c.actors y) (c.finds y) x) ys t in omega arith
 
-push_after : (actors : List (List Op)) (x : Found) (order : List Tag) (t : Tag)
-    → after_all actors x (order ++ t ∷ []) ≡ after (named actors t) (after_all actors x order)
-push_after actors x [] t = refl
-push_after actors x (y ∷ ys) t = push_after actors (after (named actors y) x) ys t
+push_after : (c : PageCalls) (x : Found) (order : List Tag) (t : Tag)
+    → after_all c x (order ++ t ∷ []) ≡ after (named c.actors t) (c.finds t) (after_all c x order)
+push_after c x [] t = refl
+push_after c x (y ∷ ys) t = push_after c (after (named c.actors y) (c.finds y) x) ys t
 
 huge_bit : (w : Weight) → cond {A = ℕ} (is_huge w) 1 0 ≡ huge_of w
 huge_bit weight.Empty = refl
@@ -303,9 +304,9 @@ module _ (g : Begin) (ok : Known g) (w : State DiskHeld) (j : Joint g w) (a : �
       + news_of q p.page (Some p.op) (found_after g p.page order)
       (found_after g p.page (order ++ tag_by l.actor p ∷ []))
   order_more q p order is =
-      push_sum (news_of q p.page) g.given.actors (found g p.page) order (tag_by l.actor p)
+      push_sum (news_of q p.page) (calls_on g.given p.page) (found g p.page) order (tag_by l.actor p)
       ∙ (λ i. order_news g q p.page order + news_of q p.page (is i) (found_after g p.page order)
-      (sym (push_after g.given.actors (found g p.page) order (tag_by l.actor p)) i))
+      (sym (push_after (calls_on g.given p.page) (found g p.page) order (tag_by l.actor p)) i))
 
   module _ (p : Part) (rest : List Part) (todo : l.todo ≡ p ∷ rest) (e f : EntryState)
       (held : l.held ≡ (slot p.page, holds.Slot e) ∷ []) where

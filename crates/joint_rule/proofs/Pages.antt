@@ -24,7 +24,7 @@ use Rattle.std.proofs.lemmas.List.{take_at}
 use Rattle.std.proofs.lemmas.List.Elements.{All-append}
 use Rattle.std.specs.List.{flat_map, range_with_len}
 use Rattle.std.specs.Prelude.{All}
-use Rattle.zr_base.specs.Plain.{PageCalls, content as sectors, covers, has_whole, named, sector_after, sector_after_named, stuff_sector, zero_sector}
+use Rattle.zr_base.specs.Plain.{PageCalls, content as sectors, covers, has_whole, named, sector_after, sector_after_named, stuff_sector, zero_sector, IsSector, Look, start_from}
 use Rattle.zr_base.specs.Sectors.{page_sector}
 use Rattle.zr_base.specs.declared.op.Op.{Op}
 use Rattle.zr_base.specs.declared.op.Op.TheVariants.{Compact, Discard, Idle, Read, Write}
@@ -107,42 +107,76 @@ module _ (g : Begin) where
       ∙ ap (of_page p order) (let q : k ≡ 0 + k = omega arith in q))
 
 module _ (g : Begin) (ok : Known g) where
+  -- a call leaves a sector
+  call_sector : (p : ℕ) (t : Tag) (o : Option Op) (s : ℕ) (old : List ℕ)
+      → named g.given.actors t ≡ o → IsSector old
+      → IsSector (sector_after_named o (g.given.finds p t) s old)
+  call_sector p t None s old e i = i
+  call_sector p t (Some (Write start count stuff)) s old e i =
+      ok.proper.puts t (Write start count stuff) s (g.given.finds p t s old) e
+      (ok.proper.finds.sectors p t s old i)
+  call_sector p t (Some (Read start count)) s old e i =
+      ok.proper.puts t (Read start count) s old e i
+  call_sector p t (Some (Discard start count)) s old e i =
+      ok.proper.puts t (Discard start count) s old e i
+  call_sector p t (Some (Idle age)) s old e i = ok.proper.puts t (Idle age) s old e i
+  call_sector p t (Some Compact) s old e i = ok.proper.puts t Compact s old e i
+
+  sectors_by : (p : ℕ) (order : List Tag) (s : ℕ) (old : List ℕ) → IsSector old
+      → IsSector (sectors (calls_on g.given p) s old order)
+  sectors_by p [] s old i = i
+  sectors_by p (t ∷ ts) s old i = sectors_by p ts s
+      (sector_after_named (named g.given.actors t) (g.given.finds p t) s old)
+      (call_sector p t (named g.given.actors t) s old refl i)
+
+  -- so does each order
+  pub all_sectors : (p : ℕ) (order : List Tag) (s : ℕ) → IsSector (held_after g.given p order s)
+  all_sectors p order s = sectors_by p order s (g.given.before s) (ok.proper.before s)
+
   pub content_sector : (p : ℕ) (order : List Tag) (k : ℕ) → k < 8
       → page_sector (content g p order) k ≡ held_after g.given p order (8 * p + k)
   content_sector p order k lt = ap (λ page. page_sector page k) (content_join g p order)
-      ∙ join_sector (of_page g p order) (λ i. (ok.proper.sectors order (8 * p + i)).0) 0 8 k lt
+      ∙ join_sector (of_page g p order) (λ i. (all_sectors p order (8 * p + i)).0) 0 8 k lt
       ∙ ap (of_page g p order) (let q : 0 + k ≡ k = omega arith in q)
 
   pub content_long : (p : ℕ) (order : List Tag) → length (content g p order) ≡ 4096
   content_long p order = ap length (content_join g p order)
-      ∙ join_long (of_page g p order) (λ i. (ok.proper.sectors order (8 * p + i)).0) 0 8
+      ∙ join_long (of_page g p order) (λ i. (all_sectors p order (8 * p + i)).0) 0 8
 
-  held_on : (order : List Tag) (t : Tag) (s : ℕ) → held_after g.given (order ++ t ∷ []) s
-      ≡ sector_after_named (named g.given.actors t) s (held_after g.given order s)
-  held_on order t s = content_append g.given.actors s (g.given.before s) order (t ∷ [])
+  held_on : (p : ℕ) (order : List Tag) (t : Tag) (s : ℕ)
+      → held_after g.given p (order ++ t ∷ []) s
+      ≡ sector_after_named (named g.given.actors t) (g.given.finds p t) s
+      (held_after g.given p order s)
+  held_on p order t s = content_append (calls_on g.given p) s (g.given.before s) order (t ∷ [])
 
   module _ (p : Part) (order : List Tag) (t : Tag) (is : named g.given.actors t ≡ Some p.op) where
-    pub content_on : content g p.page (order ++ t ∷ []) ≡ page_after p (content g p.page order)
+    -- it starts from this page
+    abbrev pub StartsFrom : List ℕ → Type 0
+    StartsFrom page = (k : ℕ) → k < 8
+        → start_from p.op (g.given.finds p.page t) (8 * p.page + k)
+        (held_after g.given p.page order (8 * p.page + k)) ≡ page_sector page k
+
+    pub content_on : (page : List ℕ) → StartsFrom page
+        → content g p.page (order ++ t ∷ []) ≡ page_after p page
     unfolding page_after
-    content_on = content_join g p.page (order ++ t ∷ [])
+    content_on page from = content_join g p.page (order ++ t ∷ [])
         ∙ join_same (of_page g p.page (order ++ t ∷ []))
-        (λ k. sector_after p.op (8 * p.page + k) (page_sector (content g p.page order) k)) 0 8
-        (λ k low high. held_on order t (8 * p.page + k)
-        ∙ ap (λ (o : Option Op). sector_after_named o (8 * p.page + k)
+        (λ k. sector_after p.op (8 * p.page + k) (page_sector page k)) 0 8
+        (λ k low high. held_on p.page order t (8 * p.page + k)
+        ∙ ap (λ (o : Option Op). sector_after_named o (g.given.finds p.page t) (8 * p.page + k)
         (held_after g.given p.page order (8 * p.page + k))) is
-        ∙ ap (sector_after p.op (8 * p.page + k)) (sym (content_sector p.page order k
-        (omega arith))))
+        ∙ ap (sector_after p.op (8 * p.page + k)) (from k (omega arith)))
 
     pub blank_on : (found_after g p.page (order ++ t ∷ [])).blank
         ≡ blank_by (Some p.op) (found_after g p.page order).blank
     blank_on = ap (λ (f : Found). f.blank) (after_push g (found g p.page) order t)
         ∙ ap (λ (o : Option Op). blank_by o (found_after g p.page order).blank) is
 
-    pub form_on : form_at g p.page (order ++ t ∷ []) ≡ form_by
-        (blank_by (Some p.op) (found_after g p.page order).blank)
-        (form_of (page_after p (content g p.page order)))
+    pub form_on : (page : List ℕ) → StartsFrom page → form_at g p.page (order ++ t ∷ [])
+        ≡ form_by (blank_by (Some p.op) (found_after g p.page order).blank)
+        (form_of (page_after p page))
     unfolding form_at
-    form_on = λ i. form_by (blank_on i) (form_of (content_on i))
+    form_on page from = λ i. form_by (blank_on i) (form_of (content_on page from i))
 
     -- a read leaves the page
     pub content_read : (start count : ℕ) → p.op ≡ Read start count
@@ -150,8 +184,8 @@ module _ (g : Begin) (ok : Known g) where
     content_read start count e =
         content_join g p.page (order ++ t ∷ []) ∙ join_same (of_page g p.page (order ++ t ∷ []))
         (of_page g p.page order) 0 8
-        (λ k low high. held_on order t (8 * p.page + k)
-        ∙ ap (λ (o : Option Op). sector_after_named o (8 * p.page + k)
+        (λ k low high. held_on p.page order t (8 * p.page + k)
+        ∙ ap (λ (o : Option Op). sector_after_named o (g.given.finds p.page t) (8 * p.page + k)
         (held_after g.given p.page order (8 * p.page + k))) (is ∙ ap (λ (o : Op). Some o) e))
         ∙ sym (content_join g p.page order)
 
@@ -167,26 +201,27 @@ module _ (g : Begin) (ok : Known g) where
         λ i. form_by (b i) (form_of (c i))
 
   -- zeros where nothing stands
-  blank_step : (o : Option Op) (p k : ℕ) → k < 8 → HasEvent p o → (b : Bool) (old : List ℕ)
-      → (b ≡ true → old ≡ zero_sector) → blank_by o b ≡ true
-      → sector_after_named o (8 * p + k) old ≡ zero_sector
-  blank_step None p k lt ev b old zeros e = zeros e
-  blank_step (Some (Read start count)) p k lt ev b old zeros e = zeros e
-  blank_step (Some (Write start count stuff)) p k lt ev b old zeros e = absurd (cc)
-  blank_step (Some (Idle age)) p k lt ev b old zeros e = zeros e
-  blank_step (Some Compact) p k lt ev b old zeros e = zeros e
-  blank_step (Some (Discard start count)) p k lt ev b old zeros e =
+  blank_step : (o : Option Op) (look : Look) (p k : ℕ) → k < 8 → HasEvent p o → (b : Bool)
+      (old : List ℕ) → (b ≡ true → old ≡ zero_sector) → blank_by o b ≡ true
+      → sector_after_named o look (8 * p + k) old ≡ zero_sector
+  blank_step None look p k lt ev b old zeros e = zeros e
+  blank_step (Some (Read start count)) look p k lt ev b old zeros e = zeros e
+  blank_step (Some (Write start count stuff)) look p k lt ev b old zeros e = absurd (cc)
+  blank_step (Some (Idle age)) look p k lt ev b old zeros e = zeros e
+  blank_step (Some Compact) look p k lt ev b old zeros e = zeros e
+  blank_step (Some (Discard start count)) look p k lt ev b old zeros e =
       let q : (8 * p + k) / 8 ≡ p = omega arith in
       ap (λ (n : ℕ). cond (has_whole start count n) zero_sector old) q
       ∙ ap (λ (c : Bool). cond c zero_sector old) ev
 
   pub blank_zero : (order : List Tag) (p k : ℕ) → k < 8 → AreCarried g p order → (f : Found)
       → (f.blank ≡ true → f.holds (8 * p + k) ≡ zero_sector)
-      → (after_all g.given.actors f order).blank ≡ true
-      → (after_all g.given.actors f order).holds (8 * p + k) ≡ zero_sector
+      → (after_all (calls_on g.given p) f order).blank ≡ true
+      → (after_all (calls_on g.given p) f order).holds (8 * p + k) ≡ zero_sector
   blank_zero [] p k lt evs f zeros e = zeros e
   blank_zero (t ∷ ts) p k lt evs f zeros e = blank_zero ts p k lt evs.1
-      (after (named g.given.actors t) f) (blank_step (named g.given.actors t) p k lt evs.0 f.blank
+      (after (named g.given.actors t) (g.given.finds p t) f)
+      (blank_step (named g.given.actors t) (g.given.finds p t) p k lt evs.0 f.blank
       (f.holds (8 * p + k)) zeros) e
 
   zeros : ℕ → List ℕ
@@ -272,7 +307,7 @@ module _ (g : Begin) (ok : Known g) where
     content_long g ok p order,
     subst (All (λ b. b < 256))
         (sym (content_join g p order)) (all_join (of_page g p order)
-        (λ k. (ok.proper.sectors order (8 * p + k)).1) 0 8),
+        (λ k. (all_sectors g ok p order (8 * p + k)).1) 0 8),
   )
 
   -- a form with no object tells the page
@@ -367,25 +402,21 @@ class_weight chain k (Pooled bytes false) i e =
 
 module _ (g : Begin) (ok : Known g) (p : Part) (order : List Tag) (t : Tag)
     (is : named g.given.actors t ≡ Some p.op) where
-  -- the form after a piece
+  -- the form after a piece that starts from this page
   abbrev told : Op → List ℕ → PageForm
   told o page = form_by (blank_by (Some o) (found_after g p.page order).blank)
       (form_of (page_after p page))
 
-  next_is : (o : Op) (page : List ℕ) → p.op ≡ o → Changes o
-      → IsRight o p.page page (content g p.page order) → told o (content g p.page order)
-      ≡ next_by o p page
-  next_is (Write start count stuff) page e c r = ap form_of
-      (⊎_elim (λ w. whole_same p start count stuff (content g p.page order) page e w)
-      (λ s. ap (page_after p) (sym s)) r)
-  next_is (Read start count) page e c r = absurd c
-  next_is (Discard start count) page e c r = refl
-  next_is (Idle age) page e c r = absurd c
-  next_is Compact page e c r = absurd c
+  next_is : (o : Op) (page : List ℕ) → Changes o → told o page ≡ next_by o p page
+  next_is (Write start count stuff) page c = refl
+  next_is (Read start count) page c = absurd c
+  next_is (Discard start count) page c = refl
+  next_is (Idle age) page c = absurd c
+  next_is Compact page c = absurd c
 
-  pub form_next : (page : List ℕ) → Changes p.op → IsRight p.op p.page page (content g p.page order)
+  pub form_next : (page : List ℕ) → Changes p.op → StartsFrom g ok p order t is page
       → form_at g p.page (order ++ t ∷ []) ≡ next_by p.op p page
-  form_next page c r = form_on g ok p order t is ∙ next_is p.op page refl c r
+  form_next page c from = form_on g ok p order t is page from ∙ next_is p.op page c
 
 -- ---- pages that were in the pool
 
@@ -423,7 +454,7 @@ module _ (g : Begin) (p : ℕ) where
 
   pub ever_one : (order : List Tag) → ever g p order ≤ 1
   unfolding bit
-  ever_one order = bit_one (ever_pooled page_weight p g.given.actors (found g p) order)
+  ever_one order = bit_one (ever_pooled page_weight p (calls_on g.given p) (found g p) order)
 
   or_left : (a b : Bool) → bit a ≤ bit (a || b)
   unfolding bit
@@ -441,15 +472,15 @@ module _ (g : Begin) (p : ℕ) where
   or_up false b c h = h
 
   abbrev ever_by : Found → List Tag → Bool
-  ever_by f order = ever_pooled page_weight p g.given.actors f order
+  ever_by f order = ever_pooled page_weight p (calls_on g.given p) f order
 
   up_by : (f : Found) (ts : List Tag) (t : Tag) → bit (ever_by f ts)
       ≤ bit (ever_by f (ts ++ t ∷ []))
   up_by f [] t = or_left (is_pooled (kept_as page_weight p f))
-      (ever_by (after (named g.given.actors t) f) [])
+      (ever_by (after (named g.given.actors t) (g.given.finds p t) f) [])
   up_by f (x ∷ ts) t = or_up (is_pooled (kept_as page_weight p f))
-      (ever_by (after (named g.given.actors x) f) ts) (ever_by (after (named g.given.actors x) f)
-      (ts ++ t ∷ [])) (up_by (after (named g.given.actors x) f) ts t)
+      (ever_by (after (named g.given.actors x) (g.given.finds p x) f) ts) (ever_by (after (named g.given.actors x) (g.given.finds p x) f)
+      (ts ++ t ∷ [])) (up_by (after (named g.given.actors x) (g.given.finds p x) f) ts t)
 
   -- it only rises
   pub ever_up : (order : List Tag) (t : Tag) → ever g p order ≤ ever g p (order ++ t ∷ [])
@@ -457,12 +488,12 @@ module _ (g : Begin) (p : ℕ) where
   ever_up order t = up_by (found g p) order t
 
   now_by : (f : Found) (ts : List Tag) → bit (is_pooled
-      (kept_as page_weight p (after_all g.given.actors f ts))) ≤ bit (ever_by f ts)
+      (kept_as page_weight p (after_all (calls_on g.given p) f ts))) ≤ bit (ever_by f ts)
   now_by f [] = omega arith
   now_by f (x ∷ ts) = or_right (is_pooled (kept_as page_weight p f))
-      (is_pooled (kept_as page_weight p (after_all g.given.actors
-      (after (named g.given.actors x) f) ts))) (ever_by (after (named g.given.actors x) f) ts)
-      (now_by (after (named g.given.actors x) f) ts)
+      (is_pooled (kept_as page_weight p (after_all (calls_on g.given p)
+      (after (named g.given.actors x) (g.given.finds p x) f) ts))) (ever_by (after (named g.given.actors x) (g.given.finds p x) f) ts)
+      (now_by (after (named g.given.actors x) (g.given.finds p x) f) ts)
 
   pub ever_now : (order : List Tag) → pooled (form_at g p order) ≤ ever g p order
   unfolding bit
@@ -503,15 +534,17 @@ image_len g p order o i = form_len g.chain (form_at g p order) o i
 module _ (g : Begin) (ok : Known g) (p : Part) (order : List Tag) (actor : ℕ)
     (is : named g.given.actors (tag_by actor p) ≡ Some p.op) where
   -- the piece is carried out on the content
-  pub content_carries : Carries actor p (content g p.page order) order
-      (content g p.page (order ++ tag_by actor p ∷ [])) (order ++ tag_by actor p ∷ [])
+  pub content_carries : Carries actor p (g.given.finds p.page (tag_by actor p))
+      (content g p.page order) order (content g p.page (order ++ tag_by actor p ∷ [])) (order ++ tag_by actor p ∷ [])
   content_carries = record {
     notes = refl;
     holds = λ k lt. content_sector g ok p.page (order ++ tag_by actor p ∷ []) k lt
-        ∙ held_on g ok order (tag_by actor p) (8 * p.page + k)
-        ∙ ap (λ (o : Option Op). sector_after_named o (8 * p.page + k)
-        (held_after g.given p.page order (8 * p.page + k))) is
-        ∙ ap (sector_after p.op (8 * p.page + k)) (sym (content_sector g ok p.page order k lt));
+        ∙ held_on g ok p.page order (tag_by actor p) (8 * p.page + k)
+        ∙ ap (λ (o : Option Op). sector_after_named o (g.given.finds p.page (tag_by actor p))
+        (8 * p.page + k) (held_after g.given p.page order (8 * p.page + k))) is
+        ∙ ap (λ (old : List ℕ). sector_after p.op (8 * p.page + k)
+        (start_from p.op (g.given.finds p.page (tag_by actor p)) (8 * p.page + k) old))
+        (sym (content_sector g ok p.page order k lt));
   }
 
 -- ---- pages on the device

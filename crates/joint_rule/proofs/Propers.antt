@@ -4,10 +4,10 @@ use Rattle.joint_rule.proofs.Fitting.{touched_low}
 use Rattle.backing_dev.specs.Dev.{DeviceState}
 use Rattle.joint_rule.proofs.Ended.{entries, order_is}
 use Rattle.joint_rule.proofs.Facts.{Known}
-use Rattle.joint_rule.proofs.Pages.{blank_zero, holds_after}
+use Rattle.joint_rule.proofs.Pages.{all_sectors, blank_zero, holds_after}
 use Rattle.joint_rule.proofs.Ranges.{range_by, range_map, range_none}
 use Rattle.joint_rule.proofs.Rests.{at_rest}
-use Rattle.joint_rule.specs.Begins.{AreCarried, AreRequests, Begin, FindsRight, IsRoomy, Proper, back_at, found_after}
+use Rattle.joint_rule.specs.Begins.{finding, AreCarried, AreRequests, Begin, FindsRight, IsRoomy, Proper, back_at, found_after}
 use Rattle.joint_rule.specs.Ends.{AllFinished, begin_at, new_rest, order_in, orders_of, rest_after, value_at, idle_in}
 use Rattle.joint_rule.specs.Rule.{Rule}
 use Rattle.joint_rule.specs.Starts.{IsRenewed}
@@ -138,10 +138,10 @@ past (x ∷ xs) (suc i) d le = past xs i d (omega arith)
 module _ (r : Rest) (actors : List (List Op)) (ok : Known (begin_at r actors)) (w : State DiskHeld)
     (rule : Rule (begin_at r actors) w) (fin : AllFinished (begin_at r actors) w) where
   abbrev g : Begin
-  g = begin_at r actors
+  g = finding (begin_at r actors) rule.finds
 
   abbrev m : Rest
-  m = rest_after r actors w.row
+  m = rest_after r actors rule.finds w.row
 
   carried : (p : ℕ) → AreCarried g p (nth_order (orders_of r.size w.row) p)
   carried p = ⊎_elim
@@ -157,8 +157,8 @@ module _ (r : Rest) (actors : List (List Op)) (ok : Known (begin_at r actors)) (
       → IsRoomy (begin_at (sets m set) more) → r.set.clock ≤ set.clock
       → Proper (begin_at (sets m set) more)
   next_proper set more requests room later = proper_is (begin_at (sets m set) more) requests
-      (λ s. ok.proper.sectors (nth_order (orders_of r.size w.row) (s / 8)) s)
-      (λ p k lt blank. ap (λ (q : ℕ). held_after (begun r actors)
+      (λ s. all_sectors g known (s / 8) (nth_order (orders_of r.size w.row) (s / 8)) s)
+      (λ p k lt blank. ap (λ (q : ℕ). held_after g.given q
       (nth_order (orders_of r.size w.row) q) (8 * p + k))
       (let q : (8 * p + k) / 8 ≡ p = omega arith in q)
       ∙ sym (holds_after g (page_of r p) (nth_order (orders_of r.size w.row) p) (8 * p + k))
@@ -192,10 +192,10 @@ module _ (r : Rest) (actors : List (List Op)) (ok : Known (begin_at r actors)) (
             ∙ sym home.sound.touched;
         blank = ap (λ (o : List Tag). (found_after g j o).blank) order_e;
         back = ap (back_at g j) order_e;
-        before = λ k lt8. ap (λ (q : ℕ). held_after (begun r actors)
+        before = λ k lt8. ap (λ (q : ℕ). held_after g.given q
             (nth_order (orders_of r.size w.row) q) (8 * j + k))
             (let q : (8 * j + k) / 8 ≡ j = omega arith in q)
-            ∙ ap (λ (o : List Tag). held_after (begun r actors) o (8 * j + k)) order_e;
+            ∙ ap (λ (o : List Tag). held_after g.given j o (8 * j + k)) order_e;
       }
 
 -- ---- a new disk

@@ -298,6 +298,8 @@ module _ (g : Begin) (ok : Known g) (w : State DiskHeld) (s : IsStart g w) where
       reads = λ a i d at on. absurd (let q : slice_get (let ds : List Done = [] in ds) i ≡ Some d =
           subst (λ (ds : List Done). slice_get ds i ≡ Some d) (nothing_done a) at in cc);
     };
+    finds = λ at t is_at. absurd (let q : slice_get (let ts : List Tag = [] in ts) at ≡ Some t =
+        subst (λ (ts : List Tag). slice_get ts at ≡ Some t) is is_at in cc);
     spare = le;
     few = let z = ap length is in let r = owed_each k w.locals g.given.actors
         (λ a l e. let h = s.actors a l e in (h.ops, h.named, h.todo)) in omega arith;
