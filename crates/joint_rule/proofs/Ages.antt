@@ -19,7 +19,7 @@ use Rattle.joint_rule.proofs.Sums.{gone}
 use Rattle.joint_rule.specs.Alone.{Ages, IsAged, aged_at, aged_done, aged_in, aged_now}
 use Rattle.joint_rule.specs.Begins.{Begin, back_at, found_after, terms}
 use Rattle.joint_rule.specs.Joint.{Joint}
-use Rattle.joint_rule.specs.Rule.{Rule}
+use Rattle.joint_rule.specs.Rule.{Ruled}
 use Rattle.joint_rule.specs.Stages.{FailBy, IsFault}
 use Rattle.joint_rule.specs.Starts.{IsStart}
 use Rattle.joint_rule.specs.Weights.{HeldAll}
@@ -254,7 +254,7 @@ next_state g w n a l m x y row who only next is up ages =
     subst (λ (z : State DiskHeld × Here). Ages g z.0 z.1) (λ i. (sym is i, sym s.1 i))
     (up (subst (Ages g w) first ages))
 
-pub ages_turn : (g : Begin) (ok : Known g) (a : ℕ) (w n : State DiskHeld) → Rule g w
+pub ages_turn : (g : Begin) (ok : Known g) (a : ℕ) (w n : State DiskHeld) → Ruled g w
     → OneTurn g a w n → (l m : Here) → w.locals ≡ l ∷ [] → n.locals ≡ m ∷ [] → Ages g w l
     → Ages g n m
 ages_turn g ok a w n r (turn.finished x who what e) l m only next = same_state g w n l m e only next
@@ -274,7 +274,7 @@ ages_start g w l s only =
     let h = s.actors 0 l (ap (λ (ls : List Here). slice_get ls 0) only) in
     let still = ap scan_at h.at in
     record {
-      marks = subst (AreMarkedOver page_weight g.clock g.given.size (aged_at g)) (sym h.done) tt;
+      marks = subst (AreMarkedOver page_weight g.clock g.given.finds g.given.size (aged_at g)) (sym h.done) tt;
       counts = first_counts g l.todo l.at l.done still;
       home = λ p v at. home p v at (first_scanned g l.todo l.at still p (aged_done g l.done p)
           ∙ ap (λ (ds : List Done). aged_done g ds p) h.done);

@@ -30,7 +30,7 @@ use Rattle.joint_rule.proofs.Places.{IsAccount, IsDevice, IsEntry, IsMap, IsPool
 use Rattle.joint_rule.proofs.Tells.{once}
 use Rattle.joint_rule.specs.Begins.{Begin, content, form_at, form_by, ground_of, piece_on, pieces_on, terms}
 use Rattle.joint_rule.specs.Joint.{AtHome, IsActor, Joint, PoolFits, Sound}
-use Rattle.joint_rule.specs.Rule.{OfOrder, Rule, ShowsOrder, owed, owed_by}
+use Rattle.joint_rule.specs.Rule.{OfOrder, Ruled, ShowsOrder, owed, owed_by}
 use Rattle.joint_rule.specs.Stages.{Changes, CountAt, GoneBy, IsForm, IsPinned, IsRight, IsSmall, MayPin, Names, NoneOf, Stage, StageBy, locks_at, locks_by}
 use Rattle.joint_rule.specs.Weights.{Backs, Count, HeldAll, Huges, PackedBytes, Packs, Sames, ahead, behind, cell_weight, counter, counters, each_one, ever_at, measure, none, one, out_weight, pages, pin_in, same_pin, shown, stored}
 use Rattle.lock_row.specs.Totals.{by_option, held_sum, locals_sum, mass, total}
@@ -266,7 +266,7 @@ module _ (g : Begin) (ok : Known g) (w : State DiskHeld) (j : Joint g w) where
 
 -- ---- what is taken
 
-module _ (g : Begin) (ok : Known g) (w : State DiskHeld) (r : Rule g w) (a : ℕ) (l : Here)
+module _ (g : Begin) (ok : Known g) (w : State DiskHeld) (r : Ruled g w) (a : ℕ) (l : Here)
     (who : slice_get w.locals a ≡ Some l) (k : LockNo) (v : DiskHeld)
     (there : slice_get w.row (spot g.given.size k) ≡ Some (Some v))
     (what : plan (terms g) l ≡ Take k) where

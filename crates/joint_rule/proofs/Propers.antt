@@ -9,7 +9,7 @@ use Rattle.joint_rule.proofs.Ranges.{range_by, range_map, range_none}
 use Rattle.joint_rule.proofs.Rests.{at_rest}
 use Rattle.joint_rule.specs.Begins.{finding, AreCarried, AreRequests, Begin, FindsRight, IsRoomy, Proper, back_at, found_after}
 use Rattle.joint_rule.specs.Ends.{AllFinished, begin_at, new_rest, order_in, orders_of, rest_after, value_at, idle_in}
-use Rattle.joint_rule.specs.Rule.{Rule}
+use Rattle.joint_rule.specs.Rule.{Ruled}
 use Rattle.joint_rule.specs.Starts.{IsRenewed}
 use Rattle.lock_row.specs.declared.names.State.{State}
 use Rattle.mem_account.specs.Counters.{no_counts}
@@ -32,7 +32,7 @@ use Rattle.std.proofs.lemmas.Option.{get_or_from_slice_get}
 use Rattle.std.specs.Int.{byte_at, bytes_low_first, to_le_bytes, w64}
 use Rattle.std.specs.List.{AllByRecursion}
 use Rattle.std.specs.Prelude.{All}
-use Rattle.zr_base.specs.Plain.{HasBytes, HasSectors, covers, has_whole, named, sector_after, stuff_sector, words_from, zero_sector, IsSector}
+use Rattle.zr_base.specs.Plain.{HasBytes, HasSectors, covers, has_whole, named, sector_after, stuff_sector, words_from, zero_sector, IsSector, Finds, as_held}
 use Rattle.zr_base.specs.Plain.{content as contents}
 use Rattle.zr_base.specs.declared.op.Op.{Op}
 use Rattle.zr_base.specs.declared.op.Op.TheVariants.{Compact, Discard, Idle, Read, Write}
@@ -130,23 +130,33 @@ proper_is h requests finds before blanks times room = record {
   pieces = room.pieces;
 }
 
+-- calls that find what is held find sectors
+held_right : (h : Begin) → ((p : ℕ) (t : Tag) (s : ℕ) (old : List ℕ)
+    → h.given.finds p t s old ≡ old) → FindsRight h
+held_right h held = record {
+  sectors = λ p t s old i. subst IsSector (sym (held p t s old)) i;
+  honest = λ honest. held;
+}
+
 past : {A : Type 0} (xs : List A) (i : ℕ) (d : A) → length xs ≤ i → get_or xs i d ≡ d
 past [] i d le = refl
 past (x ∷ xs) zero d le = absurd (omega arith)
 past (x ∷ xs) (suc i) d le = past xs i d (omega arith)
 
-module _ (r : Rest) (actors : List (List Op)) (ok : Known (begin_at r actors)) (w : State DiskHeld)
-    (rule : Rule (begin_at r actors) w) (fin : AllFinished (begin_at r actors) w) where
+module _ (r : Rest) (actors : List (List Op)) (finds : ℕ → Finds)
+    (ok : Known (finding (begin_at r actors) finds)) (w : State DiskHeld)
+    (rule : Ruled (finding (begin_at r actors) finds) w)
+    (fin : AllFinished (finding (begin_at r actors) finds) w) where
   abbrev g : Begin
-  g = finding (begin_at r actors) rule.finds
+  g = finding (begin_at r actors) finds
 
   abbrev m : Rest
-  m = rest_after r actors rule.finds w.row
+  m = rest_after r actors finds w.row
 
   carried : (p : ℕ) → AreCarried g p (nth_order (orders_of r.size w.row) p)
   carried p = ⊎_elim
-      (λ lt. subst (AreCarried g p) (sym (order_is r actors ok w rule fin p lt))
-      (entries r actors ok w rule fin p lt).2.sound.calls)
+      (λ lt. subst (AreCarried g p) (sym (order_is r actors finds ok w rule fin p lt))
+      (entries r actors finds ok w rule fin p lt).2.sound.calls)
       (λ le. subst (AreCarried g p) (sym (past (orders_of r.size w.row) p []
       (let l = length-map-range_with_len (λ i. order_in (value_at w.row i)) 0 r.size in
       omega arith))) tt)
@@ -157,7 +167,7 @@ module _ (r : Rest) (actors : List (List Op)) (ok : Known (begin_at r actors)) (
       → IsRoomy (begin_at (sets m set) more) → r.set.clock ≤ set.clock
       → Proper (begin_at (sets m set) more)
   next_proper set more requests room later = proper_is (begin_at (sets m set) more) requests
-      (λ s. all_sectors g known (s / 8) (nth_order (orders_of r.size w.row) (s / 8)) s)
+      (held_right (begin_at (sets m set) more) (λ p t s old. refl)) (λ s. all_sectors g ok (s / 8) (nth_order (orders_of r.size w.row) (s / 8)) s)
       (λ p k lt blank. ap (λ (q : ℕ). held_after g.given q
       (nth_order (orders_of r.size w.row) q) (8 * p + k))
       (let q : (8 * p + k) / 8 ≡ p = omega arith in q)
@@ -176,12 +186,12 @@ module _ (r : Rest) (actors : List (List Op)) (ok : Known (begin_at r actors)) (
   next_entry set more j e f at kept_same order under idle touched =
       let home = (at_rest g w rule fin).home j (holds.Slot e) at in
       let lt : j < r.size = home.sound.page in
-      let there = (entries r actors ok w rule fin j lt).1 in
-      let same : (entries r actors ok w rule fin j lt).0 ≡ e =
-      (let z : Some (holds.Slot (entries r actors ok w rule fin j lt).0) ≡ Some (holds.Slot e) =
+      let there = (entries r actors finds ok w rule fin j lt).1 in
+      let same : (entries r actors finds ok w rule fin j lt).0 ≡ e =
+      (let z : Some (holds.Slot (entries r actors finds ok w rule fin j lt).0) ≡ Some (holds.Slot e) =
       sym there ∙ get_or_from_slice_get w.row j (Some (holds.Slot e)) None at in cc) in
       let order_e : nth_order (orders_of r.size w.row) j ≡ e.order =
-      order_is r actors ok w rule fin j lt ∙ ap (λ (x : EntryState). x.order) same in record {
+      order_is r actors finds ok w rule fin j lt ∙ ap (λ (x : EntryState). x.order) same in record {
         kept = kept_same;
         order = order;
         under = under;
@@ -205,7 +215,7 @@ pub new_proper : (n : ℕ) (set : Settings) (device : DeviceState) (actors : Lis
     → Proper (begin_at (new_rest n set device) actors)
 new_proper n set device actors requests room =
     proper_is (begin_at (new_rest n set device) actors) requests
-    (λ s. zero_is) (λ p k lt b. refl) (λ p lt. omega arith) room
+    (held_right (begin_at (new_rest n set device) actors) (λ p t s old. refl)) (λ s. zero_is) (λ p k lt b. refl) (λ p lt. omega arith) room
 
 none_kept : (f : Weight → ℕ) → f weight.Empty ≡ 0 → (n : ℕ) (set : Settings)
     (device : DeviceState) → sum_by f (kept_pages page_weight (new_rest n set device)) ≡ 0
