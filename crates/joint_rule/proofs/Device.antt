@@ -16,7 +16,7 @@ use Rattle.joint_rule.proofs.Pages.{kept_small}
 use Rattle.joint_rule.proofs.Stages.{made_locks, made_stage, may_none, write_blank}
 use Rattle.joint_rule.specs.Begins.{Begin, content, ground_of, image}
 use Rattle.joint_rule.specs.Joint.{EntryFits, Joint, KeepsDevice, Sound}
-use Rattle.joint_rule.specs.Stages.{Bears, FailBy, IsFault, IsPartly, IsRight, IsSmall, IsWrite, Looks, Stage, is_wb, locks_at}
+use Rattle.joint_rule.specs.Stages.{Bears, FailBy, IsFault, IsPartly, IsRight, IsSmall, IsWrite, Looks, Stage, is_wb, locks_at, MaySeeOther}
 use Rattle.joint_rule.specs.Weights.{HeldAll, at_place, block_by, block_claims, chains, claim_by, claims, counters, device_size, each_one, ever_at, fixed, lies_at, map_size, mosts, nothing, outs, pages, shown, stored, stored_at, used_blocks}
 use Rattle.lock_row.specs.Totals.{held_sum}
 use Rattle.lock_row.specs.declared.names.At.TheVariants.{Failing, Fetching, Missed, Owing, Releasing}
@@ -93,7 +93,7 @@ module _ (g : Begin) (ok : Known g) (w : State DiskHeld) (j : Joint g w) (a : �
           made_stage g p e l.fresh l.pin l.owed l.ahead l.behind (Some page) l.fail
           (may_none e.kept l.pin st.pins) st.owes st.stands st.backs st.marks
           (write_blank p.op (subst IsWrite (sym e_op) tt) l.ahead _)
-          (subst (λ (x : Op). IsRight x p.page page (content g p.page e.order)) (sym e_op)
+          (subst (λ (x : Op). IsRight (MaySeeOther g p.page e.order) x p.page page (content g p.page e.order)) (sym e_op)
           (inr is_content)) st.counts.0 st.counts.1 st.fails st.begun
           (subst IsWrite (sym e_op) tt) st.made (next_form p (Some page) e.kept) refl e.kept refl
       fetched_stage (Read start count) e_op = record {
@@ -105,7 +105,7 @@ module _ (g : Begin) (ok : Known g) (w : State DiskHeld) (j : Joint g w) (a : �
         backs = st.backs;
         marks = st.marks;
         partly = tt;
-        right = subst (λ (x : Op). IsRight x p.page page (content g p.page e.order))
+        right = subst (λ (x : Op). IsRight (MaySeeOther g p.page e.order) x p.page page (content g p.page e.order))
             (sym e_op) is_content;
         counts = st.counts;
         blank = tt;
@@ -309,7 +309,7 @@ module _ (g : Begin) (ok : Known g) (w : State DiskHeld) (j : Joint g w) (a : �
       backs = tt;
       marks = tt;
       partly = tt;
-      right = subst (λ (y : List ℕ). IsRight p.op p.page y (content g p.page e.order))
+      right = subst (λ (y : List ℕ). IsRight (MaySeeOther g p.page e.order) p.op p.page y (content g p.page e.order))
           (emptied_sees l.page e.kept is) sr.right;
       counts = ((tt, released_small), sr.counts.1);
       blank = sr.blank;

@@ -31,7 +31,7 @@ use Rattle.joint_rule.proofs.Tells.{once}
 use Rattle.joint_rule.specs.Begins.{Begin, content, form_at, form_by, ground_of, piece_on, pieces_on, terms}
 use Rattle.joint_rule.specs.Joint.{AtHome, IsActor, Joint, PoolFits, Sound}
 use Rattle.joint_rule.specs.Rule.{OfOrder, Ruled, ShowsOrder, owed, owed_by}
-use Rattle.joint_rule.specs.Stages.{Changes, CountAt, GoneBy, IsForm, IsPinned, IsRight, IsSmall, MayPin, Names, NoneOf, Stage, StageBy, locks_at, locks_by}
+use Rattle.joint_rule.specs.Stages.{Changes, CountAt, GoneBy, IsForm, IsPinned, IsRight, IsSmall, MayPin, Names, NoneOf, Stage, StageBy, locks_at, locks_by, MaySeeOther}
 use Rattle.joint_rule.specs.Weights.{Backs, Count, HeldAll, Huges, PackedBytes, Packs, Sames, ahead, behind, cell_weight, counter, counters, each_one, ever_at, measure, none, one, out_weight, pages, pin_in, same_pin, shown, stored}
 use Rattle.lock_row.specs.Totals.{by_option, held_sum, locals_sum, mass, total}
 use Rattle.lock_row.specs.declared.names.At.{At}
@@ -530,7 +530,8 @@ module _ (g : Begin) (ok : Known g) (w : State DiskHeld) (r : Ruled g w) (a : �
         free_fits k_is (Some x) e_pin i (kept.Obj o) is = lent_fits k_is x e_pin i
 
       -- the pool of the new object
-      module _ (right : IsRight p.op p.page (page_in l.page e.kept) (content g p.page e.order))
+      module _ (right : IsRight (MaySeeOther g p.page e.order) p.op p.page (page_in l.page e.kept)
+          (content g p.page e.order))
           (changes : Changes p.op) where
         order_now : List Tag
         order_now = e.order ++ tag_by l.actor p ∷ []
@@ -626,7 +627,8 @@ module _ (g : Begin) (ok : Known g) (w : State DiskHeld) (r : Ruled g w) (a : �
               omega arith
 
         pay_fits : Changes p.op → GoneBy l.ahead e.kept → NoneOf l.behind
-            → IsRight p.op p.page (page_in l.page e.kept) (content g p.page e.order)
+            → IsRight (MaySeeOther g p.page e.order) p.op p.page (page_in l.page e.kept)
+          (content g p.page e.order)
             → AsAccount (CanPay l.owed (old_weight l.ahead e.kept)
             (form_weight (next_form p l.page e.kept))) v
         pay_fits changes gone_by quiet right = as_account _ v account_is (λ c v_is.

@@ -16,7 +16,7 @@ use Rattle.joint_rule.proofs.Sums.{each_take, get_else, get_here, get_set, gone,
 use Rattle.joint_rule.specs.Begins.{Begin, content, piece_on, pieces_on, terms}
 use Rattle.joint_rule.specs.Joint.{Joint}
 use Rattle.joint_rule.specs.Rule.{OfOrder, ShowsOrder, Told, done_by, dones, owed, owed_by}
-use Rattle.joint_rule.specs.Stages.{Changes, FailBy, IsFault, IsRight, Looks}
+use Rattle.joint_rule.specs.Stages.{Changes, FailBy, IsFault, IsRight, Looks, IsSeen}
 use Rattle.joint_rule.specs.Weights.{HeldAll, at_place, none, same}
 use Rattle.lock_row.specs.Totals.{held_sum, mass}
 use Rattle.lock_row.specs.declared.names.At.TheVariants.{Leaving, Missed, Ready, Marking}
@@ -177,13 +177,13 @@ fault_got g p NoMemory got f = absurd f
 fault_got g p (Eio fault) got f = refl
 fault_got g p (Whole end) got f = absurd f
 
-right_read : (g : Begin) (q : Part) (op : Op) (p : ℕ) (page was : List ℕ) → Looks op
-    → FailBy g q op None → IsRight op p page was → page ≡ was
-right_read g q (Write start count stuff) p page was k f r = absurd f
-right_read g q (Read start count) p page was k f r = r
-right_read g q (Discard start count) p page was k f r = absurd k
-right_read g q (Idle age) p page was k f r = absurd k
-right_read g q Compact p page was k f r = absurd k
+right_read : (other : Type 0) (g : Begin) (q : Part) (op : Op) (p : ℕ) (page was : List ℕ)
+    → Looks op → FailBy g q op None → IsRight other op p page was → IsSeen other page was
+right_read other g q (Write start count stuff) p page was k f r = absurd f
+right_read other g q (Read start count) p page was k f r = r
+right_read other g q (Discard start count) p page was k f r = absurd k
+right_read other g q (Idle age) p page was k f r = absurd k
+right_read other g q Compact p page was k f r = absurd k
 
 module _ (g : Begin) (ok : Known g) (w : State DiskHeld) (j : Joint g w) (a : ℕ) (l : Here)
     (who : slice_get w.locals a ≡ Some l) (k : LockNo) (v : DiskHeld) (m : Here)
@@ -335,6 +335,7 @@ module _ (g : Begin) (ok : Known g) (w : State DiskHeld) (j : Joint g w) (t : To
         let s : owed_by n i m ≡ owed_by n i l = ap (pieces_on n i) todo in record {
           shows = subst (λ (D : ℕ → List Done). ShowsPage g.given D i (content g i o) o)
               (dones_same w.locals a l m who done) h.shows;
+          finds = h.finds;
           spare = let z = h.spare in omega arith;
           few = let z = h.few in omega arith;
         }
@@ -423,6 +424,7 @@ module _ (g : Begin) (ok : Known g) (w : State DiskHeld) (j : Joint g w) (t : To
         let q = fewer p rest end got todo m_is i in record {
           shows = ok.facts.elsewhere g.given (dones w.locals) (dones (slice_set w.locals a m)) a
               (done_one p end got) i (content g i o) o (grown p rest end got m_is) off h.shows;
+          finds = h.finds;
           spare = let z = h.spare in omega arith;
           few = let z = h.few in omega arith;
         }
