@@ -305,7 +305,7 @@ leave_push actors (x ∷ xs) t =
 module _ (g : Begin) (p : ℕ) (e f : EntryState) (k : Kept) (t : Tag) (op : Op)
     (is : named g.given.actors t ≡ Some op) (n : Notes g.clock e f k t) where
   found_noted : found_after g p f.order ≡ after (Some op) (g.given.finds p t) (found_after g p e.order)
-  found_noted = ap (found_after g p) n.order ∙ after_push g (found g p) e.order t
+  found_noted = ap (found_after g p) n.order ∙ after_push g p (found g p) e.order t
       ∙ ap (λ (o : Option Op). after o (g.given.finds p t) (found_after g p e.order)) is
 
   back_noted : back_at g p f.order ≡ (back_at g p e.order && leaves_page (Some op))

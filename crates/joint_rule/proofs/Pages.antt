@@ -169,7 +169,7 @@ module _ (g : Begin) (ok : Known g) where
 
     pub blank_on : (found_after g p.page (order ++ t ∷ [])).blank
         ≡ blank_by (Some p.op) (found_after g p.page order).blank
-    blank_on = ap (λ (f : Found). f.blank) (after_push g (found g p.page) order t)
+    blank_on = ap (λ (f : Found). f.blank) (after_push g p.page (found g p.page) order t)
         ∙ ap (λ (o : Option Op). blank_by o (found_after g p.page order).blank) is
 
     pub form_on : (page : List ℕ) → StartsFrom page → form_at g p.page (order ++ t ∷ [])

@@ -166,13 +166,13 @@ module _ (g : Begin) (ok : Known g) (p : Part) (fresh : Option Object) (pin : Op
           → Goes (part_at (next_form p page x.kept) k)
       write_part kept.Empty e part = subst (λ (k : Kept). Goes (made_at (next_form p page x.kept) k)) e
           (made_there is_write (subst (λ (o : Op). IsRight (MaySeeOther g p.page x.order) o p.page (page_in page x.kept)
-          (content g p.page x.order)) (sym is) (inr
-          (is_right page start.right (subst NoObj (sym e) tt)))))
+          (content g p.page x.order)) (sym is) (inr (inl
+          (is_right page start.right (subst NoObj (sym e) tt))))))
       write_part (kept.Same w) e part = subst (λ (k : Kept).
           Goes (made_at (next_form p page x.kept) k)) e
           (made_there is_write (subst (λ (o : Op). IsRight (MaySeeOther g p.page x.order) o p.page (page_in page x.kept)
-          (content g p.page x.order)) (sym is) (inr
-          (is_right page start.right (subst NoObj (sym e) tt)))))
+          (content g p.page x.order)) (sym is) (inr (inl
+          (is_right page start.right (subst NoObj (sym e) tt))))))
       write_part (kept.Obj o) e part = sees (subst Looks (sym is) tt) (subst IsObj (sym e) tt)
       write_part (kept.Wb b) e part = goes_away (subst Looks (sym is) tt) (subst IsWb (sym e) tt)
           (subst (λ (o : Op). IsPartly o p.page) (sym is) part)
