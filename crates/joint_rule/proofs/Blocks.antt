@@ -1,6 +1,6 @@
 -- What blocks and the device weigh, what the joint rule tells of them, and what a giving does to
 -- them.
-use Rattle.std.proofs.Common.{◌≡◌, ◌≢◌, ◌+◌, ◌≤◌, ◌<◌, ◌∷◌, ◌∙◌, ℕ, zero, suc, Bool, true, false, List, [], length, Option, Some, None, slice_get, slice_set, refl, sym, ap, arith, ⊎_elim, inl, inr, ⊎}
+use Rattle.std.proofs.Common.{◌≡◌, ◌≢◌, ◌+◌, ◌≤◌, ◌<◌, ◌∷◌, ◌∙◌, ℕ, zero, suc, Bool, true, false, List, [], length, Option, Some, None, slice_get, slice_set, refl, sym, ap, arith, ⊎_elim, inl, inr, ◌⊎◌}
 use Rattle.backing_dev.specs.Contents.{HasBlock}
 use Rattle.backing_dev.specs.Dev.{DeviceState, IsCalled}
 use Rattle.block_map.specs.BlockMap.{BlockMap}

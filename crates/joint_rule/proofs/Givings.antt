@@ -110,7 +110,7 @@ module _ (g : Begin) (ok : Known g) (w : State DiskHeld) (j : Joint g w) (a : â„
       v_is m_is (give_fails g ok w j a l who p rest todo e e held at x bad)
   gift (event.fetches p rest e b d d' page todo at held is read is_page v_is m_is) =
       at_lock _ lock.Device _ (given_lock lock.Device (event_is p rest _ Fetching todo held at))
-      v_is m_is (give_fetches g ok w j a l who p rest todo e b d d' at held is page read)
+      v_is m_is (give_fetches g ok w j a l who p rest todo e b d d' at held is page read is_page)
   gift (event.misses p rest e b d d' fault todo at held is failed v_is m_is) =
       at_lock _ lock.Device _ (given_lock lock.Device (event_is p rest _ Fetching todo held at))
       v_is m_is (give_misses g ok w j a l who p rest todo e b d d' at held is fault failed)

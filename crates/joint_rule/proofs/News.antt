@@ -15,7 +15,7 @@ use Rattle.joint_rule.proofs.Events.{Event}
 use Rattle.joint_rule.proofs.Facts.{Known}
 use Rattle.joint_rule.proofs.Gifts.{is_named, stage}
 use Rattle.joint_rule.proofs.Givings.{event_is, given_lock}
-use Rattle.joint_rule.proofs.Pages.{form_next, kept_is}
+use Rattle.joint_rule.proofs.Pages.{form_next, kept_is, StartsFrom}
 use Rattle.joint_rule.proofs.Sums.{gone}
 use Rattle.joint_rule.specs.Begins.{Begin, form_at, found, found_after, terms}
 use Rattle.joint_rule.specs.Joint.{Joint}
@@ -314,13 +314,14 @@ module _ (g : Begin) (ok : Known g) (w : State DiskHeld) (j : Joint g w) (a : �
     is_op = is_named g ok w j a l who p rest todo
 
     module _ (at : l.at ≡ Ready) (notes : Notes g.clock e f
-        (kept_by (next_form p l.page e.kept) l.fresh) (tag_by l.actor p)) where
+        (kept_by (next_form p l.page e.kept) l.fresh) (tag_by l.actor p))
+        (from : StartsFrom g ok p e.order (tag_by l.actor p) is_op (page_in l.page e.kept)) where
       st : Stage g p e Ready l.fresh l.pin l.owed l.ahead l.behind l.page l.fail
       st = stage g ok w j a l who p rest todo _ Ready held at
 
       now_form : form_at g p.page (e.order ++ tag_by l.actor p ∷ []) ≡ next_form p l.page e.kept
       now_form = form_next g ok p e.order (tag_by l.actor p) is_op
-          (page_in l.page e.kept) st.kind.0 st.right
+          (page_in l.page e.kept) st.kind.0 from
 
       -- what the call gives is what was told
       huge_told : (op : Op) → p.op ≡ op → Changes op → news_of HugeWrites p.page (Some op)

@@ -1,11 +1,11 @@
 -- What a page has after the calls of an order.
-use Rattle.std.proofs.Common.{◌≡◌, ◌+◌, ◌*◌, ◌-◌, ◌/◌, ◌≤◌, ◌<◌, ◌∷◌, ◌++◌, ◌∙◌, ◌&&◌, ◌||◌, ℕ, zero, suc, Bool, true, false, cond, leb, ltb, List, [], length, take, drop, replicate, Option, Some, None, refl, sym, ap, subst, arith, inl, inr, ⊎_elim, length-append}
+use Rattle.std.proofs.Common.{◌≡◌, ◌+◌, ◌*◌, ◌-◌, ◌/◌, ◌≤◌, ◌<◌, ◌∷◌, ◌++◌, ◌∙◌, ◌&&◌, ◌||◌, ℕ, zero, suc, Bool, true, false, cond, leb, ltb, List, [], length, take, drop, replicate, Option, Some, None, refl, sym, ap, subst, arith, inl, inr, ⊎_elim, length-append, length-drop}
 use Rattle.bdi_page.specs.Packing.{IsPage, packed}
 use Rattle.call_history.specs.Shows.{Carries, tag_by}
 use Rattle.call_history.specs.declared.part.Part.{Part}
 use Rattle.joint_rule.proofs.Facts.{Known}
 use Rattle.joint_rule.specs.Begins.{AreCarried, Begin, HasEvent, back_at, content, ever, form_at, form_by, found, found_after, image}
-use Rattle.joint_rule.specs.Stages.{Changes, IsForm, IsNothing, IsPooled, IsRight, IsSmall, NoObj}
+use Rattle.joint_rule.specs.Stages.{Changes, IsForm, IsNothing, IsPooled, IsRight, IsSmall, NoObj, IsSeen}
 use Rattle.mem_account.specs.declared.weight.Weight.{Weight}
 use Rattle.page_steps.specs.Pages.{join, next_by, page_after}
 use Rattle.page_steps.specs.Steps.{on}
@@ -20,8 +20,8 @@ use Rattle.slot_entry.specs.declared.kept.Kept.{Kept}
 use Rattle.slot_entry.specs.declared.kept.Stored.{Stored}
 use Rattle.std.proofs.Math.Seq.{drop-append-add}
 use Rattle.std.proofs.lemmas.Bool.{and_from, and_parts, cases_Bool, eq-eqb, le-leb, leb-true, lt-ltb}
-use Rattle.std.proofs.lemmas.List.{take_at}
-use Rattle.std.proofs.lemmas.List.Elements.{All-append}
+use Rattle.std.proofs.lemmas.List.{take_at, length-take-le}
+use Rattle.std.proofs.lemmas.List.Elements.{All-append, All-take, All-drop}
 use Rattle.std.specs.List.{flat_map, range_with_len}
 use Rattle.std.specs.Prelude.{All}
 use Rattle.zr_base.specs.Plain.{PageCalls, content as sectors, covers, has_whole, named, sector_after, sector_after_named, stuff_sector, zero_sector, IsSector, Look, start_from}
@@ -417,6 +417,73 @@ module _ (g : Begin) (ok : Known g) (p : Part) (order : List Tag) (t : Tag)
   pub form_next : (page : List ℕ) → Changes p.op → StartsFrom g ok p order t is page
       → form_at g p.page (order ++ t ∷ []) ≡ next_by p.op p page
   form_next page c from = form_on g ok p order t is page from ∙ next_is p.op page c
+
+-- ---- what a piece leaves of the page that it sees
+
+seen_page : (other : Type 0) (page was : List ℕ) → IsPage was → IsSeen other page was → IsPage page
+seen_page other page was is s = ⊎_elim (λ same. subst IsPage (sym same) is) (λ o. o.1) s
+
+module _ (g : Begin) (ok : Known g) (p : Part) (t : Tag)
+    (is : named g.given.actors t ≡ Some p.op) where
+  sector_of : (page : List ℕ) (k : ℕ) → k < 8 → IsPage page → IsSector (page_sector page k)
+  sector_of page k lt i = (
+    length-take-le 512 (drop (512 * k) page)
+        (let z = i.0 in omega (arith, length-drop (512 * k) page)),
+    All-take (λ b. b < 256) 512 (drop (512 * k) page) (All-drop (λ b. b < 256) (512 * k) page i.1),
+  )
+
+  join_page : (f : ℕ → List ℕ) (a n : ℕ) → ((k : ℕ) → a ≤ k → k < a + n → IsSector (f k))
+      → (length (join f a n) ≡ 512 * n) × All (λ b. b < 256) (join f a n)
+  join_page f a zero e = (refl, λ k d lt. absurd (let none : ⊥ = omega arith in none))
+  join_page f a (suc n) e =
+      let here = e a (omega arith) (omega arith) in
+      let r = join_page f (a + 1) n (λ k low high. e k (omega arith) (omega arith)) in (
+        (let x = here.0 in let y = r.0 in
+            let z = length-append (f a) (join f (a + 1) n) in omega arith),
+        All-append (λ b. b < 256) (f a) (join f (a + 1) n) here.1 r.1,
+      )
+
+  after_page : (page : List ℕ) → IsPage page → IsPage (page_after p page)
+  unfolding page_after
+  after_page page i = join_page (λ k. sector_after p.op (8 * p.page + k) (page_sector page k)) 0 8
+      (λ k low high. ok.proper.puts t p.op (8 * p.page + k) (page_sector page k) is
+      (sector_of page k (omega arith) i))
+
+  module _ (other : Type 0) (page was : List ℕ) (whole : IsPage was) where
+    next_page : (op : Op) → p.op ≡ op → Changes op → IsRight other op p.page page was
+        → (bytes : List ℕ) (huge : Bool) → next_by op p page ≡ Pooled bytes huge
+        → IsPage (page_after p page) × (form_of (page_after p page) ≡ Pooled bytes huge)
+    next_page (Write start count stuff) e c r bytes huge f = (
+      ⊎_elim (λ w. subst IsPage (sym (whole_same p start count stuff page was e w))
+          (after_page was whole))
+          (λ s. after_page page (seen_page other page was whole s)) r,
+      f,
+    )
+    next_page (Read start count) e c r bytes huge f = absurd c
+    next_page (Discard start count) e c r bytes huge f =
+        absurd (let q : Blank ≡ Pooled bytes huge = f in cc)
+    next_page (Idle age) e c r bytes huge f = absurd c
+    next_page Compact e c r bytes huge f = absurd c
+
+    -- an object that a piece leaves is that of a page
+    pub next_whole : Changes p.op → IsRight other p.op p.page page was
+        → (bytes : List ℕ) (huge : Bool) → next_by p.op p page ≡ Pooled bytes huge
+        → IsPage (page_after p page) × (form_of (page_after p page) ≡ Pooled bytes huge)
+    next_whole = next_page p.op refl
+
+    small_by : (f : PageForm) → ((bytes : List ℕ) (huge : Bool) → f ≡ Pooled bytes huge
+        → IsPage (page_after p page) × (form_of (page_after p page) ≡ Pooled bytes huge))
+        → IsSmall (form_weight f)
+    small_by Blank h = omega arith
+    small_by (Word w) h = omega arith
+    small_by (Pooled bytes true) h = omega arith
+    small_by (Pooled bytes false) h = let z = h bytes false refl in
+        ok.facts.packed_short (page_after p page) bytes z.0 z.1
+
+    -- and weighs little
+    pub next_light : Changes p.op → IsRight other p.op p.page page was
+        → IsSmall (form_weight (next_by p.op p page))
+    next_light c r = small_by (next_by p.op p page) (next_whole c r)
 
 -- ---- pages that were in the pool
 
