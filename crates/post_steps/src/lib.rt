@@ -7,7 +7,9 @@ mod idle;
 mod laws;
 mod nexts;
 mod sweep;
+mod writeback;
 
 pub use compact::{CompactCall, CompactStage};
 pub use idle::{IdleCall, IdleHead, IdleStage};
+pub use writeback::{WritebackCall, WritebackHead, WritebackStage};
 pub use laws::{classes_come_in_turn, compactions_are_events, scans_are_events};
