@@ -1,0 +1,169 @@
+-- The calls of a session, by what comes of them.
+use Rattle.std.specs.Prelude.{⊤}
+use Rattle.std.proofs.Common.{◌≡◌, ℕ, ◌+◌, ◌<◌, ◌≤◌, Bool, true, false, List, [], ◌∷◌, ◌++◌, length, take, drop, Option, Some, Result, Ok, Err, IfErr, slice_get, refl, sym, ap, ◌∙◌, subst, arith}
+use Rattle.std.proofs.lemmas.List.{take_all}
+use Rattle.std.proofs.lemmas.Option.{slice_get_within}
+use Rattle.std.specs.Io.KnownBytes.{Appends}
+use Rattle.zr_base.specs.declared.op.Op.{Op}
+use Rattle.backing_dev.specs.Dev.{DeviceState}
+use Rattle.backing_dev.specs.declared.backing.Backing.{Ghosts}
+use Rattle.plain_disk.specs.Output.{OutLine}
+use Rattle.plain_disk.specs.Rests.{Rest}
+use Rattle.page_steps.specs.Steps.{Terms}
+use Rattle.zr_core.specs.declared.disk.World.{World}
+use Rattle.zr_core.specs.declared.phase.Phase.{Phase}
+use Rattle.zr_core.specs.Machines.{PhaseSteps}
+use Rattle.zr_core.specs.Playing.{playing, lines_shown}
+use Rattle.zr_core.specs.Rests.{no_blocks, IsEarly, IsAtRest}
+use Rattle.zr_core.specs.States.{Playing}
+use Rattle.job_text.specs.declared.job.Item.{Item}
+use Rattle.job_text.specs.declared.job.Item.TheVariants as items
+use Rattle.job_text.specs.declared.job.PhaseText.{PhaseText}
+use Rattle.job_text.specs.Jobs.{nothing_used, MayFollow}
+use Rattle.job_session.specs.declared.sim.Status.{Status}
+use Rattle.job_session.specs.declared.sim.Status.TheVariants as statuses
+use Rattle.job_session.specs.declared.session.Session.{Session}
+use Rattle.job_session.specs.declared.stop.Stop.{Stop}
+use Rattle.job_session.specs.declared.stop.Stop.TheVariants as stops
+use Rattle.job_session.specs.Stands.{Stands}
+use Rattle.job_session.specs.Stepped.{Disk, without_pages, disk_of, terms_of, Stepped, IsBySchedule}
+use Rattle.job_session.specs.Runs.{BeginsWith}
+use Rattle.job_session.specs.Telling.{MayStand, StandsForSome, StopCause, stop_status}
+use Rattle.job_session.specs.Sessions.{Place, done_at, left_at, place, session_disk, IsNext, IsAtPhase, IsStarted, IsOver, IsHome, IsBetween, IsEnded, IsStopped, EndsBy, IsCutPhase, CutBy, FinishIs}
+use Rattle.job_session.specs.Advances.{ended_status, outcome_of, IsSoFar, IsCutSoFar, SessionRan}
+use Rattle.job_session.proofs.Devices.{is_run_on}
+use Rattle.job_session.proofs.Jobs.{phase_steps}
+use Rattle.job_session.proofs.Sending.{StopCause-later}
+use Rattle.job_session.proofs.SoFar.{went_on, gave_up}
+
+-- ---- statuses
+
+module _ {D : Type 0} {b : Ghosts D} (s t : Session D b) (u w : Option (List ℕ))
+    (before now : ℕ) (stopped : Bool) where
+  pub ends_with : (refused : Bool) → IsEnded s t u w before now stopped refused
+      → EndsBy s t u w before now stopped (ended_status refused)
+  ends_with false e = e
+  ends_with true e = e
+
+  pub stops_with : (stop : Stop) → IsStopped s t u w before now stopped
+      → StopCause before now stopped stop
+      → EndsBy s t u w before now stopped (stop_status stop)
+  stops_with stops.Memory e cause = e
+  stops_with stops.Write e cause = (e, cause)
+
+  module _ (d : Disk) (text : PhaseText) (turns : List ℕ) where
+    pub cut_with : (stop : Stop) → IsCutPhase s t u w before now stopped d text turns
+        → StopCause before now stopped stop
+        → CutBy s t u w before now stopped d text turns (stop_status stop)
+    cut_with stops.Memory e cause = e
+    cut_with stops.Write e cause = (e, cause)
+
+  -- ---- a job that has ended
+
+  module _ (first : Rest) (job : List Item) (v : Option (List ℕ)) (same : s.job ≡ job)
+      (so_far : IsSoFar first (done_at (place s)) (session_disk s) (Appends v u) s.refused) where
+    all_done : (refused : Bool) → IsEnded s t u w before now stopped refused
+        → IsSoFar first job (session_disk t) (Appends v w) refused
+    all_done refused e =
+        let P : List Item × Bool → Type 0 =
+        λ x. IsSoFar first x.0 (session_disk t) (Appends v w) x.1 in
+        let all : take t.at t.job ≡ job =
+        ap (λ (n : ℕ). take n t.job) e.2 ∙ take_all (length t.job) t.job (omega arith) ∙ e.0.job ∙ same in
+        subst P (λ i. (all i, e.3 i))
+        (went_on first (place s) (session_disk s) (session_disk t) [] ⊤ v u w so_far tt (place t)
+        e.0)
+
+    given_up : IsStopped s t u w before now stopped
+        → IsCutSoFar first job (session_disk t) (BeginsWith v w)
+    given_up e = gave_up first (place s) (session_disk s) (session_disk t) [] ⊤ v u w so_far tt job
+        same e.1
+
+    pub ran_by : (status : Status) → EndsBy s t u w before now stopped status
+        → SessionRan first job (session_disk t) v w (outcome_of status)
+    ran_by statuses.Done e = all_done false e
+    ran_by statuses.Refused e = all_done true e
+    ran_by statuses.Words e = absurd e
+    ran_by statuses.Job e = absurd e
+    ran_by statuses.ReadFault e = absurd e
+    ran_by statuses.WriteFault e = given_up e.0
+    ran_by statuses.NoMemory e = given_up e
+
+  pub ends_home : (status : Status) → EndsBy s t u w before now stopped status → IsHome t
+  ends_home statuses.Done e = e.1
+  ends_home statuses.Refused e = e.1
+  ends_home statuses.Words e = absurd e
+  ends_home statuses.Job e = absurd e
+  ends_home statuses.ReadFault e = absurd e
+  ends_home statuses.WriteFault e = e.0.0
+  ends_home statuses.NoMemory e = e.0
+
+  pub ends_cause : (earlier : ℕ) → earlier ≤ before → (status : Status)
+      → EndsBy s t u w before now stopped status
+      → IfErr (outcome_of status) (StopCause earlier now stopped)
+  ends_cause earlier le statuses.Done e = tt
+  ends_cause earlier le statuses.Refused e = tt
+  ends_cause earlier le statuses.Words e = absurd e
+  ends_cause earlier le statuses.Job e = absurd e
+  ends_cause earlier le statuses.ReadFault e = absurd e
+  ends_cause earlier le statuses.WriteFault e =
+      StopCause-later earlier before now stopped stops.Write le e.1
+  ends_cause earlier le statuses.NoMemory e = tt
+
+  -- ---- a phase that was given up
+
+  module _ (d : Disk) (text : PhaseText) (turns : List ℕ) where
+    pub cut_ran : (first : Rest) (job : List Item) (v : Option (List ℕ)) → s.job ≡ job
+        → IsSoFar first (done_at (place s)) d (Appends v u) s.refused
+        → IsBySchedule text.actors text.schedule turns → (status : Status)
+        → CutBy s t u w before now stopped d text turns status
+        → SessionRan first job (session_disk t) v w (outcome_of status)
+    cut_ran first job v same so_far own statuses.Done e = absurd e
+    cut_ran first job v same so_far own statuses.Refused e = absurd e
+    cut_ran first job v same so_far own statuses.Words e = absurd e
+    cut_ran first job v same so_far own statuses.Job e = absurd e
+    cut_ran first job v same so_far own statuses.ReadFault e = absurd e
+    cut_ran first job v same so_far own statuses.WriteFault e =
+        gave_up first (place s) d (session_disk t) (turns ∷ []) _ v u w so_far own job same e.0.1
+    cut_ran first job v same so_far own statuses.NoMemory e =
+        gave_up first (place s) d (session_disk t) (turns ∷ []) _ v u w so_far own job same e.1
+
+    pub cut_home : (status : Status) → CutBy s t u w before now stopped d text turns status
+        → IsHome t
+    cut_home statuses.Done e = absurd e
+    cut_home statuses.Refused e = absurd e
+    cut_home statuses.Words e = absurd e
+    cut_home statuses.Job e = absurd e
+    cut_home statuses.ReadFault e = absurd e
+    cut_home statuses.WriteFault e = e.0.0
+    cut_home statuses.NoMemory e = e.0
+
+    pub cut_cause : (earlier : ℕ) → earlier ≤ before → (status : Status)
+        → CutBy s t u w before now stopped d text turns status
+        → IfErr (outcome_of status) (StopCause earlier now stopped)
+    cut_cause earlier le statuses.Done e = absurd e
+    cut_cause earlier le statuses.Refused e = absurd e
+    cut_cause earlier le statuses.Words e = absurd e
+    cut_cause earlier le statuses.Job e = absurd e
+    cut_cause earlier le statuses.ReadFault e = absurd e
+    cut_cause earlier le statuses.WriteFault e =
+        StopCause-later earlier before now stopped stops.Write le e.1
+    cut_cause earlier le statuses.NoMemory e = tt
+
+-- ---- phases
+
+module _ {D : Type 0} {b : Ghosts D} (d : Disk) (clock : ℕ) (text : PhaseText) (x : Playing D)
+    (world : World D b) (phase : Phase D) (turns : List ℕ)
+    (started : IsStarted d text.actors x) (time : d.clock ≡ clock)
+    (over : IsOver d x turns (playing world phase text.actors)) where
+  -- the steps of a phase that is over, on the disk of its world
+  pub over_steps : IsEarly world.pages world.spare
+      → Stepped d (items.Phase text ∷ []) (turns ∷ [])
+      (lines_shown (playing world phase text.actors)) (disk_of clock world)
+  over_steps early =
+      phase_steps d (disk_of clock world) text turns _
+      (is_run_on d clock x.spare world.spare x.terms.size world.pages world.limit x.cells
+      world.row.cells over.spare (ap (λ (t : Terms). t.size) over.same)
+      (ap (λ (t : Terms). t.size) started.goes_by) (over.limit ∙ started.limit) (sym time)
+      started.device started.blocks early over.rest.rests)
+      (subst (λ (t : Terms). PhaseSteps t text.actors d.row turns
+      (lines_shown (playing world phase text.actors)) world.row.cells) started.goes_by over.steps)
