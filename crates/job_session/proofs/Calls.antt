@@ -1,6 +1,6 @@
 -- The calls of a session, by what comes of them.
 use Rattle.std.specs.Prelude.{⊤}
-use Rattle.std.proofs.Common.{◌≡◌, ℕ, ◌+◌, ◌<◌, ◌≤◌, Bool, true, false, List, [], ◌∷◌, ◌++◌, length, take, drop, Option, Some, Result, Ok, Err, IfErr, slice_get, refl, sym, ap, ◌∙◌, subst, arith}
+use Rattle.std.proofs.Common.{◌≡◌, ℕ, ◌+◌, ◌<◌, ◌≤◌, Bool, true, false, List, [], ◌∷◌, ◌++◌, length, take, drop, Option, Some, None, Result, Ok, Err, IfErr, slice_get, refl, sym, ap, ◌∙◌, subst, arith}
 use Rattle.std.proofs.lemmas.List.{take_all}
 use Rattle.std.proofs.lemmas.Option.{slice_get_within}
 use Rattle.std.specs.Io.KnownBytes.{Appends}
@@ -22,15 +22,18 @@ use Rattle.job_text.specs.declared.job.PhaseText.{PhaseText}
 use Rattle.job_text.specs.Jobs.{nothing_used, MayFollow}
 use Rattle.job_session.specs.declared.sim.Status.{Status}
 use Rattle.job_session.specs.declared.sim.Status.TheVariants as statuses
+use Rattle.job_session.specs.declared.session.Next.TheVariants as next
+use Rattle.job_session.specs.declared.session.Running.{Running}
 use Rattle.job_session.specs.declared.session.Session.{Session}
+use Rattle.job_session.specs.declared.session.Stage.TheVariants as stages
 use Rattle.job_session.specs.declared.stop.Stop.{Stop}
 use Rattle.job_session.specs.declared.stop.Stop.TheVariants as stops
 use Rattle.job_session.specs.Stands.{Stands}
 use Rattle.job_session.specs.Stepped.{Disk, without_pages, disk_of, terms_of, Stepped, IsBySchedule}
 use Rattle.job_session.specs.Runs.{BeginsWith}
 use Rattle.job_session.specs.Telling.{MayStand, StandsForSome, StopCause, stop_status}
-use Rattle.job_session.specs.Sessions.{Place, done_at, left_at, place, session_disk, IsNext, IsAtPhase, IsStarted, IsOver, IsHome, IsBetween, IsEnded, IsStopped, EndsBy, IsCutPhase, CutBy, FinishIs}
-use Rattle.job_session.specs.Advances.{ended_status, outcome_of, IsSoFar, IsCutSoFar, SessionRan}
+use Rattle.job_session.specs.Sessions.{Place, done_at, place, disk_at, session_disk, GoesOn, GivesUp, IsAt, IsStarted, IsOver, IsHome, IsBetween, NextIs, IsEnded, IsStopped, EndsBy, IsCutPhase, CutBy}
+use Rattle.job_session.specs.Advances.{ended_status, outcome_of, Advances, IsSoFar, IsCutSoFar, SessionRan}
 use Rattle.job_session.proofs.Devices.{is_run_on}
 use Rattle.job_session.proofs.Jobs.{phase_steps}
 use Rattle.job_session.proofs.Sending.{StopCause-later}
@@ -50,13 +53,6 @@ module _ {D : Type 0} {b : Ghosts D} (s t : Session D b) (u w : Option (List ℕ
       → EndsBy s t u w before now stopped (stop_status stop)
   stops_with stops.Memory e cause = e
   stops_with stops.Write e cause = (e, cause)
-
-  module _ (d : Disk) (text : PhaseText) (turns : List ℕ) where
-    pub cut_with : (stop : Stop) → IsCutPhase s t u w before now stopped d text turns
-        → StopCause before now stopped stop
-        → CutBy s t u w before now stopped d text turns (stop_status stop)
-    cut_with stops.Memory e cause = e
-    cut_with stops.Write e cause = (e, cause)
 
   -- ---- a job that has ended
 
@@ -109,45 +105,101 @@ module _ {D : Type 0} {b : Ghosts D} (s t : Session D b) (u w : Option (List ℕ
       StopCause-later earlier before now stopped stops.Write le e.1
   ends_cause earlier le statuses.NoMemory e = tt
 
-  -- ---- a phase that was given up
+-- ---- up to the next phase
 
-  module _ (d : Disk) (text : PhaseText) (turns : List ℕ) where
-    pub cut_ran : (first : Rest) (job : List Item) (v : Option (List ℕ)) → s.job ≡ job
-        → IsSoFar first (done_at (place s)) d (Appends v u) s.refused
-        → IsBySchedule text.actors text.schedule turns → (status : Status)
-        → CutBy s t u w before now stopped d text turns status
-        → SessionRan first job (session_disk t) v w (outcome_of status)
-    cut_ran first job v same so_far own statuses.Done e = absurd e
-    cut_ran first job v same so_far own statuses.Refused e = absurd e
-    cut_ran first job v same so_far own statuses.Words e = absurd e
-    cut_ran first job v same so_far own statuses.Job e = absurd e
-    cut_ran first job v same so_far own statuses.ReadFault e = absurd e
-    cut_ran first job v same so_far own statuses.WriteFault e =
-        gave_up first (place s) d (session_disk t) (turns ∷ []) _ v u w so_far own job same e.0.1
-    cut_ran first job v same so_far own statuses.NoMemory e =
-        gave_up first (place s) d (session_disk t) (turns ∷ []) _ v u w so_far own job same e.1
+module _ {D : Type 0} {b : Ghosts D} (s t : Session D b) (u w : Option (List ℕ))
+    (before now : ℕ) (stopped : Bool) where
+  -- the world that is here is the one that is between two items
+  pub at_here : (world : World D b) → IsBetween s → s.stage ≡ stages.Here world
+      → IsAt (place s) s.clock world
+  at_here world at is =
+      let q : stages.Here at.0 ≡ stages.Here world = sym at.1 ∙ is in
+      let same : at.0 ≡ world = cc in
+      subst (IsAt (place s) s.clock) same at.2
 
-    pub cut_home : (status : Status) → CutBy s t u w before now stopped d text turns status
-        → IsHome t
-    cut_home statuses.Done e = absurd e
-    cut_home statuses.Refused e = absurd e
-    cut_home statuses.Words e = absurd e
-    cut_home statuses.Job e = absurd e
-    cut_home statuses.ReadFault e = absurd e
-    cut_home statuses.WriteFault e = e.0.0
-    cut_home statuses.NoMemory e = e.0
+  module _ (was : World D b) (here : s.stage ≡ stages.Here was) where
+    first : disk_of s.clock was ≡ session_disk s
+    first = ap (disk_at s.clock) (sym here)
 
-    pub cut_cause : (earlier : ℕ) → earlier ≤ before → (status : Status)
-        → CutBy s t u w before now stopped d text turns status
-        → IfErr (outcome_of status) (StopCause earlier now stopped)
-    cut_cause earlier le statuses.Done e = absurd e
-    cut_cause earlier le statuses.Refused e = absurd e
-    cut_cause earlier le statuses.Words e = absurd e
-    cut_cause earlier le statuses.Job e = absurd e
-    cut_cause earlier le statuses.ReadFault e = absurd e
-    cut_cause earlier le statuses.WriteFault e =
-        StopCause-later earlier before now stopped stops.Write le e.1
-    cut_cause earlier le statuses.NoMemory e = tt
+    pub phase_next : (running : Running D b) → t.stage ≡ stages.Ready running
+        → Advances (place s) (place t) t.clock (disk_of s.clock was) running.world u w
+        (Ok (Some running.phase))
+        → NextIs s t u w before now stopped next.Phase
+    phase_next running is a = (
+      a.0,
+      a.2,
+      (running, is, a.3, a.4),
+      subst (λ (d : Disk). GoesOn (place s) (place t) d [] ⊤ a.0 (Appends u w)) first a.1,
+    )
+
+    pub ended_next : (world : World D b) → t.stage ≡ stages.Here world
+        → Advances (place s) (place t) t.clock (disk_of s.clock was) world u w (Ok None)
+        → NextIs s t u w before now stopped (next.Ended (ended_status t.refused))
+    ended_next world is a = ends_with s t u w before now stopped t.refused (
+      subst (λ (x : Disk × Disk). GoesOn (place s) (place t) x.0 [] ⊤ x.1 (Appends u w))
+          (λ i. (first i, (sym a.3 ∙ ap (disk_at t.clock) (sym is)) i)) a.1,
+      (world, is, a.4),
+      a.2,
+      refl,
+    )
+
+    pub stopped_next : (world : World D b) → t.stage ≡ stages.Here world → (stop : Stop)
+        → Advances (place s) (place t) t.clock (disk_of s.clock was) world u w (Err stop)
+        → StopCause before now stopped stop
+        → NextIs s t u w before now stopped (next.Ended (stop_status stop))
+    stopped_next world is stop a cause = stops_with s t u w before now stopped stop (
+      (world, is, a.1),
+      subst (λ (x : Disk × Disk). GivesUp (place s) x.0 [] ⊤ x.1 (BeginsWith u w))
+          (λ i. (first i, ap (disk_at t.clock) (sym is) i)) a.0,
+    ) cause
+
+-- ---- a phase that was given up
+
+module _ {D : Type 0} {b : Ghosts D} (p : Place) (t : Session D b) (u w : Option (List ℕ))
+    (before now : ℕ) (stopped : Bool) (d : Disk) (text : PhaseText) (turns : List ℕ) where
+  abbrev Cut : Type 0
+  Cut = IsCutPhase p t u w before now stopped d text turns
+
+  abbrev By : Status → Type 0
+  By = CutBy p t u w before now stopped d text turns
+
+  pub cut_with : (stop : Stop) → Cut → StopCause before now stopped stop → By (stop_status stop)
+  cut_with stops.Memory e cause = e
+  cut_with stops.Write e cause = (e, cause)
+
+  pub cut_ran : (first : Rest) (job : List Item) (v : Option (List ℕ)) → p.job ≡ job
+      → IsSoFar first (done_at p) d (Appends v u) p.refused
+      → IsBySchedule text.actors text.schedule turns → (status : Status) → By status
+      → SessionRan first job (session_disk t) v w (outcome_of status)
+  cut_ran first job v same so_far own statuses.Done e = absurd e
+  cut_ran first job v same so_far own statuses.Refused e = absurd e
+  cut_ran first job v same so_far own statuses.Words e = absurd e
+  cut_ran first job v same so_far own statuses.Job e = absurd e
+  cut_ran first job v same so_far own statuses.ReadFault e = absurd e
+  cut_ran first job v same so_far own statuses.WriteFault e =
+      gave_up first p d (session_disk t) (turns ∷ []) _ v u w so_far own job same e.0.1
+  cut_ran first job v same so_far own statuses.NoMemory e =
+      gave_up first p d (session_disk t) (turns ∷ []) _ v u w so_far own job same e.1
+
+  pub cut_home : (status : Status) → By status → IsHome t
+  cut_home statuses.Done e = absurd e
+  cut_home statuses.Refused e = absurd e
+  cut_home statuses.Words e = absurd e
+  cut_home statuses.Job e = absurd e
+  cut_home statuses.ReadFault e = absurd e
+  cut_home statuses.WriteFault e = e.0.0
+  cut_home statuses.NoMemory e = e.0
+
+  pub cut_cause : (earlier : ℕ) → earlier ≤ before → (status : Status) → By status
+      → IfErr (outcome_of status) (StopCause earlier now stopped)
+  cut_cause earlier le statuses.Done e = absurd e
+  cut_cause earlier le statuses.Refused e = absurd e
+  cut_cause earlier le statuses.Words e = absurd e
+  cut_cause earlier le statuses.Job e = absurd e
+  cut_cause earlier le statuses.ReadFault e = absurd e
+  cut_cause earlier le statuses.WriteFault e =
+      StopCause-later earlier before now stopped stops.Write le e.1
+  cut_cause earlier le statuses.NoMemory e = tt
 
 -- ---- phases
 

@@ -3,9 +3,9 @@ use Rattle.std.specs.Prelude.{⊤}
 use Rattle.std.proofs.Common.{◌≡◌, ℕ, ◌+◌, ◌<◌, ◌≤◌, Bool, ◌||◌, List, [], ◌∷◌, ◌++◌, length, take, drop, Option, Some, Result, Ok, Err, slice_get, refl, sym, ap, ◌∙◌, subst, append_assoc, arith, false}
 use Rattle.std.proofs.KnownBytes.{Appends-trans}
 use Rattle.std.proofs.Math.Seq.{take-add}
-use Rattle.std.proofs.lemmas.List.{append-nil, take-append-drop, take_more, drop_more, drop-drop}
+use Rattle.std.proofs.lemmas.List.{append-nil, take-append-drop, take_more, drop_more, drop-drop, length-drop, get_or-drop}
 use Rattle.std.proofs.lemmas.List.Concat.{flat_map-append}
-use Rattle.std.proofs.lemmas.Option.{slice_get_within, get_or_from_slice_get}
+use Rattle.std.proofs.lemmas.Option.{slice_get_within, slice_get-get_or, get_or_from_slice_get}
 use Rattle.std.specs.Io.KnownBytes.{Appends}
 use Rattle.plain_disk.specs.Output.{OutLine, any_refusal}
 use Rattle.plain_disk.specs.Rests.{Rest}
@@ -114,6 +114,14 @@ module _ {A : Type 0} where
       → take (k + 1) xs ≡ take k xs ++ x ∷ []
   to_item xs k x is = take_more xs k x (slice_get_within xs k x is)
       ∙ ap (λ (y : A). take k xs ++ y ∷ []) (get_or_from_slice_get xs k x x is)
+
+  -- an item of what is left
+  pub item_at : (xs : List A) (k n : ℕ) (x : A) → slice_get (drop k xs) n ≡ Some x
+      → slice_get xs (k + n) ≡ Some x
+  item_at xs k n x is =
+      let lt = slice_get_within (drop k xs) n x is in
+      slice_get-get_or xs (k + n) x (omega (arith, lt, length-drop k xs))
+      ∙ ap Some (sym (get_or-drop k xs n x) ∙ get_or_from_slice_get (drop k xs) n x x is)
 
 -- ---- what a call extends
 
@@ -300,3 +308,17 @@ gave_up_after p q d m n turns Own u w device g = record {
   device = device;
   output = begins u w (text g.lines) g.output;
 }
+
+-- the next item, where it is a phase, and those after it
+pub next_may : (p : Place) (phase : PhaseText) (pages clock : ℕ) → IsNext p phase
+    → MayStand pages clock (left_at p)
+    → MayStand pages clock (items.Phase phase ∷ drop (p.at + 1) p.job)
+next_may p phase pages clock next may =
+    subst (MayStand pages clock) (at_item p.job p.at (items.Phase phase) next) may
+
+-- an item that is no phase
+pub no_phase : (item : Item) → ((phase : PhaseText) → item ≡ items.Phase phase → ⊥)
+    → NoPhases (item ∷ [])
+no_phase (items.Attr attr) not = tt
+no_phase (items.Report report) not = tt
+no_phase (items.Phase phase) not = not phase refl

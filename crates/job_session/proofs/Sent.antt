@@ -20,29 +20,30 @@ module _ (lines : List OutLine) (o p : OutputState) (u : Option (List ℕ)) (fro
   bytes_of = ap (λ (xs : List ℕ). xs ++ text lines) none
 
   -- the telling was given up
-  pub told_in_part : (stop : Stop) (w : Option (List ℕ)) → w ≡ p.sent → Tells o p (Err stop) lines
-      → LinesSent lines u w (Err stop)
-  told_in_part stop w to t = record {
+  pub told_in_part : (r : Result (Unit {0}) Stop) (stop : Stop) (w : Option (List ℕ)) → w ≡ p.sent
+      → Tells o p r lines → LinesSent lines u w (Err stop)
+  told_in_part r stop w to t = record {
     sends = subst (λ (x : Option (List ℕ) × Option (List ℕ) × List ℕ). BeginsWith x.0 x.1 x.2)
         (λ i. (sym from i, sym to i, bytes_of i)) t.sends;
     whole = tt;
   }
 
-  -- all were told, and what waited was sent, up to w
-  module _ (bytes : List ℕ) (waited : bytes ≡ p.waits) (w : Option (List ℕ))
+  -- all were told, and what waited was sent, up to v
+  module _ (bytes : List ℕ) (waited : bytes ≡ p.waits) (v w : Option (List ℕ)) (to : w ≡ v)
       (t : Tells o p (Ok tt) lines) where
     -- in part
-    pub sent_in_part : (stop : Stop) → BeginsWith p.sent w bytes → LinesSent lines u w (Err stop)
+    pub sent_in_part : (stop : Stop) → BeginsWith p.sent v bytes → LinesSent lines u w (Err stop)
     sent_in_part stop b = record {
-      sends = subst (λ (x : Option (List ℕ)). BeginsWith x w (text lines)) (sym from)
-          (BeginsWith-trans o.sent p.sent w (o.waits ++ text lines) [] bytes (text lines) t.sends b
+      sends = subst (λ (x : Option (List ℕ) × Option (List ℕ)). BeginsWith x.0 x.1 (text lines))
+          (λ i. (sym from i, sym to i))
+          (BeginsWith-trans o.sent p.sent v (o.waits ++ text lines) [] bytes (text lines) t.sends b
           (waited ∙ sym t.whole.0 ∙ sym (append-nil t.sends.rest))
           (sym bytes_of ∙ sym (append-nil (o.waits ++ text lines))));
       whole = tt;
     }
 
     -- or all of it
-    pub all_sent : (refused : Bool) → Appends p.sent w bytes → refused ≡ p.refused
+    pub all_sent : (refused : Bool) → Appends p.sent v bytes → refused ≡ p.refused
         → o.refused ≡ false → LinesSent lines u w (Ok refused)
     all_sent refused sent refuses quiet = record {
       sends = record {
@@ -63,8 +64,9 @@ module _ (lines : List OutLine) (o p : OutputState) (u : Option (List ℕ)) (fro
 
         appended : Appends u w (text lines)
         appended =
-            subst (λ (x : Option (List ℕ) × List ℕ). Appends x.0 w x.1) (λ i. (sym from i, whole i))
-            (Appends-trans o.sent p.sent w t.sends.sent bytes t.sends.appended sent)
+            subst (λ (x : Option (List ℕ) × Option (List ℕ) × List ℕ). Appends x.0 x.1 x.2)
+            (λ i. (sym from i, sym to i, whole i))
+            (Appends-trans o.sent p.sent v t.sends.sent bytes t.sends.appended sent)
 
 -- items without phases that were told, and whose lines were sent
 module _ (d : Disk) (job : List Item) (m : Disk) (o p : OutputState) (none : NoPhases job) where

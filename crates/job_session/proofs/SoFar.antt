@@ -1,5 +1,5 @@
 -- The outputs of a session's calls, one after the other.
-use Rattle.std.proofs.Common.{◌≡◌, ℕ, Bool, false, ◌||◌, List, [], ◌∷◌, ◌++◌, Option, Result, Ok, Err, refl, sym, ap, ◌∙◌, subst, append_assoc}
+use Rattle.std.proofs.Common.{◌≡◌, ℕ, Bool, false, ◌||◌, List, [], ◌∷◌, ◌++◌, Option, Result, Ok, Err, IfOk, OnErr, refl, sym, ap, ◌∙◌, subst, append_assoc}
 use Rattle.std.proofs.KnownBytes.{Appends-nil, Appends-trans}
 use Rattle.std.proofs.lemmas.List.{append-nil}
 use Rattle.std.proofs.lemmas.List.Concat.{flat_map-append}
@@ -129,7 +129,7 @@ first_over device r is = record {
 
 module _ (first : Rest) (is_first : IsFirst first.device first) (entry exit : Seen)
     (at_entry : IsUncounted entry first.device) where
-  pub as_written : (job : List Item) (d : Disk) (Writes : List ℕ → Type 0) (refused : Bool)
+  as_written : (job : List Item) (d : Disk) (Writes : List ℕ → Type 0) (refused : Bool)
       → Shows exit d.device → IsSoFar first job d Writes refused
       → IsWritten job entry exit Writes refused
   as_written job d Writes refused at_exit s = record {
@@ -149,7 +149,7 @@ module _ (first : Rest) (is_first : IsFirst first.device first) (entry exit : Se
     output = s.output;
   }
 
-  pub as_cut : (job : List Item) (m : Disk) (Writes : List ℕ → Type 0) → Shows exit m.device
+  as_cut : (job : List Item) (m : Disk) (Writes : List ℕ → Type 0) → Shows exit m.device
       → IsCutSoFar first job m Writes → IsCut job entry exit Writes
   as_cut job m Writes at_exit s = record {
     front = s.front;
@@ -159,3 +159,15 @@ module _ (first : Rest) (is_first : IsFirst first.device first) (entry exit : Se
     run = as_written s.front s.last Writes s.refused (subst (Shows exit) (sym s.device) at_exit)
         s.so_far;
   }
+
+  pub run_written : (job : List Item) (m : Disk) (u w : Option (List ℕ)) (r : Result Bool Stop)
+      → Shows exit m.device → SessionRan first job m u w r
+      → IfOk r (IsWritten job entry exit (Appends u w))
+  run_written job m u w (Ok refused) at_exit s = as_written job m (Appends u w) refused at_exit s
+  run_written job m u w (Err stop) at_exit s = tt
+
+  pub run_cut : (job : List Item) (m : Disk) (u w : Option (List ℕ)) (r : Result Bool Stop)
+      → Shows exit m.device → SessionRan first job m u w r
+      → OnErr r (IsCut job entry exit (BeginsWith u w))
+  run_cut job m u w (Ok refused) at_exit s = tt
+  run_cut job m u w (Err stop) at_exit s = as_cut job m (BeginsWith u w) at_exit s

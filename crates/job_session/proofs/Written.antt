@@ -7,6 +7,7 @@ use Rattle.backing_dev.specs.Dev.{DeviceState}
 use Rattle.plain_disk.specs.Output.{OutLine, any_refusal}
 use Rattle.plain_disk.specs.Rests.{Rest}
 use Rattle.plain_disk.specs.Legal.{IsFirst}
+use Rattle.zr_core.specs.Rests.{no_blocks}
 use Rattle.job_text.specs.declared.job.Item.{Item}
 use Rattle.job_text.specs.Jobs.{Used, nothing_used, MayFollow}
 use Rattle.job_session.specs.declared.stop.Stop.{Stop}

@@ -104,7 +104,7 @@ IsNext p text = slice_get p.job p.at ≡ Some (items.Phase text)
 -- The next item is a phase, which may stand on the disk d; this stands for a rest of the plain disk.
 pub record IsAtPhase (p : Place) (clock : ℕ) (d : Disk) (text : PhaseText) : Type 0 where
   pub item : IsNext p text
-  pub clock : d.clock ≡ clock
+  pub time : d.clock ≡ clock
   pub may : MayStand d.size d.clock (left_at p)
   pub stands : StandsForSome d
 
@@ -112,7 +112,7 @@ pub record IsAtPhase (p : Place) (clock : ℕ) (d : Disk) (text : PhaseText) : T
 pub record IsStarted {D : Type 0} (d : Disk) (actors : List (List Op)) (x : Playing D)
     : Type 0 where
   pub goes_by : x.terms ≡ terms_of d
-  pub actors : x.actors ≡ actors
+  pub acting : x.actors ≡ actors
   pub limit : x.limit ≡ d.limit
   pub device : device_by x.spare x.terms.size x.cells ≡ d.device
   pub blocks : blocks_by x.spare x.terms.size x.cells ≡ d.blocks
@@ -173,7 +173,7 @@ module _ {D : Type 0} {b : Ghosts D} where
   -- Nothing is done yet: the disk is the one over this device, without pages, which stands for a rest
   -- before the first item.
   pub record IsNew (s : Session D b) (job : List Item) (device : DeviceState) : Type 0 where
-    pub job : s.job ≡ job
+    pub whole : s.job ≡ job
     pub none : s.at ≡ 0
     pub quiet : s.refused ≡ false
     pub disk : session_disk s ≡ without_pages device
@@ -203,6 +203,7 @@ module _ {D : Type 0} {b : Ghosts D} where
     abbrev pub IsStopped : Type 0
     IsStopped = IsHome t × GivesUp (place s) (session_disk s) [] ⊤ (session_disk t) (BeginsWith u w)
 
+    -- the job has ended at this status: all items are done, or those up to the next phase were given up
     abbrev pub EndsBy : Status → Type 0
     EndsBy statuses.Done = IsEnded false
     EndsBy statuses.Refused = IsEnded true
@@ -218,27 +219,28 @@ module _ {D : Type 0} {b : Ghosts D} where
         × IsReady t m text × GoesOn (place s) (place t) (session_disk s) [] ⊤ m (Appends u w)
     NextIs (next.Ended status) = EndsBy status
 
-    module _ (d : Disk) (text : PhaseText) (turns : List ℕ) where
-      -- the turns are the phase's own
-      abbrev Own : Type 0
-      Own = IsBySchedule text.actors text.schedule turns
+  module _ (p : Place) (t : Session D b) (u w : Option (List ℕ)) (before now : ℕ) (stopped : Bool)
+      (d : Disk) (text : PhaseText) (turns : List ℕ) where
+    -- the turns are the phase's own
+    abbrev pub Own : Type 0
+    Own = IsBySchedule text.actors text.schedule turns
 
-      -- its lines were cut
-      abbrev pub IsCutPhase : Type 0
-      IsCutPhase = IsHome t × GivesUp (place s) d (turns ∷ []) Own (session_disk t) (BeginsWith u w)
+    -- the lines of the phase were cut
+    abbrev pub IsCutPhase : Type 0
+    IsCutPhase = IsHome t × GivesUp p d (turns ∷ []) Own (session_disk t) (BeginsWith u w)
 
-      abbrev pub CutBy : Status → Type 0
-      CutBy statuses.Done = ⊥
-      CutBy statuses.Refused = ⊥
-      CutBy statuses.Words = ⊥
-      CutBy statuses.Job = ⊥
-      CutBy statuses.ReadFault = ⊥
-      CutBy statuses.WriteFault = IsCutPhase × WriteCause before now stopped
-      CutBy statuses.NoMemory = IsCutPhase
+    -- the job has ended at this status, while the lines of the phase were written
+    abbrev pub CutBy : Status → Type 0
+    CutBy statuses.Done = ⊥
+    CutBy statuses.Refused = ⊥
+    CutBy statuses.Words = ⊥
+    CutBy statuses.Job = ⊥
+    CutBy statuses.ReadFault = ⊥
+    CutBy statuses.WriteFault = IsCutPhase × WriteCause before now stopped
+    CutBy statuses.NoMemory = IsCutPhase
 
-      -- the phase is done, and its lines are written
-      abbrev pub FinishIs : Result (Unit {0}) Status → Type 0
-      FinishIs (Ok x) =
-          GoesOn (place s) (place t) d (turns ∷ []) Own (session_disk t) (Appends u w)
-          × IsBetween t × (t.at ≡ s.at + 1)
-      FinishIs (Err status) = CutBy status
+    -- the phase is done, and its lines are written
+    abbrev pub FinishIs : Result (Unit {0}) Status → Type 0
+    FinishIs (Ok x) = GoesOn p (place t) d (turns ∷ []) Own (session_disk t) (Appends u w)
+        × IsBetween t × (t.at ≡ p.at + 1)
+    FinishIs (Err status) = CutBy status

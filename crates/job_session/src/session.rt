@@ -223,7 +223,7 @@ impl<D: Backing> Session<D> {
     /// The operations and the schedule of the phase that is out, or prepared.
     pub fn text(&self) -> &PhaseText
         requires phase { (text : PhaseText) × IsNext (place self.now) text }
-        ensures { (text : PhaseText) → IsNext (place self.now) text → result.now ≡ text }
+        ensures text { (text : PhaseText) → IsNext (place self.now) text → result.now ≡ text }
     {
         let Item::Phase(text) = &self.job.as_slice()[self.at] else {
             unreachable!()
@@ -250,7 +250,7 @@ impl<D: Backing> Session<D> {
     pub fn finish<K: Sink>(&mut self, running: Running<D>, out: &mut K) -> Result<(), Status>
         requires back { ComesBack self.old running.world running.phase }
         ensures goes { (back : ComesBack self.old running.world running.phase)
-            → FinishIs self.old self.new (K.written out.old) (K.written out.new)
+            → FinishIs (place self.old) self.new (K.written out.old) (K.written out.new)
             (K.fault_count out.old) (K.fault_count out.new) (K.has_stopped out.new)
             back.disk back.text back.turns result }
         ensures later { K.fault_count out.old ≤ K.fault_count out.new }
@@ -278,7 +278,8 @@ impl<D: Backing> Session<D> {
         ensures calls { D.calls result ≡ (session_disk self).device.calls }
         ensures same { D.references result ≡ (session_disk self).device.references }
     {
-        let Stage::Here(world) = self.stage else {
+        let Session { stage, .. } = self;
+        let Stage::Here(world) = stage else {
             unreachable!()
         };
         world.close()

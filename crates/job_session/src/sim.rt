@@ -23,7 +23,7 @@ ghost use Rattle.plain_disk.specs.Rests.{Rest};
 ghost use Rattle.job_text.specs.Jobs.{MayFollow, nothing_used};
 ghost use Rattle.job_session.specs.Stands.{Stands};
 ghost use Rattle.job_session.specs.Stepped.{Disk, without_pages, IsBySchedule};
-ghost use Rattle.job_session.specs.Sessions.{session_disk, IsHome, IsBetween, IsReady, FinishIs};
+ghost use Rattle.job_session.specs.Sessions.{place, session_disk, IsHome, IsBetween, IsReady, FinishIs};
 ghost use Rattle.job_session.specs.Advances.{SessionRan, outcome_of};
 ghost use Rattle.job_session.specs.Runs.{status_number, seen, WriteCause, BeginsWith, IsRunWord, IsWritten, IsRun, IsCut, IsCutRun, IsRefused};
 ghost use Rattle.job_session.specs.Telling.{StopCause, LineStops, TextEnds, TextStops};
@@ -114,7 +114,7 @@ fn run_phase<K: Sink, D: Backing>(session: &mut Session<D>, sink: &mut K) -> Res
     requires ready { (d : Disk) × (text : PhaseText) × IsReady session.old d text }
     ensures runs { (d : Disk) (text : PhaseText) → IsReady session.old d text
         → (turns : List ℕ) × IsBySchedule text.actors text.schedule turns
-        × FinishIs session.old session.new (K.written sink.old) (K.written sink.new)
+        × FinishIs (place session.old) session.new (K.written sink.old) (K.written sink.new)
         (K.fault_count sink.old) (K.fault_count sink.new) (K.has_stopped sink.new)
         d text turns result }
     ensures later { K.fault_count sink.old ≤ K.fault_count sink.new }
@@ -144,7 +144,7 @@ fn run_session<K: Sink, D: Backing>(session: &mut Session<D>, sink: &mut K) -> R
     ensures cause { IfErr result
         (StopCause (K.fault_count sink.old) (K.fault_count sink.new) (K.has_stopped sink.new)) }
 {
-    loop {
+    'phases: loop {
         match session.next(sink) {
             Next::Phase => {}
             Next::Ended(status) => return outcome(status),
