@@ -14,8 +14,10 @@ use Rattle.zr_core.specs.declared.disk.World.{World}
 use Rattle.zr_core.specs.declared.phase.Phase.{Phase}
 use Rattle.zr_core.specs.Machines.{PhaseSteps}
 use Rattle.zr_core.specs.Playing.{playing, lines_shown}
-use Rattle.zr_core.specs.Rests.{no_blocks, IsEarly, IsAtRest}
-use Rattle.zr_core.specs.States.{Playing}
+use Rattle.joint_rule.specs.Begins.{Begin}
+use Rattle.zr_core.specs.declared.limits.TheConstants.{MOST_CHAIN}
+use Rattle.zr_core.specs.Rests.{device_by, blocks_by, begun, RestsAs, IsEarly, IsAtRest}
+use Rattle.zr_core.specs.States.{Playing, CanGoOn, IsPrepared, IsSetUpOn}
 use Rattle.job_text.specs.declared.job.Item.{Item}
 use Rattle.job_text.specs.declared.job.Item.TheVariants as items
 use Rattle.job_text.specs.declared.job.PhaseText.{PhaseText}
@@ -219,3 +221,24 @@ module _ {D : Type 0} {b : Ghosts D} (d : Disk) (clock : ℕ) (text : PhaseText)
       started.device started.blocks early over.rest.rests)
       (subst (λ (t : Terms). PhaseSteps t text.actors d.row turns
       (lines_shown (playing world phase text.actors)) world.row.cells) started.goes_by over.steps)
+
+-- a phase that was prepared on the disk d
+pub started_by : {D : Type 0} {b : Ghosts D} (d : Disk) (world : World D b) (phase : Phase D)
+    (actors js : List (List Op)) → js ≡ actors → world.pages ≡ d.size → phase.clock ≡ d.clock
+    → world.limit ≡ d.limit → device_by world.spare world.pages world.row.cells ≡ d.device
+    → blocks_by world.spare world.pages world.row.cells ≡ d.blocks
+    → CanGoOn (playing world phase js) → IsSetUpOn d.row (playing world phase js)
+    → ((g : Begin) → RestsAs g d.size d.row
+    → IsPrepared (begun g js d.clock) (playing world phase js))
+    → IsStarted d actors (playing world phase actors)
+started_by d world phase actors js same size time limit device blocks can set_up prepared = record {
+  goes_by = λ i. record { size = size i; chain = MOST_CHAIN; clock = time i };
+  acting = refl;
+  limit = limit;
+  device = device;
+  blocks = blocks;
+  can = subst (λ (x : List (List Op)). CanGoOn (playing world phase x)) same can;
+  set_up = subst (λ (x : List (List Op)). IsSetUpOn d.row (playing world phase x)) same set_up;
+  prepared = λ g rests. subst (λ (x : List (List Op)). IsPrepared (begun g x d.clock)
+      (playing world phase x)) same (prepared g rests);
+}

@@ -1,11 +1,11 @@
 -- How items that were carried out extend each output so far.
 use Rattle.std.specs.Prelude.{⊤}
-use Rattle.std.proofs.Common.{◌≡◌, ℕ, ◌+◌, ◌<◌, ◌≤◌, Bool, ◌||◌, List, [], ◌∷◌, ◌++◌, length, take, drop, Option, Some, Result, Ok, Err, slice_get, refl, sym, ap, ◌∙◌, subst, append_assoc, arith, false}
+use Rattle.std.proofs.Common.{◌≡◌, ℕ, ◌+◌, ◌-◌, ◌<◌, ◌≤◌, Bool, ◌||◌, List, [], ◌∷◌, ◌++◌, length, take, drop, Option, Some, Result, Ok, Err, slice_get, get_or, refl, sym, ap, ◌∙◌, subst, append_assoc, arith, false}
 use Rattle.std.proofs.KnownBytes.{Appends-trans}
 use Rattle.std.proofs.Math.Seq.{take-add}
-use Rattle.std.proofs.lemmas.List.{append-nil, take-append-drop, take_more, drop_more, drop-drop, length-drop, get_or-drop}
+use Rattle.std.proofs.lemmas.List.{append-nil, take-append-drop, take_more, drop_more, drop-drop, length-drop, get_or-drop, take_rest}
 use Rattle.std.proofs.lemmas.List.Concat.{flat_map-append}
-use Rattle.std.proofs.lemmas.Option.{slice_get_within, slice_get-get_or, get_or_from_slice_get}
+use Rattle.std.proofs.lemmas.Option.{slice_get_within, slice_get_read, slice_get-get_or, get_or_from_slice_get}
 use Rattle.std.specs.Io.KnownBytes.{Appends}
 use Rattle.plain_disk.specs.Output.{OutLine, any_refusal}
 use Rattle.plain_disk.specs.Rests.{Rest}
@@ -230,7 +230,7 @@ module _ (legal : JobsAreLegal) where
       output = sent.sent.sends;
     }
       where
-        split : left_at p ≡ sent.front ++ sent.later ++ later
+        split : left_at p ≡ sent.front ++ (sent.later ++ later)
         split = sym parts ∙ ap (λ (xs : List Item). xs ++ later) sent.parts
             ∙ append_assoc sent.front sent.later later
 
@@ -295,10 +295,10 @@ module _ (legal : JobsAreLegal) where
 
 -- ---- a call that was given up after others went on
 
-pub gave_up_after : (p q : Place) (d m n : Disk) (turns : List (List ℕ)) (Own : Type 0)
-    (u w : Option (List ℕ)) → m.device ≡ n.device → GoesOn p q d turns Own m (Appends u w)
-    → GivesUp p d turns Own n (BeginsWith u w)
-gave_up_after p q d m n turns Own u w device g = record {
+pub gave_up_after : (p q : Place) (d m n : Disk) (turns : List (List ℕ)) (O : Type 0)
+    (u w : Option (List ℕ)) → m.device ≡ n.device → GoesOn p q d turns O m (Appends u w)
+    → GivesUp p d turns O n (BeginsWith u w)
+gave_up_after p q d m n turns O u w device g = record {
   front = done_at q;
   later = left_at q;
   parts = sym g.job ∙ sym (take-append-drop q.at q.job);
@@ -322,3 +322,54 @@ pub no_phase : (item : Item) → ((phase : PhaseText) → item ≡ items.Phase p
 no_phase (items.Attr attr) not = tt
 no_phase (items.Report report) not = tt
 no_phase (items.Phase phase) not = not phase refl
+
+-- ---- what is left of a job, as the code takes it
+
+module _ (p : Place) (n : ℕ) (js : List Item) (same : js ≡ p.job) where
+  -- a slice from the place on
+  abbrev slice : List Item
+  slice = take (length js - p.at) (drop p.at js)
+
+  slice_is : slice ≡ left_at p
+  slice_is = take_rest js p.at ∙ ap (drop p.at) same
+
+  pub front_stands : (pages clock : ℕ) → MayStand pages clock (left_at p)
+      → MayStand pages clock (take n slice)
+  front_stands pages clock may =
+      subst (λ (xs : List Item). MayStand pages clock (take n xs)) (sym slice_is)
+      (stand_front pages clock (take n (left_at p)) (drop n (left_at p))
+      (subst (MayStand pages clock) (sym (take-append-drop n (left_at p))) may))
+
+  pub front_sent : (d m : Disk) (u w : Option (List ℕ)) (r : Result Bool Stop)
+      → ItemsSent d (take n slice) m u w r → ItemsSent d (take n (left_at p)) m u w r
+  front_sent d m u w r sent =
+      subst (λ (xs : List Item). ItemsSent d (take n xs) m u w r) slice_is sent
+
+  pub front_next : (n < length slice → (phase : PhaseText)
+      × (slice_get slice n ≡ Some (items.Phase phase))) → (q : Place) → q.job ≡ p.job
+      → q.at ≡ p.at + n → q.at < length q.job → (phase : PhaseText) × IsNext q phase
+  front_next given q job at lt =
+      let there : q.at < length p.job = subst (λ (xs : List Item). q.at < length xs) job lt in
+      let within : n < length slice =
+      subst (λ (xs : List Item). n < length xs) (sym slice_is)
+      (omega (arith, there, at, length-drop p.at p.job)) in
+      let it = given within in (
+        it.0,
+        (λ i. slice_get (job i) (at i))
+            ∙ item_at p.job p.at n (items.Phase it.0)
+            (sym (ap (λ (xs : List Item). slice_get xs n) slice_is) ∙ it.1),
+      )
+
+  pub front_within : n ≤ length slice → p.at ≤ length p.job → p.at + n ≤ length p.job
+  front_within most at =
+      let le : n ≤ length (left_at p) = subst (λ (xs : List Item). n ≤ length xs) slice_is most in
+      omega (arith, le, length-drop p.at p.job, at)
+
+-- the item at the place is the next one
+pub next_is : (p : Place) (js : List Item) (item : Item) (phase : PhaseText) → js ≡ p.job
+    → p.at ≤ length p.job → (p.at ≡ length js → ⊥) → item ≡ get_or js p.at item
+    → item ≡ items.Phase phase → IsNext p phase
+next_is p js item phase same at not is it =
+    (λ i. slice_get (sym same i) p.at)
+    ∙ slice_get_read js (length js) p.at item refl (omega (arith, not, at, ap length same)) is
+    ∙ ap Some it

@@ -80,6 +80,14 @@ fn ended(refused: bool) -> Status
     }
 }
 
+// The place after an item.
+fn after(job: &[Item], at: usize) -> usize
+    requires { at < length job.now }
+    ensures { result ≡ at + 1 }
+{
+    at + 1
+}
+
 impl<D: Backing> Session<D> {
     /// A session of a lawful job, before its first item. It takes no memory.
     pub fn new(alloc: Global, job: Job, dev: D) -> Session<D>
@@ -262,7 +270,7 @@ impl<D: Backing> Session<D> {
         match told {
             Ok(refused) => {
                 self.refused = self.refused | refused;
-                self.at += 1;
+                self.at = after(self.job.as_slice(), self.at);
                 Ok(())
             }
             Err(stop) => Err(stopped(stop)),

@@ -1,11 +1,16 @@
-use Rattle.std.proofs.Common.{refl, ◌∙◌, arith, Ok, Err}
-use Rattle.std.specs.Prelude.{◌||◌}
+use Rattle.std.proofs.Common.{◌+◌, ◌<◌, ◌||◌, length, refl, sym, subst, arith}
+use Rattle.std.proofs.lemmas.Option.{slice_get_within}
 use Rattle.zr_core.specs.Playing.{playing, lines_shown}
 use Rattle.job_session.specs.Stepped.{disk_of}
-use Rattle.job_session.specs.Sessions.{place}
+use Rattle.job_session.specs.Sessions.{Place, place}
 use Rattle.job_session.proofs.Calls.{over_steps, cut_with}
 use Rattle.job_session.proofs.Extends.{phase_went_on, phase_gave_up, phase_may_after, phase_some_after}
 use Rattle.job_session.proofs.session.Session.finish.Goals as goal
+
+pub after-requires : goal.after-requires
+after-requires g c =
+    subst (λ xs. c.args.self.now.at < length xs) (sym c.as_slice.ensures)
+    (slice_get_within _ _ _ c.requires.back.out.1.item)
 
 pub returns-in-Ok-clause-goes : goal.returns-in-Ok-clause-goes
 returns-in-Ok-clause-goes g c back =
@@ -13,7 +18,11 @@ returns-in-Ok-clause-goes g c back =
     let p = place s in
     let world = c.args.running.world in
     let phase = c.args.running.phase in
-    let q = record p { at = p.at + 1; refused = p.refused || c.in-Ok.refused } in
+    let q : Place = record {
+      job = p.job;
+      at = c.after-self.result;
+      refused = p.refused || c.in-Ok.refused;
+    } in
     let legal = c.jobs_are_legal.ensures.legal in
     let d = back.disk in
     let m = disk_of s.clock world in
@@ -22,20 +31,41 @@ returns-in-Ok-clause-goes g c back =
     let stepped = over_steps d s.clock back.text back.start world phase back.turns back.started
     at.time back.over world.early in
     let sent = c.tell-told.ensures.lines back.text at.item in
-    (
+    let next = slice_get_within p.job p.at _ at.item in
+    let on = c.after-self.ensures in (
       phase_went_on legal p back.text d m back.turns lines _ _ at.item at.may stepped q
-          c.in-Ok.refused refl refl refl (rw (← c.in-Ok.is) sent),
+          c.in-Ok.refused refl on refl (rw (← c.in-Ok.is) sent),
       (
         world,
         refl,
         record {
-          within = omega arith;
+          within = omega (arith, next, on);
           rest = back.over.rest;
           may = phase_may_after legal p back.text d m back.turns lines _ _ at.item at.may stepped q
-              refl refl;
+              refl on;
           stands = phase_some_after legal p back.text d m back.turns lines _ _ at.item at.may
               stepped at.stands;
         },
       ),
-      refl,
+      on,
     )
+
+pub returns-clause-goes : goal.returns-clause-goes
+returns-clause-goes g c back =
+    let s = c.args.self.now in
+    let p = place s in
+    let world = c.args.running.world in
+    let phase = c.args.running.phase in
+    let d = back.disk in
+    let m = disk_of s.clock world in
+    let at = back.out.1 in
+    let lines = lines_shown (playing world phase back.text.actors) in
+    let stepped = over_steps d s.clock back.text back.start world phase back.turns back.started
+    at.time back.over world.early in
+    let sent = c.tell-told.ensures.lines back.text at.item in
+    rw c.stopped.ensures
+    (cut_with p _ _ _ _ _ _ d back.text back.turns c.in-Err.stop (
+      (world, refl, back.over.rest),
+      phase_gave_up c.jobs_are_legal.ensures.legal p back.text d m back.turns lines _ _ at.item
+          at.may stepped c.in-Err.stop (rw (← c.in-Err.is) sent),
+    ) (rw (← c.in-Err.is) c.tell-told.ensures.cause))

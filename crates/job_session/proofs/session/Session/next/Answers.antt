@@ -1,0 +1,23 @@
+use Rattle.std.proofs.Common.{refl, sym, ◌∙◌}
+use Rattle.job_session.proofs.Calls.{phase_next, ended_next, stopped_next}
+use Rattle.job_session.proofs.session.Session.next.Goals as goal
+
+pub returns-in-Ok-Some-clause-goes : goal.returns-in-Ok-Some-clause-goes
+returns-in-Ok-Some-clause-goes g c =
+    phase_next c.args.self.now _ _ _ _ _ _ c.in-Here.world
+    (sym c.replace.ensures.value ∙ c.in-Here.is) _ refl
+    (rw (← c.in-Ok-Some.is) c.advance-went.ensures.goes)
+
+pub returns-in-Ok-None-clause-goes : goal.returns-in-Ok-None-clause-goes
+returns-in-Ok-None-clause-goes g c =
+    rw c.ended.ensures
+    (ended_next c.args.self.now _ _ _ _ _ _ c.in-Here.world
+    (sym c.replace.ensures.value ∙ c.in-Here.is) _ refl
+    (rw (← c.in-Ok-None.is) c.advance-went.ensures.goes))
+
+pub returns-in-Err-clause-goes : goal.returns-in-Err-clause-goes
+returns-in-Err-clause-goes g c =
+    rw c.stopped.ensures
+    (stopped_next c.args.self.now _ _ _ _ _ _ c.in-Here.world
+    (sym c.replace.ensures.value ∙ c.in-Here.is) _ refl c.in-Err.stop
+    (rw (← c.in-Err.is) c.advance-went.ensures.goes) (rw (← c.in-Err.is) c.advance-went.ensures.cause))
