@@ -9,10 +9,12 @@ use Rattle.backing_dev.specs.Dev.{DeviceState}
 use Rattle.backing_dev.specs.declared.backing.Backing.{Ghosts}
 use Rattle.plain_disk.specs.Output.{OutLine}
 use Rattle.plain_disk.specs.Rests.{Rest}
-use Rattle.page_steps.specs.Steps.{Terms}
+use Rattle.page_steps.specs.Steps.{Terms, DiskHeld}
+use Rattle.zr_base.specs.declared.op.Turns.{Turns}
+use Rattle.zr_core.specs.Runs.{turns_of, AllOver}
 use Rattle.zr_core.specs.declared.disk.World.{World}
 use Rattle.zr_core.specs.declared.phase.Phase.{Phase}
-use Rattle.zr_core.specs.Machines.{PhaseSteps}
+use Rattle.zr_core.specs.Machines.{PhaseSteps, rounds_of}
 use Rattle.zr_core.specs.Playing.{playing, lines_shown}
 use Rattle.joint_rule.specs.Begins.{Begin}
 use Rattle.zr_core.specs.declared.limits.TheConstants.{MOST_CHAIN}
@@ -34,7 +36,7 @@ use Rattle.job_session.specs.Stands.{Stands}
 use Rattle.job_session.specs.Stepped.{Disk, without_pages, disk_of, terms_of, Stepped, IsBySchedule}
 use Rattle.job_session.specs.Runs.{BeginsWith}
 use Rattle.job_session.specs.Telling.{MayStand, StandsForSome, StopCause, stop_status}
-use Rattle.job_session.specs.Sessions.{Place, done_at, place, disk_at, session_disk, GoesOn, GivesUp, IsAt, IsStarted, IsOver, IsHome, IsBetween, NextIs, IsEnded, IsStopped, EndsBy, IsCutPhase, CutBy}
+use Rattle.job_session.specs.Sessions.{Place, done_at, place, disk_at, session_disk, GoesOn, GivesUp, IsAt, IsStarted, IsOver, IsOut, ComesBack, IsHome, IsBetween, NextIs, IsEnded, IsStopped, EndsBy, IsCutPhase, CutBy}
 use Rattle.job_session.specs.Advances.{ended_status, outcome_of, Advances, IsSoFar, IsCutSoFar, SessionRan}
 use Rattle.job_session.proofs.Devices.{is_run_on}
 use Rattle.job_session.proofs.Jobs.{phase_steps}
@@ -123,37 +125,48 @@ module _ {D : Type 0} {b : Ghosts D} (s t : Session D b) (u w : Option (List ℕ
     first : disk_of s.clock was ≡ session_disk s
     first = ap (disk_at s.clock) (sym here)
 
-    pub phase_next : (running : Running D b) → t.stage ≡ stages.Ready running
-        → Advances (place s) (place t) t.clock (disk_of s.clock was) running.world u w
-        (Ok (Some running.phase))
+    -- what an advance comes to, by its result
+    abbrev To : (world : World D b) → Result (Option (Phase D)) Stop → Type 0
+    To world r = Advances (place s) (place t) t.clock (disk_of s.clock was) world u w r
+
+    pub phase_next : (running : Running D b) (r : Result (Option (Phase D)) Stop)
+        → t.stage ≡ stages.Ready running → r ≡ Ok (Some running.phase) → To running.world r
         → NextIs s t u w before now stopped next.Phase
-    phase_next running is a = (
-      a.0,
-      a.2,
-      (running, is, a.3, a.4),
-      subst (λ (d : Disk). GoesOn (place s) (place t) d [] ⊤ a.0 (Appends u w)) first a.1,
-    )
+    phase_next running r is went to =
+        let a = subst (To running.world) went to in (
+          a.0,
+          a.2.0,
+          (running, is, a.2.1, a.2.2),
+          subst (λ (d : Disk). GoesOn (place s) (place t) d [] ⊤ a.0 (Appends u w)) first a.1,
+        )
 
-    pub ended_next : (world : World D b) → t.stage ≡ stages.Here world
-        → Advances (place s) (place t) t.clock (disk_of s.clock was) world u w (Ok None)
-        → NextIs s t u w before now stopped (next.Ended (ended_status t.refused))
-    ended_next world is a = ends_with s t u w before now stopped t.refused (
-      subst (λ (x : Disk × Disk). GoesOn (place s) (place t) x.0 [] ⊤ x.1 (Appends u w))
-          (λ i. (first i, (sym a.3 ∙ ap (disk_at t.clock) (sym is)) i)) a.1,
-      (world, is, a.4),
-      a.2,
-      refl,
-    )
+    pub ended_next : (world : World D b) (r : Result (Option (Phase D)) Stop) (status : Status)
+        → t.stage ≡ stages.Here world → r ≡ Ok None → status ≡ ended_status t.refused → To world r
+        → NextIs s t u w before now stopped (next.Ended status)
+    ended_next world r status is went by to =
+        let a = subst (To world) went to in
+        let all = ends_with s t u w before now stopped t.refused (
+          subst (λ (x : Disk × Disk). GoesOn (place s) (place t) x.0 [] ⊤ x.1 (Appends u w))
+              (λ i. (first i, (sym a.2.1 ∙ ap (disk_at t.clock) (sym is)) i)) a.1,
+          (world, is, a.2.2),
+          a.2.0,
+          refl,
+        ) in
+        subst (EndsBy s t u w before now stopped) (sym by) all
 
-    pub stopped_next : (world : World D b) → t.stage ≡ stages.Here world → (stop : Stop)
-        → Advances (place s) (place t) t.clock (disk_of s.clock was) world u w (Err stop)
-        → StopCause before now stopped stop
-        → NextIs s t u w before now stopped (next.Ended (stop_status stop))
-    stopped_next world is stop a cause = stops_with s t u w before now stopped stop (
-      (world, is, a.1),
-      subst (λ (x : Disk × Disk). GivesUp (place s) x.0 [] ⊤ x.1 (BeginsWith u w))
-          (λ i. (first i, ap (disk_at t.clock) (sym is) i)) a.0,
-    ) cause
+    pub stopped_next : (world : World D b) (r : Result (Option (Phase D)) Stop) (status : Status)
+        (stop : Stop) → t.stage ≡ stages.Here world → r ≡ Err stop → status ≡ stop_status stop
+        → To world r → IfErr r (StopCause before now stopped)
+        → NextIs s t u w before now stopped (next.Ended status)
+    stopped_next world r status stop is went by to cause =
+        let a = subst (To world) went to in
+        let all = stops_with s t u w before now stopped stop (
+          (world, is, a.1),
+          subst (λ (x : Disk × Disk). GivesUp (place s) x.0 [] ⊤ x.1 (BeginsWith u w))
+              (λ i. (first i, ap (disk_at t.clock) (sym is) i)) a.0,
+        ) (subst (λ (x : Result (Option (Phase D)) Stop). IfErr x (StopCause before now stopped))
+        went cause) in
+        subst (EndsBy s t u w before now stopped) (sym by) all
 
 -- ---- a phase that was given up
 
@@ -242,3 +255,49 @@ started_by d world phase actors js same size time limit device blocks can set_up
   prepared = λ g rests. subst (λ (x : List (List Op)). IsPrepared (begun g x d.clock)
       (playing world phase x)) same (prepared g rests);
 }
+
+-- a phase that was run by its schedule comes back
+module _ {D : Type 0} {b : Ghosts D} (d : Disk) (text : PhaseText) (s : Session D b)
+    (w0 w1 : World D b) (f0 f1 : Phase D) (js : List (List Op)) (schedule : List Turns)
+    (same : js ≡ text.actors) (is : schedule ≡ text.schedule) (out : IsOut s d text)
+    (started : IsStarted d text.actors (playing w0 f0 text.actors))
+    (goes_by : (playing w1 f1 js).terms ≡ (playing w0 f0 js).terms) (spare : w1.spare ≡ w0.spare)
+    (limit : w1.limit ≡ w0.limit) (can : CanGoOn (playing w1 f1 js))
+    (over : AllOver js f1.workers.items)
+    (rest : IsAtRest w1.pages w1.noted.items w1.row.cells)
+    (steps : (before : List (Option DiskHeld)) → IsSetUpOn before (playing w0 f0 js)
+    → (rounds : ℕ) × PhaseSteps (playing w0 f0 js).terms js before
+    (turns_of schedule ++ rounds_of (length js) rounds) (lines_shown (playing w1 f1 js))
+    w1.row.cells) where
+  run : (rounds : ℕ) × PhaseSteps (playing w0 f0 js).terms js d.row
+      (turns_of schedule ++ rounds_of (length js) rounds) (lines_shown (playing w1 f1 js))
+      w1.row.cells
+  run = steps d.row
+      (subst (λ (x : List (List Op)). IsSetUpOn d.row (playing w0 f0 x)) (sym same) started.set_up)
+
+  abbrev pub own_turns : List ℕ
+  own_turns = turns_of text.schedule ++ rounds_of (length text.actors) run.0
+
+  pub are_own : IsBySchedule text.actors text.schedule own_turns
+  are_own = (run.0, refl)
+
+  pub comes_back : ComesBack s w1 f1
+  comes_back = record {
+    disk = d;
+    text = text;
+    start = playing w0 f0 text.actors;
+    turns = own_turns;
+    out = out;
+    started = started;
+    over = record {
+      same = goes_by;
+      spare = spare;
+      limit = limit;
+      can = subst (λ (x : List (List Op)). CanGoOn (playing w1 f1 x)) same can;
+      over = subst (λ (x : List (List Op)). AllOver x f1.workers.items) same over;
+      rest = rest;
+      steps = subst (λ (x : List (List Op) × List Turns). PhaseSteps (playing w0 f0 js).terms x.0
+          d.row (turns_of x.1 ++ rounds_of (length x.0) run.0) (lines_shown (playing w1 f1 x.0))
+          w1.row.cells) (λ i. (same i, is i)) run.1;
+    };
+  }

@@ -1,5 +1,5 @@
--- The reference by which a job's device is lent: no item changes it.
-use Rattle.std.proofs.Common.{◌≡◌, ℕ, Bool, true, false, zero, suc, List, [], ◌∷◌, Option, Result, sym, ap, ◌∙◌, subst, refl}
+-- The references by which a job's device is reached: no item changes them.
+use Rattle.std.proofs.Common.{◌≡◌, ℕ, Bool, true, false, zero, suc, List, [], ◌∷◌, ap, ◌∙◌}
 use Rattle.std.specs.Prelude.{nat_lt}
 use Rattle.backing_dev.specs.Dev.{DeviceState}
 use Rattle.plain_disk.specs.Output.{OutLine}
@@ -10,17 +10,7 @@ use Rattle.job_text.specs.declared.job.Attr.{Attr}
 use Rattle.job_text.specs.declared.job.Attr.TheVariants.{DiskPages, LimitPages, Backing, Clock, LowerMax}
 use Rattle.job_text.specs.declared.job.Item.{Item}
 use Rattle.job_text.specs.declared.job.Item.TheVariants as items
-use Rattle.job_text.specs.Jobs.{Used, nothing_used, MayFollow}
-use Rattle.zr_core.specs.Rests.{no_blocks}
-use Rattle.job_session.specs.declared.stop.Stop.{Stop}
 use Rattle.job_session.specs.Legal.{Legal, plain_item}
-use Rattle.job_session.specs.Stands.{Stands}
-use Rattle.job_session.specs.Stepped.{Disk, without_pages, Stepped}
-use Rattle.job_session.specs.Runs.{Seen, seen, Shows, IsUncounted}
-use Rattle.job_session.specs.Telling.{OutputState, ItemsTold, JobTold}
-use Rattle.job_session.proofs.Lawful.{front_may}
-use Rattle.job_session.proofs.Legal.{first_rest}
-use Rattle.job_session.proofs.Written.{first_stands}
 
 -- ---- items
 

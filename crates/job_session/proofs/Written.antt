@@ -1,26 +1,11 @@
--- What was written of a job whose items were told.
-use Rattle.std.proofs.Common.{◌≡◌, ℕ, Bool, false, ◌||◌, List, [], ◌++◌, Option, Result, Ok, refl, sym, ap, ◌∙◌, subst, inl, arith}
-use Rattle.std.proofs.KnownBytes.{Appends-trans}
-use Rattle.std.proofs.lemmas.List.{append-nil}
-use Rattle.std.specs.Io.KnownBytes.{Appends}
+-- The disk of a new world, and the rest that it stands for.
+use Rattle.std.proofs.Common.{◌≡◌, refl, inl, arith, []}
 use Rattle.backing_dev.specs.Dev.{DeviceState}
-use Rattle.plain_disk.specs.Output.{OutLine, any_refusal}
-use Rattle.plain_disk.specs.Rests.{Rest}
 use Rattle.plain_disk.specs.Legal.{IsFirst}
 use Rattle.zr_core.specs.Rests.{no_blocks}
-use Rattle.job_text.specs.declared.job.Item.{Item}
-use Rattle.job_text.specs.Jobs.{Used, nothing_used, MayFollow}
-use Rattle.job_session.specs.declared.stop.Stop.{Stop}
-use Rattle.job_session.specs.Legal.{Legal}
 use Rattle.job_session.specs.Stands.{Stands}
-use Rattle.job_session.specs.Stepped.{Disk, without_pages, Stepped, AreOwn}
-use Rattle.job_session.specs.Runs.{Seen, Shows, IsUncounted, BeginsWith, IsWritten, IsCut}
-use Rattle.job_session.specs.Telling.{OutputState, JobTold}
-use Rattle.job_print.specs.Texts.{text}
-use Rattle.job_session.proofs.Jobs.{all_stepped, all_own}
-use Rattle.job_session.proofs.Lawful.{front_may}
+use Rattle.job_session.specs.Stepped.{Disk, without_pages}
 use Rattle.job_session.proofs.Legal.{first_rest}
-use Rattle.job_session.proofs.Sending.{BeginsWith-trans}
 
 -- the first rest is as it has to be
 pub first_is : (device : DeviceState) → IsFirst device (first_rest device)

@@ -13,7 +13,7 @@ returns-in_err-ready-clause-goes g c =
     let s = c.go_on.new.self in
     rw p.1 (
       gave_up_after (place c.args.self.now) (place s) _ (disk_of s.clock c.go_on.new.world)
-          (disk_of s.clock c.prepare-ready.new.world) [] ⊤ _ _ (sym c.prepare-ready.ensures.device)
+          (disk_of s.clock c.prepare.new.world) [] ⊤ _ _ (sym c.prepare.ensures.device)
           c.in_ok-go_on.ensures.goes,
       c.in_err-ready.ensures.rest,
     )

@@ -1,4 +1,5 @@
 use Rattle.std.proofs.Common.{◌+◌, ◌||◌, refl, arith}
+use Rattle.std.proofs.lemmas.Result.{err_from_is_err_and}
 use Rattle.job_session.specs.Stepped.{disk_of}
 use Rattle.job_session.specs.Sessions.{Place, place}
 use Rattle.job_session.proofs.Extends.{front_stands, front_sent, front_next, front_within, went_on, gave_up, may_after, some_after}
@@ -10,11 +11,13 @@ send_items-requires-clause-may g c =
 
 pub returns-in_err-refused-clause-goes : goal.returns-in_err-refused-clause-goes
 returns-in_err-refused-clause-goes g c =
+    let e = err_from_is_err_and c.from_residual.result c.from_residual.ensures.1 in
     let d = disk_of c.args.self.now.clock c.args.world.now in
-    gave_up c.jobs_are_legal.ensures.legal (place c.args.self.now) c.before_phase-front.result d _
+    rw e.1
+    (gave_up c.jobs_are_legal.ensures.legal (place c.args.self.now) c.before_phase-front.result d _
     _ _ c.requires.at.may _
     (front_sent (place c.args.self.now) _ _ c.as_slice.ensures d _ _ _ _
-    c.in_err-refused.ensures.items)
+    c.in_err-refused.ensures.items))
 
 pub returns-clause-goes : goal.returns-clause-goes
 returns-clause-goes g c =

@@ -5,19 +5,16 @@ use Rattle.job_session.proofs.session.Session.next.Goals as goal
 pub returns-in-Ok-Some-clause-goes : goal.returns-in-Ok-Some-clause-goes
 returns-in-Ok-Some-clause-goes g c =
     phase_next c.args.self.now _ _ _ _ _ _ c.in-Here.world
-    (sym c.replace.ensures.value ∙ c.in-Here.is) _ refl
-    (rw (← c.in-Ok-Some.is) c.advance-went.ensures.goes)
+    (sym c.replace.ensures.value ∙ c.in-Here.is) _ _ refl c.in-Ok-Some.is c.advance-went.ensures.goes
 
 pub returns-in-Ok-None-clause-goes : goal.returns-in-Ok-None-clause-goes
 returns-in-Ok-None-clause-goes g c =
-    rw c.ended.ensures
-    (ended_next c.args.self.now _ _ _ _ _ _ c.in-Here.world
-    (sym c.replace.ensures.value ∙ c.in-Here.is) _ refl
-    (rw (← c.in-Ok-None.is) c.advance-went.ensures.goes))
+    ended_next c.args.self.now _ _ _ _ _ _ c.in-Here.world
+    (sym c.replace.ensures.value ∙ c.in-Here.is) _ _ _ refl c.in-Ok-None.is c.ended.ensures
+    c.advance-went.ensures.goes
 
 pub returns-in-Err-clause-goes : goal.returns-in-Err-clause-goes
 returns-in-Err-clause-goes g c =
-    rw c.stopped.ensures
-    (stopped_next c.args.self.now _ _ _ _ _ _ c.in-Here.world
-    (sym c.replace.ensures.value ∙ c.in-Here.is) _ refl c.in-Err.stop
-    (rw (← c.in-Err.is) c.advance-went.ensures.goes) (rw (← c.in-Err.is) c.advance-went.ensures.cause))
+    stopped_next c.args.self.now _ _ _ _ _ _ c.in-Here.world
+    (sym c.replace.ensures.value ∙ c.in-Here.is) _ _ _ _ refl c.in-Err.is c.stopped.ensures
+    c.advance-went.ensures.goes c.advance-went.ensures.cause
