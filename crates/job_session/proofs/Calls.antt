@@ -41,7 +41,7 @@ use Rattle.job_session.specs.Advances.{ended_status, outcome_of, Advances, IsSoF
 use Rattle.job_session.proofs.Devices.{is_run_on}
 use Rattle.job_session.proofs.Jobs.{phase_steps}
 use Rattle.job_session.proofs.Sending.{StopCause-later}
-use Rattle.job_session.proofs.SoFar.{went_on, gave_up}
+use Rattle.job_session.proofs.SoFar.{nothing_yet, went_on, gave_up}
 
 -- ---- statuses
 
@@ -178,9 +178,16 @@ module _ {D : Type 0} {b : Ghosts D} (p : Place) (t : Session D b) (u w : Option
   abbrev By : Status → Type 0
   By = CutBy p t u w before now stopped d text turns
 
-  pub cut_with : (stop : Stop) → Cut → StopCause before now stopped stop → By (stop_status stop)
+  cut_with : (stop : Stop) → Cut → StopCause before now stopped stop → By (stop_status stop)
   cut_with stops.Memory e cause = e
   cut_with stops.Write e cause = (e, cause)
+
+  pub cut_by : (r : Result Bool Stop) (stop : Stop) (status : Status) → r ≡ Err stop
+      → status ≡ stop_status stop → Cut → IfErr r (StopCause before now stopped) → By status
+  cut_by r stop status went by cut cause =
+      subst By (sym by)
+      (cut_with stop cut
+      (subst (λ (x : Result Bool Stop). IfErr x (StopCause before now stopped)) went cause))
 
   pub cut_ran : (first : Rest) (job : List Item) (v : Option (List ℕ)) → p.job ≡ job
       → IsSoFar first (done_at p) d (Appends v u) p.refused
@@ -269,7 +276,7 @@ module _ {D : Type 0} {b : Ghosts D} (d : Disk) (text : PhaseText) (s : Session 
     → (rounds : ℕ) × PhaseSteps (playing w0 f0 js).terms js before
     (turns_of schedule ++ rounds_of (length js) rounds) (lines_shown (playing w1 f1 js))
     w1.row.cells) where
-  run : (rounds : ℕ) × PhaseSteps (playing w0 f0 js).terms js d.row
+  abbrev pub run : (rounds : ℕ) × PhaseSteps (playing w0 f0 js).terms js d.row
       (turns_of schedule ++ rounds_of (length js) rounds) (lines_shown (playing w1 f1 js))
       w1.row.cells
   run = steps d.row
@@ -301,3 +308,11 @@ module _ {D : Type 0} {b : Ghosts D} (d : Disk) (text : PhaseText) (s : Session 
           w1.row.cells) (λ i. (same i, is i)) run.1;
     };
   }
+
+-- before the first item
+pub at_start : {D : Type 0} {b : Ghosts D} (first : Rest) (s : Session D b) (u : Option (List ℕ))
+    → Stands first (session_disk s) → session_disk s ≡ without_pages first.device → s.at ≡ 0
+    → s.refused ≡ false → IsSoFar first (done_at (place s)) (session_disk s) (Appends u u) s.refused
+at_start first s u stands bare none quiet =
+    subst (λ (x : ℕ × Bool). IsSoFar first (take x.0 s.job) (session_disk s) (Appends u u) x.1)
+    (λ i. (sym none i, sym quiet i)) (nothing_yet first (session_disk s) u stands bare)

@@ -268,9 +268,9 @@ module _ (legal : JobsAreLegal) where
       output = sent.whole.0;
     }
 
-    pub phase_gave_up : (stop : Stop) → LinesSent lines u w (Err stop)
+    pub phase_gave_up : (r : Result Bool Stop) → LinesSent lines u w r
         → GivesUp p d (turns ∷ []) Own m (BeginsWith u w)
-    phase_gave_up stop sent = record {
+    phase_gave_up r sent = record {
       front = done_at p ++ one;
       later = drop (p.at + 1) p.job;
       parts = sym (take-append-drop p.at p.job)

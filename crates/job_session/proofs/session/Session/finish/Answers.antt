@@ -3,7 +3,7 @@ use Rattle.std.proofs.lemmas.Option.{slice_get_within}
 use Rattle.zr_core.specs.Playing.{playing, lines_shown}
 use Rattle.job_session.specs.Stepped.{disk_of}
 use Rattle.job_session.specs.Sessions.{Place, place}
-use Rattle.job_session.proofs.Calls.{over_steps, cut_with}
+use Rattle.job_session.proofs.Calls.{over_steps, cut_by}
 use Rattle.job_session.proofs.Extends.{phase_went_on, phase_gave_up, phase_may_after, phase_some_after}
 use Rattle.job_session.proofs.session.Session.finish.Goals as goal
 
@@ -26,6 +26,7 @@ returns-in-Ok-clause-goes g c back =
     let stepped = over_steps d s.clock back.text back.start world phase back.turns back.started
     at.time back.over world.early in
     let sent = c.tell-told.ensures.lines back.text at.item in
+    let u = g.K.Sink.written c.args.out.now in
     let next = slice_get_within p.job p.at _ at.item in
     let on = c.after-self.ensures in (
       phase_went_on legal p back.text d m back.turns lines _ _ at.item at.may stepped q
@@ -36,9 +37,9 @@ returns-in-Ok-clause-goes g c back =
         record {
           within = omega (arith, next, on);
           rest = back.over.rest;
-          may = phase_may_after legal p back.text d m back.turns lines _ _ at.item at.may stepped q
+          may = phase_may_after legal p back.text d m back.turns lines u u at.item at.may stepped q
               refl on;
-          stands = phase_some_after legal p back.text d m back.turns lines _ _ at.item at.may
+          stands = phase_some_after legal p back.text d m back.turns lines u u at.item at.may
               stepped at.stands;
         },
       ),
@@ -58,9 +59,10 @@ returns-clause-goes g c back =
     let stepped = over_steps d s.clock back.text back.start world phase back.turns back.started
     at.time back.over world.early in
     let sent = c.tell-told.ensures.lines back.text at.item in
-    rw c.stopped.ensures
-    (cut_with p _ _ _ _ _ _ d back.text back.turns c.in-Err.stop (
+    cut_by p _ _ _ _ _ _ d back.text back.turns c.tell-told.result c.in-Err.stop c.stopped.result
+    c.in-Err.is c.stopped.ensures (
       (world, refl, back.over.rest),
       phase_gave_up c.jobs_are_legal.ensures.legal p back.text d m back.turns lines _ _ at.item
-          at.may stepped c.in-Err.stop (rw (← c.in-Err.is) sent),
-    ) (rw (← c.in-Err.is) c.tell-told.ensures.cause))
+          at.may stepped c.tell-told.result sent,
+    )
+    c.tell-told.ensures.cause
