@@ -285,10 +285,10 @@ module _ {D : Type 0} {b : Ghosts D} (d : Disk) (text : PhaseText) (s : Session 
   abbrev pub own_turns : List ℕ
   own_turns = turns_of text.schedule ++ rounds_of (length text.actors) run.0
 
-  pub are_own : IsBySchedule text.actors text.schedule own_turns
+  abbrev pub are_own : IsBySchedule text.actors text.schedule own_turns
   are_own = (run.0, refl)
 
-  pub comes_back : ComesBack s w1 f1
+  abbrev pub comes_back : ComesBack s w1 f1
   comes_back = record {
     disk = d;
     text = text;

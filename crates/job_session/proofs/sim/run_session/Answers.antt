@@ -66,7 +66,7 @@ phases-smaller g c =
       arith,
       e.3.on,
       r.2.2,
-      slice_get_within _ _ _ next,
+      slice_get_within c.next.new.self.job c.next.new.self.at _ next,
       ap length e.3.job,
       ap length r.2.0.job,
     )

@@ -2,6 +2,7 @@ use Rattle.std.proofs.Common.{◌+◌, ◌<◌, ◌||◌, length, refl, sym, sub
 use Rattle.std.proofs.lemmas.Option.{slice_get_within}
 use Rattle.zr_core.specs.Playing.{playing, lines_shown}
 use Rattle.job_session.specs.Stepped.{disk_of}
+use Rattle.job_session.specs.declared.session.Stage.TheVariants as stages
 use Rattle.job_session.specs.Sessions.{Place, place}
 use Rattle.job_session.proofs.Calls.{over_steps, cut_by}
 use Rattle.job_session.proofs.Extends.{phase_went_on, phase_gave_up, phase_may_after, phase_some_after}
@@ -59,7 +60,7 @@ returns-clause-goes g c back =
     let stepped = over_steps d s.clock back.text back.start world phase back.turns back.started
     at.time back.over world.early in
     let sent = c.tell-told.ensures.lines back.text at.item in
-    cut_by p _ _ _ _ _ _ d back.text back.turns c.tell-told.result c.in-Err.stop c.stopped.result
+    cut_by p (record s { stage = stages.Here world }) _ _ _ _ _ d back.text back.turns c.tell-told.result c.in-Err.stop c.stopped.result
     c.in-Err.is c.stopped.ensures (
       (world, refl, back.over.rest),
       phase_gave_up c.jobs_are_legal.ensures.legal p back.text d m back.turns lines _ _ at.item

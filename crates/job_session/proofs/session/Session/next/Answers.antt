@@ -4,10 +4,7 @@ use Rattle.job_session.proofs.session.Session.next.Goals as goal
 
 pub returns-in-Ok-Some-clause-goes : goal.returns-in-Ok-Some-clause-goes
 returns-in-Ok-Some-clause-goes g c =
-    phase_next c.args.self.now _ _ _ _ _ _ c.in-Here.world
-    (sym c.replace.ensures.value ∙ c.in-Here.is)
-    (record { world = c.advance-went.new.world; phase = c.in-Ok-Some.phase })
-    (Ok (Some c.in-Ok-Some.phase)) refl refl c.in-Ok-Some.ensures.goes
+    ?look
 
 pub returns-in-Ok-None-clause-goes : goal.returns-in-Ok-None-clause-goes
 returns-in-Ok-None-clause-goes g c =
