@@ -73,6 +73,9 @@ returns-clause-runs g c d t ready =
       are_own d t c.start.new.self c.in-Some.running.world c.run.new.self c.in-Some.running.phase
           c.run.new.phase c.as_slice.result.now c.as_slice-2.result.now actors schedule out started
           run.same run.spare run.limit run.can run.over run.rest run.steps,
-      subst (λ (p : Place). FinishIs p c.finish.new.self _ _ _ _ _ d t back.turns c.finish.result)
+      subst (λ (p : Place). FinishIs p c.finish.new.self
+          (g.K.Sink.written c.args.sink.now) (g.K.Sink.written c.finish.new.out)
+          (g.K.Sink.fault_count c.args.sink.now) (g.K.Sink.fault_count c.finish.new.out)
+          (g.K.Sink.has_stopped c.finish.new.out) d t back.turns c.finish.result)
           c.start.ensures.place (c.finish.ensures.goes back),
     )

@@ -8,6 +8,11 @@ use Rattle.job_session.proofs.Calls.{over_steps, cut_by}
 use Rattle.job_session.proofs.Extends.{phase_went_on, phase_gave_up, phase_may_after, phase_some_after}
 use Rattle.job_session.proofs.session.Session.finish.Goals as goal
 
+pub after-self-requires : goal.after-self-requires
+after-self-requires g c =
+    subst (λ xs. c.args.self.now.at < length xs) (sym c.as_slice.ensures)
+    (slice_get_within _ _ _ c.requires.back.out.1.item)
+
 pub returns-in-Ok-clause-goes : goal.returns-in-Ok-clause-goes
 returns-in-Ok-clause-goes g c back =
     let s = c.args.self.now in
