@@ -23,7 +23,7 @@ use Rattle.page_steps.specs.Turns.{Turned, waited, took_it, gave_it}
 use Rattle.lock_row.specs.Hands.{IsTaken, IsMissed, IsGiven}
 use Rattle.page_steps.specs.Calls.{IsFit, IsGoing, is_count, next_event}
 use Rattle.page_steps.specs.Fits.{HasPlace, AsSlot, AsAccount, StartFits, FetchFits}
-use Rattle.device_faults.specs.OnePage.{Locks, locks, IsDisk, HasPlaces, HasRoom, HasAccount, HasBlock, DoesWork, CanGo, IsReady, away, fetching, failing, counting, missed, leaving}
+use Rattle.device_faults.specs.OnePage.{Locks, locks, IsDisk, HasRoom, HasAccount, HasBlock, DoesWork, CanGo, IsReady, away, fetching, failing, counting, missed, leaving}
 
 there : {A : Type 0} (xs : List A) (i : ℕ) → i < length xs → (x : A) × (slice_get xs i ≡ Some x)
 there [] i lt = absurd (omega arith)
@@ -76,7 +76,7 @@ module _ {D : Type 0} (c : Head) (r : Scratch) where
   }
 
   pub starts_of : (row : Locks) → c.piece.page.0 ≡ 0 → IsFit {D = D} c r stage.Start → DoesWork c r
-      → IsDisk row → HasRoom 1 row → CanGo {D = D} c r stage.Start row
+      → IsDisk row → HasRoom row → CanGo {D = D} c r stage.Start row
   starts_of row page fit work disk room =
       let first : slot c.piece.page.0 ≡ slot 0 = ap slot page in record {
         take = λ k e. subst (IsIn row) (sym first ∙ same_take (slot c.piece.page.0) k e)
@@ -88,20 +88,11 @@ module _ {D : Type 0} (c : Head) (r : Scratch) where
               (is_beyond work.0.terms.size work.0.part.op) v) (sym work.1.request)
               (subst (λ (b : Bool). StartFits work.0.terms work.0.part.op false b v)
               (sym (work.1.beyond ∙ fit.0))
-              (has_place v (room v (ap (cell row)
-              (sym first ∙ same_take (slot c.piece.page.0) k e) ∙ at)))),
+              (room v (ap (cell row)
+              (sym first ∙ same_take (slot c.piece.page.0) k e) ∙ at))),
         );
         give = λ k e. absurd (let q : Take (slot c.piece.page.0) ≡ Give k = e in cc);
-      } where
-    has_place : (v : DiskHeld) → AsSlot (HasPlaces 1) v → AsSlot HasPlace v
-    has_place (holds.Slot e) h = record {
-      room = let q = h.room in omega arith;
-      few = let q = h.few in omega arith;
-    }
-    has_place (holds.Class q) h = h
-    has_place (holds.Account a) h = h
-    has_place (holds.Blocks x) h = h
-    has_place (holds.Device d) h = h
+      }
 
   device_of : (row : Locks) (e : EntryState) (b : ℕ) → IsFit {D = D} c r (stage.Away e b)
       → DoesWork c r → HasBlock row b → CanGo {D = D} c r (stage.Away e b) row
@@ -151,17 +142,7 @@ module _ {D : Type 0} (c : Head) (r : Scratch) where
   ready_goes s row page fit work (leaving e is out) =
       gives_of s row (slot 0) (ap (next_event c) is ∙ ap (λ p. Give (slot p)) page) out
 
--- it does a piece
-pub piece_of : {D : Type 0} (c : Head) (r : Scratch) (s : Stage D) (row : Locks) → IsReady s row
-    → IsFit c r s → is_count c.work ≡ false
-piece_of c r s row (away e b is home) fit = (subst (IsFit c r) is fit).piece
-piece_of c r s row (failing e fault is home) fit = (subst (IsFit c r) is fit).0
-piece_of c r s row (fetching e b d is out) fit = (subst (IsFit c r) is fit).0.piece
-piece_of c r s row (counting e fault a is out) fit = (subst (IsFit c r) is fit).0
-piece_of c r s row (missed e fault is out) fit = (subst (IsFit c r) is fit).0
-piece_of c r s row (leaving e is out) fit = (subst (IsFit c r) is fit).0
-
--- and isn't over
+-- what is ready isn't over
 pub ready_on : {D : Type 0} (s : Stage D) (row : Locks) → IsReady s row → IsGoing s
 ready_on s row (away e b is home) = subst IsGoing (sym is) tt
 ready_on s row (failing e fault is home) = subst IsGoing (sym is) tt
@@ -185,22 +166,6 @@ module _ {X Y : Type 0} {takes : X → LockNo → Next → DiskHeld → X → Ty
   keeps of took lost given (took_it k f v what take tells is moved) = took k f v take
   keeps of took lost given (gave_it k f v what give is works moved) = given k f v give
 
--- a turn by a hand is one on its row
-pub on_row : {X : Type 0} {takes : X → LockNo → Next → DiskHeld → X → Type 0}
-    {misses : X → LockNo → X → Type 0} {gives : X → LockNo → Next → DiskHeld → X → Type 0}
-    (of : X → Locks) {t : Terms} {l m : Here} {h g : X} {p : Progress}
-    → ((k : LockNo) (f : Next) (v : DiskHeld) → takes h k f v g → IsTaken (of h) (of g) k v)
-    → ((k : LockNo) → misses h k g → IsMissed (of h) (of g) k)
-    → ((k : LockNo) (f : Next) (v : DiskHeld) → gives h k f v g → IsGiven (of h) (of g) k v)
-    → Turned takes misses gives t l h m g p
-    → Turned (λ h k f v g. IsTaken h g k v) (λ h k g. IsMissed h g k)
-    (λ h k f v g. IsGiven h g k v) t l (of h) m (of g) p
-on_row of took lost given (waited k what miss same w) = waited k what (lost k miss) same w
-on_row of took lost given (took_it k f v what take tells is moved) =
-    took_it k f v what (took k f v take) tells is moved
-on_row of took lost given (gave_it k f v what give is works moved) =
-    gave_it k f v what (given k f v give) is works moved
-
 -- it leaves a disk
 pub disk_after : {t : Terms} {l m : Here} (row row' : Locks) {p : Progress} → IsDisk row
     → Turned (λ h k f v g. IsTaken h g k v) (λ h k g. IsMissed h g k)
@@ -211,3 +176,27 @@ disk_after row row' is (took_it k f v what take tells moved_is moved) =
     subst IsDisk (sym take.out) (disk_with row k None is)
 disk_after row row' is (gave_it k f v what give moved_is works moved) =
     subst IsDisk (sym give.home) (disk_with row k (Some v) is)
+
+-- ---- what a hand leaves at the slot
+
+set_here : {A : Type 0} (xs : List A) (i : ℕ) (x y : A) → slice_get xs i ≡ Some y
+    → slice_get (slice_set xs i x) i ≡ Some x
+set_here [] i x y e = absurd (cc)
+set_here (z ∷ zs) zero x y e = refl
+set_here (z ∷ zs) (suc i) x y e = set_here zs i x y e
+
+pub out_after : (row row' : Locks) (k : LockNo) (v : DiskHeld) → IsTaken row row' k v
+    → cell row' k ≡ Some None
+out_after row row' k v t = ap (λ (y : Locks). cell y k) t.out
+    ∙ set_here row.cells (place_in row.names k) None (Some v) t.home
+
+-- an entry with room that was given is what is at home
+pub room_after : (row row' : Locks) (e : EntryState) → HasPlace e
+    → IsGiven row row' (slot 0) (holds.Slot e) → HasRoom row'
+room_after row row' e h given v at =
+    let here : cell row' (slot 0) ≡ Some (Some (holds.Slot e)) =
+        ap (λ (y : Locks). cell y (slot 0)) given.home
+        ∙ set_here row.cells (place_in row.names (slot 0)) (Some (holds.Slot e)) None given.out in
+    let same : Some (Some v) ≡ Some (Some (holds.Slot e)) = sym at ∙ here in
+    let q : v ≡ holds.Slot e = cc in
+    subst (AsSlot HasPlace) (sym q) h

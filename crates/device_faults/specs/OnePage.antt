@@ -1,4 +1,4 @@
--- A call over a row of one thread: when it may make its next event, and what that event leaves.
+-- A call over a row of one thread: when it may make its next event.
 use Rattle.std.specs.Prelude.{◌≡◌, ℕ, suc, ◌+◌, ◌<◌, ◌≤◌, ◌^◌, List, [], ◌∷◌, length, Some, None}
 use Rattle.mem_account.specs.Counters.{Counters}
 use Rattle.backing_dev.specs.Dev.{DeviceState}
@@ -7,18 +7,15 @@ use Rattle.lock_row.specs.declared.names.LockNo.TheVariants as lock
 use Rattle.lock_row.specs.declared.names.Held.TheVariants as holds
 use Rattle.lock_row.specs.declared.names.Plan.TheVariants.{Take, Give}
 use Rattle.lock_row.specs.Rows.{Row, IsIn, cell}
-use Rattle.lock_row.specs.Hands.{IsTaken, IsMissed, IsGiven}
 use Rattle.slot_entry.specs.Entries.{EntryState}
 use Rattle.page_steps.specs.declared.stage.Head.{Head}
 use Rattle.page_steps.specs.declared.stage.Scratch.{Scratch}
 use Rattle.page_steps.specs.declared.stage.Stage.{Stage}
 use Rattle.page_steps.specs.declared.stage.Stage.TheVariants as stage
-use Rattle.page_steps.specs.declared.stage.Progress.{Progress}
-use Rattle.page_steps.specs.Steps.{DiskHeld, slot, entry_in}
-use Rattle.page_steps.specs.Nexts.{Next}
-use Rattle.page_steps.specs.Calls.{Frame, IsWork, IsGoing, next_event, held_of}
-use Rattle.page_steps.specs.Fits.{AsSlot}
-use Rattle.page_steps.specs.Turns.{FitsSome, Advanced}
+use Rattle.page_steps.specs.Steps.{DiskHeld, slot}
+use Rattle.page_steps.specs.Calls.{Frame, IsWork, next_event}
+use Rattle.page_steps.specs.Fits.{HasPlace, AsSlot}
+use Rattle.page_steps.specs.Turns.{FitsSome}
 
 -- ---- the row
 
@@ -35,14 +32,9 @@ pub record IsDisk (row : Locks) : Type 0 where
   pub names : row.names ≡ locks
   pub cells : length row.cells ≡ 4
 
--- The entry has room for so many tags.
-pub record HasPlaces (n : ℕ) (e : EntryState) : Type 0 where
-  pub room : n ≤ e.room
-  pub few : length e.order + n < 2 ^ 32
-
--- what is at home at the page's slot is an entry with room for so many tags
-abbrev pub HasRoom : ℕ → Locks → Type 0
-HasRoom n row = (v : DiskHeld) → cell row (slot 0) ≡ Some (Some v) → AsSlot (HasPlaces n) v
+-- what is at home at the page's slot is an entry with room for a tag
+abbrev pub HasRoom : Locks → Type 0
+HasRoom row = (v : DiskHeld) → cell row (slot 0) ≡ Some (Some v) → AsSlot HasPlace v
 
 -- the account is at home
 abbrev pub HasAccount : Locks → Type 0
@@ -66,13 +58,6 @@ pub record CanGo {D : Type 0} (c : Head) (r : Scratch) (s : Stage D) (row : Lock
       → FitsSome c r s v
   pub give : (k : LockNo) → next_event c s ≡ Give k → cell row k ≡ Some None
 
--- a turn of a call on the row
-abbrev pub Turns : {D : Type 0} → Head → Scratch → Stage D → Locks → Scratch → Stage D → Locks
-    → Progress → Type 0
-Turns c r s row r' s' row' p =
-    Advanced (λ h k f v g. IsTaken h g k v) (λ h k g. IsMissed h g k) (λ h k f v g. IsGiven h g k v)
-    c r s row r' s' row' p
-
 -- The row has what a call on a page of the device takes next, or the place of what it gives next.
 pub data IsReady {D : Type 0} (s : Stage D) (row : Locks) : Type 0 where
   away : (e : EntryState) (b : ℕ) → s ≡ stage.Away e b → HasBlock row b → IsReady s row
@@ -86,9 +71,3 @@ pub data IsReady {D : Type 0} (s : Stage D) (row : Locks) : Type 0 where
       → cell row (slot 0) ≡ Some None → IsReady s row
   leaving : (e : EntryState) → s ≡ stage.Leaving e → cell row (slot 0) ≡ Some None
       → IsReady s row
-
--- The entry that the call holds has room for one tag more than so many; where the call is over, the
--- entry at home has room for so many.
-pub record Leaves {D : Type 0} (n : ℕ) (s : Stage D) (row : Locks) : Type 0 where
-  pub held : IsGoing s → HasPlaces (suc n) (entry_in (held_of 0 s))
-  pub home : s ≡ stage.Over → HasRoom n row

@@ -4,27 +4,27 @@
 //! | Call | After the page's slot | End | The page's order then | Failed reads, writes |
 //! |---|---|---|---|---|
 //! | a read | device, account, slot | `Eio` with fault 1 | the read | 1, 0 |
-//! | the same again | device, slot | `Read` at 1 | both | 1, 0 |
+//! | the same again | device, slot | `Read` at 0 | the second read | 1, 0 |
 //! | a write of a sector | device, account, slot | `Eio` with fault 1 | empty | 0, 1 |
 //! | a read then | device, slot | `Read` at 0 | the read | 0, 1 |
+//!
+//! The order is emptied before each call, as it is before a phase, so that it has room for a tag.
 
-ghost use Rattle.std.specs.Prelude.{◌≡◌, ℕ, suc, ◌+◌, ◌<◌, ◌≤◌, [], IfOk, IsTrue, Some, None};
+ghost use Rattle.std.specs.Prelude.{◌≡◌, IfOk, OnOk, IsTrue, Some, None};
 ghost use Rattle.lock_row.specs.Rows.{IsIn, cell};
 ghost use Rattle.page_steps.specs.declared.stage.Stage.TheVariants as stage;
-ghost use Rattle.page_steps.specs.declared.stage.Progress.TheVariants as progress;
 ghost use Rattle.page_steps.specs.Calls.{IsFit, IsGoing};
-ghost use Rattle.page_steps.specs.Turns.{IsOnward};
-ghost use Rattle.device_faults.specs.OnePage.{IsDisk, HasRoom, HasAccount, HasBlock, CanGo, DoesWork, Turns, IsReady, Leaves};
+ghost use Rattle.device_faults.specs.OnePage.{IsDisk, HasRoom, HasAccount, HasBlock, CanGo, DoesWork, IsReady};
 
 use arrayvec::ArrayVec;
 use backing_dev::{Dev, MemBacking};
 use block_map::{Blocks, Reserve};
-use lock_row::{Held, LockNo, SimRow};
+use lock_row::{Hand, Held, LockNo, SimRow, Still};
 use mem_account::{Account, Delta, Weight};
 use page_steps::{DiskHeld, PageCall, PieceEnd, Progress, Scratch, Stage};
 use size_class::ClassTable;
 use slot_entry::{Entry, Kept};
-use std::alloc::{AllocError, Global};
+use std::alloc::Global;
 use std::test::Fail;
 use zr_base::{Page, PageIx, Piece, Stuff, Tag};
 
@@ -46,9 +46,6 @@ fn turn(call: &mut Call, disk: &mut Disk, scratch: &mut Scratch) -> Progress
     ensures fit { IsFit call.old.head scratch.new call.new.stage }
     ensures work { DoesWork call.old.head scratch.new }
     ensures disk { IsDisk disk.new }
-    ensures turn { Turns call.old.head scratch.old call.old.stage disk.old scratch.new
-        call.new.stage disk.new result }
-    ensures over { IsOnward result call.new.stage }
 {
     let mut hand = disk.hand(0);
     call.advance(&mut hand, scratch)
@@ -61,13 +58,11 @@ fn begin(call: &mut Call, disk: &mut Disk, scratch: &mut Scratch) -> Progress
     requires fit { IsFit call.old.head scratch.old call.old.stage }
     requires work { DoesWork call.old.head scratch.old }
     requires disk { IsDisk disk.old }
-    requires room { HasRoom 1 disk.old }
+    requires room { HasRoom disk.old }
     ensures head { call.new.head ≡ call.old.head }
     ensures fit { IsFit call.old.head scratch.new call.new.stage }
     ensures work { DoesWork call.old.head scratch.new }
     ensures disk { IsDisk disk.new }
-    ensures left { (n : ℕ) → result ≡ progress.Moved → HasRoom (suc n) disk.old
-        → Leaves n call.new.stage disk.new }
 {
     turn(call, disk, scratch)
 }
@@ -123,7 +118,6 @@ fn step(call: &mut Call, disk: &mut Disk, scratch: &mut Scratch) -> Option<Progr
     ensures fit { IsFit call.old.head scratch.new call.new.stage }
     ensures work { DoesWork call.old.head scratch.new }
     ensures disk { IsDisk disk.new }
-    ensures left { (n : ℕ) → Leaves n call.old.stage disk.old → Leaves n call.new.stage disk.new }
 {
     if !is_ready(call, disk) {
         return None;
@@ -132,9 +126,7 @@ fn step(call: &mut Call, disk: &mut Disk, scratch: &mut Scratch) -> Option<Progr
 }
 
 // Whether the call is over.
-fn is_over(call: &Call) -> bool
-    ensures { IsTrue result → call.now.stage ≡ stage.Over }
-{
+fn is_over(call: &Call) -> bool {
     matches!(&call.stage, Stage::Over)
 }
 
@@ -148,9 +140,8 @@ fn goes(call: &mut Call, disk: &mut Disk, scratch: &mut Scratch, events: &[Event
     requires fit { IsFit call.old.head scratch.old call.old.stage }
     requires work { DoesWork call.old.head scratch.old }
     requires disk { IsDisk disk.old }
-    requires room { HasRoom 1 disk.old }
+    requires room { HasRoom disk.old }
     ensures disk { IsDisk disk.new }
-    ensures left { IsTrue result → (n : ℕ) → HasRoom (suc n) disk.old → HasRoom n disk.new }
 {
     if begin(call, disk, scratch) != Progress::Moved {
         return false;
@@ -180,16 +171,12 @@ fn half_page() -> Page {
     page
 }
 
-// The entry of a page that is in block 0, last accessed at 3 seconds, with room for 2 tags.
-fn entry_there(alloc: Global) -> Result<Entry, AllocError>
-    ensures room { IfOk result (λ e. 2 ≤ e.room) }
-    ensures order { IfOk result (λ e. e.order ≡ []) }
-{
+// The entry of a page that is in block 0, last accessed at 3 seconds.
+fn entry_there(alloc: Global) -> Entry {
     let mut entry = Entry::new(alloc);
-    entry.reserve_order(2)?;
     entry.accessed(3);
     entry.put(Kept::Wb(0));
-    Ok(entry)
+    entry
 }
 
 // The account of that page.
@@ -224,15 +211,29 @@ fn device_there(alloc: Global) -> Result<Dev<MemBacking>, Fail> {
 // The row of the disk.
 fn new_disk(alloc: Global) -> Result<Disk, Fail>
     ensures disk { IfOk result IsDisk }
-    ensures room { IfOk result (HasRoom 2) }
 {
     let names = vec![in alloc; SLOT, LockNo::Account, LockNo::Blocks, LockNo::Device]?;
     let mut cells = Vec::with_capacity(alloc, 4)?;
-    cells.push(Some(Held::Slot(entry_there(alloc)?)))?;
+    cells.push(Some(Held::Slot(entry_there(alloc))))?;
     cells.push(Some(Held::Account(account_there())))?;
     cells.push(Some(Held::Blocks(blocks_there(alloc)?)))?;
     cells.push(Some(Held::Device(device_there(alloc)?)))?;
     Ok(SimRow::new(names, cells))
+}
+
+// Empties the order of the page, and makes room for a tag.
+fn make_room(disk: &mut Disk) -> Result<(), Fail>
+    requires disk { IsDisk disk.old }
+    ensures disk { OnOk result (IsDisk disk.new) }
+    ensures room { OnOk result (HasRoom disk.new) }
+{
+    let mut hand = disk.hand(0);
+    let Some(Held::Slot(mut entry)) = hand.try_take::<Still>(SLOT) else {
+        return Err("the page's slot is held".into());
+    };
+    entry.reserve_order(1)?;
+    hand.give::<Still>(SLOT, Held::Slot(entry));
+    Ok(())
 }
 
 // ---- calls
@@ -291,14 +292,12 @@ const FAILS: [Event; 5] = [
     (SLOT, false, Progress::Done(PieceEnd::Eio { fault: 1 })),
 ];
 
-// Those of a read that succeeds, after so many calls on the page.
-fn reads(at: u32) -> [Event; 3] {
-    [
-        (LockNo::Device, true, Progress::Moved),
-        (LockNo::Device, false, Progress::Moved),
-        (SLOT, false, Progress::Done(PieceEnd::Read { at })),
-    ]
-}
+// Those of a read that succeeds, the first on the page since its order was emptied.
+const READS: [Event; 3] = [
+    (LockNo::Device, true, Progress::Moved),
+    (LockNo::Device, false, Progress::Moved),
+    (SLOT, false, Progress::Done(PieceEnd::Read { at: 0 })),
+];
 
 // The page's entry at home: whether it is as these say, on the device and without a mark.
 fn has_entry(disk: &Disk, order: &[Tag], touched: u64) -> bool {
@@ -348,16 +347,18 @@ const SECOND: Tag = Tag { actor: 0, op: 1 };
 fn a_failed_read_is_noted(rt: HostRuntime) -> Result<(), Fail> {
     let mut disk = new_disk(rt.alloc())?;
     let mut scratch = new_scratch();
+    make_room(&mut disk)?;
     let mut call = read(0, &scratch);
     assert!(rt; goes(&mut call, &mut disk, &mut scratch, &FAILS));
     assert!(rt; !call.device_read());
     assert!(rt; has_entry(&disk, &[FIRST], 7));
     assert!(rt; has_failed(&disk, 1, 0) && has_read(&disk, 0) && owns_block(&disk));
+    make_room(&mut disk)?;
     let mut again = read(1, &scratch);
-    assert!(rt; goes(&mut again, &mut disk, &mut scratch, &reads(1)));
+    assert!(rt; goes(&mut again, &mut disk, &mut scratch, &READS));
     assert!(rt; again.device_read());
     assert!(rt; scratch.page.bytes() == half_page().bytes());
-    assert!(rt; has_entry(&disk, &[FIRST, SECOND], 7));
+    assert!(rt; has_entry(&disk, &[SECOND], 7));
     assert!(rt; has_failed(&disk, 1, 0) && has_read(&disk, 1) && owns_block(&disk));
     Ok(())
 }
@@ -366,13 +367,15 @@ fn a_failed_read_is_noted(rt: HostRuntime) -> Result<(), Fail> {
 fn a_failed_write_leaves_its_page(rt: HostRuntime) -> Result<(), Fail> {
     let mut disk = new_disk(rt.alloc())?;
     let mut scratch = new_scratch();
+    make_room(&mut disk)?;
     let mut call = write(0, &mut scratch);
     assert!(rt; goes(&mut call, &mut disk, &mut scratch, &FAILS));
     assert!(rt; !call.device_read());
     assert!(rt; has_entry(&disk, &[], 3));
     assert!(rt; has_failed(&disk, 0, 1) && has_read(&disk, 0) && owns_block(&disk));
+    make_room(&mut disk)?;
     let mut then = read(1, &scratch);
-    assert!(rt; goes(&mut then, &mut disk, &mut scratch, &reads(0)));
+    assert!(rt; goes(&mut then, &mut disk, &mut scratch, &READS));
     assert!(rt; scratch.page.bytes() == half_page().bytes());
     assert!(rt; has_entry(&disk, &[SECOND], 7));
     assert!(rt; has_failed(&disk, 0, 1) && has_read(&disk, 1) && owns_block(&disk));
