@@ -1,4 +1,6 @@
 pub mod Facts
+pub mod Finds
+pub mod Apart
 pub mod Sums
 pub mod Pages
 pub mod Pools
