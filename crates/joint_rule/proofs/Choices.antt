@@ -13,7 +13,6 @@ use Rattle.joint_rule.proofs.Facts.{Known, known_finding}
 use Rattle.joint_rule.proofs.Finds.{Alike, Lacks, changed, changed_here, content_alike, held_alike, ruled_changed, shown_lacks}
 use Rattle.joint_rule.proofs.Gifts.{fit, is_named, stage}
 use Rattle.joint_rule.proofs.Pages.{LeavesSo, content_on, content_sector, whole_same}
-use Rattle.joint_rule.proofs.Tells.{right_read}
 use Rattle.joint_rule.specs.Begins.{Begin, back_at, content, finding, ground_of}
 use Rattle.joint_rule.specs.Rule.{OfOrder, Ruled, ShowsOrder, done_by, dones}
 use Rattle.joint_rule.specs.Stages.{FailBy, IsRight, IsSeen, Looks, MaySeeOther, Stage}
@@ -96,6 +95,15 @@ module _ (g : Begin) (p : ℕ) (order : List Tag) where
   sight_of : (page : List ℕ) → IsSeen (MaySeeOther g p order) page (content g p order) → Sight page
   sight_of page s = ⊎_elim (plain_sight page) (λ o. other_sight page o.0 o.1) s
 
+-- a read that isn't refused sees the page, or another where it may
+read_seen : (other : Type 0) (g : Begin) (q : Part) (op : Op) (p : ℕ) (page was : List ℕ) → Looks op
+    → FailBy g q op None → IsRight other op p page was → IsSeen other page was
+read_seen other g q (Write start count stuff) p page was k f r = absurd f
+read_seen other g q (Read start count) p page was k f r = r
+read_seen other g q (Discard start count) p page was k f r = absurd k
+read_seen other g q (Idle age) p page was k f r = absurd k
+read_seen other g q Compact p page was k f r = absurd k
+
 -- a write of this page leaves what one of that page leaves
 abbrev SameAfter : Part → Op → List ℕ → List ℕ → Type 0
 SameAfter p (Write start count stuff) seen page = page_after p seen ≡ page_after p page
@@ -162,10 +170,10 @@ module _ (g : Begin) (ok : Known g) (w : State DiskHeld) (r : Ruled g w) (a : �
 
       alike : Alike g finds p.page e.order
       alike =
-          let h = subst (HeldAll g.given.size (OfOrder (ShowsOrder g w.locals))) held
+          let o = subst (HeldAll g.given.size (OfOrder (ShowsOrder g w.locals))) held
           (r.told.in_local a l who) in
           shown_lacks g p.page t s.look (dones w.locals) p.page (content g p.page e.order) e.order
-          lacks h.0.shows
+          lacks o.0.shows
 
       -- where the page isn't on the device, the call finds what is held
       finds_so : FindsSo h p e.order t
@@ -221,7 +229,7 @@ module _ (g : Begin) (ok : Known g) (w : State DiskHeld) (r : Ruled g w) (a : �
       }
   choice v m (event.reads p rest e f todo at held well notes v_is m_is) =
       let st = stage g ok w r.joint a l who p rest todo _ Leaving held at in
-      let s = sight_of g p.page e.order (page_in l.page e.kept) (right_read
+      let s = sight_of g p.page e.order (page_in l.page e.kept) (read_seen
       (MaySeeOther g p.page e.order) g p p.op p.page (page_in l.page e.kept)
       (content g p.page e.order) st.kind (subst (FailBy g p p.op) well st.fails) st.right) in record {
         finds = finds p rest todo e held (page_in l.page e.kept) s;

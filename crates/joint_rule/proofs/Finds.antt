@@ -282,7 +282,7 @@ module _ (g : Begin) (finds : ℕ → Finds) where
   fail_alike p at op x f = f
 
   -- the page at which a stage is
-  page_of : Part → At → ℕ
+  abbrev page_of : Part → At → ℕ
   page_of p (Marking x) = x.page
   page_of p at = p.page
 
@@ -517,7 +517,12 @@ module _ (g : Begin) (finds : ℕ → Finds) where
   aged_alike : (l : Here) → AllByRecursion SameOver l.done → (p : ℕ) (v : DiskHeld) → Own p v
       → IsAged g l p v → IsAged h l p v
   aged_alike l all p (holds.Slot e) al is =
-      (λ i. record aged_in g p e { found = sym (found_alike p e.order al) i })
+      (λ i. record {
+        found = sym (found_alike p e.order al) i;
+        back = back_at g p e.order;
+        touched = e.touched;
+        idle = e.idle;
+      })
       ∙ is ∙ now_alike l p all
   aged_alike l all p v al is = tt
 
