@@ -99,7 +99,7 @@ module _ (form : List ℕ → Weight) (clock : ℕ) where
   here_accessed : (d : Done) → stands_so d.part.op d.end ≡ true → (look : Look) (s : Aged)
       → aged_over form clock d look d.part.page s ≡ accessed clock d.part.op look s
   here_accessed d on look s = λ i. cond (eq-eqb d.part.page d.part.page refl i && on i)
-      (accessed clock d.part.op s) (passed form clock d.part.page d.part.op s)
+      (accessed clock d.part.op look s) (passed form clock d.part.page d.part.op s)
 
 pub request_other : (op : Op) → is_maintenance op ≡ false → is_marking op ≡ false
 request_other (Write start count stuff) e = refl

@@ -189,11 +189,11 @@ module _ (g : Begin) (ok : Known g) (w : State DiskHeld) (j : Joint g w) (a : â„
         let x = push_sum may_fetch (calls_on g.given p.page) (found g p.page) e.order (tag_by l.actor p) in
         let y = ap (Î» (o : Option Op). may_fetch o
         (after_all (calls_on g.given p.page) (found g p.page) e.order)
-        (after (named g.given.actors (tag_by l.actor p))
+        (after (named g.given.actors (tag_by l.actor p)) (g.given.finds p.page (tag_by l.actor p))
         (after_all (calls_on g.given p.page) (found g p.page) e.order)))
         (is_named g ok w j a l who p rest todo) in
         let c = call_looks p.op (after_all (calls_on g.given p.page) (found g p.page) e.order)
-        (after (named g.given.actors (tag_by l.actor p))
+        (after (named g.given.actors (tag_by l.actor p)) (g.given.finds p.page (tag_by l.actor p))
         (after_all (calls_on g.given p.page) (found g p.page) e.order)) in
         ends_so p rest end got todo at at_is (omega arith)
 

@@ -171,7 +171,7 @@ module _ (r : Rest) (actors : List (List Op)) (finds : ℕ → Finds)
       (λ p k lt blank. ap (λ (q : ℕ). held_after g.given q
       (nth_order (orders_of r.size w.row) q) (8 * p + k))
       (let q : (8 * p + k) / 8 ≡ p = omega arith in q)
-      ∙ sym (holds_after g (page_of r p) (nth_order (orders_of r.size w.row) p) (8 * p + k))
+      ∙ sym (holds_after g p (page_of r p) (nth_order (orders_of r.size w.row) p) (8 * p + k))
       ∙ blank_zero g ok (nth_order (orders_of r.size w.row) p) p k lt (carried p) (page_of r p)
       (λ b. ok.proper.blanks p k lt b) blank)
       (λ p lt. touched_low (nth_order (orders_of r.size w.row) p) r.set.clock set.clock (r.touched p)
