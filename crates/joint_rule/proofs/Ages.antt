@@ -79,9 +79,8 @@ still_moved (suc n) x = refl
 
 module _ (g : Begin) (ok : Known g) (w : State DiskHeld) (j : Joint g w) (a : ℕ) (l : Here)
     (who : slice_get w.locals a ≡ Some l) (k : LockNo) (v : DiskHeld) (m : Here)
-    (what : plan (terms g) l ≡ Give k)
-    (there : slice_get w.row (spot g.given.size k) ≡ Some None) (first : a ≡ 0) (r : Ages g w l)
-    where
+    (what : plan (terms g) l ≡ Give k) (first : a ≡ 0)
+    (there : slice_get w.row (spot g.given.size k) ≡ Some None) (r : Ages g w l) where
   -- the tag of the only actor's piece
   tag_so : (p : Part) → tag_by l.actor p ≡ only_tag p.nr
   tag_so p = ap (λ (b : ℕ). tag_by b p) ((j.each.in_local a l who).who ∙ first)
@@ -280,8 +279,8 @@ ages_turn g ok a w n r (turn.missed x k who what there e) l m only next = same_s
 ages_turn g ok a w n r (turn.taken x k v t) l m only next = next_state g w n a l m x _ _ t.who only
     next t.after (ages_take g w a x t.who k v t.what t.there)
 ages_turn g ok a w n r (turn.given x k v y t) l m only next = next_state g w n a l m x y _ t.who
-    only next t.after (λ ages. ages_event g ok w r.joint a x t.who k v y t.what t.there
-    (first_of w.locals a l x only t.who) ages
+    only next t.after (λ ages. ages_event g ok w r.joint a x t.who k v y t.what
+    (first_of w.locals a l x only t.who) t.there ages
     (event_at g ok w r.joint a x t.who v y t.work))
 
 -- ---- the start
@@ -292,7 +291,8 @@ ages_start g w l s only =
     let h = s.actors 0 l (ap (λ (ls : List Here). slice_get ls 0) only) in
     let still = ap scan_at h.at in
     record {
-      marks = subst (AreMarkedOver page_weight g.clock g.given.finds g.given.size (aged_at g)) (sym h.done) tt;
+      marks = subst (AreMarkedOver page_weight g.clock g.given.finds g.given.size (aged_at g))
+          (sym h.done) tt;
       counts = first_counts g l.todo l.at l.done still;
       home = λ p v at. home p v at (first_scanned g l.todo l.at still p (aged_done g l.done p)
           ∙ ap (λ (ds : List Done). aged_done g ds p) h.done);

@@ -352,7 +352,8 @@ module _ (r : Rest) (actors : List (List Op)) (finds : ℕ → Finds)
       ≡ kept_as page_weight p (page_of m p)
   kept_same p = ap (λ (bytes : List ℕ). cond (after_all (calls_on g.given p) (page_of r p)
       (nth_order orders p)).blank weight.Empty (page_weight bytes))
-      (bytes_same (after_all (calls_on g.given p) (page_of r p) (nth_order orders p)).holds m.holds (8 * p) 8
+      (bytes_same (after_all (calls_on g.given p) (page_of r p) (nth_order orders p)).holds m.holds
+      (8 * p) 8
       (λ s le lt. holds_after g p (page_of r p) (nth_order orders p) s
       ∙ ap (λ (q : ℕ). held_after g.given q (nth_order orders q) s)
       (let q : p ≡ s / 8 = omega arith in q)))
@@ -381,14 +382,16 @@ module _ (r : Rest) (actors : List (List Op)) (finds : ℕ → Finds)
   calls_are q = slots_sum (λ p k order. order_news g q p order)
       (λ p. calls_sum (news_of q p) (calls_on g.given p) (page_of r p) (nth_order orders p))
       (λ p lt. ap (order_news g q p) (sym (order_is p lt)))
-      ∙ sym (range_by (λ p. calls_sum (news_of q p) (calls_on g.given p) (page_of r p) (nth_order orders p)) 0
-      size)
+      ∙ sym (range_by (λ p. calls_sum (news_of q p) (calls_on g.given p) (page_of r p)
+      (nth_order orders p)) 0 size)
 
-  fetches_are : row_sum (fetches_noted g) row ≡ phase_sum (λ p. calls_sum may_fetch (calls_on g.given p)) r orders
+  fetches_are : row_sum (fetches_noted g) row
+      ≡ phase_sum (λ p. calls_sum may_fetch (calls_on g.given p)) r orders
   fetches_are = slots_sum (λ p k order. calls_sum may_fetch (calls_on g.given p) (page_of r p) order)
       (λ p. calls_sum may_fetch (calls_on g.given p) (page_of r p) (nth_order orders p))
       (λ p lt. ap (calls_sum may_fetch (calls_on g.given p) (page_of r p)) (sym (order_is p lt)))
-      ∙ sym (range_by (λ p. calls_sum may_fetch (calls_on g.given p) (page_of r p) (nth_order orders p)) 0 size)
+      ∙ sym (range_by (λ p. calls_sum may_fetch (calls_on g.given p) (page_of r p)
+      (nth_order orders p)) 0 size)
 
   -- ---- bounds
 
@@ -561,7 +564,8 @@ module _ (r : Rest) (actors : List (List Op)) (finds : ℕ → Finds)
       (rest.home (size + 257) (holds.Device device.0) device.1).sound.1
 
   leaves_device : LeavesDevice r.device m.device
-      (phase_sum (λ p. calls_sum may_fetch (calls_on g.given p)) r orders + dones_sum starved (histories w.locals))
+      (phase_sum (λ p. calls_sum may_fetch (calls_on g.given p)) r orders
+      + dones_sum starved (histories w.locals))
   leaves_device = let k = keeps_device in record {
     same = k.same;
     blocks = k.blocks;

@@ -511,7 +511,8 @@ module _ (g : Begin) (ok : Known g) (w : State DiskHeld) (j : Joint g w) (a : â„
         let z = silent q (Marking x) at refl in let r = scan_noted q p rest x e todo at held in
         let s = told_quiet q Start (left_by (Whole (ends.Marked pages)) p.nr rest) in omega arith)
         (let y = ap (held_sum (spot n) (news_counter q)) held in omega arith))
-    news_gives q (event.moves p rest x y y' u u' budget frames todo at held sh some one v_is m_is) chosen =
+    news_gives q (event.moves p rest x y y' u u' budget frames todo at held sh some one v_is m_is)
+        chosen =
         same_news q _ _ v_is m_is (quietly q _ _ (let z = ap (held_sum (spot n) (noted g q)) held in
         let s = silent q (Moving x) at refl in let r = told_moved q frames (with_move x budget)
         l.todo l.ahead in omega arith)

@@ -198,12 +198,6 @@ module _ (g : Begin) (ok : Known g) where
     blank_on = ap (λ (f : Found). f.blank) (after_push g p.page (found g p.page) order t)
         ∙ ap (λ (o : Option Op). blank_by o (found_after g p.page order).blank) is
 
-    pub form_on : (page : List ℕ) → StartsFrom page → form_at g p.page (order ++ t ∷ [])
-        ≡ form_by (blank_by (Some p.op) (found_after g p.page order).blank)
-        (form_of (page_after p page))
-    unfolding form_at
-    form_on page from = λ i. form_by (blank_on i) (form_of (content_on page from i))
-
     -- a read leaves the page
     pub content_read : (start count : ℕ) → p.op ≡ Read start count
         → content g p.page (order ++ t ∷ []) ≡ content g p.page order
@@ -584,7 +578,8 @@ module _ (g : Begin) (p : ℕ) where
   up_by f [] t = or_left (is_pooled (kept_as page_weight p f))
       (ever_by (after (named g.given.actors t) (g.given.finds p t) f) [])
   up_by f (x ∷ ts) t = or_up (is_pooled (kept_as page_weight p f))
-      (ever_by (after (named g.given.actors x) (g.given.finds p x) f) ts) (ever_by (after (named g.given.actors x) (g.given.finds p x) f)
+      (ever_by (after (named g.given.actors x) (g.given.finds p x) f) ts)
+      (ever_by (after (named g.given.actors x) (g.given.finds p x) f)
       (ts ++ t ∷ [])) (up_by (after (named g.given.actors x) (g.given.finds p x) f) ts t)
 
   -- it only rises
@@ -597,7 +592,8 @@ module _ (g : Begin) (p : ℕ) where
   now_by f [] = omega arith
   now_by f (x ∷ ts) = or_right (is_pooled (kept_as page_weight p f))
       (is_pooled (kept_as page_weight p (after_all (calls_on g.given p)
-      (after (named g.given.actors x) (g.given.finds p x) f) ts))) (ever_by (after (named g.given.actors x) (g.given.finds p x) f) ts)
+      (after (named g.given.actors x) (g.given.finds p x) f) ts)))
+      (ever_by (after (named g.given.actors x) (g.given.finds p x) f) ts)
       (now_by (after (named g.given.actors x) (g.given.finds p x) f) ts)
 
   pub ever_now : (order : List Tag) → pooled (form_at g p order) ≤ ever g p order
@@ -640,7 +636,8 @@ module _ (g : Begin) (ok : Known g) (p : Part) (order : List Tag) (actor : ℕ)
     (is : named g.given.actors (tag_by actor p) ≡ Some p.op) where
   -- the piece is carried out on the content
   pub content_carries : Carries actor p (g.given.finds p.page (tag_by actor p))
-      (content g p.page order) order (content g p.page (order ++ tag_by actor p ∷ [])) (order ++ tag_by actor p ∷ [])
+      (content g p.page order) order (content g p.page (order ++ tag_by actor p ∷ []))
+      (order ++ tag_by actor p ∷ [])
   content_carries = record {
     notes = refl;
     holds = λ k lt. content_sector g ok p.page (order ++ tag_by actor p ∷ []) k lt

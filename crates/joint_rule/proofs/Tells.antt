@@ -150,7 +150,8 @@ module _ (g : Begin) (P : ℕ → List Tag → ℕ → Type 0) where
         → OfOrder P (spot g.given.size k) v × HeldAll g.given.size (OfOrder P) m.held)
         → Tells l k v m
     noted : (p : Part) (rest : List Part) (e f : EntryState) (end : PartEnd)
-        (got : List (List ℕ)) (seen : List ℕ) → l.todo ≡ p ∷ rest → k ≡ slot p.page → l.held ≡ (slot p.page, holds.Slot e) ∷ []
+        (got : List (List ℕ)) (seen : List ℕ) → l.todo ≡ p ∷ rest → k ≡ slot p.page
+        → l.held ≡ (slot p.page, holds.Slot e) ∷ []
         → v ≡ holds.Slot f
         → is_single g.given.size p.op ≡ false → f.order ≡ e.order ++ tag_by l.actor p ∷ []
         → e.room ≤ f.room + 1 → stands_so p.op end ≡ true
@@ -216,7 +217,8 @@ module _ (g : Begin) (ok : Known g) (w : State DiskHeld) (j : Joint g w) (a : �
   tells_of (event.pins p rest e o q q' u u' cell todo at held is sw named_u free outside is_cell
       in_cell lk v_is m_is) chosen = same_tells _ _ v_is m_is (quiet refl refl
       (λ h. (tt, (subst (HeldAll g.given.size (OfOrder P)) held h).1)))
-  tells_of (event.unpins p rest e o q q' u u' todo at held is sw named_u outside free lk v_is m_is) chosen =
+  tells_of (event.unpins p rest e o q q' u u' todo at held is sw named_u outside free lk v_is m_is)
+      chosen =
       same_tells _ _ v_is m_is (quiet refl refl (λ h. (
         tt,
         (subst (HeldAll g.given.size (OfOrder P)) held h).1,
@@ -256,13 +258,15 @@ module _ (g : Begin) (ok : Known g) (w : State DiskHeld) (j : Joint g w) (a : �
       )))
   tells_of (event.puts p rest e f todo at held notes v_is m_is) chosen =
       let st = stage g ok w j a l who p rest todo _ Ready held at in
-      noted p rest e f Carried [] (seen_by g ok p.page e.order (tag_by l.actor p)) todo (sym (given_lock g ok w j a l who k v m what (slot p.page)
+      noted p rest e f Carried [] (seen_by g ok p.page e.order (tag_by l.actor p)) todo
+      (sym (given_lock g ok w j a l who k v m what (slot p.page)
       (event_is g ok w j a l who k v m what p rest _ Ready todo held at))) held v_is st.begun
       notes.order notes.room refl (no_got p.op p _ refl st.kind.0)
       (sees_any g ok p.op p.page e.order (tag_by l.actor p)) chosen.finds m_is
   tells_of (event.reads p rest e f todo at held well notes v_is m_is) chosen =
       let st = stage g ok w j a l who p rest todo _ Leaving held at in
-      noted p rest e f Carried _ (page_in l.page e.kept) todo (sym (given_lock g ok w j a l who k v m what (slot p.page)
+      noted p rest e f Carried _ (page_in l.page e.kept) todo
+      (sym (given_lock g ok w j a l who k v m what (slot p.page)
       (event_is g ok w j a l who k v m what p rest _ Leaving todo held at))) held v_is st.begun
       notes.order notes.room refl refl chosen.sees chosen.finds m_is
   tells_of (event.fails p rest e x todo at held bad v_is m_is) chosen =
@@ -291,7 +295,8 @@ module _ (g : Begin) (ok : Known g) (w : State DiskHeld) (j : Joint g w) (a : �
   tells_of (event.errs p rest e f x todo at held bad reads notes v_is m_is) chosen =
       let st = stage g ok w j a l who p rest todo _ Missed held at in
       let fault = subst (IsFault g p) bad st.fails in
-      noted p rest e f x [] (seen_by g ok p.page e.order (tag_by l.actor p)) todo (sym (given_lock g ok w j a l who k v m what (slot p.page)
+      noted p rest e f x [] (seen_by g ok p.page e.order (tag_by l.actor p)) todo
+      (sym (given_lock g ok w j a l who k v m what (slot p.page)
       (event_is g ok w j a l who k v m what p rest _ Missed todo held at))) held v_is st.begun
       notes.order notes.room (fault_stands g p p.op x true fault reads)
       (fault_got g p x (got_from (seen_by g ok p.page e.order (tag_by l.actor p)) p) fault)

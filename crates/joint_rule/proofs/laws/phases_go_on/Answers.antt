@@ -32,11 +32,11 @@ pub returns-clause-entry : goal.returns-clause-entry
 returns-clause-entry c r actors more set w j e f ok rule fin at kept order under idle
     touched =
     next_entry r actors rule.finds (known_finding (begin_at r actors) rule.finds
-    (record { proper = ok; facts = c.lower_laws.ensures }) rule.ruled.finds) w rule.ruled fin set more j e
-    f at kept order under idle touched
+    (record { proper = ok; facts = c.lower_laws.ensures }) rule.ruled.finds) w rule.ruled fin set
+    more j e f at kept order under idle touched
 
 pub returns-clause-proper : goal.returns-clause-proper
 returns-clause-proper c r actors more set w ok rule fin requests room later =
     next_proper r actors rule.finds (known_finding (begin_at r actors) rule.finds
-    (record { proper = ok; facts = c.lower_laws.ensures }) rule.ruled.finds) w rule.ruled fin set more
-    requests room later
+    (record { proper = ok; facts = c.lower_laws.ensures }) rule.ruled.finds) w rule.ruled fin set
+    more requests room later
