@@ -99,7 +99,7 @@ module _ (form : List ℕ → Weight) (clock : ℕ) where
   here_accessed : (d : Done) → stands_so d.part.op d.end ≡ true → (look : Look) (s : Aged)
       → aged_over form clock d look d.part.page s ≡ accessed clock d.part.op look s
   here_accessed d on look s = λ i. cond (eq-eqb d.part.page d.part.page refl i && on i)
-      (accessed clock d.part.op s) (passed form clock d.part.page d.part.op s)
+      (accessed clock d.part.op look s) (passed form clock d.part.page d.part.op s)
 
 pub request_other : (op : Op) → is_maintenance op ≡ false → is_marking op ≡ false
 request_other (Write start count stuff) e = refl
@@ -304,7 +304,8 @@ leave_push actors (x ∷ xs) t =
 
 module _ (g : Begin) (p : ℕ) (e f : EntryState) (k : Kept) (t : Tag) (op : Op)
     (is : named g.given.actors t ≡ Some op) (n : Notes g.clock e f k t) where
-  found_noted : found_after g p f.order ≡ after (Some op) (g.given.finds p t) (found_after g p e.order)
+  found_noted : found_after g p f.order
+      ≡ after (Some op) (g.given.finds p t) (found_after g p e.order)
   found_noted = ap (found_after g p) n.order ∙ after_push g p (found g p) e.order t
       ∙ ap (λ (o : Option Op). after o (g.given.finds p t) (found_after g p e.order)) is
 
@@ -480,7 +481,8 @@ module _ (g : Begin) (w : State DiskHeld) (a : ℕ) (l : Here)
       let same = now_same g l m todo done (now ∙ sym was) in
       let both = f (subst (HeldAll n (IsAged g l)) held r.hand) in
       record {
-        marks = subst (AreMarkedOver page_weight g.clock g.given.finds n (aged_at g)) (sym done) r.marks;
+        marks = subst (AreMarkedOver page_weight g.clock g.given.finds n (aged_at g)) (sym done)
+            r.marks;
         counts = first_counts g m.todo m.at m.done now;
         home = home_given m
             (aged_same g l m (spot n k) v (same (spot n k))
@@ -642,7 +644,8 @@ module _ (g : Begin) (w : State DiskHeld) (a : ℕ) (l : Here)
 
       stop_now : (q : ℕ) → aged_now g stopped q ≡ new q
       stop_now q = now_push g l p stop [] rest q
-          ∙ ap (λ (b : Bool). cond b (accessed g.clock p.op (old q))
+          ∙ ap (λ (b : Bool).
+          cond b (accessed g.clock p.op (g.given.finds q (only_tag p.nr)) (old q))
           (passed page_weight g.clock q p.op (old q))) (and_right (eqb p.page q) false refl)
           ∙ ap (λ (o : Op). passed page_weight g.clock q o (old q)) op
 

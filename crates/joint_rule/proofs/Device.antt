@@ -101,7 +101,8 @@ module _ (g : Begin) (ok : Known g) (w : State DiskHeld) (j : Joint g w) (a : �
           made_stage g p e l.fresh l.pin l.owed l.ahead l.behind (Some page) l.fail
           (may_none e.kept l.pin st.pins) st.owes st.stands st.backs st.marks
           (write_blank p.op (subst IsWrite (sym e_op) tt) l.ahead _)
-          (subst (λ (x : Op). IsRight (MaySeeOther g p.page e.order) x p.page page (content g p.page e.order)) (sym e_op)
+          (subst (λ (x : Op). IsRight (MaySeeOther g p.page e.order) x p.page page
+          (content g p.page e.order)) (sym e_op)
           (inr is_content)) st.counts.0 st.counts.1 st.fails st.begun
           (subst IsWrite (sym e_op) tt) st.made (next_form p (Some page) e.kept) refl e.kept refl
       fetched_stage (Read start count) e_op = record {
@@ -317,7 +318,8 @@ module _ (g : Begin) (ok : Known g) (w : State DiskHeld) (j : Joint g w) (a : �
       backs = tt;
       marks = tt;
       partly = tt;
-      right = subst (λ (y : List ℕ). IsRight (MaySeeOther g p.page e.order) p.op p.page y (content g p.page e.order))
+      right = subst (λ (y : List ℕ). IsRight (MaySeeOther g p.page e.order) p.op p.page y
+          (content g p.page e.order))
           (emptied_sees l.page e.kept is) sr.right;
       counts = ((tt, released_small), sr.counts.1);
       blank = sr.blank;

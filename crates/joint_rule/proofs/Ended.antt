@@ -1,5 +1,5 @@
 -- What a finished phase tells: its histories agree with its orders, and the account with the rest.
-use Rattle.std.proofs.Common.{◌≡◌, ◌+◌, ◌*◌, ◌-◌, ◌/◌, ◌≤◌, ◌<◌, ◌∷◌, ◌++◌, ◌∙◌, ℕ, zero, suc, Bool, true, false, cond, eqb, List, [], length, sum_by, Option, Some, None, slice_get, refl, sym, ap, subst, arith, inl, inr, zero-add}
+use Rattle.std.proofs.Common.{◌≡◌, ◌+◌, ◌*◌, ◌-◌, ◌/◌, ◌≤◌, ◌<◌, ◌∷◌, ◌++◌, ◌∙◌, ℕ, zero, suc, Bool, true, false, cond, eqb, List, [], length, take, sum_by, Option, Some, None, slice_get, refl, sym, ap, subst, arith, inl, inr, zero-add}
 use Rattle.plain_disk.specs.Idles.{KeepsMark, is_marked_in}
 use Rattle.zr_base.specs.Plain.{Finds}
 use Rattle.joint_rule.proofs.Idles.{ages_end}
@@ -44,7 +44,7 @@ use Rattle.plain_disk.specs.Calls.{after_all, calls_sum, ever_pooled, kept_as, m
 use Rattle.plain_disk.specs.Compactions.{IsLeast, pooled_pages, with_free}
 use Rattle.plain_disk.specs.Ends.{compacted, starved, tells_fault}
 use Rattle.plain_disk.specs.Forms.{is_pooled, of_class}
-use Rattle.plain_disk.specs.Phases.{IsMost, LeavesDevice, bounds, calls_on, held_after, nth_order, phase_sum, reach}
+use Rattle.plain_disk.specs.Phases.{FindsHeld, IsMost, LeavesDevice, bounds, calls_on, held_after, nth_order, phase_sum, reach}
 use Rattle.plain_disk.specs.Rests.{AreUsed, Rest, frames_of, kept_at, kept_pages, page_of}
 use Rattle.size_class.specs.Classes.{chain_of, per_of, stands_of}
 use Rattle.slot_entry.specs.Entries.{EntryState, weight_of, is_obj}
@@ -275,6 +275,17 @@ module _ (r : Rest) (actors : List (List Op)) (finds : ℕ → Finds)
       (Some v.0) None v.1) ∙ (entries p lt).1 in cc) in
       subst (OfOrder (ShowsOrder g w.locals) p) q (rule.told.in_row p v.0 v.1)
 
+  -- the calls of a finished phase have found what is held, where they have to
+  pub finds_held : FindsHeld r actors orders finds
+  finds_held = record {
+    sectors = rule.finds.sectors;
+    honest = rule.finds.honest;
+    pooled = λ p at t lt is off s old.
+        let o = order_is p lt in
+        (shows p lt).finds at t (ap (λ (ts : List Tag). slice_get ts at) (sym o) ∙ is)
+        (ap (λ (ts : List Tag). back_at g p (take at ts)) (sym o) ∙ off) s old;
+  }
+
   -- ---- sums over entries and over pools
 
   others : (i : ℕ) → i < 3 → (f : ℕ → DiskHeld → ℕ) → ((x : Counters) (k : ℕ)
@@ -341,8 +352,9 @@ module _ (r : Rest) (actors : List (List Op)) (finds : ℕ → Finds)
       ≡ kept_as page_weight p (page_of m p)
   kept_same p = ap (λ (bytes : List ℕ). cond (after_all (calls_on g.given p) (page_of r p)
       (nth_order orders p)).blank weight.Empty (page_weight bytes))
-      (bytes_same (after_all (calls_on g.given p) (page_of r p) (nth_order orders p)).holds m.holds (8 * p) 8
-      (λ s le lt. holds_after g (page_of r p) (nth_order orders p) s
+      (bytes_same (after_all (calls_on g.given p) (page_of r p) (nth_order orders p)).holds m.holds
+      (8 * p) 8
+      (λ s le lt. holds_after g p (page_of r p) (nth_order orders p) s
       ∙ ap (λ (q : ℕ). held_after g.given q (nth_order orders q) s)
       (let q : p ≡ s / 8 = omega arith in q)))
 
@@ -370,14 +382,16 @@ module _ (r : Rest) (actors : List (List Op)) (finds : ℕ → Finds)
   calls_are q = slots_sum (λ p k order. order_news g q p order)
       (λ p. calls_sum (news_of q p) (calls_on g.given p) (page_of r p) (nth_order orders p))
       (λ p lt. ap (order_news g q p) (sym (order_is p lt)))
-      ∙ sym (range_by (λ p. calls_sum (news_of q p) (calls_on g.given p) (page_of r p) (nth_order orders p)) 0
-      size)
+      ∙ sym (range_by (λ p. calls_sum (news_of q p) (calls_on g.given p) (page_of r p)
+      (nth_order orders p)) 0 size)
 
-  fetches_are : row_sum (fetches_noted g) row ≡ phase_sum (λ p. calls_sum may_fetch (calls_on g.given p)) r orders
+  fetches_are : row_sum (fetches_noted g) row
+      ≡ phase_sum (λ p. calls_sum may_fetch (calls_on g.given p)) r orders
   fetches_are = slots_sum (λ p k order. calls_sum may_fetch (calls_on g.given p) (page_of r p) order)
       (λ p. calls_sum may_fetch (calls_on g.given p) (page_of r p) (nth_order orders p))
       (λ p lt. ap (calls_sum may_fetch (calls_on g.given p) (page_of r p)) (sym (order_is p lt)))
-      ∙ sym (range_by (λ p. calls_sum may_fetch (calls_on g.given p) (page_of r p) (nth_order orders p)) 0 size)
+      ∙ sym (range_by (λ p. calls_sum may_fetch (calls_on g.given p) (page_of r p)
+      (nth_order orders p)) 0 size)
 
   -- ---- bounds
 
@@ -550,7 +564,8 @@ module _ (r : Rest) (actors : List (List Op)) (finds : ℕ → Finds)
       (rest.home (size + 257) (holds.Device device.0) device.1).sound.1
 
   leaves_device : LeavesDevice r.device m.device
-      (phase_sum (λ p. calls_sum may_fetch (calls_on g.given p)) r orders + dones_sum starved (histories w.locals))
+      (phase_sum (λ p. calls_sum may_fetch (calls_on g.given p)) r orders
+      + dones_sum starved (histories w.locals))
   leaves_device = let k = keeps_device in record {
     same = k.same;
     blocks = k.blocks;

@@ -620,7 +620,7 @@ module _ (g : Begin) (ok : Known g) (w : State DiskHeld) (r : Ruled g w) (a : �
 
         pay_fits : Changes p.op → GoneBy l.ahead e.kept → NoneOf l.behind
             → IsRight (MaySeeOther g p.page e.order) p.op p.page (page_in l.page e.kept)
-          (content g p.page e.order)
+            (content g p.page e.order)
             → AsAccount (CanPay l.owed (old_weight l.ahead e.kept)
             (form_weight (next_form p l.page e.kept))) v
         pay_fits changes gone_by quiet right = as_account _ v account_is (λ c v_is.

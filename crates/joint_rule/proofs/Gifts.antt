@@ -9,7 +9,7 @@ use Rattle.joint_rule.proofs.Balances.{invalid_count, invalid_fixed, none_fresh,
 use Rattle.joint_rule.proofs.Blocks.{Balanced, Storage, apart, entry_back, no_block, no_lies}
 use Rattle.joint_rule.proofs.Facts.{Known}
 use Rattle.joint_rule.proofs.Lookups.{none_weight, nothing_shown, sound}
-use Rattle.joint_rule.proofs.Pages.{back_change, back_read, content_read, ever_up, form_next, form_read, form_small, next_light, content_page, StartsFrom}
+use Rattle.joint_rule.proofs.Pages.{back_change, back_read, content_read, ever_up, form_next, form_read, form_small, next_light, content_page, LeavesSo}
 use Rattle.joint_rule.proofs.Stages.{on_disk}
 use Rattle.joint_rule.specs.Begins.{AreCarried, Begin, HasEvent, back_at, content, ever, form_at, ground_of, image}
 use Rattle.joint_rule.specs.Joint.{AtHome, EntryFits, IsActor, Joint, Sound}
@@ -313,8 +313,7 @@ module _ (g : Begin) (ok : Known g) (w : State DiskHeld) (j : Joint g w) (a : �
 
     module _ (at : l.at ≡ Ready) (notes : Notes g.clock e f
         (kept_by (next_form p l.page e.kept) l.fresh) (tag_by l.actor p))
-        (from : StartsFrom g ok p e.order (tag_by l.actor p) is_named
-        (page_in l.page e.kept)) where
+        (same : LeavesSo g p (e.order ++ tag_by l.actor p ∷ []) p.op (page_in l.page e.kept)) where
       sr : Stage g p e Ready l.fresh l.pin l.owed l.ahead l.behind l.page l.fail
       sr = stage _ Ready held at
 
@@ -323,7 +322,7 @@ module _ (g : Begin) (ok : Known g) (w : State DiskHeld) (j : Joint g w) (a : �
 
       form_now : form_at g p.page f.order ≡ form
       form_now = ap (form_at g p.page) notes.order ∙ form_next g ok p e.order
-          (tag_by l.actor p) is_named (page_in l.page e.kept) sr.kind.0 from
+          (tag_by l.actor p) is_named (page_in l.page e.kept) sr.kind.0 same
 
       put_stands : IsForm g.chain (form_at g p.page f.order) f.kept
       put_stands = subst (λ (x : PageForm × Kept). IsForm g.chain x.0 x.1)

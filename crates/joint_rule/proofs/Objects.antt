@@ -119,7 +119,8 @@ module _ (g : Begin) (ok : Known g) (w : State DiskHeld) (j : Joint g w) (a : �
             made_stage g p e l.fresh pinned_cell l.owed l.ahead l.behind
             (Some page) l.fail names_it st.owes st.stands st.backs st.marks
             (write_blank p.op (subst IsWrite (sym e_op) tt) l.ahead _)
-            (subst (λ (x : Op). IsRight (MaySeeOther g p.page e.order) x p.page page (content g p.page e.order)) (sym e_op)
+            (subst (λ (x : Op). IsRight (MaySeeOther g p.page e.order) x p.page page
+            (content g p.page e.order)) (sym e_op)
             (inr (inl is_content))) st.counts.0 st.counts.1 st.fails st.begun
             (subst IsWrite (sym e_op) tt) st.made (next_form p (Some page) e.kept) refl e.kept refl
         pinned_stage (Read start count) e_op = record {
@@ -131,7 +132,8 @@ module _ (g : Begin) (ok : Known g) (w : State DiskHeld) (j : Joint g w) (a : �
           backs = st.backs;
           marks = st.marks;
           partly = tt;
-          right = subst (λ (x : Op). IsRight (MaySeeOther g p.page e.order) x p.page page (content g p.page e.order))
+          right = subst (λ (x : Op). IsRight (MaySeeOther g p.page e.order) x p.page page
+              (content g p.page e.order))
               (sym e_op) (inl is_content);
           counts = st.counts;
           blank = tt;
@@ -318,7 +320,8 @@ module _ (g : Begin) (ok : Known g) (w : State DiskHeld) (j : Joint g w) (a : �
         backs = tt;
         marks = tt;
         partly = tt;
-        right = subst (λ (x : List ℕ). IsRight (MaySeeOther g p.page e.order) p.op p.page x (content g p.page e.order))
+        right = subst (λ (x : List ℕ). IsRight (MaySeeOther g p.page e.order) p.op p.page x
+            (content g p.page e.order))
             (emptied_sees l.page e.kept is) sf.right;
         counts = ((tt, freed_small), sf.counts.1);
         blank = sf.blank;

@@ -1,7 +1,7 @@
 -- What a page has after the calls of an order.
 use Rattle.std.proofs.Common.{◌≡◌, ◌+◌, ◌*◌, ◌-◌, ◌/◌, ◌≤◌, ◌<◌, ◌∷◌, ◌++◌, ◌∙◌, ◌&&◌, ◌||◌, ℕ, zero, suc, Bool, true, false, cond, leb, ltb, List, [], length, take, drop, replicate, Option, Some, None, refl, sym, ap, subst, arith, inl, inr, ⊎_elim, length-append, length-drop}
 use Rattle.bdi_page.specs.Packing.{IsPage, packed}
-use Rattle.call_history.specs.Shows.{Carries, tag_by}
+use Rattle.call_history.specs.Shows.{Carries, Sees, SeesSo, tag_by}
 use Rattle.call_history.specs.declared.part.Part.{Part}
 use Rattle.joint_rule.proofs.Facts.{Known}
 use Rattle.joint_rule.specs.Begins.{AreCarried, Begin, HasEvent, back_at, content, ever, form_at, form_by, found, found_after, image}
@@ -23,7 +23,7 @@ use Rattle.std.proofs.lemmas.Bool.{and_from, and_parts, cases_Bool, eq-eqb, le-l
 use Rattle.std.proofs.lemmas.List.{take_at, length-take-le}
 use Rattle.std.proofs.lemmas.List.Elements.{All-append, All-take, All-drop}
 use Rattle.std.specs.List.{flat_map, range_with_len}
-use Rattle.std.specs.Prelude.{All}
+use Rattle.std.specs.Prelude.{All, ⊤}
 use Rattle.zr_base.specs.Plain.{PageCalls, content as sectors, covers, has_whole, named, sector_after, sector_after_named, stuff_sector, zero_sector, IsSector, Look, start_from}
 use Rattle.zr_base.specs.Sectors.{page_sector}
 use Rattle.zr_base.specs.declared.op.Op.{Op}
@@ -143,6 +143,32 @@ module _ (g : Begin) (ok : Known g) where
   content_long p order = ap length (content_join g p order)
       ∙ join_long (of_page g p order) (λ i. (all_sectors p order (8 * p + i)).0) 0 8
 
+  -- the page that a call finds
+  abbrev pub seen_by : ℕ → List Tag → Tag → List ℕ
+  seen_by p order t =
+      join (λ k. g.given.finds p t (8 * p + k) (held_after g.given p order (8 * p + k))) 0 8
+
+  pub sees_page : (p : ℕ) (order : List Tag) (t : Tag)
+      → Sees (g.given.finds p t) p (content g p order) (seen_by p order t)
+  sees_page p order t = record {
+    each = λ k lt. join_sector
+        (λ i. g.given.finds p t (8 * p + i) (held_after g.given p order (8 * p + i)))
+        (λ i. (ok.proper.finds.sectors p t (8 * p + i) (held_after g.given p order (8 * p + i))
+        (all_sectors p order (8 * p + i))).0) 0 8 k lt
+        ∙ ap (λ i. g.given.finds p t (8 * p + i) (held_after g.given p order (8 * p + i)))
+        (let q : 0 + k ≡ k = omega arith in q)
+        ∙ ap (g.given.finds p t (8 * p + k)) (sym (content_sector p order k lt));
+  }
+
+  -- each piece may have seen it
+  pub sees_any : (op : Op) (p : ℕ) (order : List Tag) (t : Tag)
+      → SeesSo op (g.given.finds p t) p (content g p order) (seen_by p order t)
+  sees_any (Write start count stuff) p order t = tt
+  sees_any (Read start count) p order t = sees_page p order t
+  sees_any (Discard start count) p order t = tt
+  sees_any (Idle age) p order t = tt
+  sees_any Compact p order t = tt
+
   held_on : (p : ℕ) (order : List Tag) (t : Tag) (s : ℕ)
       → held_after g.given p (order ++ t ∷ []) s
       ≡ sector_after_named (named g.given.actors t) (g.given.finds p t) s
@@ -171,12 +197,6 @@ module _ (g : Begin) (ok : Known g) where
         ≡ blank_by (Some p.op) (found_after g p.page order).blank
     blank_on = ap (λ (f : Found). f.blank) (after_push g p.page (found g p.page) order t)
         ∙ ap (λ (o : Option Op). blank_by o (found_after g p.page order).blank) is
-
-    pub form_on : (page : List ℕ) → StartsFrom page → form_at g p.page (order ++ t ∷ [])
-        ≡ form_by (blank_by (Some p.op) (found_after g p.page order).blank)
-        (form_of (page_after p page))
-    unfolding form_at
-    form_on page from = λ i. form_by (blank_on i) (form_of (content_on page from i))
 
     -- a read leaves the page
     pub content_read : (start count : ℕ) → p.op ≡ Read start count
@@ -244,7 +264,7 @@ module _ (g : Begin) (ok : Known g) where
   unfolding zero_page zeros
   blank_page p order evs e = sym (content_join g p order
       ∙ join_same (of_page g p order) (λ k. zero_sector) 0 8
-      (λ k low high. sym (holds_after g (found g p) order (8 * p + k))
+      (λ k low high. sym (holds_after g p (found g p) order (8 * p + k))
       ∙ blank_zero order p k (omega arith) evs (found g p)
       (λ b. ok.proper.blanks p k (omega arith) b) e) ∙ zero_join 8 0)
 
@@ -400,23 +420,35 @@ class_weight chain k (Pooled bytes false) i e =
     (ap (λ (m : ℕ). stands_of chain (m / 16)) (let q : length bytes + 8 - 17 ≡ length bytes - 9 =
     omega arith in q) ∙ sym e)
 
+-- a write leaves what its piece leaves of this page
+abbrev pub LeavesSo : Begin → Part → List Tag → Op → List ℕ → Type 0
+LeavesSo g p order (Write start count stuff) page = content g p.page order ≡ page_after p page
+LeavesSo g p order _ page = ⊤
+
 module _ (g : Begin) (ok : Known g) (p : Part) (order : List Tag) (t : Tag)
     (is : named g.given.actors t ≡ Some p.op) where
-  -- the form after a piece that starts from this page
-  abbrev told : Op → List ℕ → PageForm
-  told o page = form_by (blank_by (Some o) (found_after g p.page order).blank)
-      (form_of (page_after p page))
+  abbrev order_now : List Tag
+  order_now = order ++ t ∷ []
 
-  next_is : (o : Op) (page : List ℕ) → Changes o → told o page ≡ next_by o p page
-  next_is (Write start count stuff) page c = refl
-  next_is (Read start count) page c = absurd c
-  next_is (Discard start count) page c = refl
-  next_is (Idle age) page c = absurd c
-  next_is Compact page c = absurd c
+  leaves_form : (op : Op) (page : List ℕ) → p.op ≡ op → Changes op
+      → LeavesSo g p order_now op page → form_at g p.page order_now ≡ next_by op p page
+  unfolding form_at
+  leaves_form (Write start count stuff) page e c same =
+      let b = blank_on g ok p order t is
+      ∙ ap (λ (o : Op). blank_by (Some o) (found_after g p.page order).blank) e in
+      λ i. form_by (b i) (form_of (same i))
+  leaves_form (Read start count) page e c same = absurd c
+  leaves_form (Discard start count) page e c same =
+      let b = blank_on g ok p order t is
+      ∙ ap (λ (o : Op). blank_by (Some o) (found_after g p.page order).blank) e in
+      ap (λ (x : Bool). form_by x (form_of (content g p.page order_now))) b
+  leaves_form (Idle age) page e c same = absurd c
+  leaves_form Compact page e c same = absurd c
 
-  pub form_next : (page : List ℕ) → Changes p.op → StartsFrom g ok p order t is page
-      → form_at g p.page (order ++ t ∷ []) ≡ next_by p.op p page
-  form_next page c from = form_on g ok p order t is page from ∙ next_is p.op page c
+  -- the form after a piece that changes its page
+  pub form_next : (page : List ℕ) → Changes p.op → LeavesSo g p order_now p.op page
+      → form_at g p.page order_now ≡ next_by p.op p page
+  form_next page c same = leaves_form p.op page refl c same
 
 -- ---- what a piece leaves of the page that it sees
 
@@ -546,7 +578,8 @@ module _ (g : Begin) (p : ℕ) where
   up_by f [] t = or_left (is_pooled (kept_as page_weight p f))
       (ever_by (after (named g.given.actors t) (g.given.finds p t) f) [])
   up_by f (x ∷ ts) t = or_up (is_pooled (kept_as page_weight p f))
-      (ever_by (after (named g.given.actors x) (g.given.finds p x) f) ts) (ever_by (after (named g.given.actors x) (g.given.finds p x) f)
+      (ever_by (after (named g.given.actors x) (g.given.finds p x) f) ts)
+      (ever_by (after (named g.given.actors x) (g.given.finds p x) f)
       (ts ++ t ∷ [])) (up_by (after (named g.given.actors x) (g.given.finds p x) f) ts t)
 
   -- it only rises
@@ -559,7 +592,8 @@ module _ (g : Begin) (p : ℕ) where
   now_by f [] = omega arith
   now_by f (x ∷ ts) = or_right (is_pooled (kept_as page_weight p f))
       (is_pooled (kept_as page_weight p (after_all (calls_on g.given p)
-      (after (named g.given.actors x) (g.given.finds p x) f) ts))) (ever_by (after (named g.given.actors x) (g.given.finds p x) f) ts)
+      (after (named g.given.actors x) (g.given.finds p x) f) ts)))
+      (ever_by (after (named g.given.actors x) (g.given.finds p x) f) ts)
       (now_by (after (named g.given.actors x) (g.given.finds p x) f) ts)
 
   pub ever_now : (order : List Tag) → pooled (form_at g p order) ≤ ever g p order
@@ -602,7 +636,8 @@ module _ (g : Begin) (ok : Known g) (p : Part) (order : List Tag) (actor : ℕ)
     (is : named g.given.actors (tag_by actor p) ≡ Some p.op) where
   -- the piece is carried out on the content
   pub content_carries : Carries actor p (g.given.finds p.page (tag_by actor p))
-      (content g p.page order) order (content g p.page (order ++ tag_by actor p ∷ [])) (order ++ tag_by actor p ∷ [])
+      (content g p.page order) order (content g p.page (order ++ tag_by actor p ∷ []))
+      (order ++ tag_by actor p ∷ [])
   content_carries = record {
     notes = refl;
     holds = λ k lt. content_sector g ok p.page (order ++ tag_by actor p ∷ []) k lt

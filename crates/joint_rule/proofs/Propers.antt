@@ -167,11 +167,12 @@ module _ (r : Rest) (actors : List (List Op)) (finds : ℕ → Finds)
       → IsRoomy (begin_at (sets m set) more) → r.set.clock ≤ set.clock
       → Proper (begin_at (sets m set) more)
   next_proper set more requests room later = proper_is (begin_at (sets m set) more) requests
-      (held_right (begin_at (sets m set) more) (λ p t s old. refl)) (λ s. all_sectors g ok (s / 8) (nth_order (orders_of r.size w.row) (s / 8)) s)
+      (held_right (begin_at (sets m set) more) (λ p t s old. refl))
+      (λ s. all_sectors g ok (s / 8) (nth_order (orders_of r.size w.row) (s / 8)) s)
       (λ p k lt blank. ap (λ (q : ℕ). held_after g.given q
       (nth_order (orders_of r.size w.row) q) (8 * p + k))
       (let q : (8 * p + k) / 8 ≡ p = omega arith in q)
-      ∙ sym (holds_after g (page_of r p) (nth_order (orders_of r.size w.row) p) (8 * p + k))
+      ∙ sym (holds_after g p (page_of r p) (nth_order (orders_of r.size w.row) p) (8 * p + k))
       ∙ blank_zero g ok (nth_order (orders_of r.size w.row) p) p k lt (carried p) (page_of r p)
       (λ b. ok.proper.blanks p k lt b) blank)
       (λ p lt. touched_low (nth_order (orders_of r.size w.row) p) r.set.clock set.clock (r.touched p)
@@ -215,7 +216,8 @@ pub new_proper : (n : ℕ) (set : Settings) (device : DeviceState) (actors : Lis
     → Proper (begin_at (new_rest n set device) actors)
 new_proper n set device actors requests room =
     proper_is (begin_at (new_rest n set device) actors) requests
-    (held_right (begin_at (new_rest n set device) actors) (λ p t s old. refl)) (λ s. zero_is) (λ p k lt b. refl) (λ p lt. omega arith) room
+    (held_right (begin_at (new_rest n set device) actors) (λ p t s old. refl)) (λ s. zero_is)
+    (λ p k lt b. refl) (λ p lt. omega arith) room
 
 none_kept : (f : Weight → ℕ) → f weight.Empty ≡ 0 → (n : ℕ) (set : Settings)
     (device : DeviceState) → sum_by f (kept_pages page_weight (new_rest n set device)) ≡ 0

@@ -51,7 +51,8 @@ module _ (g : Begin) (p : Part) (e : EntryState) (fresh : Option Object) (pin : 
     (form_at g p.page e.order) e.kept) (backs : is_wb e.kept ≡ back_at g p.page e.order)
     (marks : MayIdle e.kept e.idle)
     (blank : BlankAt Old p.op ahead (found_after g p.page e.order).blank)
-    (right : IsRight (MaySeeOther g p.page e.order) p.op p.page (page_in page e.kept) (content g p.page e.order))
+    (right : IsRight (MaySeeOther g p.page e.order) p.op p.page (page_in page e.kept)
+    (content g p.page e.order))
     (more : NoneOf ahead) (less : NoneOf behind) (well : NoneOf fail)
     (begun : is_single g.given.size p.op ≡ false) where
   abbrev f : PageForm

@@ -75,7 +75,12 @@ module _ (g : Begin) (ok : Known g) (p : Part) (fresh : Option Object) (pin : Op
     no_blank (Idle age) i = absurd i
     no_blank Compact i = absurd i
 
-    made_there : IsWrite p.op → IsRight (MaySeeOther g p.page x.order) p.op p.page (page_in page x.kept) (content g p.page x.order)
+    -- the page that the piece sees is right
+    abbrev IsRightHere : Op → Type 0
+    IsRightHere o = IsRight (MaySeeOther g p.page x.order) o p.page (page_in page x.kept)
+        (content g p.page x.order)
+
+    made_there : IsWrite p.op → IsRightHere p.op
         → Goes (made_at (next_form p page x.kept) x.kept)
     made_there wr right = (
       made_locks (next_form p page x.kept) x.kept p (class_by x.kept)
@@ -98,8 +103,7 @@ module _ (g : Begin) (ok : Known g) (p : Part) (fresh : Option Object) (pin : Op
         backs = backs;
         marks = marks;
         partly = tt;
-        right = subst (λ (o : Op). IsRight (MaySeeOther g p.page x.order) o p.page (page_in page x.kept)
-            (content g p.page x.order)) (sym is) (inl (is_right page start.right free));
+        right = subst IsRightHere (sym is) (inl (is_right page start.right free));
         counts = start.counts;
         blank = tt;
         fails = subst (λ (o : Op). FailBy g p o fail) (sym is) start.fails;
@@ -159,19 +163,17 @@ module _ (g : Begin) (ok : Known g) (p : Part) (fresh : Option Object) (pin : Op
 
       write_whole : has_whole start_ count p.page ≡ true
           → Goes (made_at (next_form p page x.kept) x.kept)
-      write_whole e = made_there is_write (subst (λ (o : Op).
-          IsRight (MaySeeOther g p.page x.order) o p.page (page_in page x.kept) (content g p.page x.order)) (sym is) (inl e))
+      write_whole e = made_there is_write (subst IsRightHere (sym is) (inl e))
 
       write_part : (k : Kept) → x.kept ≡ k → has_whole start_ count p.page ≡ false
           → Goes (part_at (next_form p page x.kept) k)
-      write_part kept.Empty e part = subst (λ (k : Kept). Goes (made_at (next_form p page x.kept) k)) e
-          (made_there is_write (subst (λ (o : Op). IsRight (MaySeeOther g p.page x.order) o p.page (page_in page x.kept)
-          (content g p.page x.order)) (sym is) (inr (inl
+      write_part kept.Empty e part = subst (λ (k : Kept).
+          Goes (made_at (next_form p page x.kept) k)) e
+          (made_there is_write (subst IsRightHere (sym is) (inr (inl
           (is_right page start.right (subst NoObj (sym e) tt))))))
       write_part (kept.Same w) e part = subst (λ (k : Kept).
           Goes (made_at (next_form p page x.kept) k)) e
-          (made_there is_write (subst (λ (o : Op). IsRight (MaySeeOther g p.page x.order) o p.page (page_in page x.kept)
-          (content g p.page x.order)) (sym is) (inr (inl
+          (made_there is_write (subst IsRightHere (sym is) (inr (inl
           (is_right page start.right (subst NoObj (sym e) tt))))))
       write_part (kept.Obj o) e part = sees (subst Looks (sym is) tt) (subst IsObj (sym e) tt)
       write_part (kept.Wb b) e part = goes_away (subst Looks (sym is) tt) (subst IsWb (sym e) tt)
@@ -211,8 +213,7 @@ module _ (g : Begin) (ok : Known g) (p : Part) (fresh : Option Object) (pin : Op
         settle_stage g p x fresh pin owed ahead behind page fail
             (may_none x.kept pin start.pins) start.owes stands backs marks
             (was_blank false (blank_some g p.page x.order x.kept some stands))
-            (subst (λ (o : Op). IsRight (MaySeeOther g p.page x.order) o p.page (page_in page x.kept) (content g p.page x.order))
-            (sym is) tt) start.counts.0 start.counts.1 start.fails begun drops bears x.kept refl,
+            (subst IsRightHere (sym is) tt) start.counts.0 start.counts.1 start.fails begun drops bears x.kept refl,
       )
 
       none_by : (y : Option Weight) → NoneOf y → WasBlank p.op true
@@ -232,8 +233,7 @@ module _ (g : Begin) (ok : Known g) (p : Part) (fresh : Option Object) (pin : Op
           backs = tt;
           marks = tt;
           partly = tt;
-          right = subst (λ (o : Op). IsRight (MaySeeOther g p.page x.order) o p.page (page_in page x.kept)
-              (content g p.page x.order)) (sym is) tt;
+          right = subst IsRightHere (sym is) tt;
           counts = record {
             ahead = λ q. none_weight q ahead start.counts.0
                 ∙ sym (ap (λ (f : PageForm). measure q (form_weight f)) blank ∙ nothing_shown q);

@@ -12,6 +12,7 @@ use Rattle.joint_rule.proofs.Balances.{none_fresh}
 use Rattle.joint_rule.proofs.Bounds.{below, most_give, most_take, risen, times_le}
 use Rattle.joint_rule.proofs.Choices.{Choice, choice}
 use Rattle.joint_rule.proofs.Counts.{refusals_give, refusals_take, refuses_of}
+use Rattle.joint_rule.proofs.Chosen.{Chosen}
 use Rattle.joint_rule.proofs.Events.{Event}
 use Rattle.joint_rule.proofs.Facts.{Known, known_finding}
 use Rattle.joint_rule.proofs.Faults.{blames_of, faults_give, faults_rise, faults_take}
@@ -244,10 +245,10 @@ module _ (g : Begin) (ok : Known g) (w : State DiskHeld) (r : Ruled g w) (a : �
       }
 
   rule_give : (m : Here) → plan (terms g) l ≡ Give k → slice_get w.row (spot size k) ≡ Some None
-      → Event g l v m → KeepsAges g w (gone size w a l who k (Some v) m)
+      → (ev : Event g l v m) → Chosen g l v m ev → KeepsAges g w (gone size w a l who k (Some v) m)
       → Ruled g (gone size w a l who k (Some v) m)
-  rule_give m what there ev ages =
-      let x = gift g ok w r.joint a l who k v m what ev in
+  rule_give m what there ev chosen ages =
+      let x = gift g ok w r.joint a l who k v m what ev chosen in
       let b = blames_of g ok w r.joint a l who k v m ev in
       let now = reach_at g (gone size w a l who k (Some v) m) in
       let up : Above (reach_at g w) now = (
@@ -259,14 +260,15 @@ module _ (g : Begin) (ok : Known g) (w : State DiskHeld) (r : Ruled g w) (a : �
         finds = r.finds;
         joint = give_keeps g ok w r.joint a l who k v m there x;
         told = told_give g ok w r.joint r.told a l who k v m there x
-            (tells_of g ok w r.joint a l who k v m what (ShowsOrder g (slice_set w.locals a m)) ev);
+            (tells_of g ok w r.joint a l who k v m what (ShowsOrder g (slice_set w.locals a m)) ev
+            chosen);
         most = most_give g ok w r.joint a l who k v m there x r.most;
         refusals = λ q. refusals_give g ok w r.joint a l who k v m q there
             (refuses_of g ok w r.joint a l who k v m q ev) (r.refusals q);
         freed = freed_give g ok w r.joint a l who k v m there
             (frees_of g ok w r.joint a l who k v m ev) r.freed;
         news = λ q. news_give g ok w r.joint a l who k v m q there
-            (news_gives g ok w r.joint a l who k v m what q ev) (r.news q);
+            (news_gives g ok w r.joint a l who k v m what q ev chosen) (r.news q);
         limits = λ i y e. ⊎_elim
             (λ s. subst (KeepsLimits g now) s.1 (limits_of g ok w r.joint a l who k v m now up
             (omega arith) ev (r.limits a l who)))

@@ -7,7 +7,8 @@ use Rattle.joint_rule.proofs.laws.values_fit.Goals as goal
 pub returns-clause-fits : goal.returns-clause-fits
 returns-clause-fits c g w a l k v ok r who what there =
     stage_fits (finding g r.finds) (known_finding g r.finds
-    (record { proper = ok; facts = c.lower_laws.ensures }) r.ruled.finds) w r.ruled a l who k v there what
+    (record { proper = ok; facts = c.lower_laws.ensures }) r.ruled.finds) w r.ruled a l who k v
+    there what
 
 pub returns-clause-few : goal.returns-clause-few
 returns-clause-few c g w r = few_objects (finding g r.finds) w r.ruled.joint
