@@ -34,6 +34,7 @@ pub mod Faults
 pub mod Fetches
 pub mod Aged
 pub mod Ages
+pub mod Choices
 pub mod Turns
 pub mod Starts
 pub mod Gets
