@@ -35,6 +35,7 @@ use Rattle.slot_entry.specs.Forms.{PageForm, bytes_in, form_of, page_weight}
 use Rattle.slot_entry.specs.declared.kept.Kept.{Kept}
 use Rattle.std.proofs.lemmas.Bool.{and_from, and_parts, cases_Bool, eq-eqb, eqb-true}
 use Rattle.std.specs.List.{AllByRecursion}
+use Rattle.std.specs.Prelude.{⊤}
 use Rattle.zr_base.specs.Plain.{Finds, IsSector, Look, content as sectors, named, same_tag, sector_after_named}
 use Rattle.zr_base.specs.declared.op.Op.{Op}
 use Rattle.zr_base.specs.declared.op.Op.TheVariants.{Compact, Discard, Idle, Read, Write}
@@ -78,8 +79,9 @@ row_sums : (P : ℕ → DiskHeld → Type 0) (f f' : ℕ → DiskHeld → ℕ)
     → ((k : ℕ) (v : DiskHeld) → slice_get row k ≡ Some (Some v) → P k v)
     → row_sum f row ≡ row_sum f' row
 row_sums P f f' same [] all = refl
-row_sums P f f' same (None ∷ xs) all = row_sums (λ j. P (suc j)) (λ j. f (suc j))
-    (λ j. f' (suc j)) (λ j. same (suc j)) xs (λ k. all (suc k))
+row_sums P f f' same (None ∷ xs) all =
+    let s = row_sums (λ j. P (suc j)) (λ j. f (suc j)) (λ j. f' (suc j)) (λ j. same (suc j)) xs
+    (λ k. all (suc k)) in omega arith
 row_sums P f f' same (Some v ∷ xs) all = let r = same 0 v (all 0 v refl) in
     let s = row_sums (λ j. P (suc j)) (λ j. f (suc j)) (λ j. f' (suc j)) (λ j. same (suc j)) xs
     (λ k. all (suc k)) in omega arith
@@ -658,9 +660,9 @@ module _ (g : Begin) (page : ℕ) (t : Tag) (look : Look) where
   right_changed : FindsRight g → ((s : ℕ) (old : List ℕ) → IsSector old → IsSector (look s old))
       → (IsHonestDevice g.device → (s : ℕ) (old : List ℕ) → look s old ≡ old)
       → FindsRight (finding g changed)
-  right_changed right sectors honest = record {
+  right_changed right keeps honest = record {
     sectors = λ p u s old is. pick (λ (f : Look). IsSector (f s old)) (is_one p u) look
-        (g.given.finds p u) (sectors s old is) (right.sectors p u s old is);
+        (g.given.finds p u) (keeps s old is) (right.sectors p u s old is);
     honest = λ is p u s old. pick (λ (f : Look). f s old ≡ old) (is_one p u) look
         (g.given.finds p u) (honest is s old) (right.honest is p u s old);
   }
@@ -671,58 +673,58 @@ module _ (g : Begin) (page : ℕ) (t : Tag) (look : Look) where
   -- what is the same where it isn't this call
   same_unless : (p : ℕ) (u : Tag) → (p ≡ page → u.actor ≡ t.actor → u.op ≡ t.op → ⊥)
       → g.given.finds p u ≡ changed p u
-  same_unless p u no = elim (cases_Bool (is_one p u)) [
+  same_unless p u lack = elim (cases_Bool (is_one p u)) [
     | inl on ↦ absurd (let x = and_parts (eqb p page) (same_tag t u) on in
         let y = and_parts (eqb t.actor u.actor) (eqb t.op u.op) x.1 in
-        no (eqb-true p page x.0) (sym (eqb-true t.actor u.actor y.0))
+        lack (eqb-true p page x.0) (sym (eqb-true t.actor u.actor y.0))
         (sym (eqb-true t.op u.op y.1)))
     | inr off ↦ same_else p u off
   ]
 
   order_lacks : (p : ℕ) (order : List Tag) → (p ≡ page → Lacks t.op (ops_of t.actor order))
       → Alike g changed p order
-  order_lacks p [] no = tt
-  order_lacks p (u ∷ us) no = (
+  order_lacks p [] lack = tt
+  order_lacks p (u ∷ us) lack = (
     same_unless p u (λ on who op. lacks_one t.op (eqb u.actor t.actor) u.op (ops_of t.actor us)
-        (no on) (eq-eqb u.actor t.actor who) op),
-    order_lacks p us (λ on. lacks_more t.op (eqb u.actor t.actor) u.op (ops_of t.actor us) (no on)),
+        (lack on) (eq-eqb u.actor t.actor who) op),
+    order_lacks p us (λ on. lacks_more t.op (eqb u.actor t.actor) u.op (ops_of t.actor us) (lack on)),
   )
 
   shown_lacks : (D : ℕ → List Done) (p : ℕ) (bytes : List ℕ) (order : List Tag)
       → Lacks t.op (noted_on page (D t.actor)) → ShowsPage g.given D p bytes order
       → Alike g changed p order
-  shown_lacks D p bytes order no s = order_lacks p order (λ on. subst (Lacks t.op)
-      (ap (λ (q : ℕ). noted_on q (D t.actor)) (sym on) ∙ sym (s.turns t.actor)) no)
+  shown_lacks D p bytes order lack s = order_lacks p order (λ on. subst (Lacks t.op)
+      (ap (λ (q : ℕ). noted_on q (D t.actor)) (sym on) ∙ sym (s.turns t.actor)) lack)
 
   value_lacks : (ls : List Here) → Lacks t.op (noted_on page (dones ls t.actor)) → (p : ℕ)
       (v : DiskHeld) → OfOrder (ShowsOrder g ls) p v → Own g changed p v
-  value_lacks ls no p (holds.Slot e) s = shown_lacks (dones ls) p _ e.order no s.shows
-  value_lacks ls no p (holds.Class x) s = tt
-  value_lacks ls no p (holds.Account x) s = tt
-  value_lacks ls no p (holds.Blocks x) s = tt
-  value_lacks ls no p (holds.Device x) s = tt
+  value_lacks ls lack p (holds.Slot e) s = shown_lacks (dones ls) p _ e.order lack s.shows
+  value_lacks ls lack p (holds.Class x) s = tt
+  value_lacks ls lack p (holds.Account x) s = tt
+  value_lacks ls lack p (holds.Blocks x) s = tt
+  value_lacks ls lack p (holds.Device x) s = tt
 
   over_lacks : (ds : List Done) → (t.actor ≡ 0 → Lacks t.op (noted_on page ds))
       → AllByRecursion (SameOver g changed) ds
-  over_lacks [] no = tt
-  over_lacks (d ∷ ds) no = (
+  over_lacks [] lack = tt
+  over_lacks (d ∷ ds) lack = (
     λ p is. same_unless p (only_tag d.part.nr) (λ on who op. lacks_one t.op (is_on page d)
-        d.part.nr (noted_on page ds) (no (sym who))
+        d.part.nr (noted_on page ds) (lack (sym who))
         (subst (λ (q : ℕ). is_on q d ≡ true) on is) op),
-    over_lacks ds (λ z. lacks_more t.op (is_on page d) d.part.nr (noted_on page ds) (no z)),
+    over_lacks ds (λ z. lacks_more t.op (is_on page d) d.part.nr (noted_on page ds) (lack z)),
   )
 
-  -- Where the tag stands in no order of its page, the rule goes on if its call finds this there.
+  -- Where the tag stands in lack order of its page, the rule goes on if its call finds this there.
   pub ruled_changed : (w : State DiskHeld) → Lacks t.op (noted_on page (dones w.locals t.actor))
       → ((s : ℕ) (old : List ℕ) → IsSector old → IsSector (look s old))
       → (IsHonestDevice g.device → (s : ℕ) (old : List ℕ) → look s old ≡ old)
       → Ruled g w → Ruled (finding g changed) w
-  ruled_changed w no sectors honest r = ruled_alike g changed w
-      (right_changed r.finds sectors honest)
+  ruled_changed w lack keeps honest r = ruled_alike g changed w
+      (right_changed r.finds keeps honest)
       (record {
-        in_row = λ k v e. value_lacks w.locals no k v (r.told.in_row k v e);
+        in_row = λ k v e. value_lacks w.locals lack k v (r.told.in_row k v e);
         in_local = λ a l e. held_map g.given.size (OfOrder (ShowsOrder g w.locals))
-            (Own g changed) (value_lacks w.locals no) l.held (r.told.in_local a l e);
+            (Own g changed) (value_lacks w.locals lack) l.held (r.told.in_local a l e);
       })
       (λ l e. over_lacks l.done (λ z. subst (λ (ds : List Done). Lacks t.op (noted_on page ds))
-          (ap (dones w.locals) z ∙ ap (λ (ls : List Here). dones ls 0) e) no)) r
+          (ap (dones w.locals) z ∙ ap (λ (ls : List Here). dones ls 0) e) lack)) r
