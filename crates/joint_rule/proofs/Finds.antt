@@ -121,7 +121,7 @@ module _ (g : Begin) (finds : ℕ → Finds) where
       → found_after g p order ≡ found_after h p order
   found_alike p order a = all_alike p (found g p) order a
 
-  content_alike : (p : ℕ) (order : List Tag) → Alike p order → content g p order ≡ content h p order
+  pub content_alike : (p : ℕ) (order : List Tag) → Alike p order → content g p order ≡ content h p order
   unfolding content
   content_alike p order a = ap (λ (f : Found). page_bytes f.holds p) (found_alike p order a)
 
@@ -167,7 +167,7 @@ module _ (g : Begin) (finds : ℕ → Finds) where
       (sector_after_named (named g.given.actors t) look s old) ts) a.0
       ∙ sectors_alike p s (sector_after_named (named g.given.actors t) (finds p t) s old) ts a.1
 
-  held_alike : (p : ℕ) (order : List Tag) (s : ℕ) → Alike p order
+  pub held_alike : (p : ℕ) (order : List Tag) (s : ℕ) → Alike p order
       → held_after g.given p order s ≡ held_after h.given p order s
   held_alike p order s a = sectors_alike p s (g.given.before s) order a
 
@@ -690,7 +690,7 @@ module _ (g : Begin) (page : ℕ) (t : Tag) (look : Look) where
     order_lacks p us (λ on. lacks_more t.op (eqb u.actor t.actor) u.op (ops_of t.actor us) (lack on)),
   )
 
-  shown_lacks : (D : ℕ → List Done) (p : ℕ) (bytes : List ℕ) (order : List Tag)
+  pub shown_lacks : (D : ℕ → List Done) (p : ℕ) (bytes : List ℕ) (order : List Tag)
       → Lacks t.op (noted_on page (D t.actor)) → ShowsPage g.given D p bytes order
       → Alike g changed p order
   shown_lacks D p bytes order lack s = order_lacks p order (λ on. subst (Lacks t.op)
