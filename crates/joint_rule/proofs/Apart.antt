@@ -1,5 +1,5 @@
 -- No piece of a program comes twice.
-use Rattle.std.proofs.Common.{◌≡◌, ◌+◌, ◌≤◌, ◌<◌, ◌∷◌, ◌++◌, ◌∙◌, ℕ, zero, suc, Bool, true, false, cond, eqb, List, [], Some, slice_get, refl, sym, ap, subst, arith, inl, inr}
+use Rattle.std.proofs.Common.{◌≡◌, ◌+◌, ◌≤◌, ◌<◌, ◌∷◌, ◌++◌, ℕ, zero, suc, eqb, List, [], refl, sym, subst, arith, inl, inr}
 use Rattle.call_history.specs.Parts.{Follows, is_carried, is_on, left_by, noted_on, parts, parts_from, program, without, stands_so}
 use Rattle.call_history.specs.declared.part.Done.{Done}
 use Rattle.call_history.specs.declared.part.Part.{Part}
@@ -89,10 +89,13 @@ module _ (size nr : ℕ) (op : Op) where
   from_rising page zero = tt
   from_rising page (suc n) = let more = from_rising (page + 1) n in
       elim (cases_Bool (has_event op page)) [
-        | inl on ↦ rw on (every_map (From nr (page + 1))
-            (Later (record { nr = nr; op = op; page = page }))
-            (λ p f e. let le = f.1 in omega arith) (parts_from nr op (page + 1) n)
-            (from_page (page + 1) n), more)
+        | inl on ↦ rw on (
+          every_map (From nr (page + 1))
+              (Later (record { nr = nr; op = op; page = page }))
+              (λ p f e. let le = f.1 in omega arith) (parts_from nr op (page + 1) n)
+              (from_page (page + 1) n),
+          more,
+        )
         | inr off ↦ rw off more
       ]
 
@@ -146,9 +149,12 @@ earlier_lacks : (p : Part) (ds : List Done) → AllByRecursion (λ (d : Done). L
 earlier_lacks p [] all = tt
 earlier_lacks p (d ∷ ds) all = let more = earlier_lacks p ds all.1 in
     elim (cases_Bool (is_on p.page d)) [
-      | inl on ↦ rw on ((λ e. let lt = all.0 e in
-          let here = eqb-true d.part.page p.page
-          (and_parts (eqb d.part.page p.page) (stands_so d.part.op d.end) on).0 in omega arith), more)
+      | inl on ↦ rw on (
+        (λ e. let lt = all.0 e in
+            let here = eqb-true d.part.page p.page
+            (and_parts (eqb d.part.page p.page) (stands_so d.part.op d.end) on).0 in omega arith),
+        more,
+      )
       | inr off ↦ rw off more
     ]
 

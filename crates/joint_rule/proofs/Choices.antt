@@ -1,5 +1,5 @@
 -- What the call that a giving notes has found, chosen by the page that its piece sees.
-use Rattle.std.proofs.Common.{◌≡◌, ◌+◌, ◌*◌, ◌-◌, ◌/◌, ◌≤◌, ◌<◌, ◌∷◌, ◌++◌, ◌∙◌, ℕ, Bool, true, false, cond, eqb, List, [], length, take, drop, Option, Some, None, slice_get, refl, sym, ap, subst, arith, inl, inr, ⊎_elim, length-drop}
+use Rattle.std.proofs.Common.{◌≡◌, ◌+◌, ◌*◌, ◌-◌, ◌/◌, ◌<◌, ◌∷◌, ◌++◌, ◌∙◌, ℕ, Bool, true, false, cond, eqb, List, [], drop, Some, None, slice_get, refl, sym, ap, subst, arith, inl, inr, ⊎_elim, length-drop}
 use Rattle.backing_dev.specs.Dev.{IsHonestDevice}
 use Rattle.bdi_page.specs.Packing.{IsPage}
 use Rattle.call_history.specs.Parts.{EndsSo, Follows, noted_on, program}
@@ -7,7 +7,7 @@ use Rattle.call_history.specs.Shows.{Sees, SeesSo, tag_by}
 use Rattle.call_history.specs.declared.part.Done.{Done}
 use Rattle.call_history.specs.declared.part.Part.{Part}
 use Rattle.joint_rule.proofs.Apart.{piece_lacks}
-use Rattle.joint_rule.proofs.Chosen.{Chosen, FindsSo, PutsSo, ReadsSo}
+use Rattle.joint_rule.proofs.Chosen.{Chosen, FindsSo}
 use Rattle.joint_rule.proofs.Events.{Event}
 use Rattle.joint_rule.proofs.Facts.{Known, known_finding}
 use Rattle.joint_rule.proofs.Finds.{Alike, Lacks, changed, changed_here, content_alike, held_alike, ruled_changed, shown_lacks}
@@ -15,10 +15,9 @@ use Rattle.joint_rule.proofs.Gifts.{fit, is_named, stage}
 use Rattle.joint_rule.proofs.Pages.{LeavesSo, content_on, content_sector, whole_same}
 use Rattle.joint_rule.specs.Begins.{Begin, back_at, content, finding, ground_of}
 use Rattle.joint_rule.specs.Rule.{OfOrder, Ruled, ShowsOrder, done_by, dones}
-use Rattle.joint_rule.specs.Stages.{FailBy, IsRight, IsSeen, Looks, MaySeeOther, Stage}
+use Rattle.joint_rule.specs.Stages.{FailBy, IsRight, IsSeen, Looks, MaySeeOther}
 use Rattle.joint_rule.specs.Weights.{HeldAll}
-use Rattle.lock_row.specs.declared.names.At.TheVariants.{Leaving, Missed, Ready}
-use Rattle.lock_row.specs.declared.names.LockNo.{LockNo}
+use Rattle.lock_row.specs.declared.names.At.TheVariants.{Leaving, Ready}
 use Rattle.lock_row.specs.declared.names.State.{State}
 use Rattle.page_steps.specs.Pages.{page_after, page_in}
 use Rattle.page_steps.specs.Steps.{DiskHeld, Here, slot}
@@ -28,7 +27,7 @@ use Rattle.std.proofs.lemmas.Bool.{cases_Bool, eqb-true, eq-eqb}
 use Rattle.std.proofs.lemmas.List.{length-take-le}
 use Rattle.std.proofs.lemmas.List.Elements.{All-drop, All-take}
 use Rattle.std.specs.Prelude.{⊤}
-use Rattle.zr_base.specs.Plain.{Finds, IsSector, Look, has_whole, named, start_from}
+use Rattle.zr_base.specs.Plain.{Finds, IsSector, Look, named, start_from}
 use Rattle.zr_base.specs.Sectors.{page_sector}
 use Rattle.zr_base.specs.declared.op.Op.{Op}
 use Rattle.zr_base.specs.declared.op.Op.TheVariants.{Compact, Discard, Idle, Read, Write}
@@ -114,8 +113,11 @@ change_sight : (g : Begin) (p : Part) (order : List Tag) (page : List ℕ) (op :
     → IsRight (MaySeeOther g p.page order) op p.page page (content g p.page order)
     → (seen : List ℕ) × Sight g p.page order seen × SameAfter p op seen page
 change_sight g p order page (Write start count stuff) e r = ⊎_elim
-    (λ w. (content g p.page order, plain_sight g p.page order (content g p.page order) refl,
-    sym (whole_same p start count stuff page (content g p.page order) e w)))
+    (λ w. (
+      content g p.page order,
+      plain_sight g p.page order (content g p.page order) refl,
+      sym (whole_same p start count stuff page (content g p.page order) e w),
+    ))
     (λ s. (page, sight_of g p.page order page s, refl)) r
 change_sight g p order page (Read start count) e r =
     (content g p.page order, plain_sight g p.page order (content g p.page order) refl, tt)
@@ -130,11 +132,11 @@ change_sight g p order page Compact e r =
 
 -- Calls find something by which the state has the rule, and the giving what it needs of it.
 pub record Choice (g : Begin) (w : State DiskHeld) (l : Here) (v : DiskHeld) (m : Here) : Type 0
-    where
-  pub finds : ℕ → Finds
-  pub ruled : Ruled (finding g finds) w
-  pub ev : Event (finding g finds) l v m
-  pub chosen : Chosen (finding g finds) l v m ev
+  where
+    pub finds : ℕ → Finds
+    pub ruled : Ruled (finding g finds) w
+    pub ev : Event (finding g finds) l v m
+    pub chosen : Chosen (finding g finds) l v m ev
 
 module _ (g : Begin) (ok : Known g) (w : State DiskHeld) (r : Ruled g w) (a : ℕ) (l : Here)
     (who : slice_get w.locals a ≡ Some l) where

@@ -1,5 +1,5 @@
 -- The rule of a phase where its calls find something else at tags that stand in no order.
-use Rattle.std.proofs.Common.{◌≡◌, ◌+◌, ◌*◌, ◌≤◌, ◌<◌, ◌∷◌, ◌∙◌, ◌&&◌, ◌||◌, ℕ, zero, suc, Bool, true, false, cond, eqb, List, [], map, take, Option, Some, None, slice_get, refl, sym, ap, subst, arith, inl, inr}
+use Rattle.std.proofs.Common.{◌≡◌, ◌+◌, ◌*◌, ◌≤◌, ◌∷◌, ◌∙◌, ◌&&◌, ◌||◌, ℕ, zero, suc, Bool, true, false, cond, eqb, List, [], map, take, Option, Some, None, slice_get, refl, sym, ap, subst, arith, inl, inr}
 use Rattle.backing_dev.specs.Dev.{IsHonestDevice}
 use Rattle.call_history.specs.Alone.{AreMarkedOver, aged_over, each_over, pages_over}
 use Rattle.call_history.specs.Parts.{got_by, is_carried, is_on, noted_on, ops_of, stands_so}
@@ -8,15 +8,15 @@ use Rattle.call_history.specs.declared.part.Done.{Done}
 use Rattle.call_history.specs.declared.part.Part.{Part}
 use Rattle.call_history.specs.declared.part.PartEnd.{PartEnd}
 use Rattle.call_history.specs.declared.part.PartEnd.TheVariants.{AtLimit, Carried, Eio, NoMemory, Whole}
-use Rattle.joint_rule.specs.Alone.{Ages, Alone, CountsSo, IsAged, IsOnly, Sweeps, aged_at, aged_done, aged_in, aged_now, compacting, scanned_by}
+use Rattle.joint_rule.specs.Alone.{CountsSo, IsAged, IsOnly, aged_at, aged_done, aged_now, scanned_by}
 use Rattle.joint_rule.specs.Begins.{Begin, FindsRight, back_at, content, ever, finding, form_at, form_by, found, found_after, image}
 use Rattle.joint_rule.specs.Joint.{AtHome, EntryFits, IsActor, Backs, Joint, Sound, Stands}
 use Rattle.joint_rule.specs.Rule.{FailKeeps, KeepsLimits, Most, OfOrder, Ruled, ShowsOrder, dones, reach_at}
-use Rattle.joint_rule.specs.Stages.{FailAt, FailBy, IsFault, IsForm, IsRefusal, MaySeeOther, MayFail, RightAt, ScanAt, Scans, Stage, StageBy, StandAt, BlankAt, locks_at, locks_by}
+use Rattle.joint_rule.specs.Stages.{FailAt, FailBy, IsFault, IsForm, IsRefusal, MaySeeOther, MayFail, RightAt, ScanAt, Stage, StageBy, StandAt, BlankAt, locks_at, locks_by}
 use Rattle.joint_rule.specs.Weights.{Each, HeldAll, Weigh, claim_by, claims, each_one, ever_at, fetches_noted, lies_at, lies_by, News, news_of, device_faults, fetches_told, fresh_claim, mosts, news_count, none, noted, on_entry, one, told_ahead}
-use Rattle.lock_row.specs.Totals.{by_option, held_sum, locals_sum, mass, row_sum, total}
+use Rattle.lock_row.specs.Totals.{held_sum, locals_sum, mass, row_sum, total}
 use Rattle.lock_row.specs.declared.names.At.{At}
-use Rattle.lock_row.specs.declared.names.At.TheVariants.{Counting, Failing, Leaving, Made, Marking, Missed, Pinned, Scanning, Unpinning}
+use Rattle.lock_row.specs.declared.names.At.TheVariants.{Counting, Failing, Leaving, Made, Marking, Missed, Pinned, Unpinning}
 use Rattle.lock_row.specs.declared.names.LockNo.{LockNo}
 use Rattle.lock_row.specs.declared.names.Object.{Object}
 use Rattle.lock_row.specs.declared.names.Pin.{Pin}
@@ -324,27 +324,27 @@ module _ (g : Begin) (finds : ℕ → Finds) where
 
   module _ (p : Part) (e : EntryState) (at : At) (fresh : Option Object) (pin : Option Pin)
       (owed : ℕ) (ahead behind : Option Weight) (page : Option (List ℕ)) (fail : Option PartEnd)
-      where
-    stage_alike : Alike (page_of p at) e.order
-        → Stage g p e at fresh pin owed ahead behind page fail
-        → Stage h p e at fresh pin owed ahead behind page fail
-    stage_alike a s = record {
-      kind = s.kind;
-      made = s.made;
-      pins = s.pins;
-      owes = s.owes;
-      stands = stands_by p at e a s.stands;
-      backs = s.backs;
-      marks = s.marks;
-      partly = s.partly;
-      right = right_by p at e page _ a s.right;
-      counts = s.counts;
-      blank = blank_by p at e ahead a s.blank;
-      fails = fail_alike p at p.op fail s.fails;
-      begun = s.begun;
-      scans = scan_alike p at e a s.scans;
-      compacts = s.compacts;
-    }
+    where
+      stage_alike : Alike (page_of p at) e.order
+          → Stage g p e at fresh pin owed ahead behind page fail
+          → Stage h p e at fresh pin owed ahead behind page fail
+      stage_alike a s = record {
+        kind = s.kind;
+        made = s.made;
+        pins = s.pins;
+        owes = s.owes;
+        stands = stands_by p at e a s.stands;
+        backs = s.backs;
+        marks = s.marks;
+        partly = s.partly;
+        right = right_by p at e page _ a s.right;
+        counts = s.counts;
+        blank = blank_by p at e ahead a s.blank;
+        fails = fail_alike p at p.op fail s.fails;
+        begun = s.begun;
+        scans = scan_alike p at e a s.scans;
+        compacts = s.compacts;
+      }
 
   -- where the lock is that of a slot, it is this page's
   abbrev SlotIs : ℕ → LockNo → Type 0
@@ -727,4 +727,4 @@ module _ (g : Begin) (page : ℕ) (t : Tag) (look : Look) where
             (Own g changed) (value_lacks w.locals lack) l.held (r.told.in_local a l e);
       })
       (λ l e. over_lacks l.done (λ z. subst (λ (ds : List Done). Lacks t.op (noted_on page ds))
-          (ap (dones w.locals) z ∙ ap (λ (ls : List Here). dones ls 0) e) lack)) r
+      (ap (dones w.locals) z ∙ ap (λ (ls : List Here). dones ls 0) e) lack)) r
