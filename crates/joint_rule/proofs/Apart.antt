@@ -5,39 +5,13 @@ use Rattle.call_history.specs.declared.part.Done.{Done}
 use Rattle.call_history.specs.declared.part.Part.{Part}
 use Rattle.call_history.specs.declared.part.PartEnd.{PartEnd}
 use Rattle.joint_rule.proofs.Finds.{Lacks}
+use Rattle.joint_rule.proofs.Stages.{Every, every_append, every_left, every_todo, every_without}
 use Rattle.plain_disk.specs.Ends.{is_single}
 use Rattle.std.proofs.lemmas.Bool.{and_parts, cases_Bool, eqb-true}
 use Rattle.std.specs.List.{AllByRecursion}
 use Rattle.zr_base.specs.Pieces.{first_page, pages_of}
 use Rattle.zr_base.specs.Plain.{has_event}
 use Rattle.zr_base.specs.declared.op.Op.{Op}
-
--- something holds of each piece
-abbrev Every : (Part → Type 0) → List Part → Type 0
-Every P ps = AllByRecursion P ps
-
-module _ (P : Part → Type 0) where
-  every_without : (nr : ℕ) (ps : List Part) → Every P ps → Every P (without nr ps)
-  every_without nr [] all = tt
-  every_without nr (p ∷ ps) all = elim (cases_Bool (eqb p.nr nr)) [
-    | inl on ↦ rw on (every_without nr ps all.1)
-    | inr off ↦ rw off (all.0, every_without nr ps all.1)
-  ]
-
-  every_left : (end : PartEnd) (nr : ℕ) (ps : List Part) → Every P ps → Every P (left_by end nr ps)
-  every_left end nr ps all = elim (cases_Bool (is_carried end))
-      [ inl on ↦ rw on all | inr off ↦ rw off (every_without nr ps all) ]
-
-  every_todo : (So : Part → PartEnd → Type 0) (ps : List Part) (ds : List Done) (todo : List Part)
-      → Follows So ps ds todo → Every P ps → Every P todo
-  every_todo So ps [] todo f all = subst (Every P) (sym f) all
-  every_todo So [] (d ∷ ds) todo f all = absurd f
-  every_todo So (p ∷ ps) (d ∷ ds) todo f all =
-      every_todo So (left_by d.end p.nr ps) ds todo f.2 (every_left d.end p.nr ps all.1)
-
-  every_append : (ps qs : List Part) → Every P ps → Every P qs → Every P (ps ++ qs)
-  every_append [] qs a b = b
-  every_append (p ∷ ps) qs a b = (a.0, every_append ps qs a.1 b)
 
 every_map : (P Q : Part → Type 0) → ((p : Part) → P p → Q p) → (ps : List Part) → Every P ps
     → Every Q ps

@@ -1,5 +1,5 @@
 -- What the call that a giving notes has found, chosen by the page that its piece sees.
-use Rattle.std.proofs.Common.{◌≡◌, ◌+◌, ◌*◌, ◌-◌, ◌/◌, ◌<◌, ◌∷◌, ◌++◌, ◌∙◌, ℕ, Bool, true, false, cond, eqb, List, [], drop, Some, None, slice_get, refl, sym, ap, subst, arith, inl, inr, ⊎_elim, length-drop}
+use Rattle.std.proofs.Common.{◌≡◌, ◌+◌, ◌*◌, ◌-◌, ◌/◌, ◌<◌, ◌∷◌, ◌++◌, ◌∙◌, ℕ, Bool, true, false, cond, eqb, List, [], Some, None, slice_get, refl, sym, ap, subst, arith, inl, inr, ⊎_elim}
 use Rattle.backing_dev.specs.Dev.{IsHonestDevice}
 use Rattle.bdi_page.specs.Packing.{IsPage}
 use Rattle.call_history.specs.Parts.{EndsSo, Follows, noted_on, program}
@@ -12,7 +12,7 @@ use Rattle.joint_rule.proofs.Events.{Event}
 use Rattle.joint_rule.proofs.Facts.{Known, known_finding}
 use Rattle.joint_rule.proofs.Finds.{Alike, Lacks, changed, changed_here, content_alike, held_alike, ruled_changed, shown_lacks}
 use Rattle.joint_rule.proofs.Gifts.{fit, is_named, stage}
-use Rattle.joint_rule.proofs.Pages.{LeavesSo, content_on, content_sector, whole_same}
+use Rattle.joint_rule.proofs.Pages.{LeavesSo, content_on, content_sector, sector_of, whole_same}
 use Rattle.joint_rule.specs.Begins.{Begin, back_at, content, finding, ground_of}
 use Rattle.joint_rule.specs.Rule.{OfOrder, Ruled, ShowsOrder, done_by, dones}
 use Rattle.joint_rule.specs.Stages.{FailBy, IsRight, IsSeen, Looks, MaySeeOther}
@@ -24,8 +24,6 @@ use Rattle.page_steps.specs.Steps.{DiskHeld, Here, slot}
 use Rattle.plain_disk.specs.Phases.{held_after}
 use Rattle.slot_entry.specs.Entries.{EntryState}
 use Rattle.std.proofs.lemmas.Bool.{cases_Bool, eqb-true, eq-eqb}
-use Rattle.std.proofs.lemmas.List.{length-take-le}
-use Rattle.std.proofs.lemmas.List.Elements.{All-drop, All-take}
 use Rattle.std.specs.Prelude.{⊤}
 use Rattle.zr_base.specs.Plain.{Finds, IsSector, Look, named, start_from}
 use Rattle.zr_base.specs.Sectors.{page_sector}
@@ -36,13 +34,6 @@ use Rattle.joint_rule.proofs.Events as event
 use Rattle.lock_row.specs.declared.names.Held.TheVariants as holds
 
 -- ---- a page that is seen
-
-sector_of : (page : List ℕ) (k : ℕ) → k < 8 → IsPage page → IsSector (page_sector page k)
-sector_of page k lt i = (
-  length-take-le 512 (drop (512 * k) page)
-      (let z = i.0 in omega (arith, length-drop (512 * k) page)),
-  All-take (λ b. b < 256) 512 (drop (512 * k) page) (All-drop (λ b. b < 256) (512 * k) page i.1),
-)
 
 -- the sectors of a page, and elsewhere what is held
 abbrev look_at : ℕ → List ℕ → Look

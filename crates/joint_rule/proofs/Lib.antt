@@ -1,12 +1,12 @@
 pub mod Facts
 pub mod Finds
-pub mod Apart
 pub mod Sums
 pub mod Pages
 pub mod Pools
 pub mod Lookups
 pub mod Blocks
 pub mod Stages
+pub mod Apart
 pub mod Places
 pub mod Takes
 pub mod Zspages
