@@ -1,13 +1,10 @@
 -- The calls of a session, by what comes of them.
 use Rattle.std.specs.Prelude.{⊤}
-use Rattle.std.proofs.Common.{◌≡◌, ℕ, ◌+◌, ◌<◌, ◌≤◌, Bool, true, false, List, [], ◌∷◌, ◌++◌, length, take, drop, Option, Some, None, Result, Ok, Err, IfErr, slice_get, refl, sym, ap, ◌∙◌, subst, arith}
+use Rattle.std.proofs.Common.{◌≡◌, ℕ, ◌+◌, ◌≤◌, Bool, true, false, List, [], ◌∷◌, ◌++◌, length, take, Option, Some, None, Result, Ok, Err, IfErr, refl, sym, ap, ◌∙◌, subst, arith}
 use Rattle.std.proofs.lemmas.List.{take_all}
-use Rattle.std.proofs.lemmas.Option.{slice_get_within}
 use Rattle.std.specs.Io.KnownBytes.{Appends}
 use Rattle.zr_base.specs.declared.op.Op.{Op}
-use Rattle.backing_dev.specs.Dev.{DeviceState}
 use Rattle.backing_dev.specs.declared.backing.Backing.{Ghosts}
-use Rattle.plain_disk.specs.Output.{OutLine}
 use Rattle.plain_disk.specs.Rests.{Rest}
 use Rattle.page_steps.specs.Steps.{Terms, DiskHeld}
 use Rattle.zr_base.specs.declared.op.Turns.{Turns}
@@ -23,7 +20,6 @@ use Rattle.zr_core.specs.States.{Playing, CanGoOn, IsPrepared, IsSetUpOn}
 use Rattle.job_text.specs.declared.job.Item.{Item}
 use Rattle.job_text.specs.declared.job.Item.TheVariants as items
 use Rattle.job_text.specs.declared.job.PhaseText.{PhaseText}
-use Rattle.job_text.specs.Jobs.{nothing_used, MayFollow}
 use Rattle.job_session.specs.declared.sim.Status.{Status}
 use Rattle.job_session.specs.declared.sim.Status.TheVariants as statuses
 use Rattle.job_session.specs.declared.session.Next.TheVariants as next
@@ -33,10 +29,10 @@ use Rattle.job_session.specs.declared.session.Stage.TheVariants as stages
 use Rattle.job_session.specs.declared.stop.Stop.{Stop}
 use Rattle.job_session.specs.declared.stop.Stop.TheVariants as stops
 use Rattle.job_session.specs.Stands.{Stands}
-use Rattle.job_session.specs.Stepped.{Disk, without_pages, disk_of, terms_of, Stepped, IsBySchedule}
+use Rattle.job_session.specs.Stepped.{Disk, without_pages, disk_of, Stepped, IsBySchedule}
 use Rattle.job_session.specs.Runs.{BeginsWith}
-use Rattle.job_session.specs.Telling.{MayStand, StandsForSome, StopCause, stop_status}
-use Rattle.job_session.specs.Sessions.{Place, done_at, place, disk_at, session_disk, GoesOn, GivesUp, IsAt, IsStarted, IsOver, IsOut, ComesBack, IsHome, IsBetween, NextIs, IsEnded, IsStopped, EndsBy, IsCutPhase, CutBy}
+use Rattle.job_session.specs.Telling.{StopCause, stop_status}
+use Rattle.job_session.specs.Sessions.{Place, done_at, place, disk_at, session_disk, GoesOn, GivesUp, IsAt, IsStarted, IsOver, IsOut, ComesBack, IsHome, NextIs, IsEnded, IsStopped, EndsBy, IsCutPhase, CutBy}
 use Rattle.job_session.specs.Advances.{ended_status, outcome_of, Advances, IsSoFar, IsCutSoFar, SessionRan}
 use Rattle.job_session.proofs.Devices.{is_run_on}
 use Rattle.job_session.proofs.Jobs.{phase_steps}
@@ -97,30 +93,10 @@ module _ {D : Type 0} {b : Ghosts D} (s t : Session D b) (u w : Option (List ℕ
   ends_home statuses.WriteFault e = e.0.0
   ends_home statuses.NoMemory e = e.0
 
-  pub ends_cause : (earlier : ℕ) → earlier ≤ before → (status : Status)
-      → EndsBy s t u w before now stopped status
-      → IfErr (outcome_of status) (StopCause earlier now stopped)
-  ends_cause earlier le statuses.Done e = tt
-  ends_cause earlier le statuses.Refused e = tt
-  ends_cause earlier le statuses.Words e = absurd e
-  ends_cause earlier le statuses.Job e = absurd e
-  ends_cause earlier le statuses.ReadFault e = absurd e
-  ends_cause earlier le statuses.WriteFault e =
-      StopCause-later earlier before now stopped stops.Write le e.1
-  ends_cause earlier le statuses.NoMemory e = tt
-
 -- ---- up to the next phase
 
 module _ {D : Type 0} {b : Ghosts D} (s t : Session D b) (u w : Option (List ℕ))
     (before now : ℕ) (stopped : Bool) where
-  -- the world that is here is the one that is between two items
-  pub at_here : (world : World D b) → IsBetween s → s.stage ≡ stages.Here world
-      → IsAt (place s) s.clock world
-  at_here world at is =
-      let q : stages.Here at.0 ≡ stages.Here world = sym at.1 ∙ is in
-      let same : at.0 ≡ world = cc in
-      subst (IsAt (place s) s.clock) same at.2
-
   module _ (was : World D b) (here : s.stage ≡ stages.Here was) where
     first : disk_of s.clock was ≡ session_disk s
     first = ap (disk_at s.clock) (sym here)

@@ -1,19 +1,17 @@
 -- How items that were carried out extend each output so far.
 use Rattle.std.specs.Prelude.{⊤}
 use Rattle.std.proofs.Common.{◌≡◌, ℕ, ◌+◌, ◌-◌, ◌<◌, ◌≤◌, Bool, ◌||◌, List, [], ◌∷◌, ◌++◌, length, take, drop, Option, Some, Result, Ok, Err, slice_get, get_or, refl, sym, ap, ◌∙◌, subst, append_assoc, arith, false}
-use Rattle.std.proofs.KnownBytes.{Appends-trans}
 use Rattle.std.proofs.Math.Seq.{take-add}
 use Rattle.std.proofs.lemmas.List.{append-nil, take-append-drop, take_more, drop_more, drop-drop, length-drop, get_or-drop, take_rest}
-use Rattle.std.proofs.lemmas.List.Concat.{flat_map-append}
 use Rattle.std.proofs.lemmas.Option.{slice_get_within, slice_get_read, slice_get-get_or, get_or_from_slice_get}
 use Rattle.std.specs.Io.KnownBytes.{Appends}
-use Rattle.plain_disk.specs.Output.{OutLine, any_refusal}
+use Rattle.plain_disk.specs.Output.{OutLine}
 use Rattle.plain_disk.specs.Rests.{Rest}
 use Rattle.job_text.specs.declared.job.Item.{Item}
 use Rattle.job_text.specs.declared.job.Item.TheVariants as items
 use Rattle.job_text.specs.declared.job.PhaseText.{PhaseText}
 use Rattle.job_text.specs.Jobs.{Used, MayFollow}
-use Rattle.job_print.specs.Texts.{text, line_text}
+use Rattle.job_print.specs.Texts.{text}
 use Rattle.job_session.specs.declared.stop.Stop.{Stop}
 use Rattle.job_session.specs.Legal.{Legal}
 use Rattle.job_session.specs.Stands.{Stands}

@@ -1,12 +1,8 @@
 -- Jobs item by item, as they are told.
-use Rattle.std.proofs.Common.{◌≡◌, ℕ, zero, suc, ◌<◌, ◌≤◌, Bool, true, false, List, [], ◌∷◌, ◌++◌, Option, Result, Ok, Err, OnOk, refl, sym, ap, ◌∙◌, subst, append_assoc, arith}
+use Rattle.std.proofs.Common.{◌≡◌, ℕ, zero, suc, ◌<◌, ◌≤◌, Bool, true, false, List, [], ◌∷◌, ◌++◌, Result, Ok, Err, OnOk, refl, sym, ap, ◌∙◌, subst, append_assoc, arith}
 use Rattle.std.proofs.lemmas.List.{append-nil}
-use Rattle.zr_base.specs.declared.op.Op.{Op}
-use Rattle.zr_base.specs.declared.op.Turns.{Turns}
 use Rattle.std.specs.Prelude.{nat_lt}
 use Rattle.plain_disk.specs.Output.{OutLine, disksize_busy, backing_busy, backing_range, refused}
-use Rattle.page_steps.specs.Steps.{DiskHeld}
-use Rattle.zr_core.specs.declared.limits.TheConstants.{MOST_CHAIN}
 use Rattle.zr_core.specs.Machines.{PhaseSteps}
 use Rattle.job_text.specs.declared.job.Attr.{Attr}
 use Rattle.job_text.specs.declared.job.Attr.TheVariants.{DiskPages, LimitPages, Backing, Clock, LowerMax}
@@ -14,7 +10,7 @@ use Rattle.job_text.specs.declared.job.Report.{Report}
 use Rattle.job_text.specs.declared.job.Item.{Item}
 use Rattle.job_text.specs.declared.job.Item.TheVariants as items
 use Rattle.job_text.specs.declared.job.PhaseText.{PhaseText}
-use Rattle.job_session.specs.Stepped.{Disk, terms_of, report_of, IsNewDisk, backed, SizeSteps, BackingSteps, AttrSteps, IsRunOn, Stepped, IsBySchedule, AreOwn}
+use Rattle.job_session.specs.Stepped.{Disk, terms_of, report_of, IsNewDisk, backed, SizeSteps, BackingSteps, AttrSteps, IsRunOn, Stepped, AreOwn}
 use Rattle.job_session.specs.declared.stop.Stop.{Stop}
 use Rattle.job_session.specs.Telling.{StopCause, OutputState, Tells, ItemsTold}
 use Rattle.job_session.proofs.Lawful.{KeepsPages, KeepsTimeOf}

@@ -1,8 +1,7 @@
 -- No page was touched after the time that is set, where the disk stands for a rest.
-use Rattle.std.proofs.Common.{◌≡◌, ◌⊎◌, ℕ, ◌≤◌, false, List, [], ◌∷◌, Option, Some, slice_get, sym, ap, ◌∙◌, subst, inl, inr, arith, Ok}
+use Rattle.std.proofs.Common.{◌≡◌, ◌⊎◌, ℕ, ◌≤◌, List, [], Option, Some, slice_get, sym, ap, ◌∙◌, subst, inl, inr, arith}
 use Rattle.std.specs.Option.{option_map}
 use Rattle.std.proofs.lemmas.Option.{slice_get-map}
-use Rattle.plain_disk.specs.Output.{OutLine}
 use Rattle.plain_disk.specs.Rests.{Rest}
 use Rattle.lock_row.specs.declared.names.Held.TheVariants as holds
 use Rattle.page_steps.specs.Steps.{DiskHeld}
@@ -10,13 +9,9 @@ use Rattle.slot_entry.specs.Entries.{EntryState}
 use Rattle.disk_rest.specs.Rows.{cell_without_calls}
 use Rattle.disk_rest.specs.Resting.{StandsFor}
 use Rattle.zr_core.specs.Rests.{no_blocks, IsTime}
-use Rattle.job_text.specs.declared.job.Item.{Item}
-use Rattle.job_text.specs.Jobs.{Used, MayFollow}
-use Rattle.job_session.specs.Legal.{Legal}
 use Rattle.job_session.specs.Stands.{IsBare, HasRow, Stands}
-use Rattle.job_session.specs.Stepped.{Disk, Stepped}
-use Rattle.job_session.specs.Telling.{OutputState, MayStand, StandsForSome, ItemsTold}
-use Rattle.job_session.proofs.Jobs.{all_stepped}
+use Rattle.job_session.specs.Stepped.{Disk}
+use Rattle.job_session.specs.Telling.{StandsForSome}
 use Rattle.job_session.proofs.Lawful.{no_item}
 use Rattle.job_session.proofs.Legal.{first_rest}
 use Rattle.job_session.proofs.Written.{bare_disk, first_stands}

@@ -6,7 +6,7 @@ use Rattle.zr_core.specs.Playing.{playing}
 use Rattle.zr_core.specs.States.{CanGoOn}
 use Rattle.job_text.specs.declared.job.PhaseText.{PhaseText}
 use Rattle.job_session.specs.Sessions.{Place, place, FinishIs}
-use Rattle.job_session.proofs.Calls.{own_turns, are_own, comes_back}
+use Rattle.job_session.proofs.Calls.{are_own, comes_back}
 use Rattle.job_session.proofs.Extends.{next_may}
 use Rattle.job_session.proofs.Lawful.{named}
 use Rattle.job_session.proofs.sim.run_phase.Goals as goal

@@ -1,4 +1,4 @@
-use Rattle.std.proofs.Common.{◌+◌, ◌<◌, ◌||◌, length, refl, sym, subst, arith}
+use Rattle.std.proofs.Common.{◌<◌, ◌||◌, length, refl, sym, subst, arith}
 use Rattle.std.proofs.lemmas.Option.{slice_get_within}
 use Rattle.zr_core.specs.Playing.{playing, lines_shown}
 use Rattle.job_session.specs.Stepped.{disk_of}

@@ -1,4 +1,4 @@
-use Rattle.std.proofs.Common.{◌+◌, ◌||◌, refl, arith}
+use Rattle.std.proofs.Common.{◌+◌, ◌||◌, refl}
 use Rattle.std.proofs.lemmas.Result.{err_from_is_err_and}
 use Rattle.job_session.specs.Stepped.{disk_of}
 use Rattle.job_session.specs.Sessions.{Place, place}
