@@ -28,7 +28,8 @@ returns-in_err-send-clause-items g c =
     rw p.1
     (items_in_part _ _ _ _ _ c.requires.none _ told _ _ _
     (sent_in_part told.lines c.new-out.result c.run_items-run.new.out _ from none
-    c.deref.result.now waits (g.K.Sink.written c.send.new.out) _ (search rules) told.told _ (rw (← c.out.view_is) begun)))
+    c.deref.result.now waits (g.K.Sink.written c.send.new.out) _ (search rules) told.told _
+    (rw (← c.out.view_is) begun)))
 
 pub returns-clause-items : goal.returns-clause-items
 returns-clause-items g c =
@@ -38,6 +39,7 @@ returns-clause-items g c =
     let told = c.in_ok-run.ensures.items in
     items_sent _ _ _ _ _ c.requires.none told _ _ _
     (all_sent told.lines c.new-out.result c.run_items-run.new.out _ from none c.deref.result.now
-    waits (g.K.Sink.written c.send.new.out) _ (search rules) told.told c.out.inside.refused (rw (← c.out.view_is) c.in_ok-send.ensures.all)
+    waits (g.K.Sink.written c.send.new.out) _ (search rules) told.told c.out.inside.refused
+    (rw (← c.out.view_is) c.in_ok-send.ensures.all)
     (ap (λ (o : OutputState). o.refused) c.out.view_is)
     (ap (λ (o : OutputState). o.refused) c.new-out.ensures))

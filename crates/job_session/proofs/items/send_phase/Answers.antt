@@ -24,7 +24,8 @@ returns-in_err-send-clause-lines g c =
     let begun = c.in_err-send.ensures.some in
     rw p.1
     (sent_in_part _ c.new-out.result c.tell_phase-told.new.out _ from none c.deref.result.now waits
-    (g.K.Sink.written c.send.new.out) _ (search rules) c.in_ok-told.ensures _ (rw (← c.out.view_is) begun))
+    (g.K.Sink.written c.send.new.out) _ (search rules) c.in_ok-told.ensures _
+    (rw (← c.out.view_is) begun))
 
 pub returns-clause-lines : goal.returns-clause-lines
 returns-clause-lines g c =
@@ -32,6 +33,7 @@ returns-clause-lines g c =
     let none = ap (λ (o : OutputState). o.waits) c.new-out.ensures in
     let waits = c.deref.ensures.value ∙ ap (λ (o : OutputState). o.waits) c.out.view_is in
     all_sent _ c.new-out.result c.tell_phase-told.new.out _ from none c.deref.result.now waits
-    (g.K.Sink.written c.send.new.out) _ (search rules) c.in_ok-told.ensures c.out.inside.refused (rw (← c.out.view_is) c.in_ok-send.ensures.all)
+    (g.K.Sink.written c.send.new.out) _ (search rules) c.in_ok-told.ensures c.out.inside.refused
+    (rw (← c.out.view_is) c.in_ok-send.ensures.all)
     (ap (λ (o : OutputState). o.refused) c.out.view_is)
     (ap (λ (o : OutputState). o.refused) c.new-out.ensures)

@@ -65,8 +65,8 @@ returns-clause-goes g c back =
     let stepped = over_steps d s.clock back.text back.start world phase back.turns back.started
     at.time back.over world.early in
     let sent = c.tell-told.ensures.lines back.text at.item in
-    cut_by p (record s { stage = stages.Here world }) _ _ _ _ _ d back.text back.turns c.tell-told.result c.in-Err.stop c.stopped.result
-    c.in-Err.is c.stopped.ensures (
+    cut_by p (record s { stage = stages.Here world }) _ _ _ _ _ d back.text back.turns
+    c.tell-told.result c.in-Err.stop c.stopped.result c.in-Err.is c.stopped.ensures (
       (world, refl, back.over.rest),
       phase_gave_up c.jobs_are_legal.ensures.legal p back.text d m back.turns lines _ _ at.item
           at.may stepped c.tell-told.result sent,
