@@ -195,8 +195,8 @@ pub room_after : (row row' : Locks) (e : EntryState) → HasPlace e
     → IsGiven row row' (slot 0) (holds.Slot e) → HasRoom row'
 room_after row row' e h given v at =
     let here : cell row' (slot 0) ≡ Some (Some (holds.Slot e)) =
-        ap (λ (y : Locks). cell y (slot 0)) given.home
-        ∙ set_here row.cells (place_in row.names (slot 0)) (Some (holds.Slot e)) None given.out in
+    ap (λ (y : Locks). cell y (slot 0)) given.home
+    ∙ set_here row.cells (place_in row.names (slot 0)) (Some (holds.Slot e)) None given.out in
     let same : Some (Some v) ≡ Some (Some (holds.Slot e)) = sym at ∙ here in
     let q : v ≡ holds.Slot e = cc in
     subst (AsSlot HasPlace) (sym q) h

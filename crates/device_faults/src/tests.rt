@@ -29,6 +29,7 @@ use std::test::Fail;
 use zr_base::{Page, PageIx, Piece, Stuff, Tag};
 
 type Disk = SimRow<DiskHeld<MemBacking>>;
+
 type Call = PageCall<MemBacking>;
 
 const SLOT: LockNo = LockNo::Slot(PageIx(0));
@@ -341,6 +342,7 @@ fn owns_block(disk: &Disk) -> bool {
 }
 
 const FIRST: Tag = Tag { actor: 0, op: 0 };
+
 const SECOND: Tag = Tag { actor: 0, op: 1 };
 
 #[test]

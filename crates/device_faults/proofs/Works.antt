@@ -1,0 +1,88 @@
+-- A read of the one page, and a write of its first sector, are an actor's work.
+use Rattle.std.proofs.Common.{◌≡◌, ℕ, zero, suc, ◌+◌, ◌*◌, ◌-◌, ◌<◌, Bool, true, false, ◌&&◌, List, [], ◌∷◌, refl, ap, arith, nat_le, nat_lt}
+use Rattle.zr_base.specs.Sectors.{page_sector}
+use Rattle.zr_base.specs.Plain.{covers, stuff_sector}
+use Rattle.zr_base.specs.Pieces.{IsPieceOf}
+use Rattle.zr_base.specs.declared.op.Op.TheVariants.{Read, Write}
+use Rattle.zr_base.specs.declared.op.Piece.{Piece}
+use Rattle.zr_base.specs.declared.op.Stuff.{Stuff}
+use Rattle.page_steps.specs.declared.stage.Head.{Head}
+use Rattle.page_steps.specs.declared.stage.Scratch.{Scratch}
+use Rattle.page_steps.specs.declared.stage.Work.TheVariants as work
+use Rattle.page_steps.specs.Calls.{Brings}
+use Rattle.device_faults.specs.OnePage.{DoesWork}
+
+-- all sectors of the page, and the first one
+whole : Piece
+whole = record { page = record { 0 = 0 }; first = 0; count = 8 }
+
+part : Piece
+part = record { page = record { 0 = 0 }; first = 0; count = 1 }
+
+-- a read of the page at 7 seconds
+reading : ℕ → Head
+reading op =
+    record { work = work.Reads; piece = whole; tag = record { actor = 0; op = op }; now = 7 }
+
+-- a write of its first sector then
+writing : ℕ → Head
+writing op =
+    record { work = work.Writes; piece = part; tag = record { actor = 0; op = op }; now = 7 }
+
+pub reads : (op : ℕ) (r : Scratch) → DoesWork (reading op) r
+reads op r = (
+  record {
+    terms = record { size = 1; chain = r.table; clock = 7 };
+    actor = 0;
+    part = record { nr = op; op = Read 0 8; page = 0 };
+    rest = [];
+    done = [];
+  },
+  record {
+    chain = refl;
+    request = refl;
+    beyond = refl;
+    call = λ e. record { tag = refl; page = refl; clock = refl; asks = tt };
+  },
+)
+
+-- the one sector that is covered is the first
+first_covered : (fresh : List ℕ) (x : Stuff) → page_sector fresh 0 ≡ stuff_sector x 0 → (k : ℕ)
+    → covers 0 1 (8 * 0 + k) ≡ true → page_sector fresh k ≡ stuff_sector x (8 * 0 + k - 0)
+first_covered fresh x has zero e = has
+first_covered fresh x has (suc k) e = absurd (let q : nat_lt (suc k) 1 ≡ true = e in omega arith)
+
+brings_first : (fresh : List ℕ) (x : Stuff) → page_sector fresh 0 ≡ stuff_sector x 0
+    → Brings part 0 1 x fresh
+brings_first fresh x has = record {
+  cut = record {
+    page_is = refl;
+    some_sector = omega arith;
+    within = omega arith;
+    sectors = λ k lt. ap (covers 0 1) (let q : 8 * 0 + k ≡ k = omega arith in q);
+  };
+  sectors = λ k lt e. first_covered fresh x has k e;
+}
+
+pub writes : (op : ℕ) (r : Scratch) (x : Stuff) → page_sector r.fresh 0 ≡ stuff_sector x 0
+    → DoesWork (writing op) r
+writes op r x has = (
+  record {
+    terms = record { size = 1; chain = r.table; clock = 7 };
+    actor = 0;
+    part = record { nr = op; op = Write 0 1 x; page = 0 };
+    rest = [];
+    done = [];
+  },
+  record {
+    chain = refl;
+    request = refl;
+    beyond = refl;
+    call = λ e. record {
+      tag = refl;
+      page = refl;
+      clock = refl;
+      asks = brings_first r.fresh x has;
+    };
+  },
+)
