@@ -43,16 +43,6 @@ disk_with row k x is = record {
   cells = length-set row.cells (place_in row.names k) x ∙ is.cells;
 }
 
-pub home_is : {A : Type 0} (c : Option (Option A)) (v : A) → at_home c ≡ Some v
-    → c ≡ Some (Some v)
-home_is None v e = absurd (cc)
-home_is (Some x) v e = ap Some e
-
-pub out_is : {A : Type 0} (c : Option (Option A)) (x : Option A) → c ≡ Some x → at_home c ≡ None
-    → c ≡ Some None
-out_is None x is e = absurd (cc)
-out_is (Some y) x is e = ap Some e
-
 -- ---- the next event
 
 pub same_take : (k m : LockNo) → Take k ≡ Take m → k ≡ m
@@ -153,29 +143,20 @@ ready_on s row (leaving e is out) = subst IsGoing (sym is) tt
 
 -- ---- a turn by a hand
 
-module _ {X Y : Type 0} {takes : X → LockNo → Next → DiskHeld → X → Type 0}
+-- a hand over a row of these locks leaves one
+pub disk_after : {X : Type 0} {takes : X → LockNo → Next → DiskHeld → X → Type 0}
     {misses : X → LockNo → X → Type 0} {gives : X → LockNo → Next → DiskHeld → X → Type 0}
-    {t : Terms} {l m : Here} {h g : X} {p : Progress} where
-  -- what each event keeps, a turn keeps
-  pub keeps : (of : X → Y)
-      → ((k : LockNo) (f : Next) (v : DiskHeld) → takes h k f v g → of g ≡ of h)
-      → ((k : LockNo) → misses h k g → of g ≡ of h)
-      → ((k : LockNo) (f : Next) (v : DiskHeld) → gives h k f v g → of g ≡ of h)
-      → Turned takes misses gives t l h m g p → of g ≡ of h
-  keeps of took lost given (waited k what miss same w) = lost k miss
-  keeps of took lost given (took_it k f v what take tells is moved) = took k f v take
-  keeps of took lost given (gave_it k f v what give is works moved) = given k f v give
-
--- it leaves a disk
-pub disk_after : {t : Terms} {l m : Here} (row row' : Locks) {p : Progress} → IsDisk row
-    → Turned (λ h k f v g. IsTaken h g k v) (λ h k g. IsMissed h g k)
-    (λ h k f v g. IsGiven h g k v) t l row m row' p
-    → IsDisk row'
-disk_after row row' is (waited k what miss same w) = subst IsDisk (sym miss.same) is
-disk_after row row' is (took_it k f v what take tells moved_is moved) =
-    subst IsDisk (sym take.out) (disk_with row k None is)
-disk_after row row' is (gave_it k f v what give moved_is works moved) =
-    subst IsDisk (sym give.home) (disk_with row k (Some v) is)
+    {t : Terms} {l m : Here} {h g : X} {p : Progress} (row : X → Locks)
+    → ((k : LockNo) (f : Next) (v : DiskHeld) → takes h k f v g → IsTaken (row h) (row g) k v)
+    → ((k : LockNo) → misses h k g → IsMissed (row h) (row g) k)
+    → ((k : LockNo) (f : Next) (v : DiskHeld) → gives h k f v g → IsGiven (row h) (row g) k v)
+    → IsDisk (row h) → Turned takes misses gives t l h m g p → IsDisk (row g)
+disk_after row took lost given is (waited k what miss same w) =
+    subst IsDisk (sym (lost k miss).same) is
+disk_after row took lost given is (took_it k f v what take tells same moved) =
+    subst IsDisk (sym (took k f v take).out) (disk_with (row h) k None is)
+disk_after row took lost given is (gave_it k f v what give same works moved) =
+    subst IsDisk (sym (given k f v give).home) (disk_with (row h) k (Some v) is)
 
 -- ---- what a hand leaves at the slot
 

@@ -1,5 +1,6 @@
 -- A read of the one page, and a write of its first sector, are an actor's work.
-use Rattle.std.proofs.Common.{◌≡◌, ℕ, zero, suc, ◌+◌, ◌*◌, ◌-◌, ◌<◌, Bool, true, false, ◌&&◌, List, [], ◌∷◌, refl, ap, arith, nat_le, nat_lt}
+use Rattle.std.proofs.Common.{◌≡◌, ℕ, ◌+◌, ◌*◌, ◌-◌, true, List, [], refl, sym, ap, subst, arith}
+use Rattle.std.proofs.lemmas.Bool.Decides.{nat_tests}
 use Rattle.zr_base.specs.Sectors.{page_sector}
 use Rattle.zr_base.specs.Plain.{covers, stuff_sector}
 use Rattle.zr_base.specs.Pieces.{IsPieceOf}
@@ -13,19 +14,19 @@ use Rattle.page_steps.specs.Calls.{Brings}
 use Rattle.device_faults.specs.OnePage.{DoesWork}
 
 -- all sectors of the page, and the first one
-whole : Piece
+abbrev pub whole : Piece
 whole = record { page = record { 0 = 0 }; first = 0; count = 8 }
 
-part : Piece
+abbrev pub part : Piece
 part = record { page = record { 0 = 0 }; first = 0; count = 1 }
 
 -- a read of the page at 7 seconds
-reading : ℕ → Head
+abbrev pub reading : ℕ → Head
 reading op =
     record { work = work.Reads; piece = whole; tag = record { actor = 0; op = op }; now = 7 }
 
 -- a write of its first sector then
-writing : ℕ → Head
+abbrev pub writing : ℕ → Head
 writing op =
     record { work = work.Writes; piece = part; tag = record { actor = 0; op = op }; now = 7 }
 
@@ -47,21 +48,20 @@ reads op r = (
 )
 
 -- the one sector that is covered is the first
-first_covered : (fresh : List ℕ) (x : Stuff) → page_sector fresh 0 ≡ stuff_sector x 0 → (k : ℕ)
-    → covers 0 1 (8 * 0 + k) ≡ true → page_sector fresh k ≡ stuff_sector x (8 * 0 + k - 0)
-first_covered fresh x has zero e = has
-first_covered fresh x has (suc k) e = absurd (let q : nat_lt (suc k) 1 ≡ true = e in omega arith)
+is_first : (k : ℕ) → covers 0 1 (8 * 0 + k) ≡ true → k ≡ 0
+is_first k e = grind (arith, nat_tests)
 
 brings_first : (fresh : List ℕ) (x : Stuff) → page_sector fresh 0 ≡ stuff_sector x 0
     → Brings part 0 1 x fresh
 brings_first fresh x has = record {
   cut = record {
     page_is = refl;
-    some_sector = omega arith;
-    within = omega arith;
+    some_sector = grind arith;
+    within = grind arith;
     sectors = λ k lt. ap (covers 0 1) (let q : 8 * 0 + k ≡ k = omega arith in q);
   };
-  sectors = λ k lt e. first_covered fresh x has k e;
+  sectors = λ k lt e. subst (λ n. page_sector fresh n ≡ stuff_sector x (8 * 0 + n - 0))
+      (sym (is_first k e)) has;
 }
 
 pub writes : (op : ℕ) (r : Scratch) (x : Stuff) → page_sector r.fresh 0 ≡ stuff_sector x 0
