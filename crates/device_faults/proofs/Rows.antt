@@ -151,11 +151,11 @@ pub disk_after : {X : Type 0} {takes : X → LockNo → Next → DiskHeld → X 
     → ((k : LockNo) → misses h k g → IsMissed (row h) (row g) k)
     → ((k : LockNo) (f : Next) (v : DiskHeld) → gives h k f v g → IsGiven (row h) (row g) k v)
     → IsDisk (row h) → Turned takes misses gives t l h m g p → IsDisk (row g)
-disk_after row took lost given is (waited k what miss same w) =
+disk_after {h = h} row took lost given is (waited k what miss same w) =
     subst IsDisk (sym (lost k miss).same) is
-disk_after row took lost given is (took_it k f v what take tells same moved) =
+disk_after {h = h} row took lost given is (took_it k f v what take tells same moved) =
     subst IsDisk (sym (took k f v take).out) (disk_with (row h) k None is)
-disk_after row took lost given is (gave_it k f v what give same works moved) =
+disk_after {h = h} row took lost given is (gave_it k f v what give same works moved) =
     subst IsDisk (sym (given k f v give).home) (disk_with (row h) k (Some v) is)
 
 -- ---- what a hand leaves at the slot

@@ -1,4 +1,4 @@
-use Rattle.std.proofs.Common.{◌≡◌, ℕ, ◌<◌, ◌^◌, ap, length, subst, sym, arith}
+use Rattle.std.proofs.Common.{◌≡◌, ℕ, ◌<◌, ◌^◌, ap, ◌∙◌, length, subst, sym, arith}
 use Rattle.lock_row.specs.declared.names.LockNo.{LockNo}
 use Rattle.lock_row.specs.Rows.{IsIn}
 use Rattle.page_steps.specs.Steps.{slot}
@@ -14,7 +14,8 @@ pub give-requires : goal.give-requires
 give-requires c = out_after _ _ (slot 0) _ c.in-Some-Slot.ensures.outcome.2
 
 pub returns-clause-room : goal.returns-clause-room
-returns-clause-room c = subst HasRoom (c.disk-2-1.given.1)
+returns-clause-room c = subst HasRoom (sym (c.disk-2-1.given.1
+    (sym c.hand-hand.ensures.same ∙ sym c.in-Some-Slot.ensures.outcome.0 ∙ sym c.give.ensures.0)))
     (room_after _ _ c.reserve_order.new.self (record {
       room = let q = c.in_ok-reserve_order.ensures.room in omega arith;
       few = subst (λ (n : ℕ). n < 2 ^ 32) (sym (ap length c.in_ok-reserve_order.ensures.emptied))
