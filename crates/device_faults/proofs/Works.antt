@@ -10,8 +10,10 @@ use Rattle.zr_base.specs.declared.op.Stuff.{Stuff}
 use Rattle.page_steps.specs.declared.stage.Head.{Head}
 use Rattle.page_steps.specs.declared.stage.Scratch.{Scratch}
 use Rattle.page_steps.specs.declared.stage.Work.TheVariants as work
-use Rattle.page_steps.specs.Calls.{Brings}
-use Rattle.device_faults.specs.OnePage.{DoesWork}
+use Rattle.page_steps.specs.declared.call.PageCall.{PageCall}
+use Rattle.page_steps.specs.Calls.{Brings, started}
+use Rattle.backing_dev.specs.declared.memory.MemBacking.{MemBacking}
+use Rattle.device_faults.specs.OnePage.{DoesWork, IsNew}
 
 -- all sectors of the page, and the first one
 abbrev pub whole : Piece
@@ -30,7 +32,7 @@ abbrev pub writing : ℕ → Head
 writing op =
     record { work = work.Writes; piece = part; tag = record { actor = 0; op = op }; now = 7 }
 
-pub reads : (op : ℕ) (r : Scratch) → DoesWork (reading op) r
+reads : (op : ℕ) (r : Scratch) → DoesWork (reading op) r
 reads op r = (
   record {
     terms = record { size = 1; chain = r.table; clock = 7 };
@@ -64,7 +66,7 @@ brings_first fresh x has = record {
       (sym (is_first k e)) has;
 }
 
-pub writes : (op : ℕ) (r : Scratch) (x : Stuff) → page_sector r.fresh 0 ≡ stuff_sector x 0
+writes : (op : ℕ) (r : Scratch) (x : Stuff) → page_sector r.fresh 0 ≡ stuff_sector x 0
     → DoesWork (writing op) r
 writes op r x has = (
   record {
@@ -86,3 +88,26 @@ writes op r x has = (
     };
   },
 )
+
+-- ---- new calls
+
+-- a read that begins is new, and so is a write
+pub new_read : (op : ℕ) (r : Scratch) (y : PageCall MemBacking)
+    → y ≡ started work.Reads whole (record { actor = 0; op = op }) 7 → IsNew y.head r y.stage
+new_read op r y is = subst (λ (z : PageCall MemBacking). IsNew z.head r z.stage) (sym is) record {
+  page = refl;
+  start = refl;
+  fit = (refl, grind arith);
+  work = reads op r;
+}
+
+pub new_write : (op : ℕ) (r : Scratch) (x : Stuff) (y : PageCall MemBacking)
+    → y ≡ started work.Writes part (record { actor = 0; op = op }) 7
+    → page_sector r.fresh 0 ≡ stuff_sector x 0 → IsNew y.head r y.stage
+new_write op r x y is has =
+    subst (λ (z : PageCall MemBacking). IsNew z.head r z.stage) (sym is) record {
+      page = refl;
+      start = refl;
+      fit = (refl, grind arith);
+      work = writes op r x has;
+    }

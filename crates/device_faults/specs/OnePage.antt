@@ -13,7 +13,7 @@ use Rattle.page_steps.specs.declared.stage.Scratch.{Scratch}
 use Rattle.page_steps.specs.declared.stage.Stage.{Stage}
 use Rattle.page_steps.specs.declared.stage.Stage.TheVariants as stage
 use Rattle.page_steps.specs.Steps.{DiskHeld, slot}
-use Rattle.page_steps.specs.Calls.{Frame, IsWork, next_event}
+use Rattle.page_steps.specs.Calls.{Frame, IsFit, IsWork, next_event}
 use Rattle.page_steps.specs.Fits.{HasPlace, AsSlot}
 use Rattle.page_steps.specs.Turns.{FitsSome}
 
@@ -50,6 +50,13 @@ HasBlock row b =
 -- the call does some actor's work
 abbrev pub DoesWork : Head → Scratch → Type 0
 DoesWork c r = (x : Frame) × IsWork c r x
+
+-- The call is of the disk's page, before its first event, and does some actor's work.
+pub record IsNew {D : Type 0} (c : Head) (r : Scratch) (s : Stage D) : Type 0 where
+  pub page : c.piece.page.0 ≡ 0
+  pub start : s ≡ stage.Start
+  pub fit : IsFit c r s
+  pub work : DoesWork c r
 
 -- The row has what the call's next event takes, or the place of what it gives.
 pub record CanGo {D : Type 0} (c : Head) (r : Scratch) (s : Stage D) (row : Locks) : Type 0 where

@@ -14,7 +14,7 @@ ghost use Rattle.std.specs.Prelude.{◌≡◌, IfOk, OnOk, IsTrue, Some, None};
 ghost use Rattle.lock_row.specs.Rows.{IsIn, cell};
 ghost use Rattle.page_steps.specs.declared.stage.Stage.TheVariants as stage;
 ghost use Rattle.page_steps.specs.Calls.{IsFit, IsGoing};
-ghost use Rattle.device_faults.specs.OnePage.{IsDisk, HasRoom, HasAccount, HasBlock, CanGo, DoesWork, IsReady};
+ghost use Rattle.device_faults.specs.OnePage.{IsDisk, HasRoom, HasAccount, HasBlock, CanGo, DoesWork, IsReady, IsNew};
 
 use arrayvec::ArrayVec;
 use backing_dev::{Dev, MemBacking};
@@ -54,10 +54,7 @@ fn turn(call: &mut Call, disk: &mut Disk, scratch: &mut Scratch) -> Progress
 
 // The first event of a call, which takes the page's slot.
 fn begin(call: &mut Call, disk: &mut Disk, scratch: &mut Scratch) -> Progress
-    requires page { call.old.head.piece.page.0 ≡ 0 }
-    requires start { call.old.stage ≡ stage.Start }
-    requires fit { IsFit call.old.head scratch.old call.old.stage }
-    requires work { DoesWork call.old.head scratch.old }
+    requires new { IsNew call.old.head scratch.old call.old.stage }
     requires disk { IsDisk disk.old }
     requires room { HasRoom disk.old }
     ensures head { call.new.head ≡ call.old.head }
@@ -136,10 +133,7 @@ type Event = (LockNo, bool, Progress);
 
 // Whether these events follow the taking of the slot, and the call is over then.
 fn goes(call: &mut Call, disk: &mut Disk, scratch: &mut Scratch, events: &[Event]) -> bool
-    requires page { call.old.head.piece.page.0 ≡ 0 }
-    requires start { call.old.stage ≡ stage.Start }
-    requires fit { IsFit call.old.head scratch.old call.old.stage }
-    requires work { DoesWork call.old.head scratch.old }
+    requires new { IsNew call.old.head scratch.old call.old.stage }
     requires disk { IsDisk disk.old }
     requires room { HasRoom disk.old }
     ensures disk { IsDisk disk.new }
@@ -161,7 +155,7 @@ fn goes(call: &mut Call, disk: &mut Disk, scratch: &mut Scratch, events: &[Event
 
 // ---- the disk
 
-// A page with words of 1 in its first half, and zeros behind.
+// A page with words of 1 in its first half, and zeros after it.
 fn half_page() -> Page {
     let mut page = Page::zero();
     let mut sector = [0; 512];
@@ -263,20 +257,14 @@ const PART: Piece = Piece {
 
 // A read of the page, at 7 seconds.
 fn read(op: u32, scratch: &Scratch) -> Call
-    ensures page { result.head.piece.page.0 ≡ 0 }
-    ensures start { result.stage ≡ stage.Start }
-    ensures fit { IsFit result.head scratch.now result.stage }
-    ensures work { DoesWork result.head scratch.now }
+    ensures { IsNew result.head scratch.now result.stage }
 {
     PageCall::read(WHOLE, Tag { actor: 0, op }, 7)
 }
 
 // A write of the first sector of the page, at 7 seconds.
 fn write(op: u32, scratch: &mut Scratch) -> Call
-    ensures page { result.head.piece.page.0 ≡ 0 }
-    ensures start { result.stage ≡ stage.Start }
-    ensures fit { IsFit result.head scratch.new result.stage }
-    ensures work { DoesWork result.head scratch.new }
+    ensures { IsNew result.head scratch.new result.stage }
 {
     let mut sector = [0; 512];
     Stuff::Fill(9).sector(0, &mut sector);
@@ -341,45 +329,105 @@ fn owns_block(disk: &Disk) -> bool {
     }
 }
 
+// Whether all of the disk is as these say: the page's order and time, how many reads and writes
+// failed, and how many reads of the device succeeded. The page is on the device, and owns its block.
+fn is_left(disk: &Disk, order: &[Tag], touched: u64, failed: (u64, u64), reads: u64) -> bool {
+    has_entry(disk, order, touched)
+        && has_failed(disk, failed.0, failed.1)
+        && has_read(disk, reads)
+        && owns_block(disk)
+}
+
+// ---- runs
+
+// Whether a call goes as one does whose read of the device fails.
+fn fails(call: &mut Call, disk: &mut Disk, scratch: &mut Scratch) -> bool
+    requires new { IsNew call.old.head scratch.old call.old.stage }
+    requires disk { IsDisk disk.old }
+    requires room { HasRoom disk.old }
+    ensures disk { IsDisk disk.new }
+{
+    goes(call, disk, scratch, &FAILS) && !call.device_read()
+}
+
+// Whether a call goes as a read does that succeeds.
+fn succeeds(call: &mut Call, disk: &mut Disk, scratch: &mut Scratch) -> bool
+    requires new { IsNew call.old.head scratch.old call.old.stage }
+    requires disk { IsDisk disk.old }
+    requires room { HasRoom disk.old }
+    ensures disk { IsDisk disk.new }
+{
+    goes(call, disk, scratch, &READS) && call.device_read()
+}
+
+// Whether a read fails.
+fn read_fails(op: u32, disk: &mut Disk, scratch: &mut Scratch) -> Result<bool, Fail>
+    requires disk { IsDisk disk.old }
+    ensures disk { OnOk result (IsDisk disk.new) }
+{
+    make_room(disk)?;
+    let mut call = read(op, scratch);
+    Ok(fails(&mut call, disk, scratch))
+}
+
+// Whether a write of a sector fails.
+fn write_fails(op: u32, disk: &mut Disk, scratch: &mut Scratch) -> Result<bool, Fail>
+    requires disk { IsDisk disk.old }
+    ensures disk { OnOk result (IsDisk disk.new) }
+{
+    make_room(disk)?;
+    let mut call = write(op, scratch);
+    Ok(fails(&mut call, disk, scratch))
+}
+
+// Whether a read succeeds, and reads the page.
+fn read_succeeds(op: u32, disk: &mut Disk, scratch: &mut Scratch) -> Result<bool, Fail>
+    requires disk { IsDisk disk.old }
+    ensures disk { OnOk result (IsDisk disk.new) }
+{
+    make_room(disk)?;
+    let mut call = read(op, scratch);
+    Ok(succeeds(&mut call, disk, scratch) && scratch.page.bytes() == half_page().bytes())
+}
+
+// ---- tests
+
 const FIRST: Tag = Tag { actor: 0, op: 0 };
 
 const SECOND: Tag = Tag { actor: 0, op: 1 };
 
+// A read that fails, and the same again.
+fn reads_twice(disk: &mut Disk, scratch: &mut Scratch) -> Result<bool, Fail>
+    requires { IsDisk disk.old }
+{
+    let failed = read_fails(0, disk, scratch)?;
+    let noted = is_left(disk, &[FIRST], 7, (1, 0), 0);
+    let read = read_succeeds(1, disk, scratch)?;
+    Ok(failed && noted && read && is_left(disk, &[SECOND], 7, (1, 0), 1))
+}
+
+// A write of a sector that fails, and a read.
+fn writes_and_reads(disk: &mut Disk, scratch: &mut Scratch) -> Result<bool, Fail>
+    requires { IsDisk disk.old }
+{
+    let failed = write_fails(0, disk, scratch)?;
+    let kept = is_left(disk, &[], 3, (0, 1), 0);
+    let read = read_succeeds(1, disk, scratch)?;
+    Ok(failed && kept && read && is_left(disk, &[SECOND], 7, (0, 1), 1))
+}
+
 #[test]
 fn a_failed_read_is_noted(rt: HostRuntime) -> Result<(), Fail> {
     let mut disk = new_disk(rt.alloc())?;
-    let mut scratch = new_scratch();
-    make_room(&mut disk)?;
-    let mut call = read(0, &scratch);
-    assert!(rt; goes(&mut call, &mut disk, &mut scratch, &FAILS));
-    assert!(rt; !call.device_read());
-    assert!(rt; has_entry(&disk, &[FIRST], 7));
-    assert!(rt; has_failed(&disk, 1, 0) && has_read(&disk, 0) && owns_block(&disk));
-    make_room(&mut disk)?;
-    let mut again = read(1, &scratch);
-    assert!(rt; goes(&mut again, &mut disk, &mut scratch, &READS));
-    assert!(rt; again.device_read());
-    assert!(rt; scratch.page.bytes() == half_page().bytes());
-    assert!(rt; has_entry(&disk, &[SECOND], 7));
-    assert!(rt; has_failed(&disk, 1, 0) && has_read(&disk, 1) && owns_block(&disk));
+    let good = reads_twice(&mut disk, &mut new_scratch())?;
+    assert!(rt; good);
     Ok(())
 }
 
 #[test]
 fn a_failed_write_leaves_its_page(rt: HostRuntime) -> Result<(), Fail> {
     let mut disk = new_disk(rt.alloc())?;
-    let mut scratch = new_scratch();
-    make_room(&mut disk)?;
-    let mut call = write(0, &mut scratch);
-    assert!(rt; goes(&mut call, &mut disk, &mut scratch, &FAILS));
-    assert!(rt; !call.device_read());
-    assert!(rt; has_entry(&disk, &[], 3));
-    assert!(rt; has_failed(&disk, 0, 1) && has_read(&disk, 0) && owns_block(&disk));
-    make_room(&mut disk)?;
-    let mut then = read(1, &scratch);
-    assert!(rt; goes(&mut then, &mut disk, &mut scratch, &READS));
-    assert!(rt; scratch.page.bytes() == half_page().bytes());
-    assert!(rt; has_entry(&disk, &[SECOND], 7));
-    assert!(rt; has_failed(&disk, 0, 1) && has_read(&disk, 1) && owns_block(&disk));
+    let good = writes_and_reads(&mut disk, &mut new_scratch())?;
+    assert!(rt; good);
     Ok(())
 }
