@@ -1,6 +1,6 @@
 -- A worker, which has an actor's place and replies and its call in work, and the local that it
 -- stands for.
-use Rattle.std.specs.Prelude.{◌≡◌, ℕ, ◌+◌, ◌-◌, ◌*◌, ◌<◌, ◌≤◌, ◌^◌, ◌==◌, max, true, false, List, [], ◌∷◌, length, Option, Some, None, slice_get, vec_len, vec_capacity, if◌then◌else◌, ⊤}
+use Rattle.std.specs.Prelude.{◌≡◌, ◌≢◌, ℕ, ◌+◌, ◌-◌, ◌*◌, ◌<◌, ◌≤◌, ◌^◌, ◌==◌, max, true, false, List, [], ◌∷◌, length, Option, Some, None, slice_get, vec_len, vec_capacity, if◌then◌else◌, ⊤}
 use Rattle.zr_base.specs.declared.op.Op.{Op}
 use Rattle.zr_base.specs.declared.op.Op.TheVariants.{Write, Read, Discard, Idle, Compact}
 use Rattle.plain_disk.specs.Ends.{is_single}
@@ -199,6 +199,15 @@ pub record IsBegun {D : Type 0} (size now : ℕ) (tag : Tag) (op : Op) (page : �
   pub work : (x : Frame) (r : Scratch) → x.terms.size ≡ size → x.terms.clock ≡ now
       → r.table ≡ x.terms.chain → x.part.op ≡ op → x.part.page ≡ page → tag ≡ tag_by x.actor x.part
       → r.fresh ≡ fresh → Does c r x
+
+-- The worker's next piece has begun: it has a call, and stands for the local that it stood for.
+pub record HasBegun {D : Type 0} (t : Terms) (ops : List Op) (w w' : Worker D) : Type 0 where
+  pub call : w'.call ≢ None
+  pub place : w'.place ≡ w.place
+  pub table : w'.scratch.table ≡ w.scratch.table
+  pub fit : IsFit t ops w'
+  pub same : (done : List Done) → here t.size ops w done ≡ here t.size ops w' done
+  pub keeps : (done : List Done) → Keeps w done → Keeps w' done
 
 -- ---- ends of pieces
 

@@ -5,7 +5,7 @@ ghost use Rattle.std.specs.Prelude.{◌≡◌, ◌≢◌, ◌<◌, ◌^◌, nat_
 ghost use Rattle.zr_base.specs.declared.op.Op.{Op};
 ghost use Rattle.call_history.specs.declared.part.Done.{Done};
 ghost use Rattle.actor_steps.specs.Places.{AreRequests, IsPlace, IsSettled};
-ghost use Rattle.actor_steps.specs.Workers.{IsFit, terms_of, IsBegun, CanFinish, Finishes, Keeps, Allows, Advanced};
+ghost use Rattle.actor_steps.specs.Workers.{IsFit, terms_of, IsBegun, HasBegun, CanFinish, Finishes, Keeps, Allows, Advanced};
 
 use crate::call::Call;
 use crate::place::{Place, next_place};
@@ -125,6 +125,18 @@ impl<D: Backing> Worker<D> {
         };
     }
 
+    // Begins the next piece, whose call is put into its place. It is a function of its own so that
+    // the other turns don't pay for the call, nor for the drop of what stood there.
+    fn begin(&mut self, size: u32, now: u64, ops: &[Op])
+        requires more { self.old.place.nr < length ops.now }
+        requires none { self.old.call ≡ None }
+        requires fit { IsFit (terms_of size now self.old) ops.now self.old }
+        ensures { HasBegun (terms_of size now self.old) ops.now self.old self.new }
+    {
+        let fresh = &mut self.scratch.fresh;
+        self.call = Some(begun(size, now, self.actor, self.place, ops, fresh));
+    }
+
     // One turn of the call in work, which stays in its place until it is over.
     fn go_on<H: Hand<Value = DiskHeld<D>>>(
         &mut self,
@@ -183,8 +195,7 @@ impl<D: Backing> Worker<D> {
         if self.call.is_some() {
             return self.go_on(size, now, ops, hand);
         }
-        let fresh = &mut self.scratch.fresh;
-        self.call = Some(begun(size, now, self.actor, self.place, ops, fresh));
+        self.begin(size, now, ops);
         self.go_on(size, now, ops, hand)
     }
 }

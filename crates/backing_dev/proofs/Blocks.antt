@@ -1,10 +1,11 @@
--- One block is written.
-use Rattle.std.proofs.Common.{◌≡◌, ◌≢◌, ℕ, ◌<◌, ◌≤◌, List, length, set, Some, slice_get, arith, ◌∙◌, sym, ap, inl, inr}
+-- One block is written, in the front of the blocks, which may have to be made longer for it.
+use Rattle.std.proofs.Common.{◌≡◌, ◌≢◌, ℕ, suc, ◌-◌, ◌<◌, ◌≤◌, List, [], ◌∷◌, ◌++◌, length, replicate, set, Some, slice_get, arith, ◌∙◌, sym, ap, inl, inr, length-append, append_assoc}
 use Rattle.std.proofs.Math.ListN.{length-set}
 use Rattle.std.proofs.lemmas.Bool.{cases_lt}
-use Rattle.std.proofs.lemmas.List.{get_or-set_same, get_or-set_other}
+use Rattle.std.proofs.lemmas.List.{get_or-set_same, get_or-set_other, set-append_left}
 use Rattle.std.proofs.lemmas.Option.{slice_get-get_or, slice_get_past}
-use Rattle.backing_dev.specs.Contents.{ChangesOnly}
+use Rattle.backing_dev.specs.Contents.{ChangesOnly, page_full_of}
+use Rattle.backing_dev.specs.MemoryInside.{all_blocks}
 
 -- the written block has the page
 pub block_set : (pages : List (List ℕ)) (b : ℕ) (page : List ℕ) → b < length pages
@@ -32,3 +33,20 @@ other_set pages b c page other =
 pub others_set : (pages : List (List ℕ)) (b : ℕ) (page : List ℕ)
     → ChangesOnly (Some pages) (Some (set pages b page)) b
 others_set pages b page = (length-set pages b page, λ c other. other_set pages b c page other)
+
+-- a block of zeros after the front is one of the blocks already
+pub front_longer : (blocks : ℕ) (front : List (List ℕ)) → length front < blocks
+    → all_blocks blocks (front ++ page_full_of 0 ∷ []) ≡ all_blocks blocks front
+front_longer blocks front less =
+    let zeros = page_full_of 0 in
+    let longer = length-append front (zeros ∷ []) in
+    let left : blocks - length front ≡ suc (blocks - length (front ++ zeros ∷ [])) = omega arith in
+    append_assoc front (zeros ∷ []) (replicate (blocks - length (front ++ zeros ∷ [])) zeros)
+    ∙ ap (λ n. front ++ replicate n zeros) (sym left)
+
+-- a block of the front is written
+pub front_set : (blocks : ℕ) (front : List (List ℕ)) (b : ℕ) (page : List ℕ) → b < length front
+    → all_blocks blocks (set front b page) ≡ set (all_blocks blocks front) b page
+front_set blocks front b page within =
+    ap (λ n. set front b page ++ replicate (blocks - n) (page_full_of 0)) (length-set front b page)
+    ∙ sym (set-append_left front (replicate (blocks - length front) (page_full_of 0)) b page within)

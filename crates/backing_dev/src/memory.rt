@@ -1,7 +1,8 @@
 //! A backing device in memory, for tests and for disks without a file.
 
-ghost use Rattle.std.specs.Prelude.{◌≡◌, ℕ, ◌<◌, ◌≤◌, ◌↔◌, List, Some, length, replicate, IfOk, IsErr, OnOk, OnErr};
+ghost use Rattle.std.specs.Prelude.{◌≡◌, ℕ, ◌<◌, ◌≤◌, ◌↔◌, List, Some, length, replicate, set, vec_len, vec_capacity, IfOk, IsErr, OnOk, OnErr};
 ghost use Rattle.backing_dev.specs.Contents.{HasBlock, ChangesOnly, page_full_of};
+ghost use Rattle.backing_dev.specs.MemoryInside.{all_blocks};
 
 use crate::backing::Backing;
 use crate::plan::Plan;
@@ -9,9 +10,11 @@ use std::alloc::{AllocError, Global};
 use std::marker::Model;
 use zr_base::{Failed, Page};
 
-/// Blocks in memory. They tell their contents, and their reads and writes fail at planned calls.
+/// Blocks in memory. They tell their contents, and their reads and writes fail at planned calls. The
+/// memory of all blocks is reserved when the device is made; a write fills it up to its block.
 #[derive(Drop)]
 pub struct MemBacking {
+    // The front of the blocks, with room for all. The blocks after it are zeros.
     pages: Vec<Page>,
     blocks: u32,
     reads: Plan,
@@ -46,20 +49,12 @@ impl MemBacking {
         ensures writes { IfOk result (λ d. d.writes ≡ planned_calls bad_writes.now) }
     {
         Ok(MemBacking {
-            pages: zero_pages(alloc, blocks)?,
+            pages: Vec::with_capacity(alloc, blocks as usize)?,
             blocks,
             reads: Plan::new(alloc, bad_reads)?,
             writes: Plan::new(alloc, bad_writes)?,
         })
     }
-}
-
-// Leaves a page full of the byte ff.
-#[tactic(auto, unfolding(crate::specs::Contents::page_full_of))]
-fn spoil(page: &mut Page)
-    ensures { page.new ≡ page_full_of 255 }
-{
-    page.put_bytes(&[0xff; 4096]);
 }
 
 #[tactic(auto, unfolding(crate::specs::Contents::page_full_of))]
@@ -69,14 +64,33 @@ fn zero_page() -> Page
     Page::zero()
 }
 
-fn zero_pages(alloc: Global, blocks: u32) -> Result<Vec<Page>, AllocError>
-    ensures { IfOk result (λ pages. pages.items ≡ replicate blocks (page_full_of 0)) }
+// Makes the front longer, up to this block, so that the block can be changed.
+fn reach(pages: &mut Vec<Page>, blocks: u32, b: u32)
+    requires block { b < blocks }
+    requires front { vec_len pages.old ≤ blocks }
+    requires room { blocks ≤ vec_capacity pages.old }
+    ensures same { all_blocks blocks pages.new.items ≡ all_blocks blocks pages.old.items }
+    ensures reached { b < vec_len pages.new }
+    ensures front { vec_len pages.new ≤ blocks }
+    ensures room { vec_capacity pages.new ≡ vec_capacity pages.old }
 {
-    let mut pages = Vec::with_capacity(alloc, blocks as usize)?;
-    for _block in 0..blocks {
-        pages.push(zero_page())?;
+    while pages.len() <= b as usize {
+        pages.push_reserved(zero_page());
     }
-    Ok(pages)
+}
+
+// Sets a block, and makes the front long enough for it.
+fn put_block(pages: &mut Vec<Page>, blocks: u32, b: u32, page: &[u8; 4096])
+    requires block { b < blocks }
+    requires front { vec_len pages.old ≤ blocks }
+    requires room { blocks ≤ vec_capacity pages.old }
+    ensures set { all_blocks blocks pages.new.items
+        ≡ set (all_blocks blocks pages.old.items) b page.now }
+    ensures front { vec_len pages.new ≤ blocks }
+    ensures room { vec_capacity pages.new ≡ vec_capacity pages.old }
+{
+    reach(pages, blocks, b);
+    pages[b as usize].put_bytes(page);
 }
 
 impl Backing for MemBacking {
@@ -122,8 +136,10 @@ impl Backing for MemBacking {
         if self.reads.call() {
             return Err(Failed);
         }
-        let page = &self.pages[b as usize];
-        into.put_bytes(page.bytes());
+        match self.pages.get(b as usize) {
+            Some(page) => into.put_bytes(page.bytes()),
+            None => *into = zero_page(),
+        }
         Ok(())
     }
 
@@ -147,11 +163,10 @@ impl Backing for MemBacking {
         ensures spoilt { OnErr result (HasBlock (Some self.new.pages) b (page_full_of 255)) }
     {
         if self.writes.call() {
-            spoil(&mut self.pages[b as usize]);
+            put_block(&mut self.pages, self.blocks, b, &[0xff; 4096]);
             return Err(Failed);
         }
-        let page = &mut self.pages[b as usize];
-        page.put_bytes(from.bytes());
+        put_block(&mut self.pages, self.blocks, b, from.bytes());
         Ok(())
     }
 

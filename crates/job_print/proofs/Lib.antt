@@ -3,6 +3,7 @@ mod Filled
 mod LineLaws
 mod Marks
 mod Numbers
+mod Sixteen
 mod Steps
 mod Summaries
 mod TextLaws

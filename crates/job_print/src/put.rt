@@ -4,9 +4,10 @@ ghost use Rattle.std.specs.Prelude.{◌≡◌, ℕ, ◌*◌, ◌≤◌, ◌++◌
 ghost use Rattle.std.specs.List.{flat_map};
 ghost use Rattle.std.specs.Fmt.{decimal};
 ghost use Rattle.plain_disk.specs.Output.{sector, ClassLine, StateLine, memory, calls, device_calls, refused, state, class_of, op_lines, order_line};
-ghost use Rattle.job_print.specs.Texts.{hex_digit, hex_byte, word_digits, tag_word, end_words, cell_words, use_words, cause_word, refusal_words, why_of, spaced, out_line, is_filled, sector_line, shown, line_text, text, fault_text, usage_text, IsStateOf, IsSummary};
+ghost use Rattle.job_print.specs.Texts.{hex_byte, word_digits, tag_word, end_words, cell_words, use_words, cause_word, refusal_words, why_of, spaced, out_line, is_filled, sector_line, shown, line_text, text, fault_text, usage_text, IsStateOf, IsSummary};
 ghost use Rattle.job_print.specs.declared.line.OutLine.TheVariants as lines;
 
+use crate::hex::set_hex;
 use crate::line::Refusal;
 use crate::number::put_number;
 use backing_dev::BdStat;
@@ -15,26 +16,6 @@ use mem_account::{IoStat, MmStat};
 use size_class::ClassStat;
 use std::alloc::AllocError;
 use zr_base::{OpEnd, Tag};
-
-// A sum without a branch, so that many digits are made at once.
-fn hex_of(digit: u8) -> u8
-    requires { digit ≤ 15 }
-    ensures { result ≡ hex_digit digit }
-{
-    let above = if digit < 10 { 0 } else { b'a' - b'0' - 10 };
-    b'0' + digit + above
-}
-
-// Puts the digits of bytes, two lower-case ones each, over a text that is as long.
-fn set_hex(digits: &mut [u8], bytes: &[u8])
-    requires { length digits.old ≡ 2 * length bytes.now }
-    ensures { digits.new ≡ flat_map hex_byte bytes.now }
-{
-    for k in 0..bytes.len() {
-        digits[2 * k] = hex_of(bytes[k] / 16);
-        digits[2 * k + 1] = hex_of(bytes[k] % 16);
-    }
-}
 
 // The bytes as two lower-case digits each.
 fn put_hex(out: &mut Vec<u8>, bytes: &[u8]) -> Result<(), AllocError>

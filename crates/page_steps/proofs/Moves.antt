@@ -88,12 +88,3 @@ pub at_stage : {X : Type 0} {takes : X → LockNo → Next → DiskHeld → X �
     → HasAdvanced takes misses gives c r s h r' s'' g p
 at_stage {takes} {misses} {gives} {D} {c} {r} {r'} {s} {s'} {s''} {h} {g} {p} is adv =
     subst (λ (y : Stage D). HasAdvanced takes misses gives c r s h r' y g p) (sym is) adv
-
--- the same turn where the stage before is told otherwise
-pub from_stage : {X : Type 0} {takes : X → LockNo → Next → DiskHeld → X → Type 0}
-    {misses : X → LockNo → X → Type 0} {gives : X → LockNo → Next → DiskHeld → X → Type 0}
-    {D : Type 0} {c : Head} {r r' : Scratch} {s s' s'' : Stage D} {h g : X} {p : Progress} → s ≡ s''
-    → HasAdvanced takes misses gives c r s h r' s' g p
-    → HasAdvanced takes misses gives c r s'' h r' s' g p
-from_stage {takes} {misses} {gives} {D} {c} {r} {r'} {s} {s'} {s''} {h} {g} {p} is adv =
-    subst (λ (y : Stage D). HasAdvanced takes misses gives c r y h r' s' g p) is adv

@@ -140,11 +140,9 @@ impl<D: Backing> PageCall<D> {
         ensures read { self.new.fetched
             ≡ has_fetched self.old.fetched self.old.stage self.new.stage }
     {
-        let at = mem::replace(&mut self.stage, Stage::Over);
-        let fetches = is_fetching(&at);
-        let (next, progress) = step(self.head, at, hand, scratch);
-        self.fetched = has_read(self.fetched, fetches, is_failing(&next));
-        self.stage = next;
+        let fetches = is_fetching(&self.stage);
+        let progress = step(self.head, &mut self.stage, hand, scratch);
+        self.fetched = has_read(self.fetched, fetches, is_failing(&self.stage));
         progress
     }
 }
@@ -170,8 +168,26 @@ fn has_read(before: bool, fetches: bool, fails: bool) -> bool
     before || fetches && !fails
 }
 
-// One event, or a miss, of a call that isn't over.
+// One event, or a miss, of a call that isn't over. The stage that it is at leaves its place for the
+// next one, and nothing is left there to drop.
 fn step<D: Backing, H: Hand<Value = DiskHeld<D>>>(
+    head: Head,
+    at: &mut Stage<D>,
+    hand: &mut H,
+    scratch: &mut Scratch,
+) -> Progress
+    requires going { IsGoing at.old }
+    requires ready { IsReady H.can_take H.takes H.can_give head scratch.old at.old hand.old }
+    ensures { HasAdvanced H.takes H.misses H.gives head scratch.old at.old hand.old scratch.new
+        at.new hand.new result }
+{
+    let (next, progress) = next_of(head, mem::replace(at, Stage::Over), hand, scratch);
+    mem::forget(mem::replace(at, next));
+    progress
+}
+
+// The stage after one event, or after a miss.
+fn next_of<D: Backing, H: Hand<Value = DiskHeld<D>>>(
     head: Head,
     at: Stage<D>,
     hand: &mut H,

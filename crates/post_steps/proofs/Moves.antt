@@ -67,15 +67,6 @@ module _ {X : Type 0} {can_take : X → LockNo → Next → Type 0}
     onward = on';
   }
 
--- the same turn where the stage before is told otherwise
-pub from_stage : {X : Type 0} {takes : X → LockNo → Next → DiskHeld → X → Type 0}
-    {misses : X → LockNo → X → Type 0} {gives : X → LockNo → Next → DiskHeld → X → Type 0}
-    {chain : ℕ} {s s' s'' : CompactStage} {h g : X} {p : Progress} → s ≡ s''
-    → HasAdvanced takes misses gives chain s h s' g p
-    → HasAdvanced takes misses gives chain s'' h s' g p
-from_stage {takes} {misses} {gives} {chain} {s} {s'} {s''} {h} {g} {p} is adv =
-    subst (λ (y : CompactStage). HasAdvanced takes misses gives chain y h s' g p) is adv
-
 -- the same turn where what follows is told otherwise
 pub told_so : {X : Type 0} {takes : X → LockNo → Next → DiskHeld → X → Type 0}
     {misses : X → LockNo → X → Type 0} {gives : X → LockNo → Next → DiskHeld → X → Type 0}

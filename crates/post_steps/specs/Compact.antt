@@ -108,6 +108,12 @@ abbrev pub IsGoing : CompactStage → Type 0
 IsGoing stage.Over = ⊥
 IsGoing s = ⊤
 
+-- it holds a lock, which it gives next
+abbrev pub HoldsOne : CompactStage → Type 0
+HoldsOne (stage.Moving x q) = ⊤
+HoldsOne (stage.Shrinking x frames a) = ⊤
+HoldsOne s = ⊥
+
 -- it is over exactly where its last event was made
 abbrev pub IsOnward : Progress → CompactStage → Type 0
 IsOnward (progress.Done end) s = s ≡ stage.Over

@@ -15,7 +15,7 @@
 ghost use Rattle.std.specs.Prelude.{◌≡◌};
 ghost use Rattle.page_steps.specs.Calls.{Frame};
 ghost use Rattle.post_steps.specs.declared.compact.CompactStage.TheVariants as stage;
-ghost use Rattle.post_steps.specs.Compact.{IsFit, IsGoing, IsOnward, IsWork, here, next_event, IsReady, HasAdvanced};
+ghost use Rattle.post_steps.specs.Compact.{IsFit, IsGoing, IsOnward, IsWork, HoldsOne, here, next_event, IsReady, HasAdvanced};
 ghost use Rattle.post_steps.specs.Turns.{Allows, Advanced};
 
 use crate::sweep::{begin, move_one, owe, shrink, sweep};
@@ -70,30 +70,59 @@ impl CompactCall {
             (λ x. here x self.old.stage) hand.old (λ x. here x self.new.stage) hand.new result }
         ensures over { IsOnward result self.new.stage }
     {
-        let at = mem::replace(&mut self.stage, CompactStage::Over);
-        let (next, progress) = step(at, table, hand);
-        self.stage = next;
-        progress
+        step(&mut self.stage, table, hand)
     }
 }
 
-// One event, or a miss, of a compaction that isn't over.
+// One event, or a miss, of a compaction that isn't over. The stages that hold no value stay in their
+// place until the lock is taken.
 fn step<D: Backing, H: Hand<Value = DiskHeld<D>>>(
-    at: CompactStage,
+    at: &mut CompactStage,
     table: &ClassTable,
     hand: &mut H,
-) -> (CompactStage, Progress)
-    requires going { IsGoing at }
-    requires ready { IsReady H.can_take H.takes H.can_give table.now at hand.old }
-    ensures { HasAdvanced H.takes H.misses H.gives table.now at hand.old result.0 hand.new
-        result.1 }
+) -> Progress
+    requires going { IsGoing at.old }
+    requires ready { IsReady H.can_take H.takes H.can_give table.now at.old hand.old }
+    ensures { HasAdvanced H.takes H.misses H.gives table.now at.old hand.old at.new hand.new result }
 {
-    match at {
-        CompactStage::Start => begin(table, hand),
-        CompactStage::Sweeping(x) => sweep(x, table, hand),
-        CompactStage::Moving(x, pool) => move_one(x, pool, table, hand),
-        CompactStage::Shrunk(x, frames) => owe(x, frames, table, hand),
-        CompactStage::Shrinking(x, frames, account) => shrink(x, frames, account, table, hand),
+    match &*at {
+        CompactStage::Start => begin(at, table, hand),
+        CompactStage::Sweeping(x) => {
+            let x = *x;
+            sweep(x, at, table, hand)
+        }
+        CompactStage::Shrunk(x, frames) => {
+            let (x, frames) = (*x, *frames);
+            owe(x, frames, at, table, hand)
+        }
+        CompactStage::Moving(_, _) | CompactStage::Shrinking(_, _, _) => give(at, table, hand),
         CompactStage::Over => unreachable!(),
     }
+}
+
+// One event of a compaction that gives a lock.
+fn give<D: Backing, H: Hand<Value = DiskHeld<D>>>(
+    at: &mut CompactStage,
+    table: &ClassTable,
+    hand: &mut H,
+) -> Progress
+    requires holds { HoldsOne at.old }
+    requires ready { IsReady H.can_take H.takes H.can_give table.now at.old hand.old }
+    ensures { HasAdvanced H.takes H.misses H.gives table.now at.old hand.old at.new hand.new result }
+{
+    match mem::replace(at, CompactStage::Over) {
+        CompactStage::Moving(x, pool) => move_one(x, pool, at, table, hand),
+        CompactStage::Shrinking(x, frames, account) => shrink(x, frames, account, at, table, hand),
+        CompactStage::Start
+        | CompactStage::Sweeping(_)
+        | CompactStage::Shrunk(_, _)
+        | CompactStage::Over => unreachable!(),
+    }
+}
+
+// Puts a stage into the place of one that holds no value, where there is nothing to drop.
+pub(crate) fn put(at: &mut CompactStage, next: CompactStage)
+    ensures { at.new ≡ next }
+{
+    mem::forget(mem::replace(at, next));
 }

@@ -8,7 +8,7 @@ ghost use Rattle.page_steps.specs.declared.stage.PieceEnd.TheVariants as ends;
 ghost use Rattle.post_steps.specs.declared.compact.CompactStage.TheVariants as stage;
 ghost use Rattle.post_steps.specs.Compact.{IsReady, HasAdvanced, moved_by};
 
-use crate::compact::CompactStage;
+use crate::compact::{CompactStage, put};
 use crate::nexts::{Begins, Shrinks};
 use backing_dev::Backing;
 use class_pool::{ClassPool, Moved, objects_move};
@@ -20,16 +20,18 @@ use std::marker::Brand;
 
 /// Takes the first class.
 pub(crate) fn begin<D: Backing, H: Hand<Value = DiskHeld<D>>>(
+    at: &mut CompactStage,
     table: &ClassTable,
     hand: &mut H,
-) -> (CompactStage, Progress)
-    requires { IsReady H.can_take H.takes H.can_give table.now stage.Start hand.old }
-    ensures { HasAdvanced H.takes H.misses H.gives table.now stage.Start hand.old result.0 hand.new
-        result.1 }
+) -> Progress
+    requires at { at.old ≡ stage.Start }
+    requires ready { IsReady H.can_take H.takes H.can_give table.now stage.Start hand.old }
+    ensures { HasAdvanced H.takes H.misses H.gives table.now stage.Start hand.old at.new hand.new
+        result }
 {
     let lock = LockNo::Class(0);
     match hand.try_take::<Begins>(lock) {
-        None => (CompactStage::Start, Progress::Waits(lock)),
+        None => Progress::Waits(lock),
         Some(value) => {
             let first = Compaction {
                 class: 0,
@@ -37,7 +39,8 @@ pub(crate) fn begin<D: Backing, H: Hand<Value = DiskHeld<D>>>(
                 moves: 0,
                 frames: 0,
             };
-            (CompactStage::Moving(first, pool_of(value)), Progress::Moved)
+            put(at, CompactStage::Moving(first, pool_of(value)));
+            Progress::Moved
         }
     }
 }
@@ -45,17 +48,22 @@ pub(crate) fn begin<D: Backing, H: Hand<Value = DiskHeld<D>>>(
 /// Takes the class that it is at.
 pub(crate) fn sweep<D: Backing, H: Hand<Value = DiskHeld<D>>>(
     x: Compaction,
+    at: &mut CompactStage,
     table: &ClassTable,
     hand: &mut H,
-) -> (CompactStage, Progress)
-    requires { IsReady H.can_take H.takes H.can_give table.now (stage.Sweeping x) hand.old }
-    ensures { HasAdvanced H.takes H.misses H.gives table.now (stage.Sweeping x) hand.old result.0
-        hand.new result.1 }
+) -> Progress
+    requires at { at.old ≡ stage.Sweeping x }
+    requires ready { IsReady H.can_take H.takes H.can_give table.now (stage.Sweeping x) hand.old }
+    ensures { HasAdvanced H.takes H.misses H.gives table.now (stage.Sweeping x) hand.old at.new
+        hand.new result }
 {
     let lock = LockNo::Class(x.class);
     match hand.try_take::<Takes>(lock) {
-        None => (CompactStage::Sweeping(x), Progress::Waits(lock)),
-        Some(value) => (CompactStage::Moving(x, pool_of(value)), Progress::Moved),
+        None => Progress::Waits(lock),
+        Some(value) => {
+            put(at, CompactStage::Moving(x, pool_of(value)));
+            Progress::Moved
+        }
     }
 }
 
@@ -82,12 +90,12 @@ fn moved(x: Compaction, frames: u32) -> CompactStage
 
 // Nothing is left to move in the class: it goes on to the next one that stands for itself, or is
 // over after the last.
-fn rested(x: Compaction, table: &ClassTable) -> (CompactStage, Progress)
+fn rested(x: Compaction, at: &mut CompactStage, table: &ClassTable) -> Progress
     requires { x.class < 255 }
-    ensures over { x.class ≡ 254 → (result.0 ≡ stage.Over)
-        × (result.1 ≡ progress.Done (ends.Compacted x.moves x.frames)) }
-    ensures next { x.class ≢ 254 → (result.0 ≡ stage.Sweeping (with_next table.now x))
-        × (result.1 ≡ progress.Moved) × (x.class < stands_of table.now (x.class + 1))
+    ensures over { x.class ≡ 254 → (at.new ≡ stage.Over)
+        × (result ≡ progress.Done (ends.Compacted x.moves x.frames)) }
+    ensures next { x.class ≢ 254 → (at.new ≡ stage.Sweeping (with_next table.now x))
+        × (result ≡ progress.Moved) × (x.class < stands_of table.now (x.class + 1))
         × (stands_of table.now (x.class + 1) < 255) }
 {
     if x.class == 254 {
@@ -95,26 +103,29 @@ fn rested(x: Compaction, table: &ClassTable) -> (CompactStage, Progress)
             moves: x.moves,
             frames: x.frames,
         };
-        return (CompactStage::Over, Progress::Done(end));
+        put(at, CompactStage::Over);
+        return Progress::Done(end);
     }
     let next = Compaction {
         class: table.stands_as(x.class + 1),
         budget: None,
         ..x
     };
-    (CompactStage::Sweeping(next), Progress::Moved)
+    put(at, CompactStage::Sweeping(next));
+    Progress::Moved
 }
 
 /// Moves an object of the class, or none, and gives the class.
 pub(crate) fn move_one<D: Backing, H: Hand<Value = DiskHeld<D>>>(
     x: Compaction,
     pool: ClassPool,
+    at: &mut CompactStage,
     table: &ClassTable,
     hand: &mut H,
-) -> (CompactStage, Progress)
+) -> Progress
     requires { IsReady H.can_take H.takes H.can_give table.now (stage.Moving x pool) hand.old }
-    ensures { HasAdvanced H.takes H.misses H.gives table.now (stage.Moving x pool) hand.old result.0
-        hand.new result.1 }
+    ensures { HasAdvanced H.takes H.misses H.gives table.now (stage.Moving x pool) hand.old at.new
+        hand.new result }
 {
     objects_move();
     let lock = LockNo::Class(x.class);
@@ -135,7 +146,8 @@ pub(crate) fn move_one<D: Backing, H: Hand<Value = DiskHeld<D>>>(
                 &frames,
                 &lock,
             );
-            (moved(next, frames), Progress::Moved)
+            put(at, moved(next, frames));
+            Progress::Moved
         }
         Moved::Done => {
             give_by::<D, H, Brand, ClassTable, LockNo, LockNo>(
@@ -146,7 +158,7 @@ pub(crate) fn move_one<D: Backing, H: Hand<Value = DiskHeld<D>>>(
                 &lock,
                 &lock,
             );
-            rested(x, table)
+            rested(x, at, table)
         }
     }
 }
@@ -155,20 +167,22 @@ pub(crate) fn move_one<D: Backing, H: Hand<Value = DiskHeld<D>>>(
 pub(crate) fn owe<D: Backing, H: Hand<Value = DiskHeld<D>>>(
     x: Compaction,
     frames: u32,
+    at: &mut CompactStage,
     table: &ClassTable,
     hand: &mut H,
-) -> (CompactStage, Progress)
-    requires { IsReady H.can_take H.takes H.can_give table.now (stage.Shrunk x frames) hand.old }
+) -> Progress
+    requires at { at.old ≡ stage.Shrunk x frames }
+    requires ready { IsReady H.can_take H.takes H.can_give table.now (stage.Shrunk x frames) hand.old }
     ensures { HasAdvanced H.takes H.misses H.gives table.now (stage.Shrunk x frames) hand.old
-        result.0 hand.new result.1 }
+        at.new hand.new result }
 {
     let lock = LockNo::Account;
     match hand.try_take::<Takes>(lock) {
-        None => (CompactStage::Shrunk(x, frames), Progress::Waits(lock)),
-        Some(value) => (
-            CompactStage::Shrinking(x, frames, account_of(value)),
-            Progress::Moved,
-        ),
+        None => Progress::Waits(lock),
+        Some(value) => {
+            put(at, CompactStage::Shrinking(x, frames, account_of(value)));
+            Progress::Moved
+        }
     }
 }
 
@@ -177,13 +191,14 @@ pub(crate) fn shrink<D: Backing, H: Hand<Value = DiskHeld<D>>>(
     x: Compaction,
     frames: u32,
     account: Account,
+    at: &mut CompactStage,
     table: &ClassTable,
     hand: &mut H,
-) -> (CompactStage, Progress)
+) -> Progress
     requires { IsReady H.can_take H.takes H.can_give table.now (stage.Shrinking x frames account)
         hand.old }
     ensures { HasAdvanced H.takes H.misses H.gives table.now (stage.Shrinking x frames account)
-        hand.old result.0 hand.new result.1 }
+        hand.old at.new hand.new result }
 {
     let mut after = account;
     after.give_back(frames as u64);
@@ -193,5 +208,6 @@ pub(crate) fn shrink<D: Backing, H: Hand<Value = DiskHeld<D>>>(
         frames: x.frames + frames as u64,
         ..x
     };
-    (CompactStage::Sweeping(next), Progress::Moved)
+    put(at, CompactStage::Sweeping(next));
+    Progress::Moved
 }

@@ -26,7 +26,7 @@ returns-in-Moved g c =
     let m = c.in-Moved.ensures.moved in
     let some = sym c.budget_of-budget.ensures ∙ sym m.0 in
     let few = (c.objects_move.ensures.moved c.args.pool c.move_one.new.self m.1 c.in-Moved.frames m.3).3 in
-    told_so c.moved.ensures refl
+    told_so (c.put.ensures ∙ c.moved.ensures) refl
     (gives_it (moving c.move_one.new.budget c.in-Moved.frames) c.requires tt refl
     (can_move chain c.args.x c.args.pool c.move_one.new.self c.move_one.new.budget
     c.in-Moved.frames some
