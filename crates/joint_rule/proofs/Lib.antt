@@ -11,6 +11,7 @@ pub mod Zspages
 pub mod Classes
 pub mod Calm
 pub mod Events
+pub mod Chosen
 pub mod Balances
 pub mod Gifts
 pub mod Objects

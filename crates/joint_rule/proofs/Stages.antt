@@ -6,7 +6,7 @@ use Rattle.call_history.specs.declared.part.Part.{Part}
 use Rattle.call_history.specs.declared.part.PartEnd.{PartEnd}
 use Rattle.joint_rule.proofs.Pages.{form_low}
 use Rattle.joint_rule.specs.Begins.{Begin, back_at, content, form_at, found_after}
-use Rattle.joint_rule.specs.Stages.{Bears, BlankAt, Changes, GoneBy, IsForm, IsObj, IsPooled, IsRight, IsWb, IsWrite, MayPin, NoObj, NoneOf, Stage, locks_at, MayIdle}
+use Rattle.joint_rule.specs.Stages.{MaySeeOther, Bears, BlankAt, Changes, GoneBy, IsForm, IsObj, IsPooled, IsRight, IsWb, IsWrite, MayPin, NoObj, NoneOf, Stage, locks_at, MayIdle}
 use Rattle.lock_row.specs.declared.names.At.TheVariants.{Old, Owing}
 use Rattle.lock_row.specs.declared.names.Object.{Object}
 use Rattle.lock_row.specs.declared.names.Pin.{Pin}
@@ -51,7 +51,8 @@ module _ (g : Begin) (p : Part) (e : EntryState) (fresh : Option Object) (pin : 
     (form_at g p.page e.order) e.kept) (backs : is_wb e.kept ≡ back_at g p.page e.order)
     (marks : MayIdle e.kept e.idle)
     (blank : BlankAt Old p.op ahead (found_after g p.page e.order).blank)
-    (right : IsRight p.op p.page (page_in page e.kept) (content g p.page e.order))
+    (right : IsRight (MaySeeOther g p.page e.order) p.op p.page (page_in page e.kept)
+    (content g p.page e.order))
     (more : NoneOf ahead) (less : NoneOf behind) (well : NoneOf fail)
     (begun : is_single g.given.size p.op ≡ false) where
   abbrev f : PageForm
