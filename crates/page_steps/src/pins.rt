@@ -68,8 +68,8 @@ fn front<'a>(first: &'a [u8], second: &'a [u8], len: usize) -> (&'a [u8], &'a [u
     }
 }
 
-// Reads the page from its object's cell, whose bytes may lie in two frames.
-fn read_cell(lent: &Lent, page: &mut Page)
+/// Reads the page from its object's cell, whose bytes may lie in two frames.
+pub fn read_cell(lent: &Lent, page: &mut Page)
     requires { CanRead lent.now }
     ensures { page.new ≡ page_in_cell lent.now.object lent.now.cell }
 {

@@ -1,9 +1,14 @@
 -- A call that writes pages back: what it stands for as an actor's local, and what its values are.
-use Rattle.std.specs.Prelude.{◌≡◌, ℕ, ◌+◌, ◌<◌, ◌≤◌, true, ⊤, Bool, List, [], ◌∷◌, Option, Some, None, slice_get}
+use Rattle.std.specs.Prelude.{◌≡◌, ℕ, ◌+◌, ◌<◌, ◌≤◌, true, false, ⊤, Bool, List, [], ◌∷◌, Option, Some, None}
+use Rattle.zr_base.specs.declared.op.Mode.{Mode}
 use Rattle.zr_base.specs.declared.op.Op.TheVariants.{Writeback}
+use Rattle.zr_base.specs.declared.op.OpEnd.{OpEnd}
+use Rattle.zr_base.specs.declared.op.OpEnd.TheVariants as op_ends
+use Rattle.class_pool.specs.Pool.{IsAtHome, IsLent}
 use Rattle.mem_account.specs.declared.weight.Weight.{Weight}
 use Rattle.mem_account.specs.declared.weight.Weight.TheVariants.{Empty, Back}
-use Rattle.block_map.specs.declared.state.BlockState.TheVariants.{Held}
+use Rattle.block_map.specs.declared.blocks.Reserve.{Reserve}
+use Rattle.block_map.specs.declared.blocks.Reserve.TheVariants.{BudgetSpent}
 use Rattle.call_history.specs.declared.part.PartEnd.{PartEnd}
 use Rattle.lock_row.specs.declared.names.LockNo.{LockNo}
 use Rattle.lock_row.specs.declared.names.LockNo.TheVariants as lock
@@ -16,17 +21,18 @@ use Rattle.lock_row.specs.declared.names.Pin.{Pin}
 use Rattle.lock_row.specs.declared.names.Plan.{Plan}
 use Rattle.lock_row.specs.declared.names.Plan.TheVariants.{Finished, Take, Give}
 use Rattle.slot_entry.specs.declared.kept.Stored.{Stored}
+use Rattle.slot_entry.specs.declared.kept.Kept.{Kept}
 use Rattle.slot_entry.specs.declared.kept.Kept.TheVariants as kept
-use Rattle.slot_entry.specs.Entries.{EntryState}
-use Rattle.page_steps.specs.Steps.{DiskHeld, Here, slot, first_trip, is_mark_of}
-use Rattle.page_steps.specs.Fits.{CanPin, CanPay, cell_of, HeldFits, WriteFits}
+use Rattle.slot_entry.specs.Entries.{EntryState, is_eligible}
+use Rattle.page_steps.specs.Steps.{DiskHeld, Here, slot, first_trip, arrived_at, entry_or, with_lock}
+use Rattle.page_steps.specs.Nexts.{Next, own_entry}
+use Rattle.page_steps.specs.Fits.{CanPin, CanPay, HeldFits, WriteFits}
 use Rattle.page_steps.specs.Calls.{Frame, end_of, ends_of, pin_by}
 use Rattle.page_steps.specs.declared.stage.Lent.{Lent}
 use Rattle.page_steps.specs.declared.stage.PieceEnd.{PieceEnd}
 use Rattle.page_steps.specs.declared.stage.Progress.{Progress}
 use Rattle.page_steps.specs.declared.stage.Progress.TheVariants as progress
 use Rattle.page_steps.specs.declared.stage.Scratch.{Scratch}
-use Rattle.class_pool.specs.Pool.{IsAtHome, IsLent}
 use Rattle.post_steps.specs.Turns.{Allows, Advanced}
 use Rattle.post_steps.specs.declared.writeback.WritebackHead.{WritebackHead}
 use Rattle.post_steps.specs.declared.writeback.WritebackStage.{WritebackStage}
@@ -251,3 +257,48 @@ IsGoing s = ⊤
 abbrev pub IsOnward : {D : Type 0} → Progress → WritebackStage D → Type 0
 IsOnward (progress.Done end) s = s ≡ stage.Over
 IsOnward t s = IsGoing s
+
+-- how it ends where it was answered so, and got no block
+abbrev pub without_block : Reserve → Trip → OpEnd
+without_block BudgetSpent x = op_ends.Budget x.wrote x.lost
+without_block answer x = op_ends.NoBlock x.wrote x.lost
+
+-- ---- stages that follow
+
+-- a page's slot is taken, and the page is to be written back or not
+abbrev pub arrived_with : {D : Type 0} → Bool → Trip → EntryState → Kept → WritebackStage D
+arrived_with true x e (kept.Obj o) = stage.Asking x e o
+arrived_with meant x e k = stage.Passing x e
+
+-- the slot is taken again, with the block's mark or without it
+abbrev pub landed_with : {D : Type 0} → Option PieceEnd → Bool → Trip → EntryState → Kept → WritebackStage D
+landed_with None true x e (kept.Obj o) = stage.Won x e o
+landed_with end mark x e k = stage.Losing x e end
+
+-- ---- events and turns
+
+-- it takes its first page
+abbrev pub entering : Mode → Next
+entering m l v =
+    with_lock l (arrived_at (is_eligible m (entry_or v (own_entry l))) first_trip)
+    (slot first_trip.page) v
+
+module _ {X : Type 0} (can_take : X → LockNo → Next → Type 0)
+    (takes : X → LockNo → Next → DiskHeld → X → Type 0)
+    (can_give : X → LockNo → Next → DiskHeld → Type 0) where
+  -- The call at its stage, before a turn by a hand.
+  pub record IsReady {D : Type 0} (c : WritebackHead) (r : Scratch) (s : WritebackStage D) (h : X)
+      : Type 0 where
+    pub fit : IsFit c s
+    pub allows : Allows can_take takes can_give (IsWork c) (λ x. here x r s) (next_event s) h
+
+module _ {X : Type 0} (takes : X → LockNo → Next → DiskHeld → X → Type 0)
+    (misses : X → LockNo → X → Type 0)
+    (gives : X → LockNo → Next → DiskHeld → X → Type 0) where
+  -- What a turn of the call leaves.
+  pub record HasAdvanced {D : Type 0} (c : WritebackHead) (r : Scratch) (s : WritebackStage D) (h : X)
+      (r' : Scratch) (s' : WritebackStage D) (g : X) (p : Progress) : Type 0 where
+    pub fit : IsFit c s'
+    pub turn : Advanced takes misses gives (IsWork c) (λ x. here x r s) h (λ x. here x r' s') g p
+    pub onward : IsOnward p s'
+    pub table : r'.table ≡ r.table
