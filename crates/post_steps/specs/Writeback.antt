@@ -30,6 +30,7 @@ use Rattle.page_steps.specs.Fits.{CanPin, CanPay, HeldFits, WriteFits}
 use Rattle.page_steps.specs.Calls.{Frame, end_of, ends_of, pin_by}
 use Rattle.page_steps.specs.declared.stage.Lent.{Lent}
 use Rattle.page_steps.specs.declared.stage.PieceEnd.{PieceEnd}
+use Rattle.page_steps.specs.declared.stage.PieceEnd.TheVariants as piece
 use Rattle.page_steps.specs.declared.stage.Progress.{Progress}
 use Rattle.page_steps.specs.declared.stage.Progress.TheVariants as progress
 use Rattle.page_steps.specs.declared.stage.Scratch.{Scratch}
@@ -209,13 +210,26 @@ pub record HasRoom (c : WritebackHead) (x : Trip) : Type 0 where
   pub page : x.page < c.pages
   pub few : x.wrote + x.lost ≤ x.page
 
--- and a block is reserved, or the page's
-abbrev pub HasBlock : WritebackHead → Trip → Type 0
-HasBlock c x = HasRoom c x × ((b : ℕ) × (x.block ≡ Some b))
+-- And a block is reserved, or the page's.
+pub record HasBlock (c : WritebackHead) (x : Trip) : Type 0 where
+  pub room : HasRoom c x
+  pub block : (b : ℕ) × (x.block ≡ Some b)
 
 -- the entry has the object
 abbrev pub Has : EntryState → Stored → Type 0
 Has e o = e.kept ≡ kept.Obj o
+
+-- an end that comes before the last page
+abbrev pub IsStop : PieceEnd → Type 0
+IsStop (piece.Budget wrote lost) = ⊤
+IsStop (piece.NoBlock wrote lost) = ⊤
+IsStop (piece.WriteEio fault wrote lost) = ⊤
+IsStop end = ⊥
+
+-- such an end, if there is one
+abbrev pub AreStops : Option PieceEnd → Type 0
+AreStops None = ⊤
+AreStops (Some end) = IsStop end
 
 -- what holds of the call at its stage
 abbrev pub IsFit : {D : Type 0} → WritebackHead → WritebackStage D → Type 0
@@ -224,7 +238,7 @@ IsFit c (stage.Arriving x) = HasRoom c x
 IsFit c (stage.Passing x e) = HasRoom c x
 IsFit c (stage.Asking x e o) = HasRoom c x × Has e o
 IsFit c (stage.Reserving x e o y) = HasRoom c x × Has e o
-IsFit c (stage.Quitting x e end) = HasRoom c x
+IsFit c (stage.Quitting x e end) = HasRoom c x × IsStop end
 IsFit c (stage.Seen x e o) = HasBlock c x × Has e o
 IsFit c (stage.Pinning x e o q) = HasBlock c x × Has e o × CanPin o q
 IsFit c (stage.Pinned x e y) = HasBlock c x × Has e y.object
@@ -233,7 +247,7 @@ IsFit c (stage.Unpinning x e y q) = HasBlock c x × Has e y.object
 IsFit c (stage.Marking x e) = HasBlock c x
 IsFit c (stage.Flying x) = HasBlock c x
 IsFit c (stage.Storing x d) = HasBlock c x × WriteFits x.block (holds.Device d)
-IsFit c (stage.Landing x end) = HasBlock c x
+IsFit c (stage.Landing x end) = HasBlock c x × AreStops end
 IsFit c (stage.Won x e o) = HasBlock c x × Has e o
 IsFit c (stage.Freeing x e o q) = HasBlock c x × Has e o × IsAtHome q o.handle.0
 IsFit c (stage.Backing x e frames was) = HasBlock c x × (e.kept ≡ kept.Empty)
@@ -243,9 +257,9 @@ IsFit c (stage.Owing x e frames was) = HasBlock c x × (e.kept ≡ kept.Empty)
 IsFit c (stage.Paying x e frames was a) = HasBlock c x × (e.kept ≡ kept.Empty)
     × CanPay frames was Back a
 IsFit c (stage.Putting x e) = HasBlock c x × (e.kept ≡ kept.Empty)
-IsFit c (stage.Losing x e end) = HasBlock c x
-IsFit c (stage.Undoing x end) = HasBlock c x
-IsFit c (stage.Releasing x end y) = HasBlock c x × HeldFits x.block (holds.Blocks y)
+IsFit c (stage.Losing x e end) = HasBlock c x × AreStops end
+IsFit c (stage.Undoing x end) = HasBlock c x × AreStops end
+IsFit c (stage.Releasing x end y) = HasBlock c x × AreStops end × HeldFits x.block (holds.Blocks y)
 IsFit c stage.Over = ⊤
 
 -- it isn't over

@@ -12,7 +12,9 @@ use backing_dev::Backing;
 use cell_arena::Cell;
 use class_pool::ClassPool;
 use lock_row::{Hand, Held, LockNo, Trip};
-use page_steps::{DiskHeld, Lent, Progress, Scratch, Takes, give_by, pool_of, read_cell};
+use page_steps::{
+    DiskHeld, Lent, Progress, Scratch, Takes, give_by, pin_object, pool_of, read_cell, unpin_object,
+};
 use slot_entry::{Entry, Stored};
 use std::marker::Brand;
 use zr_base::PageIx;
@@ -60,7 +62,7 @@ pub(crate) fn pin<D: Backing, H: Hand<Value = DiskHeld<D>>>(
         pool) hand.old scratch.new result.0 hand.new result.1 }
 {
     let mut lender = pool;
-    let cell = lender.pin(object.handle);
+    let cell = pin_object(&mut lender, object);
     let lock = LockNo::Class(object.class);
     give_by::<D, H, Brand, Stored, Cell, LockNo>(
         hand,
@@ -119,7 +121,7 @@ pub(crate) fn unpin<D: Backing, H: Hand<Value = DiskHeld<D>>>(
 {
     let Lent { object, cell } = lent;
     let mut lender = pool;
-    lender.unpin(object.handle, cell);
+    unpin_object(&mut lender, object, cell);
     hand.give::<Copies>(LockNo::Class(object.class), Held::Class(lender));
     (WritebackStage::Marking(x, entry), Progress::Moved)
 }

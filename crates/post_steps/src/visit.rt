@@ -10,7 +10,7 @@ ghost use Rattle.page_steps.specs.Visits.{passed_page, refused_end};
 ghost use Rattle.page_steps.specs.declared.stage.Progress.TheVariants as progress;
 ghost use Rattle.page_steps.specs.declared.stage.PieceEnd.TheVariants as ends;
 ghost use Rattle.post_steps.specs.declared.writeback.WritebackStage.TheVariants as stage;
-ghost use Rattle.post_steps.specs.Writeback.{IsReady, HasAdvanced, arrived_with, without_block};
+ghost use Rattle.post_steps.specs.Writeback.{IsReady, HasAdvanced, IsStop, arrived_with, without_block};
 
 use crate::nexts::LeavesAll;
 use crate::writeback::{WritebackHead, WritebackStage};
@@ -165,7 +165,8 @@ pub(crate) fn ask<D: Backing, H: Hand<Value = DiskHeld<D>>>(
 
 // How the call ends where it was answered so, and got no block.
 fn refused(x: Trip, answer: Reserve) -> PieceEnd
-    ensures { end_of result ≡ over.Whole (without_block answer x) }
+    ensures end { end_of result ≡ over.Whole (without_block answer x) }
+    ensures stop { IsStop result }
 {
     let Trip { wrote, lost, .. } = x;
     match answer {
