@@ -23,7 +23,7 @@ use Rattle.lock_row.specs.declared.names.At.{At}
 use Rattle.lock_row.specs.declared.names.At.TheVariants as at
 use Rattle.lock_row.specs.declared.names.Compaction.{Compaction}
 use Rattle.lock_row.specs.declared.names.Pin.{Pin}
-use Rattle.lock_row.specs.declared.names.Step.{Step}
+use Rattle.lock_row.specs.declared.names.Step.{Step as VisitStep}
 use Rattle.lock_row.specs.declared.names.Step.TheVariants as step
 use Rattle.lock_row.specs.declared.names.Trip.{Trip}
 use Rattle.slot_entry.specs.declared.kept.Kept.{Kept}
@@ -230,7 +230,7 @@ landed_late None x e todo whole = by (is_mark_of x.block e.under) where
   by false = tt
 landed_late (Some end) x e todo whole = whole
 
-visit_late : (s : Step) (x : Trip) (op : Op) (e : EntryState) (f : Option PartEnd) (todo : List Part)
+visit_late : (s : VisitStep) (x : Trip) (op : Op) (e : EntryState) (f : Option PartEnd) (todo : List Part)
     → IsWholeEnd f → IsLate (visited_at s x op e f) todo f
 visit_late step.Arriving x op e f todo whole =
     arrived_late (is_eligible (mode_of op) e) x todo f whole

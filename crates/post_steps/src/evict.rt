@@ -17,7 +17,9 @@ use block_map::Blocks;
 use class_pool::ClassPool;
 use lock_row::{Hand, Held, LockNo, Trip};
 use mem_account::{Account, Delta, Weight};
-use page_steps::{DiskHeld, Progress, Scratch, Takes, account_of, blocks_of, give_by, pool_of, weight_in};
+use page_steps::{
+    DiskHeld, Progress, Scratch, Takes, account_of, blocks_of, give_by, pool_of, weight_in,
+};
 use slot_entry::{Entry, Kept, Stored};
 use std::marker::Brand;
 use zr_base::PageIx;
@@ -38,10 +40,7 @@ pub(crate) fn win<D: Backing, H: Hand<Value = DiskHeld<D>>>(
 {
     let lock = LockNo::Class(object.class);
     match hand.try_take::<Takes>(lock) {
-        None => (
-            WritebackStage::Won(x, entry, object),
-            Progress::Waits(lock),
-        ),
+        None => (WritebackStage::Won(x, entry, object), Progress::Waits(lock)),
         Some(value) => (
             WritebackStage::Freeing(x, entry, object, pool_of(value)),
             Progress::Moved,

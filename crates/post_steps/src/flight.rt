@@ -14,7 +14,9 @@ use crate::writeback::{WritebackHead, WritebackStage};
 use backing_dev::{Backing, Dev};
 use block_map::Blocks;
 use lock_row::{Hand, Held, LockNo, Trip};
-use page_steps::{DiskHeld, PieceEnd, Progress, Scratch, Takes, blocks_of, device_of, entry_of, give_by};
+use page_steps::{
+    DiskHeld, PieceEnd, Progress, Scratch, Takes, blocks_of, device_of, entry_of, give_by,
+};
 use slot_entry::{Entry, Kept};
 use std::marker::Brand;
 use zr_base::PageIx;

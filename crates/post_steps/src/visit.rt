@@ -17,7 +17,9 @@ use crate::writeback::{WritebackHead, WritebackStage};
 use backing_dev::Backing;
 use block_map::{Blocks, Reserve};
 use lock_row::{Hand, Held, LockNo, Trip};
-use page_steps::{DiskHeld, PieceEnd, Progress, Scratch, Takes, blocks_of, entry_of, give_by, take_by};
+use page_steps::{
+    DiskHeld, PieceEnd, Progress, Scratch, Takes, blocks_of, entry_of, give_by, take_by,
+};
 use slot_entry::{Entry, Kept, Stored};
 use std::marker::Brand;
 use zr_base::{Mode, PageIx};
