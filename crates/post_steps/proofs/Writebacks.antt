@@ -227,16 +227,16 @@ module _ (c : WritebackHead) (r : Scratch) where
 pub freed_here : (x : Frame) (r : Scratch) (y : Trip) (e : EntryState) (o : Stored) (q : PoolState)
     (frames : ℕ) (f : EntryState) (was : Weight) (v : DiskHeld)
     → f ≡ emptied e → was ≡ weight_of e.kept
-    → evicting frames e (here x r (stage.Freeing {D = AnyDevice} y e o q)) v
-    ≡ here x r (stage.Backing {D = AnyDevice} y f frames was)
+    → evicting frames e (here {D = AnyDevice} x r (stage.Freeing y e o q)) v
+    ≡ here {D = AnyDevice} x r (stage.Backing y f frames was)
 freed_here x r y e o q frames f was v is weighs =
-    λ i. here x r (stage.Backing {D = AnyDevice} y (sym is i) frames (sym weighs i))
+    λ i. here {D = AnyDevice} x r (stage.Backing y (sym is i) frames (sym weighs i))
 
 pub paid_here : (x : Frame) (r : Scratch) (y : Trip) (e : EntryState) (frames : ℕ) (was : Weight)
     (a : Counters) (v : DiskHeld) → e.kept ≡ kept.Empty
-    → paying e (here x r (stage.Paying {D = AnyDevice} y e frames was a)) v
-    ≡ here x r (stage.Putting {D = AnyDevice} y e)
+    → paying e (here {D = AnyDevice} x r (stage.Paying y e frames was a)) v
+    ≡ here {D = AnyDevice} x r (stage.Putting y e)
 paid_here x r y e frames was a v is =
-    ap (λ (k : Kept). record (here x r (stage.Putting {D = AnyDevice} y e)) {
+    ap (λ (k : Kept). record (here {D = AnyDevice} x r (stage.Putting y e)) {
       behind = Some (weight_of k);
     }) is

@@ -26,5 +26,5 @@ returns g c =
     c.pin_object-cell.result c.requires.fit.1 c.pin_object-cell.ensures.lends)
     c.give_by.ensures (c.requires.fit.0, c.requires.fit.1) tt refl (λ x. tt)
     (λ x w. ap (λ page. record (copying a.object c.pin_object-cell.result
-    (here x a.scratch.now (stage.Pinning {D = AnyDevice} a.x a.entry a.object a.pool))
+    (here {D = AnyDevice} x a.scratch.now (stage.Pinning a.x a.entry a.object a.pool))
     (holds.Class c.pin_object-cell.new.pool)) { page = Some page }) (sym c.read_cell.ensures))

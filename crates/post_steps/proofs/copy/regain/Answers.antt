@@ -27,6 +27,6 @@ returns-in-Some g c =
       c.requires.fit.1,
       subst (AsPool (λ q. IsLent q a.lent.object.handle.0 a.lent.cell)) c.pool_of.ensures fits,
     ) tt
-    (λ x w. took_class (here x a.scratch.now (stage.Pinned {D = AnyDevice} a.x a.entry a.lent))
+    (λ x w. took_class (here {D = AnyDevice} x a.scratch.now (stage.Pinned a.x a.entry a.lent))
     (at.Visiting step.Unpinning a.x) a.entry.kept a.lent.object c.in-Some.value c.pool_of.result
     c.requires.fit.1 c.pool_of.ensures)

@@ -25,6 +25,6 @@ returns-in-Some g c =
     (c.requires.allows.fits _ _ _ _ refl (λ x v w. refl) c.in-Some.ensures.outcome) in
     takes_it c.requires tt refl (λ x v w. refl) c.in-Some.ensures.outcome
     (c.requires.fit.0, c.requires.fit.1, subst (AsPool (CanPin a.object)) c.pool_of.ensures fits) tt
-    (λ x w. took_class (here x a.scratch.now (stage.Seen {D = AnyDevice} a.x a.entry a.object))
+    (λ x w. took_class (here {D = AnyDevice} x a.scratch.now (stage.Seen a.x a.entry a.object))
     (at.Visiting step.Pinning a.x) a.entry.kept a.object c.in-Some.value c.pool_of.result
     c.requires.fit.1 c.pool_of.ensures)

@@ -25,5 +25,5 @@ returns-in-Some g c =
     takes_it c.requires tt refl (λ x v w. refl) c.in-Some.ensures.outcome
     (c.requires.fit.0, c.requires.fit.1, subst (HeldFits a.x.block) c.blocks_of.ensures fits) tt
     (λ x w. ap (with_lock
-    (here x a.scratch.now (stage.Backing {D = AnyDevice} a.x a.entry a.frames a.was))
+    (here {D = AnyDevice} x a.scratch.now (stage.Backing a.x a.entry a.frames a.was))
     (at.Visiting step.Committing a.x) lock.Blocks) (sym c.blocks_of.ensures))

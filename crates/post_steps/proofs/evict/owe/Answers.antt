@@ -29,5 +29,5 @@ returns-in-Some g c =
       subst (AsAccount (CanPay a.frames a.was Back)) c.account_of.ensures fits,
     ) tt
     (λ x w. ap (with_lock
-    (here x a.scratch.now (stage.Owing {D = AnyDevice} a.x a.entry a.frames a.was))
+    (here {D = AnyDevice} x a.scratch.now (stage.Owing a.x a.entry a.frames a.was))
     (at.Visiting step.Paying a.x) lock.Account) (sym c.account_of.ensures))

@@ -32,6 +32,6 @@ returns g c =
     (omega (arith, ap (λ n. n.page) is, room.page))
     (omega (arith, ap (λ n. n.page) is, ap (λ n. n.wrote) is, ap (λ n. n.lost) is, room.few))
     (λ x. ap (λ n. onward a.head.pages n
-    (here x a.scratch.now (stage.Putting {D = AnyDevice} a.x a.entry)) (holds.Slot c.kept_back.result))
+    (here {D = AnyDevice} x a.scratch.now (stage.Putting a.x a.entry)) (holds.Slot c.kept_back.result))
     (sym is))
     c.onward.ensures.over c.onward.ensures.next

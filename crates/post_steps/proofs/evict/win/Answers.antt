@@ -29,6 +29,6 @@ returns-in-Some g c =
       c.requires.fit.1,
       subst (AsPool (λ q. IsAtHome q a.object.handle.0)) c.pool_of.ensures fits,
     ) tt
-    (λ x w. took_class (here x a.scratch.now (stage.Won {D = AnyDevice} a.x a.entry a.object))
+    (λ x w. took_class (here {D = AnyDevice} x a.scratch.now (stage.Won a.x a.entry a.object))
     (at.Visiting step.Freeing a.x) a.entry.kept a.object c.in-Some.value c.pool_of.result
     c.requires.fit.1 c.pool_of.ensures)

@@ -24,5 +24,5 @@ returns-in-Some g c =
     let fits = (c.requires.allows.fits _ _ _ _ refl (λ x v w. refl) c.in-Some.ensures.outcome).2 in
     takes_it c.requires tt refl (λ x v w. refl) c.in-Some.ensures.outcome
     (c.requires.fit, subst (WriteFits a.x.block) c.device_of.ensures fits) tt
-    (λ x w. ap (with_lock (here x a.scratch.now (stage.Flying {D = AnyDevice} a.x))
+    (λ x w. ap (with_lock (here {D = AnyDevice} x a.scratch.now (stage.Flying a.x))
     (at.Visiting step.Storing a.x) lock.Device) (sym c.device_of.ensures))

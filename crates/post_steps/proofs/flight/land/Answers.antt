@@ -3,7 +3,7 @@ use Rattle.slot_entry.specs.Entries.{is_obj}
 use Rattle.page_steps.specs.Steps.{is_mark_of}
 use Rattle.page_steps.specs.Fits.{LandFits}
 use Rattle.post_steps.proofs.VisitTurns.{waits, takes_it, told_so}
-use Rattle.post_steps.proofs.Writebacks.{AnyDevice, slot_in}
+use Rattle.post_steps.proofs.Writebacks.{slot_in}
 use Rattle.post_steps.proofs.Onward.{landed_here, landed_fit, landed_going, took_again}
 use Rattle.post_steps.proofs.flight.land.Goals as goal
 
@@ -26,8 +26,8 @@ returns-in-Some g c =
     (c.requires.allows.fits _ _ _ _ refl (λ x v w. refl) c.in-Some.ensures.outcome).2 in
     told_so c.landed.ensures.is refl
     (takes_it c.requires tt refl (λ x v w. refl) c.in-Some.ensures.outcome
-    (landed_fit a.head a.x e a.end mark e.kept refl c.requires.fit.0 c.requires.fit.1)
-    (landed_going a.x e a.end mark e.kept)
+    (landed_fit _ a.head a.x e a.end mark e.kept refl c.requires.fit.0 c.requires.fit.1)
+    (landed_going _ a.x e a.end mark e.kept)
     (λ x w.
-    landed_here x r a.x e a.end mark e.kept refl fits
-    ∙ took_again {D = AnyDevice} x r a.x e a.end c.in-Some.value c.entry_of.ensures))
+    landed_here _ x r a.x e a.end mark e.kept refl fits
+    ∙ took_again x r a.x e a.end c.in-Some.value c.entry_of.ensures))

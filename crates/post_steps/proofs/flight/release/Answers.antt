@@ -39,10 +39,10 @@ returns-in-None g c =
     (omega (arith, ap (λ n. n.page) is, ap (λ n. n.wrote) is, ap (λ n. n.lost) is, room.few))
     (λ x.
     ap (λ end. undoing_by a.head.pages (ends_of end)
-    (here x a.scratch.now (stage.Releasing {D = AnyDevice} a.x a.end a.blocks))
+    (here {D = AnyDevice} x a.scratch.now (stage.Releasing a.x a.end a.blocks))
     (holds.Blocks c.release.new.self)) c.in-None.is
     ∙ ap (λ n. onward a.head.pages n
-    (here x a.scratch.now (stage.Releasing {D = AnyDevice} a.x a.end a.blocks))
+    (here {D = AnyDevice} x a.scratch.now (stage.Releasing a.x a.end a.blocks))
     (holds.Blocks c.release.new.self)) (sym is))
     c.onward.ensures.over c.onward.ensures.next
 
@@ -55,5 +55,5 @@ returns-in-Some g c =
     (λ x. stop_placed c.in-Some.end _ (subst AreStops c.in-Some.is c.requires.fit.1))
     (λ x w.
     ap (λ end. undoing_by a.head.pages (ends_of end)
-    (here x a.scratch.now (stage.Releasing {D = AnyDevice} a.x a.end a.blocks))
+    (here {D = AnyDevice} x a.scratch.now (stage.Releasing a.x a.end a.blocks))
     (holds.Blocks c.release.new.self)) c.in-Some.is)

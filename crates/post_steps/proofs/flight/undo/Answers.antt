@@ -24,5 +24,5 @@ returns-in-Some g c =
     let fits = (c.requires.allows.fits _ _ _ _ refl (λ x v w. refl) c.in-Some.ensures.outcome).2 in
     takes_it c.requires tt refl (λ x v w. refl) c.in-Some.ensures.outcome
     (c.requires.fit.0, c.requires.fit.1, subst (HeldFits a.x.block) c.blocks_of.ensures fits) tt
-    (λ x w. ap (with_lock (here x a.scratch.now (stage.Undoing {D = AnyDevice} a.x a.end))
+    (λ x w. ap (with_lock (here {D = AnyDevice} x a.scratch.now (stage.Undoing a.x a.end))
     (at.Visiting step.Releasing a.x) lock.Blocks) (sym c.blocks_of.ensures))

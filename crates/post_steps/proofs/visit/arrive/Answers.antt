@@ -1,7 +1,7 @@
 use Rattle.std.proofs.Common.{refl, ◌∙◌}
 use Rattle.slot_entry.specs.Entries.{is_eligible}
 use Rattle.post_steps.proofs.VisitTurns.{waits, takes_it, told_so}
-use Rattle.post_steps.proofs.Writebacks.{AnyDevice, slot_in}
+use Rattle.post_steps.proofs.Writebacks.{slot_in}
 use Rattle.post_steps.proofs.Onward.{arrived_here, arrived_fit, arrived_going, meant_obj, took_page}
 use Rattle.post_steps.proofs.visit.arrive.Goals as goal
 
@@ -22,8 +22,8 @@ returns-in-Some g c =
     let meant = is_eligible head.mode e in
     told_so c.arrived.ensures.is refl
     (takes_it c.requires tt refl (λ x v w. refl) c.in-Some.ensures.outcome
-    (arrived_fit head y e meant e.kept refl c.requires.fit)
-    (arrived_going y e meant e.kept)
+    (arrived_fit _ head y e meant e.kept refl c.requires.fit)
+    (arrived_going _ y e meant e.kept)
     (λ x w.
-    arrived_here x r y e meant e.kept (meant_obj head.mode e)
-    ∙ took_page {D = AnyDevice} x r y e c.in-Some.value head.mode w.op c.entry_of.ensures))
+    arrived_here _ x r y e meant e.kept (meant_obj head.mode e)
+    ∙ took_page x r y e c.in-Some.value head.mode w.op c.entry_of.ensures))

@@ -21,5 +21,5 @@ pub returns-in-Some : goal.returns-in-Some
 returns-in-Some g c =
     let a = c.args in
     takes_it c.requires tt refl (λ x v w. refl) c.in-Some.ensures.outcome c.requires.fit tt
-    (λ x w. ap (with_lock (here x a.scratch.now (stage.Asking {D = AnyDevice} a.x a.entry a.object))
+    (λ x w. ap (with_lock (here {D = AnyDevice} x a.scratch.now (stage.Asking a.x a.entry a.object))
     (at.Visiting step.Reserving a.x) lock.Blocks) (sym c.blocks_of.ensures))

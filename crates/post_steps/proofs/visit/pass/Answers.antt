@@ -25,5 +25,5 @@ returns g c =
     (omega (arith, ap (λ n. n.page) is, c.requires.fit.page))
     (omega (arith, ap (λ n. n.page) is, ap (λ n. n.wrote) is, ap (λ n. n.lost) is, c.requires.fit.few))
     (λ x. ap (λ n. onward a.head.pages n
-    (here x a.scratch.now (stage.Passing {D = AnyDevice} a.x a.entry)) (holds.Slot a.entry)) (sym is))
+    (here {D = AnyDevice} x a.scratch.now (stage.Passing a.x a.entry)) (holds.Slot a.entry)) (sym is))
     c.onward.ensures.over c.onward.ensures.next

@@ -20,6 +20,6 @@ returns g c =
     (can_refrain a.head a.scratch.now a.x a.entry a.object a.map a.answer c.requires.answer
     c.requires.none)
     c.give_by.ensures (c.requires.ready.fit.0, c.refused.ensures.stop) tt
-    (λ x w. ap (λ f. record (here x a.scratch.now (stage.Quitting {D = AnyDevice} a.x a.entry c.refused.result)) {
+    (λ x w. ap (λ f. record (here {D = AnyDevice} x a.scratch.now (stage.Quitting a.x a.entry c.refused.result)) {
       fail = Some f;
     }) (sym c.refused.ensures.end))

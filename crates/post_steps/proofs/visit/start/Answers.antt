@@ -1,4 +1,4 @@
-use Rattle.std.proofs.Common.{refl, sym, ap, ◌∙◌, arith}
+use Rattle.std.proofs.Common.{[], refl, sym, ap, ◌∙◌, arith}
 use Rattle.lock_row.specs.declared.names.Held.TheVariants as holds
 use Rattle.slot_entry.specs.Entries.{is_eligible}
 use Rattle.page_steps.specs.Steps.{slot, with_lock, first_trip, arrived_at, entry_or, entry_in}
@@ -31,12 +31,12 @@ returns-in-Some g c =
     let meant = is_eligible head.mode e in
     told_so c.arrived.ensures.is refl
     (takes_it c.requires tt refl (starts head r) c.in-Some.ensures
-    (arrived_fit head first_trip e meant e.kept refl
+    (arrived_fit _ head first_trip e meant e.kept refl
     (record { page = c.requires.fit; few = omega arith }))
-    (arrived_going first_trip e meant e.kept)
+    (arrived_going _ first_trip e meant e.kept)
     (λ x w.
-    arrived_here x r first_trip e meant e.kept (meant_obj head.mode e)
-    ∙ ap (λ u. with_lock (here x r (stage.Start {D = AnyDevice}))
+    arrived_here _ x r first_trip e meant e.kept (meant_obj head.mode e)
+    ∙ ap (λ u. with_lock (here {D = AnyDevice} x r stage.Start)
     (arrived_at (is_eligible head.mode (entry_or u (entry_in []))) first_trip) (slot 0) u)
     (sym c.entry_of.ensures)
     ∙ starts head r x c.in-Some.value w))
