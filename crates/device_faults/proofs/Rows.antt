@@ -158,6 +158,18 @@ disk_after {h = h} row took lost given is (took_it k f v what take tells same mo
 disk_after {h = h} row took lost given is (gave_it k f v what give same works moved) =
     subst IsDisk (sym (given k f v give).home) (disk_with (row h) k (Some v) is)
 
+-- what each event of a hand leaves as it was, a turn does
+pub same_after : {X A : Type 0} {takes : X → LockNo → Next → DiskHeld → X → Type 0}
+    {misses : X → LockNo → X → Type 0} {gives : X → LockNo → Next → DiskHeld → X → Type 0}
+    {t : Terms} {l m : Here} {h g : X} {p : Progress} (of : X → A)
+    → ((k : LockNo) (f : Next) (v : DiskHeld) → takes h k f v g → of g ≡ of h)
+    → ((k : LockNo) → misses h k g → of g ≡ of h)
+    → ((k : LockNo) (f : Next) (v : DiskHeld) → gives h k f v g → of g ≡ of h)
+    → Turned takes misses gives t l h m g p → of g ≡ of h
+same_after of took lost given (waited k what miss same w) = lost k miss
+same_after of took lost given (took_it k f v what take tells same moved) = took k f v take
+same_after of took lost given (gave_it k f v what give same works moved) = given k f v give
+
 -- ---- what a hand leaves at the slot
 
 set_here : {A : Type 0} (xs : List A) (i : ℕ) (x y : A) → slice_get xs i ≡ Some y
