@@ -32,16 +32,14 @@ macro_rules! split {
             let large = |v: $value| v.wrapping_add(bound) >= 2 * bound;
             let base = values.iter().copied().find(|v| large(*v)).unwrap_or(0);
             let mut mask = 0u64;
-            let mut far = false;
             for (j, value) in values.iter_mut().enumerate() {
                 if large(*value) {
                     mask |= 1 << j;
                     *value = value.wrapping_sub(base);
                 }
-                far |= large(*value);
-            }
-            if far {
-                return false;
+                if large(*value) {
+                    return false;
+                }
             }
             out.put(&mask.to_le_bytes()[..$lanes / 8]);
             out.put(&base.to_le_bytes());

@@ -1,6 +1,6 @@
 #!/usr/bin/env bash
 # Times zramsim beside bench/plain.rs, a plain Rust program of the same steps, which rustc compiles with optimisations for
-# processors with AVX2, as zramsim is compiled. It is skipped where there is no rustc. It reports, and judges nothing.
+# x86-64-v2, as zramsim is compiled. It is skipped where there is no rustc. It reports, and judges nothing.
 #
 #   bench/plain.sh [PROGRAM]
 #
@@ -15,7 +15,7 @@ if ! command -v rustc >/dev/null 2>&1; then
   exit 0
 fi
 plain=$folder/plain
-rustc --edition 2021 -O -C target-cpu=x86-64-v3 -o "$plain" "$top/bench/plain.rs" || exit 1
+rustc --edition 2021 -O -C target-cpu=x86-64-v2 -o "$plain" "$top/bench/plain.rs" || exit 1
 
 awk 'BEGIN {
   n = 16384
