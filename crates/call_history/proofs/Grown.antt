@@ -1,19 +1,18 @@
 -- One more piece: what pages show, on the piece's page and elsewhere.
-use Rattle.std.proofs.Common.{◌≡◌, ℕ, ◌+◌, ◌-◌, ◌*◌, true, false, cond, eqb, List, [], ◌∷◌, ◌++◌, length, Option, Some, slice_get, refl, sym, ap, ◌∙◌, subst, arith, ◌⊎◌, inl, inr, ⊎_elim}
+use Rattle.std.proofs.Common.{◌≡◌, ℕ, ◌+◌, ◌*◌, true, false, cond, eqb, List, [], ◌∷◌, ◌++◌, length, Option, Some, slice_get, refl, sym, ap, ◌∙◌, subst, ◌⊎◌, inl, inr, ⊎_elim}
 use mathlib.Core.Logic.{dite}
 use native.Mathlib.Decide.{ℕ_discrete}
 use Rattle.std.proofs.lemmas.Bool.{ne_eqb, and_from, eq-eqb}
 use Rattle.std.proofs.lemmas.List.{append-nil}
 use Rattle.zr_base.specs.declared.op.Tag.{Tag}
 use Rattle.zr_base.specs.declared.op.Op.{Op}
-use Rattle.zr_base.specs.Sectors.{page_sector}
-use Rattle.zr_base.specs.Plain.{sector_after, sector_after_named, named}
-use Rattle.plain_disk.specs.Phases.{Given, held_after}
+use Rattle.zr_base.specs.Plain.{start_from, sector_after, sector_after_named, named}
+use Rattle.plain_disk.specs.Phases.{Given, calls_on, held_after, found_in}
 use Rattle.call_history.specs.declared.part.Part.{Part}
 use Rattle.call_history.specs.declared.part.Done.{Done}
 use Rattle.call_history.specs.Parts.{is_on, is_carried, stands_so, noted_on, ops_of, got_by}
-use Rattle.call_history.specs.Shows.{tag_by, IsTold, ShowsPage, Carries, got_from, Grown}
-use Rattle.call_history.proofs.Told.{content-append, ops_of_push, noted_push, get_push, get_old, get_last, take_old, take_front, same_got}
+use Rattle.call_history.specs.Shows.{tag_by, IsTold, ShowsPage, Carries, SeesSo, got_from, Grown}
+use Rattle.call_history.proofs.Told.{content-append, ops_of_push, noted_push, get_push, get_old, get_last, take_old, take_front, seen_got}
 
 module _ (g : Given) (D D' : ℕ → List Done) (a : ℕ) (d : Done) (grown : Grown D D' a d) where
   -- the tags of a page on which the piece doesn't stand
@@ -55,36 +54,37 @@ module _ (g : Given) (D D' : ℕ → List Done) (a : ℕ) (d : Done) (grown : Gr
     at,
     get_old order more at (tag_by b x.part) here,
     got ∙ ap (λ (ts : List Tag). cond (is_carried x.end)
-        (got_by x.part.op x.part.page (held_after g ts)) [])
+        (got_by x.part.op x.part.page (found_in g x.part.page (tag_by b x.part) ts)) [])
         (sym (take_old order more at (tag_by b x.part) here)),
   )
 
-  module _ (p : Part) (page : List ℕ) (order : List Tag) (page' : List ℕ) (order' : List Tag)
+  module _ (p : Part) (page seen : List ℕ) (order : List Tag) (page' : List ℕ) (order' : List Tag)
       (is : d.part ≡ p) (stands : stands_so p.op d.end ≡ true)
-      (work : Carries a p page order page' order')
+      (work : Carries a p (g.finds p.page (tag_by a p)) page order page' order')
       (named_p : named g.actors (tag_by a p) ≡ Some p.op)
-      (got : d.got ≡ cond (is_carried d.end) (got_from page p) [])
+      (sees : SeesSo p.op (g.finds p.page (tag_by a p)) p.page page seen)
+      (got : d.got ≡ cond (is_carried d.end) (got_from seen p) [])
       (sh : ShowsPage g D p.page page order) where
     on_here : is_on p.page d ≡ true
     on_here = and_from (eqb d.part.page p.page) (stands_so d.part.op d.end)
         (eq-eqb d.part.page p.page (ap (λ (q : Part). q.page) is))
         (ap (λ (q : Part). stands_so q.op d.end) is ∙ stands)
 
-    -- what the order before the tag makes of the page is the page
-    got_is : d.got ≡ cond (is_carried d.end) (got_by d.part.op d.part.page (held_after g order)) []
+    -- what the piece reads is what it finds after the order before its tag
+    got_is : d.got ≡ cond (is_carried d.end) (got_by d.part.op d.part.page
+        (found_in g d.part.page (tag_by a d.part) order)) []
     got_is = got
         ∙ ap (λ (xs : List (List ℕ)). cond (is_carried d.end) xs [])
-        (same_got p.op p.page (λ s. page_sector page (s - 8 * p.page)) (held_after g order)
-        (λ k lt. ap (page_sector page) (let q : 8 * p.page + k - 8 * p.page ≡ k = omega arith in q)
-        ∙ sh.holds k lt)
-        ∙ ap (λ (q : Part). got_by q.op q.page (held_after g order)) (sym is))
+        (seen_got p.op (g.finds p.page (tag_by a p)) p.page page seen (held_after g p.page order)
+        sees sh.holds
+        ∙ ap (λ (q : Part). got_by q.op q.page (found_in g q.page (tag_by a q) order)) (sym is))
 
     new_told : IsTold g a d (order ++ tag_by a p ∷ [])
     new_told = (
       length order,
       get_last order (tag_by a p) ∙ ap (λ (q : Part). Some (tag_by a q)) (sym is),
       got_is ∙ ap (λ (ts : List Tag). cond (is_carried d.end)
-          (got_by d.part.op d.part.page (held_after g ts)) [])
+          (got_by d.part.op d.part.page (found_in g d.part.page (tag_by a d.part) ts)) [])
           (sym (take_front order (tag_by a p ∷ []))),
     )
 
@@ -101,12 +101,14 @@ module _ (g : Given) (D D' : ℕ → List Done) (a : ℕ) (d : Done) (grown : Gr
     pub page_here : ShowsPage g D' p.page page' order'
     page_here = record {
       holds = λ k lt.
-          work.holds k lt ∙ ap (sector_after p.op (8 * p.page + k)) (sh.holds k lt)
-          ∙ sym (ap (λ (ts : List Tag). held_after g ts (8 * p.page + k)) work.notes
-          ∙ content-append g.actors (8 * p.page + k) (g.before (8 * p.page + k)) order
-          (tag_by a p ∷ [])
-          ∙ ap (λ (o : Option Op). sector_after_named o (8 * p.page + k)
-          (held_after g order (8 * p.page + k))) named_p);
+          let s = 8 * p.page + k in
+          let look = g.finds p.page (tag_by a p) in
+          work.holds k lt
+          ∙ ap (λ (old : List ℕ). sector_after p.op s (start_from p.op look s old)) (sh.holds k lt)
+          ∙ sym (ap (λ (ts : List Tag). held_after g p.page ts s) work.notes
+          ∙ content-append (calls_on g p.page) s (g.before s) order (tag_by a p ∷ [])
+          ∙ ap (λ (o : Option Op). sector_after_named o look s (held_after g p.page order s))
+          named_p);
       turns = λ b. ap (ops_of b) work.notes ∙ turns_here b;
       reads = λ b i x at on. subst (IsTold g b x) (sym work.notes) (⊎_elim
           (λ old. told_still b x order (tag_by a p ∷ []) (sh.reads b i x old on))

@@ -8,7 +8,7 @@ use Rattle.std.proofs.lemmas.Option.{get_or_from_slice_get}
 use Rattle.zr_base.specs.declared.op.Tag.{Tag}
 use Rattle.zr_base.specs.declared.op.Op.{Op}
 use Rattle.zr_base.specs.declared.op.OpEnd.{OpEnd}
-use Rattle.zr_base.specs.Plain.{count_of, start_of, is_beyond, is_maintenance, has_event, stands_named, is_noted, same_tag, Rises, IsOrder, order_before}
+use Rattle.zr_base.specs.Plain.{Finds, count_of, start_of, is_beyond, is_maintenance, has_event, stands_named, is_noted, same_tag, Rises, IsOrder, order_before}
 use Rattle.zr_base.specs.Pieces.{first_page, pages_of}
 use Rattle.mem_account.specs.declared.weight.Weight.{Weight}
 use Rattle.mem_account.specs.Counters.{Counters, at_most_end}
@@ -16,7 +16,7 @@ use Rattle.plain_disk.specs.Ends.{Ground, Bounds, is_single, MayEndAll, MayEndEa
 use Rattle.plain_disk.specs.Output.{phase_lines}
 use Rattle.plain_disk.specs.Calls.{calls_sum, may_fetch}
 use Rattle.plain_disk.specs.Rests.{SoFar, Rest, stats}
-use Rattle.plain_disk.specs.Phases.{Given, held_after, nth_order, sector_read, due, begun, phase_sum, phase_ground, bounds, LeavesDevice, Leaves, IsPhase}
+use Rattle.plain_disk.specs.Phases.{Given, FindsHeld, calls_on, found_in, nth_order, sector_read, due, begun, phase_sum, phase_ground, bounds, LeavesDevice, Leaves, IsPhase}
 use Rattle.call_history.specs.declared.part.Part.{Part}
 use Rattle.call_history.specs.declared.part.PartEnd.{PartEnd}
 use Rattle.call_history.specs.declared.part.Done.{Done}
@@ -126,10 +126,10 @@ follows_with So K (p ∷ ps) (d ∷ ds) todo f all =
 -- ---- the account
 
 -- what the account has counted are the statistics of the rest
-pub stats_are : (form : List ℕ → Weight) (r : Rest) (actors : List (List Op))
+pub stats_are : (form : List ℕ → Weight) (r : Rest) (g : Given)
     (dones : List (List Done)) (orders : List (List Tag)) (c : Counters) (m : Rest)
-    → Tallies form r actors dones orders c m → c ≡ stats form m
-stats_are form r actors dones orders c m told = λ i. record {
+    → Tallies form r g dones orders c m → c ≡ stats form m
+stats_are form r g dones orders c m told = λ i. record {
   pages = told.frames i;
   limit = told.limit i;
   most = told.most i;
@@ -148,18 +148,20 @@ stats_are form r actors dones orders c m told = λ i. record {
 
 -- ---- the phase
 
-module _ (form : List ℕ → Weight) (r : Rest) (actors : List (List Op)) (dones : List (List Done))
-    (orders : List (List Tag)) (m : Rest) (some : HasSomeEach actors)
-    (agree : Agree (phase_ground form r) (bounds form r actors orders m.device.faults)
-    (begun r actors) dones orders) where
+module _ (form : List ℕ → Weight) (r : Rest) (actors : List (List Op)) (finds : ℕ → Finds)
+    (dones : List (List Done)) (orders : List (List Tag)) (m : Rest) (some : HasSomeEach actors)
+    (held : FindsHeld r actors orders finds)
+    (agree : Agree (phase_ground form r)
+    (bounds form r (begun r actors finds) orders m.device.faults) (begun r actors finds) dones
+    orders) where
   abbrev g : Given
-  g = begun r actors
+  g = begun r actors finds
 
   abbrev t : Ground
   t = phase_ground form r
 
   abbrev b : ℕ → Bounds
-  b = bounds form r actors orders m.device.faults
+  b = bounds form r g orders m.device.faults
 
   record Actor (a : ℕ) : Type 0 where
     ops : List Op
@@ -258,13 +260,16 @@ module _ (form : List ℕ → Weight) (r : Rest) (actors : List (List Op)) (done
       (ap (λ (ds : List Done). slice_get ds i) (history_is a x.done x.there)
       ∙ at) below on in
       let order = nth_order orders d.part.page in
-      let before : order_before (tag_by a d.part) order ≡ take told.0 order =
-      before_is order (tag_by a d.part) told.0 (rises d.part.page below) told.1 in
+      let tag = tag_by a d.part in
+      let before : order_before tag order ≡ take told.0 order =
+      before_is order tag told.0 (rises d.part.page below) told.1 in
       told.2 ∙ ap (λ (xs : List (List ℕ)). cond (is_carried d.end) xs [])
-      (same_got d.part.op d.part.page (held_after g (take told.0 order)) (R a d.part.nr)
-      (λ k lt. ap (λ (ts : List Tag). held_after g ts (8 * d.part.page + k)) (sym before
-      ∙ ap (λ (p : ℕ). order_before (tag_by a d.part) (nth_order orders p))
-      (let q : d.part.page ≡ (8 * d.part.page + k) / 8 = omega arith in q))))
+      (same_got d.part.op d.part.page (found_in g d.part.page tag (take told.0 order))
+      (R a d.part.nr)
+      (λ k lt. let s = 8 * d.part.page + k in
+      ap (λ (ts : List Tag). found_in g d.part.page tag ts s) (sym before)
+      ∙ ap (λ (p : ℕ). found_in g p tag (order_before tag (nth_order orders p)) s)
+      (let q : d.part.page ≡ (8 * d.part.page + k) / 8 = omega arith in q)))
 
   actor_told : (a : ℕ) (x : Actor a)
       → told_from 0 x.ops x.done ≡ due_from 0 x.ops (ends_from 0 x.ops x.done) (R a)
@@ -332,8 +337,8 @@ module _ (form : List ℕ → Weight) (r : Rest) (actors : List (List Op)) (done
       → now ≡ at_most_end (old + ends_sum w actors ends_now)
   counted w is old now e = e ∙ ap (λ (n : ℕ). at_most_end (old + n)) (ends_are w is)
 
-  module _ (c : Counters) (told : Tallies form r actors dones orders c m) where
-    leaves : Leaves form r actors ends_now orders m
+  module _ (c : Counters) (told : Tallies form r g dones orders c m) where
+    leaves : Leaves form r g ends_now orders m
     leaves = record {
       pages = told.pages;
       so_far = told.so_far ∙ (λ i. record {
@@ -348,15 +353,15 @@ module _ (form : List ℕ → Weight) (r : Rest) (actors : List (List Op)) (done
         freed = told.notify_free i;
       });
       device = subst (λ (n : ℕ). LeavesDevice r.device m.device
-          (phase_sum (λ p. calls_sum may_fetch actors) r orders + n))
+          (phase_sum (λ p. calls_sum may_fetch (calls_on g p)) r orders + n))
           (ends_are starved starved-is) told.device;
     }
 
     -- where there is one actor, its operations say what its pieces do
     alone : (ops : List Op) (es : List OpEnd) → actors ≡ ops ∷ [] → ends_now ≡ es ∷ []
-        → IsAlone form r ops es m
+        → IsAlone form r finds ops es m
     alone ops es one ends = by_histories dones refl where
-      by_histories : (ds : List (List Done)) → dones ≡ ds → IsAlone form r ops es m
+      by_histories : (ds : List (List Done)) → dones ≡ ds → IsAlone form r finds ops es m
       by_histories [] is = absurd (let n = agree.count in
           let q : 0 ≡ 1 = sym (ap length is) ∙ n ∙ ap length one in omega arith)
       by_histories (done ∷ d ∷ ds) is = absurd (let n = agree.count in
@@ -369,7 +374,7 @@ module _ (form : List ℕ → Weight) (r : Rest) (actors : List (List Op)) (done
           let tight = are_tight r.set.chain r.used in
           let x = tell t (b 0) 0 ops done tight 0 (some 0 ops named)
           (follows_by 0 ops done named there) in
-          let marks = tell_marks form r t (b 0) 0 ops done (pages_at r) (some 0 ops named)
+          let marks = tell_marks form r finds t (b 0) 0 ops done (pages_at r) (some 0 ops named)
           (follows_by 0 ops done named there) in
           let is_es : ends_from 0 ops done ≡ es =
           (let q : ends_from 0 ops done ∷ [] ≡ es ∷ [] =
@@ -378,10 +383,10 @@ module _ (form : List ℕ → Weight) (r : Rest) (actors : List (List Op)) (done
             least = λ e. over.least (x.least e);
             few = let le = x.few in let most = over.few in
                 let same = ap (moves_after 0 ops) is_es in omega arith;
-            marks = subst (AreMarked form r (pages_at r) ops) is_es (marks.marks over.marks);
+            marks = subst (AreMarked form r finds 0 (pages_at r) ops) is_es (marks.marks over.marks);
             idle = λ p lt. over.idle p lt ∙ ap (λ (s : Aged). s.idle)
                 (sym (marks.pages_are p) ∙ ap (λ (x : List OpEnd).
-                pages_after form r (pages_at r) ops x p) is_es);
+                pages_after form r finds 0 (pages_at r) ops x p) is_es);
           }
 
     pub is_phase : IsPhase form r actors
@@ -389,6 +394,8 @@ module _ (form : List ℕ → Weight) (r : Rest) (actors : List (List Op)) (done
     is_phase = record {
       ends = ends_now;
       orders = orders;
+      finds = finds;
+      held = held;
       may = all_may 0 actors dones agree.count (λ i ops done e e'.
           subst (λ (k : ℕ). MayEndAll t (b k) ops (ends_from 0 ops done)) (sym (zero-add i))
           (both i ops done e e').1);

@@ -8,16 +8,18 @@ use Rattle.zr_base.specs.declared.op.Op.TheVariants.{Read}
 use Rattle.call_history.specs.declared.part.Part.{Part}
 use Rattle.call_history.specs.declared.part.PartEnd.{PartEnd}
 use Rattle.call_history.specs.declared.part.Done.{Done}
-use Rattle.zr_base.specs.Plain.{named, sector_after_named, content, has_event}
+use Rattle.zr_base.specs.Sectors.{page_sector}
+use Rattle.zr_base.specs.Plain.{Look, PageCalls, named, sector_after_named, content, has_event}
 use Rattle.zr_base.specs.Pieces.{first_page, pages_of}
 use Rattle.plain_disk.specs.Ends.{is_single}
 use Rattle.call_history.specs.Parts.{parts_from, parts, program, without, left_by, is_carried, Follows, is_on, noted_on, ops_of, got_by}
+use Rattle.call_history.specs.Shows.{SeesSo}
 
-pub content-append : (actors : List (List Op)) (s : ℕ) (old : List ℕ) (xs ys : List Tag)
-    → content actors s old (xs ++ ys) ≡ content actors s (content actors s old xs) ys
-content-append actors s old [] ys = refl
-content-append actors s old (x ∷ xs) ys =
-    content-append actors s (sector_after_named (named actors x) s old) xs ys
+pub content-append : (c : PageCalls) (s : ℕ) (old : List ℕ) (xs ys : List Tag)
+    → content c s old (xs ++ ys) ≡ content c s (content c s old xs) ys
+content-append c s old [] ys = refl
+content-append c s old (x ∷ xs) ys =
+    content-append c s (sector_after_named (named c.actors x) (c.finds x) s old) xs ys
 
 pub ops_of_push : (a : ℕ) (xs : List Tag) (t : Tag)
     → ops_of a (xs ++ t ∷ []) ≡ ops_of a xs ++ cond (eqb t.actor a) (t.op ∷ []) []
@@ -168,3 +170,16 @@ same_got (Read start count) page f g same =
     (λ s low high. let e : 8 * page + (s - 8 * page) ≡ s = omega arith in
     subst (λ (x : ℕ). f x ≡ g x) e (same (s - 8 * page) (omega arith)))
 same_got _ page f g same = refl
+
+-- a piece that sees a page reads what it finds in the page's sectors
+pub seen_got : (op : Op) (look : Look) (page : ℕ) (bytes seen : List ℕ) (held : ℕ → List ℕ)
+    → SeesSo op look page bytes seen
+    → ((k : ℕ) → k < 8 → page_sector bytes k ≡ held (8 * page + k))
+    → got_by op page (λ s. page_sector seen (s - 8 * page))
+    ≡ got_by op page (λ s. look s (held s))
+seen_got (Read start count) look page bytes seen held sees holds =
+    same_got (Read start count) page (λ s. page_sector seen (s - 8 * page))
+    (λ s. look s (held s))
+    (λ k lt. ap (page_sector seen) (let q : 8 * page + k - 8 * page ≡ k = omega arith in q)
+    ∙ sees.each k lt ∙ ap (look (8 * page + k)) (holds k lt))
+seen_got _ look page bytes seen held sees holds = refl

@@ -1,9 +1,10 @@
 -- What the pieces of a phase's only actor say of its compactions and of its marks.
 use Rattle.std.specs.Prelude.{◌≡◌, ℕ, ◌<◌, ◌≤◌, Bool, true, List, [], ◌∷◌, if◌then◌else◌, ⊤}
+use Rattle.zr_base.specs.Plain.{Look, Finds}
 use Rattle.mem_account.specs.declared.weight.Weight.{Weight}
 use Rattle.size_class.specs.Classes.{per_of}
 use Rattle.plain_disk.specs.Compactions.{are_tight, IsLeast, tight_by, MovesNone, moves_by, pooled_pages}
-use Rattle.plain_disk.specs.Idles.{Aged, accessed, passed, IsMarked, pages_at}
+use Rattle.plain_disk.specs.Idles.{Aged, only_tag, accessed, passed, IsMarked, pages_at}
 use Rattle.plain_disk.specs.Rests.{Rest}
 use Rattle.call_history.specs.declared.part.Done.{Done}
 use Rattle.call_history.specs.Parts.{op_end, is_on}
@@ -24,31 +25,37 @@ abbrev pub moves_over : ℕ → List Done → ℕ
 moves_over n [] = n
 moves_over n (d ∷ ds) = moves_over (moves_by d.part.op (op_end d.end 0) n) ds
 
--- page p after a piece that is over
-abbrev pub aged_over : (List ℕ → Weight) → ℕ → Done → ℕ → Aged → Aged
-aged_over form clock d p s =
-    if is_on p d then accessed clock d.part.op s else passed form clock p d.part.op s
+-- page p after a piece that is over, which finds this
+abbrev pub aged_over : (List ℕ → Weight) → ℕ → Done → Look → ℕ → Aged → Aged
+aged_over form clock d look p s =
+    if is_on p d then accessed clock d.part.op look s else passed form clock p d.part.op s
+
+-- all pages after it
+abbrev pub each_over : (List ℕ → Weight) → ℕ → (ℕ → Finds) → Done → (ℕ → Aged) → ℕ → Aged
+each_over form clock finds d pages p =
+    aged_over form clock d (finds p (only_tag d.part.nr)) p (pages p)
 
 -- the pages after some pieces
-abbrev pub pages_over : (List ℕ → Weight) → ℕ → (ℕ → Aged) → List Done → ℕ → Aged
-pages_over form clock pages [] p = pages p
-pages_over form clock pages (d ∷ ds) p =
-    pages_over form clock (λ q. aged_over form clock d q (pages q)) ds p
+abbrev pub pages_over : (List ℕ → Weight) → ℕ → (ℕ → Finds) → (ℕ → Aged) → List Done → ℕ → Aged
+pages_over form clock finds pages [] p = pages p
+pages_over form clock finds pages (d ∷ ds) p =
+    pages_over form clock finds (each_over form clock finds d pages) ds p
 
 -- each piece that marks, on a disk of so many pages, has counted the marks that are new
-abbrev pub AreMarkedOver : (List ℕ → Weight) → ℕ → ℕ → (ℕ → Aged) → List Done → Type 0
-AreMarkedOver form clock size pages [] = ⊤
-AreMarkedOver form clock size pages (d ∷ ds) =
+abbrev pub AreMarkedOver : (List ℕ → Weight) → ℕ → (ℕ → Finds) → ℕ → (ℕ → Aged) → List Done
+    → Type 0
+AreMarkedOver form clock finds size pages [] = ⊤
+AreMarkedOver form clock finds size pages (d ∷ ds) =
     IsMarked form clock size pages d.part.op (op_end d.end 0)
-    × AreMarkedOver form clock size (λ q. aged_over form clock d q (pages q)) ds
+    × AreMarkedOver form clock finds size (each_over form clock finds d pages) ds
 
 -- What the pieces of the only actor that are over leave.
-pub record IsAloneOver (form : List ℕ → Weight) (r : Rest) (done : List Done) (m : Rest)
-    : Type 0 where
+pub record IsAloneOver (form : List ℕ → Weight) (r : Rest) (finds : ℕ → Finds)
+    (done : List Done) (m : Rest) : Type 0 where
   pub still : MoveNoneOver (are_tight r.set.chain r.used) done
   pub least : tight_over (are_tight r.set.chain r.used) done ≡ true
       → (k : ℕ) → k < 255 → IsLeast (per_of m.set.chain k) (m.used k)
   pub few : moves_over 0 done ≤ pooled_pages form m
-  pub marks : AreMarkedOver form r.set.clock r.size (pages_at r) done
+  pub marks : AreMarkedOver form r.set.clock finds r.size (pages_at r) done
   pub idle : (p : ℕ) → p < r.size
-      → m.idle p ≡ (pages_over form r.set.clock (pages_at r) done p).idle
+      → m.idle p ≡ (pages_over form r.set.clock finds (pages_at r) done p).idle

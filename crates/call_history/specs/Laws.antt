@@ -3,29 +3,30 @@ use Rattle.std.specs.Prelude.{◌≡◌, ℕ, ◌+◌, true, false, List, [], �
 use Rattle.zr_base.specs.declared.op.Tag.{Tag}
 use Rattle.zr_base.specs.declared.op.Op.{Op}
 use Rattle.zr_base.specs.declared.op.OpEnd.{OpEnd}
-use Rattle.zr_base.specs.Plain.{named}
+use Rattle.zr_base.specs.Plain.{Finds, named}
 use Rattle.mem_account.specs.declared.weight.Weight.{Weight}
 use Rattle.mem_account.specs.Counters.{Counters}
 use Rattle.plain_disk.specs.Ends.{Ground}
 use Rattle.plain_disk.specs.Output.{phase_lines}
 use Rattle.plain_disk.specs.Rests.{Rest, stats}
-use Rattle.plain_disk.specs.Phases.{Given, IsPhase, begun, phase_ground, bounds}
+use Rattle.plain_disk.specs.Phases.{Given, FindsHeld, IsPhase, begun, phase_ground, bounds}
 use Rattle.call_history.specs.declared.part.Part.{Part}
 use Rattle.call_history.specs.declared.part.Done.{Done}
 use Rattle.call_history.specs.Parts.{program, EndsSo, Follows, left_by, is_on, is_carried, stands_so, got_of, done_sum}
-use Rattle.call_history.specs.Shows.{ShowsPage, Carries, Grown, tag_by, got_from}
+use Rattle.call_history.specs.Shows.{ShowsPage, Carries, SeesSo, Grown, tag_by, got_from}
 use Rattle.call_history.specs.Histories.{Agree, HasSomeEach, ends_each, told_each}
 use Rattle.call_history.specs.Tallies.{Tallies}
 
 -- a piece that is carried out keeps what its page shows
 abbrev pub KeepsItsPage : Type 0
 KeepsItsPage =
-    (g : Given) (D D' : ℕ → List Done) (a : ℕ) (d : Done) (p : Part) (page : List ℕ)
+    (g : Given) (D D' : ℕ → List Done) (a : ℕ) (d : Done) (p : Part) (page seen : List ℕ)
     (order : List Tag) (page' : List ℕ) (order' : List Tag)
     → Grown D D' a d → d.part ≡ p → stands_so p.op d.end ≡ true
-    → Carries a p page order page' order'
+    → Carries a p (g.finds p.page (tag_by a p)) page order page' order'
     → named g.actors (tag_by a p) ≡ Some p.op
-    → d.got ≡ (if is_carried d.end then got_from page p else [])
+    → SeesSo p.op (g.finds p.page (tag_by a p)) p.page page seen
+    → d.got ≡ (if is_carried d.end then got_from seen p else [])
     → ShowsPage g D p.page page order → ShowsPage g D' p.page page' order'
 
 -- a piece that doesn't stand in a page's order keeps what the page shows
@@ -38,20 +39,21 @@ KeepsOtherPages =
 -- allows, where the account tells its counts
 abbrev pub TellsPhase : Type 0
 TellsPhase =
-    (form : List ℕ → Weight) (r : Rest) (actors : List (List Op)) (dones : List (List Done))
-    (orders : List (List Tag)) (c : Counters) (m : Rest) → HasSomeEach actors
-    → Agree (phase_ground form r) (bounds form r actors orders m.device.faults) (begun r actors)
-    dones orders
-    → Tallies form r actors dones orders c m
+    (form : List ℕ → Weight) (r : Rest) (actors : List (List Op)) (finds : ℕ → Finds)
+    (dones : List (List Done)) (orders : List (List Tag)) (c : Counters) (m : Rest)
+    → HasSomeEach actors → FindsHeld r actors orders finds
+    → Agree (phase_ground form r)
+    (bounds form r (begun r actors finds) orders m.device.faults) (begun r actors finds) dones orders
+    → Tallies form r (begun r actors finds) dones orders c m
     → IsPhase form r actors
     (phase_lines (ends_each actors dones) (told_each actors dones) orders) m
 
 -- what the account has then counted are the statistics of the rest that the phase leaves
 abbrev pub TellsAccount : Type 0
 TellsAccount =
-    (form : List ℕ → Weight) (r : Rest) (actors : List (List Op)) (dones : List (List Done))
+    (form : List ℕ → Weight) (r : Rest) (g : Given) (dones : List (List Done))
     (orders : List (List Tag)) (c : Counters) (m : Rest)
-    → Tallies form r actors dones orders c m → c ≡ stats form m
+    → Tallies form r g dones orders c m → c ≡ stats form m
 
 -- where a piece of a program is over, what is left follows it
 abbrev pub GoesOn : Type 0

@@ -1,31 +1,30 @@
 -- What the account and the pages tell at the end of a phase, beside the histories.
 use Rattle.std.specs.Prelude.{◌≡◌, ℕ, ◌+◌, List, [], ◌∷◌}
 use Rattle.zr_base.specs.declared.op.Tag.{Tag}
-use Rattle.zr_base.specs.declared.op.Op.{Op}
 use Rattle.mem_account.specs.declared.weight.Weight.{Weight}
 use Rattle.mem_account.specs.Counters.{Counters, at_most_end}
 use Rattle.mem_account.specs.Tally.{IsTally}
 use Rattle.plain_disk.specs.Ends.{failed_read, failed_write, starved, beyond, compacted}
 use Rattle.plain_disk.specs.Calls.{calls_sum, made_huge, freed, may_fetch}
 use Rattle.plain_disk.specs.Rests.{Rest, kept_pages, frames_of, so_far_of}
-use Rattle.plain_disk.specs.Phases.{phase_sum, LeavesPages, LeavesDevice}
+use Rattle.plain_disk.specs.Phases.{Given, calls_on, phase_sum, LeavesPages, LeavesDevice}
 use Rattle.call_history.specs.declared.part.Done.{Done}
 use Rattle.call_history.specs.Alone.{IsAloneOver}
 use Rattle.call_history.specs.Parts.{dones_sum}
 
 -- The phase leaves the pages of the rest m, and c is what the account has counted: sums over these
 -- pages, and over the orders and the pieces that are over.
-pub record Tallies (form : List ℕ → Weight) (r : Rest) (actors : List (List Op))
+pub record Tallies (form : List ℕ → Weight) (r : Rest) (g : Given)
     (dones : List (List Done)) (orders : List (List Tag)) (c : Counters) (m : Rest)
     : Type 0 where
-  pub pages : LeavesPages form r actors orders m
+  pub pages : LeavesPages form r g orders m
   pub so_far : m.so_far ≡ so_far_of c
   pub tally : IsTally c (kept_pages form m)
   pub frames : c.pages ≡ frames_of m.set.chain m.used
   pub limit : c.limit ≡ m.set.limit
   pub most : c.most ≡ m.most
   pub huge_since : c.huge_since ≡ at_most_end
-      (r.so_far.huge + phase_sum (λ p. calls_sum (made_huge form p) actors) r orders)
+      (r.so_far.huge + phase_sum (λ p. calls_sum (made_huge form p) (calls_on g p)) r orders)
   pub compacted : c.compacted ≡ at_most_end (r.so_far.compacted + dones_sum compacted dones)
   pub failed_reads : c.failed_reads ≡ at_most_end
       (r.so_far.failed_reads + dones_sum failed_read dones)
@@ -33,7 +32,7 @@ pub record Tallies (form : List ℕ → Weight) (r : Rest) (actors : List (List 
       (r.so_far.failed_writes + dones_sum failed_write dones)
   pub invalid_io : c.invalid_io ≡ at_most_end (r.so_far.beyond + dones_sum beyond dones)
   pub notify_free : c.notify_free ≡ at_most_end
-      (r.so_far.freed + phase_sum (λ p. calls_sum freed actors) r orders)
+      (r.so_far.freed + phase_sum (λ p. calls_sum freed (calls_on g p)) r orders)
   pub device : LeavesDevice r.device m.device
-      (phase_sum (λ p. calls_sum may_fetch actors) r orders + dones_sum starved dones)
-  pub alone : (done : List Done) → dones ≡ done ∷ [] → IsAloneOver form r done m
+      (phase_sum (λ p. calls_sum may_fetch (calls_on g p)) r orders + dones_sum starved dones)
+  pub alone : (done : List Done) → dones ≡ done ∷ [] → IsAloneOver form r g.finds done m

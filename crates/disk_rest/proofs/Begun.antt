@@ -2,7 +2,7 @@
 use Rattle.std.proofs.Common.{◌≡◌, ℕ, zero, ◌+◌, ◌≤◌, ◌<◌, [], length, Some, slice_get, refl, sym, ap, ◌∙◌, subst, arith}
 use Rattle.std.proofs.lemmas.List.{get_or-replicate, length-replicate}
 use Rattle.std.proofs.lemmas.Option.{slice_get_within}
-use Rattle.zr_base.specs.Plain.{zero_sector}
+use Rattle.zr_base.specs.Plain.{zero_sector, IsSector}
 use Rattle.mem_account.specs.Counters.{Counters, no_counts}
 use Rattle.backing_dev.specs.Dev.{DeviceState}
 use Rattle.class_pool.specs.Pool.{PoolState}
@@ -10,7 +10,7 @@ use Rattle.plain_disk.specs.Rests.{Rest, stats}
 use Rattle.lock_row.specs.declared.names.Held.TheVariants as holds
 use Rattle.page_steps.specs.Steps.{DiskHeld}
 use Rattle.slot_entry.specs.Forms.{page_weight}
-use Rattle.joint_rule.specs.Begins.{Begin, IsSector}
+use Rattle.joint_rule.specs.Begins.{Begin}
 use Rattle.joint_rule.specs.Laws.{NewIsAtRest, NewCountsNothing}
 use Rattle.joint_rule.specs.Starts.{AtRest}
 use Rattle.joint_rule.specs.Starts.{IsNew as IsNewValue}

@@ -31,16 +31,16 @@ use Rattle.disk_rest.specs.Printed.{row_report}
 -- a phase of which no actor has a piece left prints what the plain disk allows
 abbrev pub PrintsPhase : Type 0
 PrintsPhase = (r : Rest) (actors : List (List Op)) (w : State DiskHeld) (orders : List (List Tag))
-    → Proper (begin_at r actors) → Rule (begin_at r actors) w
+    → Proper (begin_at r actors) → (x : Rule (begin_at r actors) w)
     → NoPieceLeft w → HasSomeEach actors → AreOrders r.size w.row orders
     → IsPhase page_weight r actors (phase_lines (ends_each actors (histories w.locals))
-    (told_each actors (histories w.locals)) orders) (rest_after r actors w.row)
+    (told_each actors (histories w.locals)) orders) (rest_after r actors x.finds w.row)
 
 -- its row stands for the rest that it leaves
 abbrev pub LeavesRest : Type 0
 LeavesRest = (r : Rest) (actors : List (List Op)) (w : State DiskHeld)
-    → Proper (begin_at r actors) → Rule (begin_at r actors) w
-    → NoPieceLeft w → StandsFor (rest_after r actors w.row) w.row
+    → Proper (begin_at r actors) → (x : Rule (begin_at r actors) w)
+    → NoPieceLeft w → StandsFor (rest_after r actors x.finds w.row) w.row
 
 -- a row that stands for a rest prints the rest's reports
 abbrev pub PrintsReports : Type 0

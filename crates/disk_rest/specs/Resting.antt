@@ -1,14 +1,13 @@
 -- The plain rest that a row at rest stands for.
 use Rattle.std.specs.Prelude.{◌≡◌, ℕ, ◌+◌, ◌*◌, ◌<◌, ◌≤◌, true, List, [], length, Some, slice_get}
 use Rattle.zr_base.specs.declared.op.Op.{Op}
-use Rattle.zr_base.specs.Plain.{zero_sector}
+use Rattle.zr_base.specs.Plain.{zero_sector, IsSector}
 use Rattle.plain_disk.specs.Rests.{Rest, stats}
 use Rattle.lock_row.specs.declared.names.Held.TheVariants as holds
 use Rattle.lock_row.specs.declared.names.State.{State}
 use Rattle.slot_entry.specs.Entries.{EntryState}
 use Rattle.slot_entry.specs.Forms.{page_weight}
 use Rattle.page_steps.specs.Steps.{DiskHeld, Here}
-use Rattle.joint_rule.specs.Begins.{IsSector}
 use Rattle.joint_rule.specs.Rule.{owed}
 use Rattle.joint_rule.specs.Starts.{AtRest, Starts}
 use Rattle.joint_rule.specs.Ends.{begin_at, account_of}

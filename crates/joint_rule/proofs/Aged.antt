@@ -1,6 +1,6 @@
 -- What a phase's only actor makes of its pages and their marks.
 use Rattle.std.proofs.Common.{◌≡◌, ◌≢◌, ◌+◌, ◌<◌, ◌≤◌, ◌∷◌, ◌++◌, ◌∙◌, ◌&&◌, ◌||◌, ◌⊎◌, ℕ, zero, suc, Bool, true, false, not, cond, eqb, ltb, List, [], sum_by, is_none, Option, Some, None, slice_get, slice_set, refl, sym, ap, subst, arith, inl, inr, ⊎_elim}
-use Rattle.call_history.specs.Alone.{AreMarkedOver, aged_over, pages_over}
+use Rattle.call_history.specs.Alone.{AreMarkedOver, aged_over, pages_over, each_over}
 use Rattle.call_history.specs.Parts.{left_by, op_end, stands_so}
 use Rattle.call_history.specs.declared.part.Done.{Done}
 use Rattle.call_history.specs.declared.part.Part.{Part}
@@ -28,14 +28,14 @@ use Rattle.page_steps.specs.Scans.{scan_at, with_page}
 use Rattle.page_steps.specs.Steps.{DiskHeld, Here, after_take, begun_at, discard_at, entered_at, entry_in, entry_or, fetched_at, first_at, first_scan, lock_of, made_at, on, part_at, piece_over, pinned_at, plan, quit_at, seen_at, settle_at, slot, spot, taken_at, took, write_at}
 use Rattle.plain_disk.specs.Calls.{after, leave_page, leaves_page}
 use Rattle.plain_disk.specs.Forms.{is_pooled}
-use Rattle.plain_disk.specs.Idles.{Aged, IsMarked, accessed, may_mark as may_mark_page, new_mark, passed}
+use Rattle.plain_disk.specs.Idles.{Aged, IsMarked, accessed, may_mark as may_mark_page, new_mark, passed, only_tag}
 use Rattle.slot_entry.specs.Entries.{EntryState, is_new_mark, is_obj, marked, may_mark}
 use Rattle.slot_entry.specs.Forms.{Blank, PageForm, Pooled, Word, form_weight, page_weight}
 use Rattle.slot_entry.specs.declared.kept.Kept.{Kept}
 use Rattle.std.proofs.lemmas.Bool.{and_right, cases_lt, eq-eqb, le-ltb, lt-ltb, ne_eqb}
 use Rattle.std.proofs.lemmas.List.Sums.{sum_by-cons}
 use Rattle.std.specs.List.{range_with_len}
-use Rattle.zr_base.specs.Plain.{has_whole, is_beyond, is_maintenance, is_marking, is_older, named}
+use Rattle.zr_base.specs.Plain.{has_whole, is_beyond, is_maintenance, is_marking, is_older, named, Look, Finds}
 use Rattle.zr_base.specs.declared.op.Op.{Op}
 use Rattle.zr_base.specs.declared.op.Op.TheVariants.{Compact, Discard, Idle, Read, Write}
 use Rattle.zr_base.specs.declared.op.OpEnd.{OpEnd}
@@ -46,21 +46,23 @@ use Rattle.zr_base.specs.declared.op.OpEnd.TheVariants as ends
 
 -- ---- pieces that are over
 
-module _ (form : List ℕ → Weight) (clock : ℕ) where
+module _ (form : List ℕ → Weight) (clock : ℕ) (finds : ℕ → Finds) where
   pages_push : (pages : ℕ → Aged) (ds : List Done) (d : Done) (p : ℕ)
-      → pages_over form clock pages (ds ++ d ∷ []) p
-      ≡ aged_over form clock d p (pages_over form clock pages ds p)
+      → pages_over form clock finds pages (ds ++ d ∷ []) p
+      ≡ each_over form clock finds d (λ q. pages_over form clock finds pages ds q) p
   pages_push pages [] d p = refl
-  pages_push pages (x ∷ ds) d p = pages_push (λ q. aged_over form clock x q (pages q)) ds d p
+  pages_push pages (x ∷ ds) d p = pages_push (each_over form clock finds x pages) ds d p
 
   marked_push : (size : ℕ) (pages : ℕ → Aged) (ds : List Done) (d : Done)
-      → AreMarkedOver form clock size pages ds
-      → IsMarked form clock size (λ q. pages_over form clock pages ds q) d.part.op (op_end d.end 0)
-      → AreMarkedOver form clock size pages (ds ++ d ∷ [])
+      → AreMarkedOver form clock finds size pages ds
+      → IsMarked form clock size (λ q. pages_over form clock finds pages ds q) d.part.op
+      (op_end d.end 0)
+      → AreMarkedOver form clock finds size pages (ds ++ d ∷ [])
   marked_push size pages [] d all this = (this, tt)
   marked_push size pages (x ∷ ds) d all this =
-      (all.0, marked_push size (λ q. aged_over form clock x q (pages q)) ds d all.1 this)
+      (all.0, marked_push size (each_over form clock finds x pages) ds d all.1 this)
 
+module _ (form : List ℕ → Weight) (clock : ℕ) where
   -- what doesn't mark leaves a page that it isn't on, and tells no marks
   other_passes : (op : Op) → is_marking op ≡ false → (p : ℕ) (s : Aged) → passed form clock p op s ≡ s
   other_passes (Write start count stuff) e p s = refl
@@ -79,25 +81,25 @@ module _ (form : List ℕ → Weight) (clock : ℕ) where
 
   -- a piece that is on no page, and doesn't mark, leaves each page
   off_leaves : (d : Done) → is_marking d.part.op ≡ false → stands_so d.part.op d.end ≡ false
-      → (p : ℕ) (s : Aged) → aged_over form clock d p s ≡ s
-  off_leaves d other off p s =
-      ap (λ (x : Bool). cond x (accessed clock d.part.op s) (passed form clock p d.part.op s))
+      → (look : Look) (p : ℕ) (s : Aged) → aged_over form clock d look p s ≡ s
+  off_leaves d other off look p s =
+      ap (λ (x : Bool). cond x (accessed clock d.part.op look s) (passed form clock p d.part.op s))
       (and_right (eqb d.part.page p) (stands_so d.part.op d.end) off)
       ∙ other_passes d.part.op other p s
 
   -- one that is on a page leaves the other pages
-  else_leaves : (d : Done) → is_marking d.part.op ≡ false → (p : ℕ) → p ≢ d.part.page → (s : Aged)
-      → aged_over form clock d p s ≡ s
-  else_leaves d other p ne s =
-      ap (λ (x : Bool). cond (x && stands_so d.part.op d.end) (accessed clock d.part.op s)
+  else_leaves : (d : Done) → is_marking d.part.op ≡ false → (p : ℕ) → p ≢ d.part.page → (look : Look)
+      (s : Aged) → aged_over form clock d look p s ≡ s
+  else_leaves d other p ne look s =
+      ap (λ (x : Bool). cond (x && stands_so d.part.op d.end) (accessed clock d.part.op look s)
       (passed form clock p d.part.op s)) (ne_eqb d.part.page p (λ e. ne (sym e)))
       ∙ other_passes d.part.op other p s
 
   -- and its own as after an access
-  here_accessed : (d : Done) → stands_so d.part.op d.end ≡ true → (s : Aged)
-      → aged_over form clock d d.part.page s ≡ accessed clock d.part.op s
-  here_accessed d on s = λ i. cond (eq-eqb d.part.page d.part.page refl i && on i)
-      (accessed clock d.part.op s) (passed form clock d.part.page d.part.op s)
+  here_accessed : (d : Done) → stands_so d.part.op d.end ≡ true → (look : Look) (s : Aged)
+      → aged_over form clock d look d.part.page s ≡ accessed clock d.part.op look s
+  here_accessed d on look s = λ i. cond (eq-eqb d.part.page d.part.page refl i && on i)
+      (accessed clock d.part.op look s) (passed form clock d.part.page d.part.op s)
 
 pub request_other : (op : Op) → is_maintenance op ≡ false → is_marking op ≡ false
 request_other (Write start count stuff) e = refl
@@ -302,9 +304,10 @@ leave_push actors (x ∷ xs) t =
 
 module _ (g : Begin) (p : ℕ) (e f : EntryState) (k : Kept) (t : Tag) (op : Op)
     (is : named g.given.actors t ≡ Some op) (n : Notes g.clock e f k t) where
-  found_noted : found_after g p f.order ≡ after (Some op) (found_after g p e.order)
-  found_noted = ap (found_after g p) n.order ∙ after_push g (found g p) e.order t
-      ∙ ap (λ (o : Option Op). after o (found_after g p e.order)) is
+  found_noted : found_after g p f.order
+      ≡ after (Some op) (g.given.finds p t) (found_after g p e.order)
+  found_noted = ap (found_after g p) n.order ∙ after_push g p (found g p) e.order t
+      ∙ ap (λ (o : Option Op). after o (g.given.finds p t) (found_after g p e.order)) is
 
   back_noted : back_at g p f.order ≡ (back_at g p e.order && leaves_page (Some op))
   back_noted = ap (back_at g p) n.order
@@ -313,7 +316,7 @@ module _ (g : Begin) (p : ℕ) (e f : EntryState) (k : Kept) (t : Tag) (op : Op)
       ∙ ap (λ (o : Option Op). back_at g p e.order && leaves_page o) is
 
   -- an entry with one call more is as after an access
-  pub noted_aged : aged_in g p f ≡ accessed g.clock op (aged_in g p e)
+  pub noted_aged : aged_in g p f ≡ accessed g.clock op (g.given.finds p t) (aged_in g p e)
   noted_aged = λ i. record {
     found = found_noted i;
     back = back_noted i;
@@ -400,15 +403,19 @@ module _ (g : Begin) where
     abbrev this : Done
     this = record { part = p; end = end; got = got }
 
+    -- what it finds on a page
+    abbrev look : ℕ → Look
+    look q = g.given.finds q (only_tag p.nr)
+
     now_push : (q : ℕ) → aged_now g (piece_over l p end got rest) q
-        ≡ aged_over page_weight g.clock this q (aged_done g l.done q)
+        ≡ aged_over page_weight g.clock this (look q) q (aged_done g l.done q)
     now_push q = first_scanned g (left_by end p.nr rest) Start refl q
         (aged_done g (l.done ++ this ∷ []) q)
-        ∙ pages_push page_weight g.clock (aged_at g) l.done this q
+        ∙ pages_push page_weight g.clock g.given.finds (aged_at g) l.done this q
 
     now_over : IsStill l.at → (q : ℕ) → aged_now g (piece_over l p end got rest) q
-        ≡ aged_over page_weight g.clock this q (aged_now g l q)
-    now_over still q = now_push q ∙ ap (aged_over page_weight g.clock this q)
+        ≡ aged_over page_weight g.clock this (look q) q (aged_now g l q)
+    now_over still q = now_push q ∙ ap (aged_over page_weight g.clock this (look q) q)
         (sym (first_scanned g l.todo l.at still q (aged_done g l.done q)))
 
 -- ---- takings
@@ -474,7 +481,8 @@ module _ (g : Begin) (w : State DiskHeld) (a : ℕ) (l : Here)
       let same = now_same g l m todo done (now ∙ sym was) in
       let both = f (subst (HeldAll n (IsAged g l)) held r.hand) in
       record {
-        marks = subst (AreMarkedOver page_weight g.clock n (aged_at g)) (sym done) r.marks;
+        marks = subst (AreMarkedOver page_weight g.clock g.given.finds n (aged_at g)) (sym done)
+            r.marks;
         counts = first_counts g m.todo m.at m.done now;
         home = home_given m
             (aged_same g l m (spot n k) v (same (spot n k))
@@ -489,11 +497,14 @@ module _ (g : Begin) (w : State DiskHeld) (a : ℕ) (l : Here)
     abbrev d : Done
     d = record { part = p; end = end; got = got }
 
+    abbrev looks : ℕ → Look
+    looks q = g.given.finds q (only_tag p.nr)
+
     abbrev over : Here
     over = piece_over l p end got rest
 
-    over_marks : AreMarkedOver page_weight g.clock n (aged_at g) over.done
-    over_marks = marked_push page_weight g.clock n (aged_at g) l.done d r.marks
+    over_marks : AreMarkedOver page_weight g.clock g.given.finds n (aged_at g) over.done
+    over_marks = marked_push page_weight g.clock g.given.finds n (aged_at g) l.done d r.marks
         (other_marks page_weight g.clock n (λ q. aged_done g l.done q) p.op (op_end end 0) other)
 
     -- it is on no page
@@ -501,7 +512,7 @@ module _ (g : Begin) (w : State DiskHeld) (a : ℕ) (l : Here)
     keeps_off off this =
         let same : (q : ℕ) → aged_now g over q ≡ aged_now g l q = λ q.
         now_over g l p end got rest still q
-        ∙ off_leaves page_weight g.clock d other off q (aged_now g l q) in
+        ∙ off_leaves page_weight g.clock d other off (looks q) q (aged_now g l q) in
         record {
           marks = over_marks;
           counts = first_counts g over.todo over.at over.done refl;
@@ -513,13 +524,14 @@ module _ (g : Begin) (w : State DiskHeld) (a : ℕ) (l : Here)
     -- it is on the page that is given
     pub keeps_here : stands_so p.op end ≡ true → spot n k ≡ p.page → (e f : EntryState)
         → v ≡ holds.Slot f → IsAged g l p.page (holds.Slot e)
-        → aged_in g p.page f ≡ accessed g.clock p.op (aged_in g p.page e) → Given over
+        → aged_in g p.page f ≡ accessed g.clock p.op (looks p.page) (aged_in g p.page e) → Given over
     keeps_here on place e f value was is =
-        let here : aged_now g over p.page ≡ accessed g.clock p.op (aged_now g l p.page) =
+        let here : aged_now g over p.page ≡ accessed g.clock p.op (looks p.page)
+        (aged_now g l p.page) =
         now_over g l p end got rest still p.page
-        ∙ here_accessed page_weight g.clock d on (aged_now g l p.page) in
+        ∙ here_accessed page_weight g.clock d on (looks p.page) (aged_now g l p.page) in
         let this : IsAged g over p.page (holds.Slot f) =
-        is ∙ ap (accessed g.clock p.op) was ∙ sym here in
+        is ∙ ap (accessed g.clock p.op (looks p.page)) was ∙ sym here in
         record {
           marks = over_marks;
           counts = first_counts g over.todo over.at over.done refl;
@@ -527,7 +539,7 @@ module _ (g : Begin) (w : State DiskHeld) (a : ℕ) (l : Here)
               (subst (λ (x : ℕ × DiskHeld). IsAged g over x.0 x.1) (λ i. (sym place i, sym value i))
               this)
               (λ q x ne at. aged_same g l over q x (now_over g l p end got rest still q
-              ∙ else_leaves page_weight g.clock d other q (λ h. ne (h ∙ sym place))
+              ∙ else_leaves page_weight g.clock d other q (λ h. ne (h ∙ sym place)) (looks q)
               (aged_now g l q)) (r.home q x at));
           hand = tt;
         }
@@ -632,7 +644,8 @@ module _ (g : Begin) (w : State DiskHeld) (a : ℕ) (l : Here)
 
       stop_now : (q : ℕ) → aged_now g stopped q ≡ new q
       stop_now q = now_push g l p stop [] rest q
-          ∙ ap (λ (b : Bool). cond b (accessed g.clock p.op (old q))
+          ∙ ap (λ (b : Bool).
+          cond b (accessed g.clock p.op (g.given.finds q (only_tag p.nr)) (old q))
           (passed page_weight g.clock q p.op (old q))) (and_right (eqb p.page q) false refl)
           ∙ ap (λ (o : Op). passed page_weight g.clock q o (old q)) op
 
@@ -652,7 +665,7 @@ module _ (g : Begin) (w : State DiskHeld) (a : ℕ) (l : Here)
           let this : IsAged g stopped x.page (holds.Slot (marked g.clock age e)) =
           in_home ∙ sym (stop_now x.page) in
           record {
-            marks = marked_push page_weight g.clock n (aged_at g) l.done
+            marks = marked_push page_weight g.clock g.given.finds n (aged_at g) l.done
                 (record { part = p; end = stop; got = [] }) r.marks (op_marked n last);
             counts = first_counts g (left_by stop p.nr rest) Start stopped.done refl;
             home = home_given stopped

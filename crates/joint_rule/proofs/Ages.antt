@@ -19,7 +19,7 @@ use Rattle.joint_rule.proofs.Sums.{gone}
 use Rattle.joint_rule.specs.Alone.{Ages, IsAged, aged_at, aged_done, aged_in, aged_now}
 use Rattle.joint_rule.specs.Begins.{Begin, back_at, found_after, terms}
 use Rattle.joint_rule.specs.Joint.{Joint}
-use Rattle.joint_rule.specs.Rule.{Rule}
+use Rattle.joint_rule.specs.Rule.{Ruled}
 use Rattle.joint_rule.specs.Stages.{FailBy, IsFault}
 use Rattle.joint_rule.specs.Starts.{IsStart}
 use Rattle.joint_rule.specs.Weights.{HeldAll}
@@ -34,6 +34,7 @@ use Rattle.page_steps.specs.Givings.{Notes}
 use Rattle.page_steps.specs.Pages.{next_form}
 use Rattle.page_steps.specs.Scans.{scan_at}
 use Rattle.page_steps.specs.Steps.{DiskHeld, Here, class_by, entry_in, on, piece_over, plan, plan_at, slot, spot}
+use Rattle.plain_disk.specs.Idles.{accessed, only_tag}
 use Rattle.plain_disk.specs.Phases.{touched_by}
 use Rattle.slot_entry.specs.Entries.{EntryState}
 use Rattle.slot_entry.specs.Forms.{class_in, page_weight}
@@ -78,8 +79,12 @@ still_moved (suc n) x = refl
 
 module _ (g : Begin) (ok : Known g) (w : State DiskHeld) (j : Joint g w) (a : ℕ) (l : Here)
     (who : slice_get w.locals a ≡ Some l) (k : LockNo) (v : DiskHeld) (m : Here)
-    (what : plan (terms g) l ≡ Give k)
+    (what : plan (terms g) l ≡ Give k) (first : a ≡ 0)
     (there : slice_get w.row (spot g.given.size k) ≡ Some None) (r : Ages g w l) where
+  -- the tag of the only actor's piece
+  tag_so : (p : Part) → tag_by l.actor p ≡ only_tag p.nr
+  tag_so p = ap (λ (b : ℕ). tag_by b p) ((j.each.in_local a l who).who ∙ first)
+
   -- the ages after the giving, where the local is this one
   abbrev After : Here → Type 0
   After x = Ages g (gone g.given.size w a l who k (Some v) x) x
@@ -122,7 +127,9 @@ module _ (g : Begin) (ok : Known g) (w : State DiskHeld) (j : Joint g w) (a : �
       let named = is_named g ok w j a l who p rest todo in
       subst After (sym is) (keeps_here g w a l who k v there r p end got rest (ap scan_at at ∙ px)
       (request_other p.op other) on (page_so p.page lock) e f value (subst Hand held r.hand).0
-      (noted_aged g p.page e f form (tag_by l.actor p) p.op named notes))
+      (noted_aged g p.page e f form (tag_by l.actor p) p.op named notes
+      ∙ ap (λ (t : Tag). accessed g.clock p.op (g.given.finds p.page t) (aged_in g p.page e))
+      (tag_so p)))
 
   -- it is over, and on no page
   off_so : (p : Part) (rest : List Part) (x : At) (u : DiskHeld) (end : PartEnd)
@@ -231,6 +238,15 @@ module _ (g : Begin) (ok : Known g) (w : State DiskHeld) (j : Joint g w) (a : �
 
 -- ---- turns
 
+first_in : (a : ℕ) (l x : Here) → slice_get (l ∷ []) a ≡ Some x → a ≡ 0
+first_in zero l x e = refl
+first_in (suc a) l x e = absurd (cc)
+
+-- an only actor is the first
+first_of : (ls : List Here) (a : ℕ) (l x : Here) → ls ≡ l ∷ [] → slice_get ls a ≡ Some x → a ≡ 0
+first_of ls a l x only e = first_in a l x
+    (subst (λ (ys : List Here). slice_get ys a ≡ Some x) only e)
+
 -- the same state
 same_state : (g : Begin) (w n : State DiskHeld) (l m : Here) → n ≡ w → w.locals ≡ l ∷ []
     → n.locals ≡ m ∷ [] → Ages g w l → Ages g n m
@@ -254,7 +270,7 @@ next_state g w n a l m x y row who only next is up ages =
     subst (λ (z : State DiskHeld × Here). Ages g z.0 z.1) (λ i. (sym is i, sym s.1 i))
     (up (subst (Ages g w) first ages))
 
-pub ages_turn : (g : Begin) (ok : Known g) (a : ℕ) (w n : State DiskHeld) → Rule g w
+pub ages_turn : (g : Begin) (ok : Known g) (a : ℕ) (w n : State DiskHeld) → Ruled g w
     → OneTurn g a w n → (l m : Here) → w.locals ≡ l ∷ [] → n.locals ≡ m ∷ [] → Ages g w l
     → Ages g n m
 ages_turn g ok a w n r (turn.finished x who what e) l m only next = same_state g w n l m e only next
@@ -263,7 +279,8 @@ ages_turn g ok a w n r (turn.missed x k who what there e) l m only next = same_s
 ages_turn g ok a w n r (turn.taken x k v t) l m only next = next_state g w n a l m x _ _ t.who only
     next t.after (ages_take g w a x t.who k v t.what t.there)
 ages_turn g ok a w n r (turn.given x k v y t) l m only next = next_state g w n a l m x y _ t.who
-    only next t.after (λ ages. ages_event g ok w r.joint a x t.who k v y t.what t.there ages
+    only next t.after (λ ages. ages_event g ok w r.joint a x t.who k v y t.what
+    (first_of w.locals a l x only t.who) t.there ages
     (event_at g ok w r.joint a x t.who v y t.work))
 
 -- ---- the start
@@ -274,7 +291,8 @@ ages_start g w l s only =
     let h = s.actors 0 l (ap (λ (ls : List Here). slice_get ls 0) only) in
     let still = ap scan_at h.at in
     record {
-      marks = subst (AreMarkedOver page_weight g.clock g.given.size (aged_at g)) (sym h.done) tt;
+      marks = subst (AreMarkedOver page_weight g.clock g.given.finds g.given.size (aged_at g))
+          (sym h.done) tt;
       counts = first_counts g l.todo l.at l.done still;
       home = λ p v at. home p v at (first_scanned g l.todo l.at still p (aged_done g l.done p)
           ∙ ap (λ (ds : List Done). aged_done g ds p) h.done);

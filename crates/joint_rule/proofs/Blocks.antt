@@ -1,6 +1,6 @@
 -- What blocks and the device weigh, what the joint rule tells of them, and what a giving does to
 -- them.
-use Rattle.std.proofs.Common.{◌≡◌, ◌≢◌, ◌+◌, ◌≤◌, ◌<◌, ◌∷◌, ◌∙◌, ℕ, zero, suc, Bool, true, false, List, [], length, Option, Some, None, slice_get, slice_set, refl, sym, ap, arith, ⊎_elim}
+use Rattle.std.proofs.Common.{◌≡◌, ◌≢◌, ◌+◌, ◌≤◌, ◌<◌, ◌∷◌, ◌∙◌, ℕ, zero, suc, Bool, true, false, List, [], length, Option, Some, None, slice_get, slice_set, refl, sym, ap, arith, ⊎_elim, inl, inr, ◌⊎◌}
 use Rattle.backing_dev.specs.Contents.{HasBlock}
 use Rattle.backing_dev.specs.Dev.{DeviceState, IsCalled}
 use Rattle.block_map.specs.BlockMap.{BlockMap}
@@ -144,11 +144,11 @@ bytes_are c x page e lt =
     let q : by_option (same_bytes c) x ≡ bit (same_list c page) = ap (by_option (same_bytes c)) e in
     sym (same_lists c page (bit_is (same_list c page) (omega arith)))
 
--- a block that has these bytes
+-- a block that has these bytes, where the device tells
 has_is : (contents : Option (List (List ℕ))) (b : ℕ) (c page : List ℕ) → HasBlock contents b page
-    → 0 < has_block b c contents → page ≡ c
-has_is None b c page has lt = absurd (omega arith)
-has_is (Some pages) b c page has lt = bytes_are c (slice_get pages b) page has lt
+    → 0 < has_block b c contents → (page ≡ c) ⊎ (contents ≡ None)
+has_is None b c page has lt = inr refl
+has_is (Some pages) b c page has lt = inl (bytes_are c (slice_get pages b) page has lt)
 
 lies_self : (b : ℕ) (c : List ℕ) → lies_by b c (kept.Wb b) c ≡ 1
 lies_self b c = rw (eq-eqb b b refl) (ap bit (list_self c))
@@ -202,8 +202,9 @@ module _ (g : Begin) (w : State DiskHeld) (j : Joint g w) (a : ℕ) (l : Here)
           let t = lone g w j a l who lock.Device device_size (under_device g (λ y. y.blocks)) mine in
           let y = ap (held_sum (spot n) device_size) held in omega arith
 
-      -- and there the page's bytes
-      pub page_is : (page : List ℕ) → HasBlock d.contents b page → page ≡ content g s e.order
+      -- and there the page's bytes, where it tells
+      pub page_is : (page : List ℕ) → HasBlock d.contents b page
+          → (page ≡ content g s e.order) ⊎ (d.contents ≡ None)
       page_is page has =
           let c = content g s e.order in
           let y = locals_le n (mass (spot n) (lies_at g b (content g s e.order)) none) w.locals a l

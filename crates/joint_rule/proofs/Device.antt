@@ -1,6 +1,8 @@
 -- What each giving does that has to do with the device and its blocks.
-use Rattle.std.proofs.Common.{◌≡◌, ◌∷◌, ◌∙◌, ℕ, true, List, [], Option, Some, None, slice_get, refl, sym, ap, subst, arith, inl, inr, length-set}
-use Rattle.backing_dev.specs.Dev.{DeviceState, FailsToRead, ReadsBlock}
+use Rattle.bdi_page.specs.Packing.{IsPage}
+use Rattle.backing_dev.specs.Contents.{IsHonest}
+use Rattle.std.proofs.Common.{◌≡◌, ◌∷◌, ◌∙◌, ℕ, true, List, [], Option, Some, None, slice_get, refl, sym, ap, subst, arith, inl, inr, length-set, ⊎_elim}
+use Rattle.backing_dev.specs.Dev.{DeviceState, FailsToRead, ReadsBlock, IsHonestDevice}
 use Rattle.block_map.specs.BlockMap.{BlockMap, with_state}
 use Rattle.block_map.specs.declared.state.BlockState.TheVariants.{Free, Owned}
 use Rattle.call_history.specs.Parts.{EndsSo, is_read}
@@ -16,7 +18,7 @@ use Rattle.joint_rule.proofs.Pages.{kept_small}
 use Rattle.joint_rule.proofs.Stages.{made_locks, made_stage, may_none, write_blank}
 use Rattle.joint_rule.specs.Begins.{Begin, content, ground_of, image}
 use Rattle.joint_rule.specs.Joint.{EntryFits, Joint, KeepsDevice, Sound}
-use Rattle.joint_rule.specs.Stages.{Bears, FailBy, IsFault, IsPartly, IsRight, IsSmall, IsWrite, Looks, Stage, is_wb, locks_at}
+use Rattle.joint_rule.specs.Stages.{Bears, FailBy, IsFault, IsPartly, IsRight, IsSmall, IsWrite, Looks, Stage, is_wb, locks_at, MaySeeOther, IsSeen}
 use Rattle.joint_rule.specs.Weights.{HeldAll, at_place, block_by, block_claims, chains, claim_by, claims, counters, device_size, each_one, ever_at, fixed, lies_at, map_size, mosts, nothing, outs, pages, shown, stored, stored_at, used_blocks}
 use Rattle.lock_row.specs.Totals.{held_sum}
 use Rattle.lock_row.specs.declared.names.At.TheVariants.{Failing, Fetching, Missed, Owing, Releasing}
@@ -82,9 +84,15 @@ module _ (g : Begin) (ok : Known g) (w : State DiskHeld) (j : Joint g w) (a : �
     sounds : HeldAll n (Sound g) ((lock.Device, holds.Device d) ∷ (slot p.page, holds.Slot e) ∷ [])
     sounds = all g ok w j a l who p rest todo _ Fetching held at
 
-    module _ (page : List ℕ) (r : ReadsBlock d d' b page) where
-      is_content : page ≡ content g p.page e.order
-      is_content = page_is g w j a l who b p.page e is d held page r.bytes
+    module _ (page : List ℕ) (r : ReadsBlock d d' b page) (whole : IsPage page) where
+      not_honest : d.contents ≡ None → IsHonestDevice g.device → ⊥
+      not_honest none honest = subst (λ (c : Option (List (List ℕ))). IsHonest c d.blocks) none
+          (sounds.0.1.honest honest)
+
+      is_content : IsSeen (MaySeeOther g p.page e.order) page (content g p.page e.order)
+      is_content = ⊎_elim (λ same. inl same)
+          (λ none. inr ((not_honest none, sym st.backs ∙ ap is_wb is), whole))
+          (page_is g w j a l who b p.page e is d held page r.bytes)
 
       fetched_stage : (op : Op) → p.op ≡ op → Stage g p e
           (fetched_at op (next_form p (Some page) e.kept) e.kept) l.fresh l.pin l.owed l.ahead
@@ -93,7 +101,8 @@ module _ (g : Begin) (ok : Known g) (w : State DiskHeld) (j : Joint g w) (a : �
           made_stage g p e l.fresh l.pin l.owed l.ahead l.behind (Some page) l.fail
           (may_none e.kept l.pin st.pins) st.owes st.stands st.backs st.marks
           (write_blank p.op (subst IsWrite (sym e_op) tt) l.ahead _)
-          (subst (λ (x : Op). IsRight x p.page page (content g p.page e.order)) (sym e_op)
+          (subst (λ (x : Op). IsRight (MaySeeOther g p.page e.order) x p.page page
+          (content g p.page e.order)) (sym e_op)
           (inr is_content)) st.counts.0 st.counts.1 st.fails st.begun
           (subst IsWrite (sym e_op) tt) st.made (next_form p (Some page) e.kept) refl e.kept refl
       fetched_stage (Read start count) e_op = record {
@@ -105,8 +114,8 @@ module _ (g : Begin) (ok : Known g) (w : State DiskHeld) (j : Joint g w) (a : �
         backs = st.backs;
         marks = st.marks;
         partly = tt;
-        right = subst (λ (x : Op). IsRight x p.page page (content g p.page e.order))
-            (sym e_op) is_content;
+        right = subst (λ (x : Op). IsRight (MaySeeOther g p.page e.order) x p.page page
+            (content g p.page e.order)) (sym e_op) is_content;
         counts = st.counts;
         blank = tt;
         fails = subst (λ (x : Op). FailBy g p x l.fail) (sym e_op) st.fails;
@@ -309,7 +318,8 @@ module _ (g : Begin) (ok : Known g) (w : State DiskHeld) (j : Joint g w) (a : �
       backs = tt;
       marks = tt;
       partly = tt;
-      right = subst (λ (y : List ℕ). IsRight p.op p.page y (content g p.page e.order))
+      right = subst (λ (y : List ℕ). IsRight (MaySeeOther g p.page e.order) p.op p.page y
+          (content g p.page e.order))
           (emptied_sees l.page e.kept is) sr.right;
       counts = ((tt, released_small), sr.counts.1);
       blank = sr.blank;

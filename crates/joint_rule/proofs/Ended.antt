@@ -1,6 +1,7 @@
 -- What a finished phase tells: its histories agree with its orders, and the account with the rest.
-use Rattle.std.proofs.Common.{◌≡◌, ◌+◌, ◌*◌, ◌-◌, ◌/◌, ◌≤◌, ◌<◌, ◌∷◌, ◌++◌, ◌∙◌, ℕ, zero, suc, Bool, true, false, cond, eqb, List, [], length, sum_by, Option, Some, None, slice_get, refl, sym, ap, subst, arith, inl, inr, zero-add}
+use Rattle.std.proofs.Common.{◌≡◌, ◌+◌, ◌*◌, ◌-◌, ◌/◌, ◌≤◌, ◌<◌, ◌∷◌, ◌++◌, ◌∙◌, ℕ, zero, suc, Bool, true, false, cond, eqb, List, [], length, take, sum_by, Option, Some, None, slice_get, refl, sym, ap, subst, arith, inl, inr, zero-add}
 use Rattle.plain_disk.specs.Idles.{KeepsMark, is_marked_in}
+use Rattle.zr_base.specs.Plain.{Finds}
 use Rattle.joint_rule.proofs.Idles.{ages_end}
 use Rattle.backing_dev.specs.Dev.{DeviceState}
 use Rattle.block_map.specs.BlockMap.{BlockMap}
@@ -24,11 +25,11 @@ use Rattle.joint_rule.proofs.Sums.{row_le, total_split}
 use Rattle.joint_rule.proofs.Places.{IsEntry, IsPoolOf, class_kind, entry_kind}
 use Rattle.joint_rule.proofs.Zspages.{each_used, free_most, tight_least, used_length, used_sum}
 use Rattle.joint_rule.specs.Alone.{is_calm}
-use Rattle.joint_rule.specs.Begins.{Begin, back_at, ever, form_at, found_after, ground_of, image}
+use Rattle.joint_rule.specs.Begins.{finding, Begin, back_at, ever, form_at, found_after, ground_of, image}
 use Rattle.joint_rule.specs.Ends.{AllFinished, account_in, account_of, begin_at, device_in, histories, order_in, orders_of, rest_after, used_in, value_at, idle_in}
 use Rattle.joint_rule.specs.Weights.{used_each}
 use Rattle.joint_rule.specs.Joint.{AtHome, KeepsDevice}
-use Rattle.joint_rule.specs.Rule.{OfOrder, Rule, ShowsOrder, done_by, dones, reach_at}
+use Rattle.joint_rule.specs.Rule.{OfOrder, Ruled, ShowsOrder, done_by, dones, reach_at}
 use Rattle.joint_rule.specs.Stages.{IsForm, is_wb}
 use Rattle.joint_rule.specs.Starts.{AtRest}
 use Rattle.joint_rule.specs.Weights.{Backs, Count, FailedReads, FailedWrites, Fixed, FreedPages, HugeWrites, Huges, Limit, News, OutOfRange, PackedBytes, Packs, Refusal, Sames, Weigh, cell_weight, claim_by, compactions, counter, device_faults, device_reads, each_one, ever_at, fails_so, faults_told, fetched_now, fetches_noted, fetches_told, fixed, fixed_count, freed_at, freed_by, loose_pools, measure, mosts, news_count, news_counter, news_of, none, noted, on_account, on_device, on_entry, on_pool, one, order_news, pages, refusal_count, refusal_counter, refusal_of, refusals, refused_by, stored, told_ahead, told_at}
@@ -43,7 +44,7 @@ use Rattle.plain_disk.specs.Calls.{after_all, calls_sum, ever_pooled, kept_as, m
 use Rattle.plain_disk.specs.Compactions.{IsLeast, pooled_pages, with_free}
 use Rattle.plain_disk.specs.Ends.{compacted, starved, tells_fault}
 use Rattle.plain_disk.specs.Forms.{is_pooled, of_class}
-use Rattle.plain_disk.specs.Phases.{IsMost, LeavesDevice, begun, bounds, held_after, nth_order, phase_sum, reach}
+use Rattle.plain_disk.specs.Phases.{FindsHeld, IsMost, LeavesDevice, bounds, calls_on, held_after, nth_order, phase_sum, reach}
 use Rattle.plain_disk.specs.Rests.{AreUsed, Rest, frames_of, kept_at, kept_pages, page_of}
 use Rattle.size_class.specs.Classes.{chain_of, per_of, stands_of}
 use Rattle.slot_entry.specs.Entries.{EntryState, weight_of, is_obj}
@@ -166,10 +167,12 @@ bytes_same f h a (suc n) e =
 
 -- ---- a finished phase
 
-module _ (r : Rest) (actors : List (List Op)) (ok : Known (begin_at r actors)) (w : State DiskHeld)
-    (rule : Rule (begin_at r actors) w) (fin : AllFinished (begin_at r actors) w) where
+module _ (r : Rest) (actors : List (List Op)) (finds : ℕ → Finds)
+    (ok : Known (finding (begin_at r actors) finds)) (w : State DiskHeld)
+    (rule : Ruled (finding (begin_at r actors) finds) w)
+    (fin : AllFinished (finding (begin_at r actors) finds) w) where
   abbrev g : Begin
-  g = begin_at r actors
+  g = finding (begin_at r actors) finds
 
   abbrev size : ℕ
   size = r.size
@@ -181,7 +184,7 @@ module _ (r : Rest) (actors : List (List Op)) (ok : Known (begin_at r actors)) (
   orders = orders_of size row
 
   abbrev m : Rest
-  m = rest_after r actors row
+  m = rest_after r actors finds row
 
   rest : AtRest g row
   rest = at_rest g w rule fin
@@ -272,6 +275,17 @@ module _ (r : Rest) (actors : List (List Op)) (ok : Known (begin_at r actors)) (
       (Some v.0) None v.1) ∙ (entries p lt).1 in cc) in
       subst (OfOrder (ShowsOrder g w.locals) p) q (rule.told.in_row p v.0 v.1)
 
+  -- the calls of a finished phase have found what is held, where they have to
+  pub finds_held : FindsHeld r actors orders finds
+  finds_held = record {
+    sectors = rule.finds.sectors;
+    honest = rule.finds.honest;
+    pooled = λ p at t lt is off s old.
+        let o = order_is p lt in
+        (shows p lt).finds at t (ap (λ (ts : List Tag). slice_get ts at) (sym o) ∙ is)
+        (ap (λ (ts : List Tag). back_at g p (take at ts)) (sym o) ∙ off) s old;
+  }
+
   -- ---- sums over entries and over pools
 
   others : (i : ℕ) → i < 3 → (f : ℕ → DiskHeld → ℕ) → ((x : Counters) (k : ℕ)
@@ -333,13 +347,15 @@ module _ (r : Rest) (actors : List (List Op)) (ok : Known (begin_at r actors)) (
   -- ---- the pages of the rest
 
   -- the page of the rest is the one that the calls leave
-  kept_same : (p : ℕ) → kept_as page_weight p (after_all actors (page_of r p) (nth_order orders p))
+  kept_same : (p : ℕ)
+      → kept_as page_weight p (after_all (calls_on g.given p) (page_of r p) (nth_order orders p))
       ≡ kept_as page_weight p (page_of m p)
-  kept_same p = ap (λ (bytes : List ℕ). cond (after_all actors (page_of r p)
+  kept_same p = ap (λ (bytes : List ℕ). cond (after_all (calls_on g.given p) (page_of r p)
       (nth_order orders p)).blank weight.Empty (page_weight bytes))
-      (bytes_same (after_all actors (page_of r p) (nth_order orders p)).holds m.holds (8 * p) 8
-      (λ s le lt. holds_after g (page_of r p) (nth_order orders p) s
-      ∙ ap (λ (q : ℕ). held_after (begun r actors) (nth_order orders q) s)
+      (bytes_same (after_all (calls_on g.given p) (page_of r p) (nth_order orders p)).holds m.holds
+      (8 * p) 8
+      (λ s le lt. holds_after g p (page_of r p) (nth_order orders p) s
+      ∙ ap (λ (q : ℕ). held_after g.given q (nth_order orders q) s)
       (let q : p ≡ s / 8 = omega arith in q)))
 
   form_weighs : (p : ℕ) (lt : p < size) → form_weight (form_at g p (entries p lt).0.order)
@@ -362,37 +378,39 @@ module _ (r : Rest) (actors : List (List Op)) (ok : Known (begin_at r actors)) (
       ∙ sym (range_map f (kept_at page_weight m) 0 size)
 
   calls_are : (q : News) → row_sum (noted g q) row ≡ phase_sum
-      (λ p. calls_sum (news_of q p) actors) r orders
+      (λ p. calls_sum (news_of q p) (calls_on g.given p)) r orders
   calls_are q = slots_sum (λ p k order. order_news g q p order)
-      (λ p. calls_sum (news_of q p) actors (page_of r p) (nth_order orders p))
+      (λ p. calls_sum (news_of q p) (calls_on g.given p) (page_of r p) (nth_order orders p))
       (λ p lt. ap (order_news g q p) (sym (order_is p lt)))
-      ∙ sym (range_by (λ p. calls_sum (news_of q p) actors (page_of r p) (nth_order orders p)) 0
-      size)
+      ∙ sym (range_by (λ p. calls_sum (news_of q p) (calls_on g.given p) (page_of r p)
+      (nth_order orders p)) 0 size)
 
-  fetches_are : row_sum (fetches_noted g) row ≡ phase_sum (λ p. calls_sum may_fetch actors) r orders
-  fetches_are = slots_sum (λ p k order. calls_sum may_fetch actors (page_of r p) order)
-      (λ p. calls_sum may_fetch actors (page_of r p) (nth_order orders p))
-      (λ p lt. ap (calls_sum may_fetch actors (page_of r p)) (sym (order_is p lt)))
-      ∙ sym (range_by (λ p. calls_sum may_fetch actors (page_of r p) (nth_order orders p)) 0 size)
+  fetches_are : row_sum (fetches_noted g) row
+      ≡ phase_sum (λ p. calls_sum may_fetch (calls_on g.given p)) r orders
+  fetches_are = slots_sum (λ p k order. calls_sum may_fetch (calls_on g.given p) (page_of r p) order)
+      (λ p. calls_sum may_fetch (calls_on g.given p) (page_of r p) (nth_order orders p))
+      (λ p lt. ap (calls_sum may_fetch (calls_on g.given p) (page_of r p)) (sym (order_is p lt)))
+      ∙ sym (range_by (λ p. calls_sum may_fetch (calls_on g.given p) (page_of r p)
+      (nth_order orders p)) 0 size)
 
   -- ---- bounds
 
-  reach_is : (reach_at g w).reach ≡ reach page_weight r actors orders
+  reach_is : (reach_at g w).reach ≡ reach page_weight r g.given orders
   reach_is =
       let a = total_split size (ever_at g) one w in
       let z = left_over (ever_at g) none (λ a l e. refl) in
       let s = slots_sum (λ p k order. ever g p order) (λ p.
-      cond (ever_pooled page_weight p actors (page_of r p) (nth_order orders p)) 1 0)
+      cond (ever_pooled page_weight p (calls_on g.given p) (page_of r p) (nth_order orders p)) 1 0)
       (λ p lt. ap (ever g p) (sym (order_is p lt))) in
-      let b = range_by (λ p. cond (ever_pooled page_weight p actors (page_of r p)
+      let b = range_by (λ p. cond (ever_pooled page_weight p (calls_on g.given p) (page_of r p)
       (nth_order orders p)) 1 0) 0 size in
       let d = count_locals w.locals in let h = rule.joint.actors in omega arith
 
   faults_are : (reach_at g w).faults ≡ m.device.faults
   faults_are = left_over device_faults none (λ a l e. refl) ∙ device_weighs (λ d. d.faults)
 
-  pub agree : Agree (ground_of g) (bounds page_weight r actors orders m.device.faults)
-      (begun r actors) (histories w.locals) orders
+  pub agree : Agree (ground_of g) (bounds page_weight r g.given orders m.device.faults)
+      g.given (histories w.locals) orders
   agree = record {
     count = length-map w.locals (λ (l : Here). l.done) ∙ rule.joint.actors;
     follows = λ a ops done named_ops is.
@@ -406,7 +424,7 @@ module _ (r : Rest) (actors : List (List Op)) (ok : Known (begin_at r actors)) (
     turns = λ p a lt. ap (ops_of a) (order_is p lt) ∙ (shows p lt).shows.turns a
         ∙ ap (noted_on p) (sym (history_at w.locals a));
     reads = λ a i d at lt stands.
-        subst (IsTold (begun r actors) a d) (sym (order_is d.part.page lt))
+        subst (IsTold g.given a d) (sym (order_is d.part.page lt))
         ((shows d.part.page lt).shows.reads a i d (ap (λ (ds : List Done). slice_get ds i)
         (sym (history_at w.locals a)) ∙ at)
         (and_from (eqb d.part.page d.part.page) (stands_so d.part.op d.end)
@@ -519,7 +537,7 @@ module _ (r : Rest) (actors : List (List Op)) (ok : Known (begin_at r actors)) (
       ∙ sym (dones_are compacted w.locals))
 
   news_are : (q : News) → news_count q c ≡ at_most_end (news_count q g.was + phase_sum
-      (λ p. calls_sum (news_of q p) actors) r orders)
+      (λ p. calls_sum (news_of q p) (calls_on g.given p)) r orders)
   news_are q = sym (account_weighs (news_count q)) ∙ sym
       (left_over (news_counter q) none (λ a l e. refl)) ∙ rule.news q
       ∙ ap (λ (n : ℕ). at_most_end (news_count q g.was + n)) (
@@ -546,7 +564,8 @@ module _ (r : Rest) (actors : List (List Op)) (ok : Known (begin_at r actors)) (
       (rest.home (size + 257) (holds.Device device.0) device.1).sound.1
 
   leaves_device : LeavesDevice r.device m.device
-      (phase_sum (λ p. calls_sum may_fetch actors) r orders + dones_sum starved (histories w.locals))
+      (phase_sum (λ p. calls_sum may_fetch (calls_on g.given p)) r orders
+      + dones_sum starved (histories w.locals))
   leaves_device = let k = keeps_device in record {
     same = k.same;
     blocks = k.blocks;
@@ -569,7 +588,7 @@ module _ (r : Rest) (actors : List (List Op)) (ok : Known (begin_at r actors)) (
   pages_weigh : total (spot size) pages none w ≡ frames_of r.set.chain m.used
   pages_weigh = left_over pages none (λ a l e. refl) ∙ account_weighs (λ x. x.pages) ∙ frames_right
 
-  most_is : IsMost r (reach page_weight r actors orders) c.most m.used
+  most_is : IsMost r (reach page_weight r g.given orders) c.most m.used
   most_is = record {
     now = le_by pages_weigh most_weighs rule.most.now;
     before = le_by refl most_weighs rule.most.before;
@@ -623,13 +642,13 @@ module _ (r : Rest) (actors : List (List Op)) (ok : Known (begin_at r actors)) (
       ∙ sym (range_map pooled_one (kept_at page_weight m) 0 size)
 
   alone_is : (done : List Done) → histories w.locals ≡ done ∷ []
-      → IsAloneOver page_weight r done m
+      → IsAloneOver page_weight r finds done m
   alone_is done is =
       let l = lone_history w.locals done is in
       let who : slice_get w.locals 0 ≡ Some l.0 = ap (λ (ls : List Here). slice_get ls 0) l.1 in
       let o = rule.alone l.0 l.1 in
       let c = o.calm (ap (λ (ps : List Part). is_calm ps l.0.at) (over g w rule fin 0 l.0 who)) in
-      subst (λ (ds : List Done). IsAloneOver page_weight r ds m) l.2 (record {
+      subst (λ (ds : List Done). IsAloneOver page_weight r finds ds m) l.2 (record {
         still = o.still;
         marks = o.ages.marks;
         idle = λ p lt. ages_end g w rule fin l.0 l.1 p lt;
@@ -650,7 +669,7 @@ module _ (r : Rest) (actors : List (List Op)) (ok : Known (begin_at r actors)) (
         only = λ none idle. let z = mark.only none (sym is ∙ idle) in (order ∙ z.0, z.1);
       }
 
-  pub tallies : Tallies page_weight r actors (histories w.locals) orders c m
+  pub tallies : Tallies page_weight r g.given (histories w.locals) orders c m
   tallies = record {
     pages = record {
       size = refl;

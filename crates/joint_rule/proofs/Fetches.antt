@@ -11,6 +11,7 @@ use Rattle.joint_rule.proofs.Events.{Event}
 use Rattle.joint_rule.proofs.Facts.{Known}
 use Rattle.joint_rule.proofs.Gifts.{is_named, stage}
 use Rattle.joint_rule.proofs.Givings.{event_is, given_lock}
+use Rattle.plain_disk.specs.Phases.{calls_on}
 use Rattle.joint_rule.proofs.News.{push_sum}
 use Rattle.joint_rule.proofs.Sums.{gone, total_split}
 use Rattle.joint_rule.specs.Begins.{Begin, found, terms}
@@ -181,19 +182,21 @@ module _ (g : Begin) (ok : Known g) (w : State DiskHeld) (j : Joint g w) (a : �
     notes_so p rest e f end got todo at at_is held k_is order le =
         let r = ap (held_sum (spot n) device_reads) held in
         let s = ap (held_sum (spot n) (fetches_noted g)) held in
-        let noted : ℕ → List Tag → ℕ = λ i o. calls_sum may_fetch g.given.actors (found g i) o in
+        let noted : ℕ → List Tag → ℕ = λ i o.
+        calls_sum may_fetch (calls_on g.given i) (found g i) o in
         let z : fetches_noted g (spot n k) (holds.Slot f)
         ≡ noted p.page (e.order ++ tag_by l.actor p ∷ []) =
         (λ i. noted (spot n (k_is i)) (order i)) in
-        let x = push_sum may_fetch g.given.actors (found g p.page) e.order (tag_by l.actor p) in
+        let x = push_sum may_fetch (calls_on g.given p.page) (found g p.page) e.order
+        (tag_by l.actor p) in
         let y = ap (λ (o : Option Op). may_fetch o
-        (after_all g.given.actors (found g p.page) e.order)
-        (after (named g.given.actors (tag_by l.actor p))
-        (after_all g.given.actors (found g p.page) e.order)))
+        (after_all (calls_on g.given p.page) (found g p.page) e.order)
+        (after (named g.given.actors (tag_by l.actor p)) (g.given.finds p.page (tag_by l.actor p))
+        (after_all (calls_on g.given p.page) (found g p.page) e.order)))
         (is_named g ok w j a l who p rest todo) in
-        let c = call_looks p.op (after_all g.given.actors (found g p.page) e.order)
-        (after (named g.given.actors (tag_by l.actor p))
-        (after_all g.given.actors (found g p.page) e.order)) in
+        let c = call_looks p.op (after_all (calls_on g.given p.page) (found g p.page) e.order)
+        (after (named g.given.actors (tag_by l.actor p)) (g.given.finds p.page (tag_by l.actor p))
+        (after_all (calls_on g.given p.page) (found g p.page) e.order)) in
         ends_so p rest end got todo at at_is (omega arith)
 
     slot_is : (p : Part) → Give (slot p.page) ≡ Give k → k ≡ slot p.page

@@ -1,5 +1,6 @@
 -- What an actor takes fits it.
-use Rattle.std.proofs.Common.{◌≡◌, ◌+◌, ◌*◌, ◌-◌, ◌/◌, ◌≤◌, ◌<◌, ◌∷◌, ◌++◌, ◌∙◌, ℕ, zero, suc, Bool, true, false, cond, eqb, List, [], map, length, sum_by, Option, Some, None, get_or, slice_get, refl, sym, ap, subst, arith, inl, inr}
+use Rattle.bdi_page.specs.Packing.{IsPage}
+use Rattle.std.proofs.Common.{◌≡◌, ◌+◌, ◌*◌, ◌-◌, ◌/◌, ◌≤◌, ◌<◌, ◌∷◌, ◌∙◌, ℕ, zero, suc, Bool, true, false, cond, eqb, List, [], map, length, sum_by, Option, Some, None, get_or, slice_get, refl, sym, ap, subst, arith, inl, inr}
 use Rattle.zr_base.specs.declared.op.Op.TheVariants.{Compact, Discard, Idle, Read, Write}
 use Rattle.zr_base.specs.declared.op.Op.{Op}
 use Rattle.plain_disk.specs.Phases.{touched_by}
@@ -21,17 +22,17 @@ use Rattle.joint_rule.proofs.Gets.{at_home, count_locals, few_objects, is_lower,
 use Rattle.joint_rule.proofs.Gifts.{all, is_named, next_small, old_is, stage}
 use Rattle.joint_rule.proofs.Keeps.{take_keeps}
 use Rattle.joint_rule.proofs.Lookups.{can_repay, has_counted, none_weight, object_is, pin_out}
-use Rattle.joint_rule.proofs.Pages.{content_page, ever_one, form_low, form_next, image_form, image_len}
+use Rattle.joint_rule.proofs.Pages.{content_page, ever_one, form_low, next_whole, image_form, image_len}
 use Rattle.joint_rule.proofs.Pools.{bit, chain_low, ones, same_pin_is}
 use Rattle.joint_rule.proofs.Rests.{no_held}
 use Rattle.joint_rule.proofs.Stages.{OnDisk, old_low, on_disk, write_changes}
 use Rattle.joint_rule.proofs.Sums.{get_here, gone, locals_le, locals_mono, row_le, total_mono, total_split}
 use Rattle.joint_rule.proofs.Places.{IsAccount, IsDevice, IsEntry, IsMap, IsPoolOf, account_kind, class_kind, device_kind, entry_kind, map_kind}
 use Rattle.joint_rule.proofs.Tells.{once}
-use Rattle.joint_rule.specs.Begins.{Begin, content, form_at, form_by, ground_of, piece_on, pieces_on, terms}
+use Rattle.joint_rule.specs.Begins.{Begin, content, form_at, ground_of, piece_on, pieces_on, terms}
 use Rattle.joint_rule.specs.Joint.{AtHome, IsActor, Joint, PoolFits, Sound}
-use Rattle.joint_rule.specs.Rule.{OfOrder, Rule, ShowsOrder, owed, owed_by}
-use Rattle.joint_rule.specs.Stages.{Changes, CountAt, GoneBy, IsForm, IsPinned, IsRight, IsSmall, MayPin, Names, NoneOf, Stage, StageBy, locks_at, locks_by}
+use Rattle.joint_rule.specs.Rule.{OfOrder, Ruled, ShowsOrder, owed, owed_by}
+use Rattle.joint_rule.specs.Stages.{Changes, CountAt, GoneBy, IsForm, IsPinned, IsRight, IsSmall, MayPin, Names, NoneOf, Stage, StageBy, locks_at, locks_by, MaySeeOther}
 use Rattle.joint_rule.specs.Weights.{Backs, Count, HeldAll, Huges, PackedBytes, Packs, Sames, ahead, behind, cell_weight, counter, counters, each_one, ever_at, measure, none, one, out_weight, pages, pin_in, same_pin, shown, stored}
 use Rattle.lock_row.specs.Totals.{by_option, held_sum, locals_sum, mass, total}
 use Rattle.lock_row.specs.declared.names.At.{At}
@@ -47,7 +48,7 @@ use Rattle.mem_account.specs.declared.weight.Weight.{Weight}
 use Rattle.page_steps.specs.Compactions.{repaid}
 use Rattle.page_steps.specs.Fits.{AsAccount, AsBlocks, AsDevice, AsPool, AsSlot, CanCharge, CanPay, CanPin, CanStore, FetchFits, FitsAt, FitsBy, FreeFits, HasPlace, IsKept, PinFits, PinnedFits, ReleaseFits, StageFits, StartFits, StoreFits, SweepFits, cell_of, FirstFits, ScanFits}
 use Rattle.page_steps.specs.Givings.{old_weight}
-use Rattle.page_steps.specs.Pages.{new_class, next_form, page_in}
+use Rattle.page_steps.specs.Pages.{new_class, next_form, page_in, page_after}
 use Rattle.page_steps.specs.Steps.{DiskHeld, Here, class_by, entry_in, lock_of, on, plan, plan_at, plan_by, slot, spot, start_plan, took, first_lock}
 use Rattle.plain_disk.specs.Ends.{is_single}
 use Rattle.size_class.specs.Classes.{class_size}
@@ -266,7 +267,7 @@ module _ (g : Begin) (ok : Known g) (w : State DiskHeld) (j : Joint g w) where
 
 -- ---- what is taken
 
-module _ (g : Begin) (ok : Known g) (w : State DiskHeld) (r : Rule g w) (a : ℕ) (l : Here)
+module _ (g : Begin) (ok : Known g) (w : State DiskHeld) (r : Ruled g w) (a : ℕ) (l : Here)
     (who : slice_get w.locals a ≡ Some l) (k : LockNo) (v : DiskHeld)
     (there : slice_get w.row (spot g.given.size k) ≡ Some (Some v))
     (what : plan (terms g) l ≡ Take k) where
@@ -530,40 +531,31 @@ module _ (g : Begin) (ok : Known g) (w : State DiskHeld) (r : Rule g w) (a : ℕ
         free_fits k_is (Some x) e_pin i (kept.Obj o) is = lent_fits k_is x e_pin i
 
       -- the pool of the new object
-      module _ (right : IsRight p.op p.page (page_in l.page e.kept) (content g p.page e.order))
+      module _ (right : IsRight (MaySeeOther g p.page e.order) p.op p.page (page_in l.page e.kept)
+          (content g p.page e.order))
           (changes : Changes p.op) where
-        order_now : List Tag
-        order_now = e.order ++ tag_by l.actor p ∷ []
+        abbrev left_page : List ℕ
+        left_page = page_after p (page_in l.page e.kept)
 
-        form_is : form_at g p.page order_now ≡ next_form p l.page e.kept
-        unfolding order_now
-        form_is = form_next g ok p e.order (tag_by l.actor p)
-            (is_named g ok w r.joint a l who p rest todo) (page_in l.page e.kept) changes right
-
-        bytes_fit : (bytes : List ℕ) (huge : Bool) (c : ℕ)
-            → form_of (content g p.page order_now) ≡ Pooled bytes huge
-            → c ≡ object_class g.chain bytes huge
+        bytes_fit : (bytes : List ℕ) (huge : Bool) (c : ℕ) → IsPage left_page
+            → form_of left_page ≡ Pooled bytes huge → c ≡ object_class g.chain bytes huge
             → CellFits (length bytes) (class_size c)
-        bytes_fit bytes true c f c_is =
-            let b = ok.facts.huge_page (content g p.page order_now) bytes
-            (content_page g ok p.page order_now) f in
-            let long : length bytes ≡ 4096 = ap length b ∙ (content_page g ok p.page order_now).0 in
+        bytes_fit bytes true c whole f c_is =
+            let b = ok.facts.huge_page left_page bytes whole f in
+            let long : length bytes ≡ 4096 = ap length b ∙ whole.0 in
             let h : header_size (length bytes) ≡ 0 = ap header_size long in omega arith
-        bytes_fit bytes false c f c_is =
-            let s = ok.facts.packed_short (content g p.page order_now) bytes
-            (content_page g ok p.page order_now) f in
+        bytes_fit bytes false c whole f c_is =
+            let s = ok.facts.packed_short left_page bytes whole f in
             let h = header_small (length bytes) in let x = packed_fits g.chain (length bytes) s in
             let y = ap class_size c_is in omega arith
 
-        written : (b : Bool) (f : PageForm) (bytes : List ℕ) (huge : Bool)
-            → form_by b f ≡ Pooled bytes huge → f ≡ Pooled bytes huge
-        written true f bytes huge i = absurd (let q : Blank ≡ Pooled bytes huge = i in cc)
-        written false f bytes huge i = i
-
-        form_there : (bytes : List ℕ) (huge : Bool) → form_at g p.page order_now ≡ Pooled bytes huge
-            → form_of (content g p.page order_now) ≡ Pooled bytes huge
-        unfolding form_at
-        form_there bytes huge i = written _ _ bytes huge i
+        leaves_object : (bytes : List ℕ) (huge : Bool)
+            → next_form p l.page e.kept ≡ Pooled bytes huge
+            → IsPage left_page × (form_of left_page ≡ Pooled bytes huge)
+        leaves_object = next_whole g ok p (tag_by l.actor p)
+            (is_named g ok w r.joint a l who p rest todo) (MaySeeOther g p.page e.order)
+            (page_in l.page e.kept) (content g p.page e.order) (content_page g ok p.page e.order)
+            changes right
 
         store_fits : (f : PageForm) → next_form p l.page e.kept ≡ f
             → k ≡ lock.Class (class_in g.chain f) → StoreFits g.chain f v
@@ -580,7 +572,8 @@ module _ (g : Begin) (ok : Known g) (w : State DiskHeld) (r : Rule g w) (a : ℕ
             let is_q : stored each_one (spot n k) v ≡ sum_by (cell_weight (each_one q.class))
             (used_cells q.zspages) = ap (stored each_one (spot n k)) v_is in
             let len = ones (used_cells q.zspages) (cell_weight (each_one q.class)) (λ u. refl) in
-            let b = bytes_fit bytes huge q.class (form_there bytes huge (form_is ∙ f_is))
+            let object = leaves_object bytes huge f_is in
+            let b = bytes_fit bytes huge q.class object.0 object.1
             (let z = s.0 in omega arith) in
             let lim = ok.proper.few in let acts = same_actors in record {
               pool = s.1.pool;
@@ -626,7 +619,8 @@ module _ (g : Begin) (ok : Known g) (w : State DiskHeld) (r : Rule g w) (a : ℕ
               omega arith
 
         pay_fits : Changes p.op → GoneBy l.ahead e.kept → NoneOf l.behind
-            → IsRight p.op p.page (page_in l.page e.kept) (content g p.page e.order)
+            → IsRight (MaySeeOther g p.page e.order) p.op p.page (page_in l.page e.kept)
+            (content g p.page e.order)
             → AsAccount (CanPay l.owed (old_weight l.ahead e.kept)
             (form_weight (next_form p l.page e.kept))) v
         pay_fits changes gone_by quiet right = as_account _ v account_is (λ c v_is.

@@ -14,7 +14,7 @@ use Rattle.joint_rule.proofs.Rests.{no_todo}
 use Rattle.joint_rule.proofs.Stages.{OnDisk, old_low, on_disk}
 use Rattle.joint_rule.proofs.Starts.{none_first}
 use Rattle.joint_rule.proofs.Sums.{locals_le, row_le, some_local}
-use Rattle.joint_rule.specs.Begins.{Begin, ground_of, terms}
+use Rattle.joint_rule.specs.Begins.{Begin, finding, ground_of, terms}
 use Rattle.joint_rule.specs.Joint.{IsActor, Joint, Sound}
 use Rattle.joint_rule.specs.Laws.{CanMove, gives, takes, IsLock}
 use Rattle.joint_rule.specs.Stages.{Stage, locks_at, locks_by}
@@ -30,7 +30,7 @@ use Rattle.page_steps.specs.Pages.{new_class, next_form}
 use Rattle.page_steps.specs.Steps.{DiskHeld, Here, class_by, entry_in, plan, plan_at, plan_by, slot, spot, start_plan, first_lock}
 use Rattle.slot_entry.specs.Forms.{class_in}
 use Rattle.std.proofs.lemmas.Bool.{or_from}
-use Rattle.zr_base.specs.Plain.{is_beyond, is_maintenance}
+use Rattle.zr_base.specs.Plain.{Finds, is_beyond, is_maintenance}
 use Rattle.lock_row.specs.declared.names.LockNo.TheVariants as lock
 use Rattle.lock_row.specs.declared.names.Held.TheVariants as holds
 
@@ -525,3 +525,9 @@ module _ (g : Begin) (ok : Known g) (w : State DiskHeld) (j : Joint g w) where
   pub free : (a : ℕ) (l : Here) → slice_get w.locals a ≡ Some l → (plan (terms g) l ≡ Finished → ⊥)
       → CanMove g w
   free a l who go = by_plan (n + 258) a l who (plan (terms g) l) refl go (λ k is. omega arith)
+
+-- who can move doesn't hang on what calls find
+pub moves_so : (g : Begin) (finds : ℕ → Finds) (w : State DiskHeld) → CanMove (finding g finds) w
+    → CanMove g w
+moves_so g finds w (takes a l k v who what there) = takes a l k v who what there
+moves_so g finds w (gives a l k who what there) = gives a l k who what there

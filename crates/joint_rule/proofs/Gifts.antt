@@ -9,12 +9,12 @@ use Rattle.joint_rule.proofs.Balances.{invalid_count, invalid_fixed, none_fresh,
 use Rattle.joint_rule.proofs.Blocks.{Balanced, Storage, apart, entry_back, no_block, no_lies}
 use Rattle.joint_rule.proofs.Facts.{Known}
 use Rattle.joint_rule.proofs.Lookups.{none_weight, nothing_shown, sound}
-use Rattle.joint_rule.proofs.Pages.{back_change, back_read, content_read, ever_up, form_next, form_read, form_small}
+use Rattle.joint_rule.proofs.Pages.{back_change, back_read, content_read, ever_up, form_next, form_read, next_light, content_page, LeavesSo}
 use Rattle.joint_rule.proofs.Stages.{on_disk}
 use Rattle.joint_rule.specs.Begins.{AreCarried, Begin, HasEvent, back_at, content, ever, form_at, ground_of, image}
 use Rattle.joint_rule.specs.Joint.{AtHome, EntryFits, IsActor, Joint, Sound}
 use Rattle.joint_rule.specs.Rule.{owed}
-use Rattle.joint_rule.specs.Stages.{Changes, FailBy, GoneBy, IsForm, IsRight, IsSmall, Looks, NoObj, NoneOf, Stage, StageBy, is_wb, locks_at, locks_by, MayIdle}
+use Rattle.joint_rule.specs.Stages.{Changes, FailBy, GoneBy, IsForm, IsRight, IsSmall, Looks, NoObj, NoneOf, Stage, StageBy, is_wb, locks_at, locks_by, MayIdle, MaySeeOther}
 use Rattle.joint_rule.specs.Weights.{Count, Fixed, HeldAll, Limit, PackedBytes, PinWeigh, Weigh, ahead, at_place, behind, block_by, chains, claim_by, claims, counters, each_one, ever_at, fixed, fresh_claim, lies_by, measure, mosts, none, nothing, object_weight, one, outs, owing, pages, pinned, shown, some_of, stored}
 use Rattle.lock_row.specs.Totals.{by_option, held_sum, mass}
 use Rattle.lock_row.specs.declared.names.At.{At}
@@ -234,11 +234,12 @@ module _ (g : Begin) (ok : Known g) (w : State DiskHeld) (j : Joint g w) (a : �
       ∙ ok.facts.named (ground_of g) n fit.ops l.done p rest next
 
   -- what the piece leaves weighs little
-  pub next_small : (e : EntryState) → Changes p.op → IsRight p.op p.page (page_in l.page e.kept)
+  pub next_small : (e : EntryState) → Changes p.op
+      → IsRight (MaySeeOther g p.page e.order) p.op p.page (page_in l.page e.kept)
       (content g p.page e.order) → IsSmall (form_weight (next_form p l.page e.kept))
-  next_small e c right = subst (λ (f : PageForm). IsSmall (form_weight f))
-      (form_next g ok p e.order (tag_by l.actor p) is_named (page_in l.page e.kept) c right)
-      (form_small g ok p.page (e.order ++ tag_by l.actor p ∷ []))
+  next_small e c right = next_light g ok p (tag_by l.actor p) is_named
+      (MaySeeOther g p.page e.order) (page_in l.page e.kept) (content g p.page e.order)
+      (content_page g ok p.page e.order) c right
 
   -- ---- beyond the disk
 
@@ -311,7 +312,8 @@ module _ (g : Begin) (ok : Known g) (w : State DiskHeld) (j : Joint g w) (a : �
     }
 
     module _ (at : l.at ≡ Ready) (notes : Notes g.clock e f
-        (kept_by (next_form p l.page e.kept) l.fresh) (tag_by l.actor p)) where
+        (kept_by (next_form p l.page e.kept) l.fresh) (tag_by l.actor p))
+        (same : LeavesSo g p (e.order ++ tag_by l.actor p ∷ []) p.op (page_in l.page e.kept)) where
       sr : Stage g p e Ready l.fresh l.pin l.owed l.ahead l.behind l.page l.fail
       sr = stage _ Ready held at
 
@@ -320,7 +322,7 @@ module _ (g : Begin) (ok : Known g) (w : State DiskHeld) (j : Joint g w) (a : �
 
       form_now : form_at g p.page f.order ≡ form
       form_now = ap (form_at g p.page) notes.order ∙ form_next g ok p e.order
-          (tag_by l.actor p) is_named (page_in l.page e.kept) sr.kind.0 sr.right
+          (tag_by l.actor p) is_named (page_in l.page e.kept) sr.kind.0 same
 
       put_stands : IsForm g.chain (form_at g p.page f.order) f.kept
       put_stands = subst (λ (x : PageForm × Kept). IsForm g.chain x.0 x.1)

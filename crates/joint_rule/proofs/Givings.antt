@@ -7,6 +7,7 @@ use Rattle.joint_rule.proofs.Accounts.{give_counts, give_repays}
 use Rattle.joint_rule.proofs.Compactions.{give_closes, give_moves, give_shrinks, give_sweeps}
 use Rattle.joint_rule.proofs.Device.{give_errs, give_fetches, give_leaves, give_misses, give_releases}
 use Rattle.joint_rule.proofs.Events.{Event}
+use Rattle.joint_rule.proofs.Chosen.{Chosen}
 use Rattle.joint_rule.proofs.Facts.{Known}
 use Rattle.joint_rule.proofs.Gifts.{Gift, give_fails, give_puts, give_reads, give_refuses, locks}
 use Rattle.joint_rule.proofs.Objects.{give_charges, give_frees, give_pins, give_quits, give_refused, give_stows, give_unpins, limit_refusal, memory_refusal}
@@ -56,97 +57,97 @@ module _ (g : Begin) (ok : Known g) (w : State DiskHeld) (j : Joint g w) (a : �
   new_lock c d xs ys e f = (let q : lock.Class c ≡ lock.Class d = cc in q)
       ∙ given_lock (lock.Class d) f
 
-  pub gift : Event g l v m → Gift g a l k v m
-  gift (event.refuses p rest c todo at held v_is m_is) =
+  pub gift : (ev : Event g l v m) → Chosen g l v m ev → Gift g a l k v m
+  gift (event.refuses p rest c todo at held v_is m_is) chosen =
       at_lock _ lock.Account _ (given_lock lock.Account (event_is p rest _ Refusing todo held at))
       v_is m_is (give_refuses g ok w j a l who p rest todo c at held)
   gift (event.pins p rest e o q q' u u' cell todo at held is sw named_u free taken is_cell in_cell
-      lk v_is m_is) =
+      lk v_is m_is) chosen =
       at_lock _ (lock.Class o.class) _ (old_lock e.kept o is
       (event_is p rest _ Pinning todo held at)) v_is m_is
       (give_pins g ok w j a l who p rest todo e o q held is q' u u' sw named_u cell at free
       taken is_cell in_cell)
-  gift (event.unpins p rest e o q q' u u' todo at held is sw named_u taken free lk v_is m_is) =
+  gift (event.unpins p rest e o q q' u u' todo at held is sw named_u taken free lk v_is m_is) chosen =
       at_lock _ (lock.Class o.class) _ (old_lock e.kept o is
       (event_is p rest _ Unpinning todo held at)) v_is m_is
       (give_unpins g ok w j a l who p rest todo e o q held is q' u u' sw named_u at taken free)
   gift (event.charges p rest e c q q' cl h need bytes huge todo at held is_form is_class within al
-      v_is m_is) =
+      v_is m_is) chosen =
       at_lock _ lock.Account _ (given_lock lock.Account (event_is p rest _ Both todo held at)) v_is
       m_is (give_charges g ok w j a l who p rest todo e c q cl at held q' h need bytes huge
       is_form is_class within al)
-  gift (event.limits p rest e c q cl need todo at held is_need past v_is m_is) =
+  gift (event.limits p rest e c q cl need todo at held is_need past v_is m_is) chosen =
       at_lock _ lock.Account _ (given_lock lock.Account (event_is p rest _ Both todo held at)) v_is
       m_is (give_refused g ok w j a l who p rest todo e c q cl at held
       (AtLimit c.pages need c.limit) (limit_refusal g ok w j a l who p rest todo e c q cl at
       held need is_need past))
-  gift (event.starves p rest e c q cl todo at held v_is m_is) =
+  gift (event.starves p rest e c q cl todo at held v_is m_is) chosen =
       at_lock _ lock.Account _ (given_lock lock.Account (event_is p rest _ Both todo held at)) v_is
       m_is (give_refused g ok w j a l who p rest todo e c q cl at held NoMemory
       (memory_refusal g ok w j a l who p rest todo e c q cl at held))
-  gift (event.stows p rest e q cl todo at held well v_is m_is) =
+  gift (event.stows p rest e q cl todo at held well v_is m_is) chosen =
       at_lock _ (lock.Class cl) _ (new_lock cl _ _ _ (locks g ok w j a l who p rest todo _ Made held
       at) (event_is p rest _ Made todo held at)) v_is m_is
       (give_stows g ok w j a l who p rest todo e q cl at held well)
-  gift (event.quits p rest e q cl x todo at held bad v_is m_is) =
+  gift (event.quits p rest e q cl x todo at held bad v_is m_is) chosen =
       at_lock _ (lock.Class cl) _ (new_lock cl _ _ _ (locks g ok w j a l who p rest todo _ Made held
       at) (event_is p rest _ Made todo held at)) v_is m_is
       (give_quits g ok w j a l who p rest todo e q cl at held x bad)
-  gift (event.frees p rest e o q q' frames todo at held is fp v_is m_is) =
+  gift (event.frees p rest e o q q' frames todo at held is fp v_is m_is) chosen =
       at_lock _ (lock.Class o.class) _ (old_lock e.kept o is
       (event_is p rest _ Freeing todo held at)) v_is m_is
       (give_frees g ok w j a l who p rest todo e o q held is q' frames fp at)
-  gift (event.repays p rest e c todo at held v_is m_is) =
+  gift (event.repays p rest e c todo at held v_is m_is) chosen =
       at_lock _ lock.Account _ (given_lock lock.Account (event_is p rest _ Giving todo held at))
       v_is m_is (give_repays g ok w j a l who p rest todo e c at held)
-  gift (event.puts p rest e f todo at held notes v_is m_is) =
+  gift (event.puts p rest e f todo at held notes v_is m_is) chosen =
       at_lock _ (slot p.page) _ (given_lock (slot p.page) (event_is p rest _ Ready todo held at))
-      v_is m_is (give_puts g ok w j a l who p rest todo e f held at notes)
-  gift (event.reads p rest e f todo at held well notes v_is m_is) =
+      v_is m_is (give_puts g ok w j a l who p rest todo e f held at notes chosen.leaves)
+  gift (event.reads p rest e f todo at held well notes v_is m_is) chosen =
       at_lock _ (slot p.page) _ (given_lock (slot p.page) (event_is p rest _ Leaving todo held at))
       v_is m_is (give_reads g ok w j a l who p rest todo e f held at well notes)
-  gift (event.fails p rest e x todo at held bad v_is m_is) =
+  gift (event.fails p rest e x todo at held bad v_is m_is) chosen =
       at_lock _ (slot p.page) _ (given_lock (slot p.page) (event_is p rest _ Leaving todo held at))
       v_is m_is (give_fails g ok w j a l who p rest todo e e held at x bad)
-  gift (event.fetches p rest e b d d' page todo at held is read is_page v_is m_is) =
+  gift (event.fetches p rest e b d d' page todo at held is read is_page v_is m_is) chosen =
       at_lock _ lock.Device _ (given_lock lock.Device (event_is p rest _ Fetching todo held at))
-      v_is m_is (give_fetches g ok w j a l who p rest todo e b d d' at held is page read)
-  gift (event.misses p rest e b d d' fault todo at held is failed v_is m_is) =
+      v_is m_is (give_fetches g ok w j a l who p rest todo e b d d' at held is page read is_page)
+  gift (event.misses p rest e b d d' fault todo at held is failed v_is m_is) chosen =
       at_lock _ lock.Device _ (given_lock lock.Device (event_is p rest _ Fetching todo held at))
       v_is m_is (give_misses g ok w j a l who p rest todo e b d d' at held is fault failed)
-  gift (event.counts p rest e c todo at held v_is m_is) =
+  gift (event.counts p rest e c todo at held v_is m_is) chosen =
       at_lock _ lock.Account _ (given_lock lock.Account (event_is p rest _ Counting todo held at))
       v_is m_is (give_counts g ok w j a l who p rest todo e c at held)
-  gift (event.errs p rest e f x todo at held bad a_read notes v_is m_is) =
+  gift (event.errs p rest e f x todo at held bad a_read notes v_is m_is) chosen =
       at_lock _ (slot p.page) _ (given_lock (slot p.page) (event_is p rest _ Missed todo held at))
       v_is m_is (give_errs g ok w j a l who p rest todo e f at held x bad a_read notes)
-  gift (event.leaves p rest e x todo at held bad other v_is m_is) =
+  gift (event.leaves p rest e x todo at held bad other v_is m_is) chosen =
       at_lock _ (slot p.page) _ (given_lock (slot p.page) (event_is p rest _ Missed todo held at))
       v_is m_is (give_leaves g ok w j a l who p rest todo e e at held x bad)
-  gift (event.releases p rest e b x todo at held is v_is m_is) =
+  gift (event.releases p rest e b x todo at held is v_is m_is) chosen =
       at_lock _ lock.Blocks _ (given_lock lock.Blocks (event_is p rest _ Releasing todo held at))
       v_is m_is (give_releases g ok w j a l who p rest todo e b x at held is)
-  gift (event.scans p rest age x e todo op at held other v_is m_is) =
+  gift (event.scans p rest age x e todo op at held other v_is m_is) chosen =
       at_lock _ (slot x.page) _ (given_lock (slot x.page)
       (event_is p rest _ (Marking x) todo held at)) v_is m_is
       (give_scans g ok w j a l who p rest todo age op x e at held other)
-  gift (event.stops p rest age x e todo op at held last v_is m_is) =
+  gift (event.stops p rest age x e todo op at held last v_is m_is) chosen =
       at_lock _ (slot x.page) _ (given_lock (slot x.page)
       (event_is p rest _ (Marking x) todo held at)) v_is m_is
       (give_stops g ok w j a l who p rest todo age op x e at held)
-  gift (event.moves p rest x q q' u u' budget frames todo at held sh some one v_is m_is) =
+  gift (event.moves p rest x q q' u u' budget frames todo at held sh some one v_is m_is) chosen =
       at_lock _ (lock.Class x.class) _ (given_lock (lock.Class x.class)
       (event_is p rest _ (Moving x) todo held at)) v_is m_is
       (give_moves g ok w j a l who p rest todo x q at held q' u u' frames sh budget)
-  gift (event.sweeps p rest x q todo at held stuck other v_is m_is) =
+  gift (event.sweeps p rest x q todo at held stuck other v_is m_is) chosen =
       at_lock _ (lock.Class x.class) _ (given_lock (lock.Class x.class)
       (event_is p rest _ (Moving x) todo held at)) v_is m_is
       (give_sweeps g ok w j a l who p rest todo x q at held)
-  gift (event.closes p rest x q todo at held stuck last v_is m_is) =
+  gift (event.closes p rest x q todo at held stuck last v_is m_is) chosen =
       at_lock _ (lock.Class x.class) _ (given_lock (lock.Class x.class)
       (event_is p rest _ (Moving x) todo held at)) v_is m_is
       (give_closes g ok w j a l who p rest todo x q at held)
-  gift (event.shrinks p rest x c todo at held v_is m_is) =
+  gift (event.shrinks p rest x c todo at held v_is m_is) chosen =
       at_lock _ lock.Account _ (given_lock lock.Account
       (event_is p rest _ (Shrinking x) todo held at)) v_is m_is
       (give_shrinks g ok w j a l who p rest todo x c at held)

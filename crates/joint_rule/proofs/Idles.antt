@@ -6,7 +6,7 @@ use Rattle.joint_rule.proofs.Rests.{at_rest, over}
 use Rattle.joint_rule.specs.Alone.{IsAged, aged_done, scanned_by}
 use Rattle.joint_rule.specs.Begins.{Begin}
 use Rattle.joint_rule.specs.Ends.{AllFinished, idle_in, value_at}
-use Rattle.joint_rule.specs.Rule.{Rule}
+use Rattle.joint_rule.specs.Rule.{Ruled}
 use Rattle.lock_row.specs.declared.names.State.{State}
 use Rattle.page_steps.specs.Steps.{DiskHeld, Here}
 use Rattle.plain_disk.specs.Idles.{Aged}
@@ -23,7 +23,7 @@ module _ (g : Begin) (l : Here) (over_now : l.todo ≡ []) where
   idle_is p (holds.Blocks x) kind is = absurd kind
   idle_is p (holds.Device x) kind is = absurd kind
 
-pub ages_end : (g : Begin) (w : State DiskHeld) → Rule g w → AllFinished g w → (l : Here)
+pub ages_end : (g : Begin) (w : State DiskHeld) → Ruled g w → AllFinished g w → (l : Here)
     → w.locals ≡ l ∷ [] → (p : ℕ) → p < g.given.size
     → idle_in (value_at w.row p) ≡ (aged_done g l.done p).idle
 ages_end g w r fin l only p lt =

@@ -1,16 +1,19 @@
 pub mod Facts
+pub mod Finds
 pub mod Sums
 pub mod Pages
 pub mod Pools
 pub mod Lookups
 pub mod Blocks
 pub mod Stages
+pub mod Apart
 pub mod Places
 pub mod Takes
 pub mod Zspages
 pub mod Classes
 pub mod Calm
 pub mod Events
+pub mod Chosen
 pub mod Balances
 pub mod Gifts
 pub mod Objects
@@ -31,6 +34,7 @@ pub mod Faults
 pub mod Fetches
 pub mod Aged
 pub mod Ages
+pub mod Choices
 pub mod Turns
 pub mod Starts
 pub mod Gets

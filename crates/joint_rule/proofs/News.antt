@@ -12,10 +12,11 @@ use Rattle.call_history.specs.declared.part.PartEnd.TheVariants.{Carried, Whole}
 use Rattle.joint_rule.proofs.Balances.{shrunk}
 use Rattle.joint_rule.proofs.Counts.{Raises, raised, raises, rises_total, still}
 use Rattle.joint_rule.proofs.Events.{Event}
+use Rattle.joint_rule.proofs.Chosen.{Chosen}
 use Rattle.joint_rule.proofs.Facts.{Known}
 use Rattle.joint_rule.proofs.Gifts.{is_named, stage}
 use Rattle.joint_rule.proofs.Givings.{event_is, given_lock}
-use Rattle.joint_rule.proofs.Pages.{form_next, kept_is}
+use Rattle.joint_rule.proofs.Pages.{form_next, kept_is, LeavesSo}
 use Rattle.joint_rule.proofs.Sums.{gone}
 use Rattle.joint_rule.specs.Begins.{Begin, form_at, found, found_after, terms}
 use Rattle.joint_rule.specs.Joint.{Joint}
@@ -43,7 +44,8 @@ use Rattle.plain_disk.specs.Forms.{is_huge}
 use Rattle.slot_entry.specs.Entries.{EntryState, is_new_mark}
 use Rattle.slot_entry.specs.Forms.{Blank, PageForm, Pooled, Word, form_weight}
 use Rattle.slot_entry.specs.declared.kept.Kept.{Kept}
-use Rattle.zr_base.specs.Plain.{is_beyond, is_maintenance, named}
+use Rattle.zr_base.specs.Plain.{PageCalls, is_beyond, is_maintenance, named}
+use Rattle.plain_disk.specs.Phases.{calls_on}
 use Rattle.zr_base.specs.declared.op.Op.{Op}
 use Rattle.zr_base.specs.declared.op.Op.TheVariants.{Compact, Discard, Idle, Read, Write}
 use Rattle.zr_base.specs.declared.op.Tag.{Tag}
@@ -56,19 +58,19 @@ use Rattle.zr_base.specs.declared.op.OpEnd.TheVariants as ends
 
 -- ---- orders
 
-pub push_sum : (f : Option Op → Found → Found → ℕ) (actors : List (List Op)) (x : Found)
+pub push_sum : (f : Option Op → Found → Found → ℕ) (c : PageCalls) (x : Found)
     (order : List Tag) (t : Tag)
-    → calls_sum f actors x (order ++ t ∷ []) ≡ calls_sum f actors x order
-    + f (named actors t) (after_all actors x order) (after (named actors t)
-    (after_all actors x order))
-push_sum f actors x [] t = omega arith
-push_sum f actors x (y ∷ ys) t = let r = push_sum f actors (after (named actors y) x) ys t in
-    omega arith
+    → calls_sum f c x (order ++ t ∷ []) ≡ calls_sum f c x order
+    + f (named c.actors t) (after_all c x order)
+    (after (named c.actors t) (c.finds t) (after_all c x order))
+push_sum f c x [] t = omega arith
+push_sum f c x (y ∷ ys) t =
+    let r = push_sum f c (after (named c.actors y) (c.finds y) x) ys t in omega arith
 
-push_after : (actors : List (List Op)) (x : Found) (order : List Tag) (t : Tag)
-    → after_all actors x (order ++ t ∷ []) ≡ after (named actors t) (after_all actors x order)
-push_after actors x [] t = refl
-push_after actors x (y ∷ ys) t = push_after actors (after (named actors y) x) ys t
+push_after : (c : PageCalls) (x : Found) (order : List Tag) (t : Tag)
+    → after_all c x (order ++ t ∷ []) ≡ after (named c.actors t) (c.finds t) (after_all c x order)
+push_after c x [] t = refl
+push_after c x (y ∷ ys) t = push_after c (after (named c.actors y) (c.finds y) x) ys t
 
 huge_bit : (w : Weight) → cond {A = ℕ} (is_huge w) 1 0 ≡ huge_of w
 huge_bit weight.Empty = refl
@@ -303,9 +305,9 @@ module _ (g : Begin) (ok : Known g) (w : State DiskHeld) (j : Joint g w) (a : �
       + news_of q p.page (Some p.op) (found_after g p.page order)
       (found_after g p.page (order ++ tag_by l.actor p ∷ []))
   order_more q p order is =
-      push_sum (news_of q p.page) g.given.actors (found g p.page) order (tag_by l.actor p)
+      push_sum (news_of q p.page) (calls_on g.given p.page) (found g p.page) order (tag_by l.actor p)
       ∙ (λ i. order_news g q p.page order + news_of q p.page (is i) (found_after g p.page order)
-      (sym (push_after g.given.actors (found g p.page) order (tag_by l.actor p)) i))
+      (sym (push_after (calls_on g.given p.page) (found g p.page) order (tag_by l.actor p)) i))
 
   module _ (p : Part) (rest : List Part) (todo : l.todo ≡ p ∷ rest) (e f : EntryState)
       (held : l.held ≡ (slot p.page, holds.Slot e) ∷ []) where
@@ -313,13 +315,14 @@ module _ (g : Begin) (ok : Known g) (w : State DiskHeld) (j : Joint g w) (a : �
     is_op = is_named g ok w j a l who p rest todo
 
     module _ (at : l.at ≡ Ready) (notes : Notes g.clock e f
-        (kept_by (next_form p l.page e.kept) l.fresh) (tag_by l.actor p)) where
+        (kept_by (next_form p l.page e.kept) l.fresh) (tag_by l.actor p))
+        (same : LeavesSo g p (e.order ++ tag_by l.actor p ∷ []) p.op (page_in l.page e.kept)) where
       st : Stage g p e Ready l.fresh l.pin l.owed l.ahead l.behind l.page l.fail
       st = stage g ok w j a l who p rest todo _ Ready held at
 
       now_form : form_at g p.page (e.order ++ tag_by l.actor p ∷ []) ≡ next_form p l.page e.kept
       now_form = form_next g ok p e.order (tag_by l.actor p) is_op
-          (page_in l.page e.kept) st.kind.0 st.right
+          (page_in l.page e.kept) st.kind.0 same
 
       -- what the call gives is what was told
       huge_told : (op : Op) → p.op ≡ op → Changes op → news_of HugeWrites p.page (Some op)
@@ -402,50 +405,50 @@ module _ (g : Begin) (ok : Known g) (w : State DiskHeld) (j : Joint g w) (a : �
         (sym (given_lock g ok w j a l who k v m what (slot x.page)
         (event_is g ok w j a l who k v m what p rest _ (Marking x) todo held at)))
 
-    pub news_gives : (q : News) → Event g l v m → Announces q v m
-    news_gives q (event.refuses p rest c todo at held v_is m_is) =
+    pub news_gives : (q : News) (ev : Event g l v m) → Chosen g l v m ev → Announces q v m
+    news_gives q (event.refuses p rest c todo at held v_is m_is) chosen =
         same_news q _ _ v_is m_is (quietly q _ _ (let x = ap (held_sum (spot n) (noted g q)) held in
         let y = silent q Refusing at refl in let z = told_quiet q Start
         (left_by (Whole ends.Range) p.nr rest) in omega arith)
         (let x = ap (held_sum (spot n) (news_counter q)) held in let s = same_invalid q c in
         omega arith))
     news_gives q (event.pins p rest e o x x' u u' cell todo at held is sw named_u free outside
-        is_cell in_cell lk v_is m_is) = same_news q _ _ v_is m_is
+        is_cell in_cell lk v_is m_is) chosen = same_news q _ _ v_is m_is
         (quietly q _ _ (let y = ap (held_sum (spot n) (noted g q)) held in
         let z = silent q Pinning at refl in let r = told_pinned q p.op
         (next_form p (Some (page_in_cell o cell)) e.kept) e.kept l.todo l.ahead in
         omega arith) (let y = ap (held_sum (spot n) (news_counter q)) held in omega arith))
     news_gives q (event.unpins p rest e o x x' u u' todo at held is sw named_u outside free lk v_is
-        m_is) = same_news q _ _ v_is m_is (quietly q _ _
+        m_is) chosen = same_news q _ _ v_is m_is (quietly q _ _
         (let y = ap (held_sum (spot n) (noted g q)) held in let z = silent q Unpinning at refl in
         omega arith) (let y = ap (held_sum (spot n) (news_counter q)) held in omega arith))
     news_gives q (event.charges p rest e c x x' cl h need bytes huge todo at held is_form is_class
-        within al v_is m_is) = same_news q _ _ v_is m_is
+        within al v_is m_is) chosen = same_news q _ _ v_is m_is
         (quietly q _ _ (let y = ap (held_sum (spot n) (noted g q)) held in
         let z = silent q Both at refl in omega arith) (let y =
         ap (held_sum (spot n) (news_counter q)) held in let s = same_charged q c need in
         omega arith))
-    news_gives q (event.limits p rest e c x cl need todo at held is_need past v_is m_is) =
+    news_gives q (event.limits p rest e c x cl need todo at held is_need past v_is m_is) chosen =
         same_news q _ _ v_is m_is (quietly q _ _ (let y = ap (held_sum (spot n) (noted g q)) held in
         let z = silent q Both at refl in omega arith) (let y =
         ap (held_sum (spot n) (news_counter q)) held in let s = same_failed q c in omega arith))
-    news_gives q (event.starves p rest e c x cl todo at held v_is m_is) =
+    news_gives q (event.starves p rest e c x cl todo at held v_is m_is) chosen =
         same_news q _ _ v_is m_is (quietly q _ _ (let y = ap (held_sum (spot n) (noted g q)) held in
         let z = silent q Both at refl in omega arith) (let y =
         ap (held_sum (spot n) (news_counter q)) held in let s = same_failed q c in omega arith))
-    news_gives q (event.stows p rest e x cl todo at held well v_is m_is) =
+    news_gives q (event.stows p rest e x cl todo at held well v_is m_is) chosen =
         same_news q _ _ v_is m_is (quietly q _ _ (let y = ap (held_sum (spot n) (noted g q)) held in
         let z = silent q Made at refl in let r = told_settle q e.kept l.todo l.ahead in
         omega arith) (let y = ap (held_sum (spot n) (news_counter q)) held in omega arith))
-    news_gives q (event.quits p rest e x cl z₀ todo at held bad v_is m_is) =
+    news_gives q (event.quits p rest e x cl z₀ todo at held bad v_is m_is) chosen =
         same_news q _ _ v_is m_is (quietly q _ _ (let y = ap (held_sum (spot n) (noted g q)) held in
         let z = silent q Made at refl in let r = told_quit q l.pin l.todo l.ahead in
         omega arith) (let y = ap (held_sum (spot n) (news_counter q)) held in omega arith))
-    news_gives q (event.frees p rest e o x x' frames todo at held is fp v_is m_is) =
+    news_gives q (event.frees p rest e o x x' frames todo at held is fp v_is m_is) chosen =
         same_news q _ _ v_is m_is (quietly q _ _ (let y = ap (held_sum (spot n) (noted g q)) held in
         let z = silent q Freeing at refl in omega arith)
         (let y = ap (held_sum (spot n) (news_counter q)) held in omega arith))
-    news_gives q (event.repays p rest e c todo at held v_is m_is) =
+    news_gives q (event.repays p rest e c todo at held v_is m_is) chosen =
         let new = form_weight (next_form p l.page e.kept) in
         same_news q _ _ v_is m_is (record {
           more = told_by q p.op (Some new);
@@ -456,73 +459,74 @@ module _ (g : Begin) (ok : Known g) (w : State DiskHeld) (j : Joint g w) (a : �
           rises = raises g (news_count q) l k _ _ (told_by q p.op (Some new)) c _ held refl refl
               (told_one q p.op new) (settled_news q p.op l.owed (old_weight l.ahead e.kept) new c);
         })
-    news_gives q (event.puts p rest e f todo at held notes v_is m_is) =
-        same_news q _ _ v_is m_is (puts_news p rest todo e f held at notes q
+    news_gives q (event.puts p rest e f todo at held notes v_is m_is) chosen =
+        same_news q _ _ v_is m_is (puts_news p rest todo e f held at notes chosen.leaves q
         (sym (given_lock g ok w j a l who k v m what (slot p.page)
         (event_is g ok w j a l who k v m what p rest _ Ready todo held at))))
-    news_gives q (event.reads p rest e f todo at held well notes v_is m_is) =
+    news_gives q (event.reads p rest e f todo at held well notes v_is m_is) chosen =
         let s = stage g ok w j a l who p rest todo _ Leaving held at in
         same_news q _ _ v_is m_is (back_news p rest todo e f held Leaving at (λ q. refl) q Carried _
         (sym (given_lock g ok w j a l who k v m what (slot p.page)
         (event_is g ok w j a l who k v m what p rest _ Leaving todo held at)))
         (read_order p rest todo e f held q p.op refl
         (only_read g p p.op s.kind (subst (FailBy g p p.op) well s.fails)) notes))
-    news_gives q (event.fails p rest e x todo at held bad v_is m_is) =
+    news_gives q (event.fails p rest e x todo at held bad v_is m_is) chosen =
         same_news q _ _ v_is m_is (back_news p rest todo e e held Leaving at (λ q. refl) q x []
         (sym (given_lock g ok w j a l who k v m what (slot p.page)
         (event_is g ok w j a l who k v m what p rest _ Leaving todo held at))) refl)
-    news_gives q (event.fetches p rest e b d d' page todo at held is read is_page v_is m_is) =
+    news_gives q (event.fetches p rest e b d d' page todo at held is read is_page v_is m_is) chosen =
         same_news q _ _ v_is m_is (quietly q _ _ (let y = ap (held_sum (spot n) (noted g q)) held in
         let z = silent q Fetching at refl in
         let r = told_fetched q p.op (next_form p (Some page) e.kept) e.kept l.todo l.ahead in
         omega arith) (let y = ap (held_sum (spot n) (news_counter q)) held in omega arith))
-    news_gives q (event.misses p rest e b d d' fault todo at held is failed v_is m_is) =
+    news_gives q (event.misses p rest e b d d' fault todo at held is failed v_is m_is) chosen =
         same_news q _ _ v_is m_is (quietly q _ _ (let y = ap (held_sum (spot n) (noted g q)) held in
         let z = silent q Fetching at refl in omega arith)
         (let y = ap (held_sum (spot n) (news_counter q)) held in omega arith))
-    news_gives q (event.counts p rest e c todo at held v_is m_is) =
+    news_gives q (event.counts p rest e c todo at held v_is m_is) chosen =
         same_news q _ _ v_is m_is (quietly q _ _ (let y = ap (held_sum (spot n) (noted g q)) held in
         let z = silent q Counting at refl in omega arith)
         (let y = ap (held_sum (spot n) (news_counter q)) held in let s = same_fault q p.op c in
         omega arith))
-    news_gives q (event.errs p rest e f x todo at held bad reads notes v_is m_is) =
+    news_gives q (event.errs p rest e f x todo at held bad reads notes v_is m_is) chosen =
         same_news q _ _ v_is m_is (back_news p rest todo e f held Missed at (λ q. refl) q x []
         (sym (given_lock g ok w j a l who k v m what (slot p.page)
         (event_is g ok w j a l who k v m what p rest _ Missed todo held at)))
         (read_order p rest todo e f held q p.op refl reads notes))
-    news_gives q (event.leaves p rest e x todo at held bad other v_is m_is) =
+    news_gives q (event.leaves p rest e x todo at held bad other v_is m_is) chosen =
         same_news q _ _ v_is m_is (back_news p rest todo e e held Missed at (λ q. refl) q x []
         (sym (given_lock g ok w j a l who k v m what (slot p.page)
         (event_is g ok w j a l who k v m what p rest _ Missed todo held at))) refl)
-    news_gives q (event.releases p rest e b x todo at held is v_is m_is) =
+    news_gives q (event.releases p rest e b x todo at held is v_is m_is) chosen =
         same_news q _ _ v_is m_is (quietly q _ _ (let y = ap (held_sum (spot n) (noted g q)) held in
         let z = silent q Releasing at refl in omega arith)
         (let y = ap (held_sum (spot n) (news_counter q)) held in omega arith))
-    news_gives q (event.scans p rest age x e todo op at held other v_is m_is) =
+    news_gives q (event.scans p rest age x e todo op at held other v_is m_is) chosen =
         same_news q _ _ v_is m_is (quietly q _ _ (let y = ap (held_sum (spot n) (noted g q)) held in
         let z = silent q (Marking x) at refl in let r = scan_noted q p rest x e todo at held in
         omega arith) (let y = ap (held_sum (spot n) (news_counter q)) held in omega arith))
-    news_gives q (event.stops p rest age x e todo op at held last v_is m_is) =
+    news_gives q (event.stops p rest age x e todo op at held last v_is m_is) chosen =
         let pages = (with_page x (is_new_mark g.clock age e)).marked in
         same_news q _ _ v_is m_is (quietly q _ _ (let y = ap (held_sum (spot n) (noted g q)) held in
         let z = silent q (Marking x) at refl in let r = scan_noted q p rest x e todo at held in
         let s = told_quiet q Start (left_by (Whole (ends.Marked pages)) p.nr rest) in omega arith)
         (let y = ap (held_sum (spot n) (news_counter q)) held in omega arith))
-    news_gives q (event.moves p rest x y y' u u' budget frames todo at held sh some one v_is m_is) =
+    news_gives q (event.moves p rest x y y' u u' budget frames todo at held sh some one v_is m_is)
+        chosen =
         same_news q _ _ v_is m_is (quietly q _ _ (let z = ap (held_sum (spot n) (noted g q)) held in
         let s = silent q (Moving x) at refl in let r = told_moved q frames (with_move x budget)
         l.todo l.ahead in omega arith)
         (let z = ap (held_sum (spot n) (news_counter q)) held in omega arith))
-    news_gives q (event.sweeps p rest x y todo at held stuck other v_is m_is) =
+    news_gives q (event.sweeps p rest x y todo at held stuck other v_is m_is) chosen =
         same_news q _ _ v_is m_is (quietly q _ _ (let z = ap (held_sum (spot n) (noted g q)) held in
         let s = silent q (Moving x) at refl in omega arith)
         (let z = ap (held_sum (spot n) (news_counter q)) held in omega arith))
-    news_gives q (event.closes p rest x y todo at held stuck last v_is m_is) =
+    news_gives q (event.closes p rest x y todo at held stuck last v_is m_is) chosen =
         same_news q _ _ v_is m_is (quietly q _ _ (let z = ap (held_sum (spot n) (noted g q)) held in
         let s = silent q (Moving x) at refl in let r = told_quiet q Start
         (left_by (Whole (ends.Compacted x.moves x.frames)) p.nr rest) in omega arith)
         (let z = ap (held_sum (spot n) (news_counter q)) held in omega arith))
-    news_gives q (event.shrinks p rest x c todo at held v_is m_is) =
+    news_gives q (event.shrinks p rest x c todo at held v_is m_is) chosen =
         same_news q _ _ v_is m_is (quietly q _ _ (let z = ap (held_sum (spot n) (noted g q)) held in
         let s = silent q (Shrinking x) at refl in omega arith)
         (let z = ap (held_sum (spot n) (news_counter q)) held in let s = same_shrunk q c l.owed in

@@ -16,7 +16,7 @@ use Rattle.joint_rule.proofs.Stages.{made_locks, made_stage, settle_locks, settl
 use Rattle.joint_rule.proofs.Places.{form_claim}
 use Rattle.joint_rule.specs.Begins.{Begin, content, form_at, ground_of, image}
 use Rattle.joint_rule.specs.Joint.{AtHome, EntryFits, Joint, PoolFits, Sound}
-use Rattle.joint_rule.specs.Stages.{Bears, Changes, FailBy, IsForm, IsObj, IsPinned, IsRefusal, IsRight, IsSmall, IsWrite, Looks, MadeBy, MayFail, MayPin, Names, NoneOf, Stage, locks_at}
+use Rattle.joint_rule.specs.Stages.{Bears, Changes, FailBy, IsForm, IsObj, IsPinned, IsRefusal, IsRight, IsSmall, IsWrite, Looks, MadeBy, MayFail, MayPin, Names, NoneOf, Stage, locks_at, MaySeeOther}
 use Rattle.joint_rule.specs.Weights.{HeldAll, Limit, PinWeigh, at_place, block_by, block_claims, cell_weight, chains, claim_by, claims, counters, device_size, each_one, ever_at, fixed, fixed_count, lies_at, map_size, mosts, nothing, outs, pages, pin_in, shown, some_of, stored, stored_at, used_blocks}
 use Rattle.lock_row.specs.Totals.{by_option, held_sum}
 use Rattle.lock_row.specs.declared.names.At.TheVariants.{Both, Freeing, Leaving, Made, Owing, Pinning, Unpinning}
@@ -119,8 +119,9 @@ module _ (g : Begin) (ok : Known g) (w : State DiskHeld) (j : Joint g w) (a : �
             made_stage g p e l.fresh pinned_cell l.owed l.ahead l.behind
             (Some page) l.fail names_it st.owes st.stands st.backs st.marks
             (write_blank p.op (subst IsWrite (sym e_op) tt) l.ahead _)
-            (subst (λ (x : Op). IsRight x p.page page (content g p.page e.order)) (sym e_op)
-            (inr is_content)) st.counts.0 st.counts.1 st.fails st.begun
+            (subst (λ (x : Op). IsRight (MaySeeOther g p.page e.order) x p.page page
+            (content g p.page e.order)) (sym e_op)
+            (inr (inl is_content))) st.counts.0 st.counts.1 st.fails st.begun
             (subst IsWrite (sym e_op) tt) st.made (next_form p (Some page) e.kept) refl e.kept refl
         pinned_stage (Read start count) e_op = record {
           kind = st.kind;
@@ -131,8 +132,9 @@ module _ (g : Begin) (ok : Known g) (w : State DiskHeld) (j : Joint g w) (a : �
           backs = st.backs;
           marks = st.marks;
           partly = tt;
-          right = subst (λ (x : Op). IsRight x p.page page (content g p.page e.order))
-              (sym e_op) is_content;
+          right = subst (λ (x : Op). IsRight (MaySeeOther g p.page e.order) x p.page page
+              (content g p.page e.order))
+              (sym e_op) (inl is_content);
           counts = st.counts;
           blank = tt;
           fails = subst (λ (x : Op). FailBy g p x l.fail) (sym e_op) st.fails;
@@ -318,7 +320,8 @@ module _ (g : Begin) (ok : Known g) (w : State DiskHeld) (j : Joint g w) (a : �
         backs = tt;
         marks = tt;
         partly = tt;
-        right = subst (λ (x : List ℕ). IsRight p.op p.page x (content g p.page e.order))
+        right = subst (λ (x : List ℕ). IsRight (MaySeeOther g p.page e.order) p.op p.page x
+            (content g p.page e.order))
             (emptied_sees l.page e.kept is) sf.right;
         counts = ((tt, freed_small), sf.counts.1);
         blank = sf.blank;

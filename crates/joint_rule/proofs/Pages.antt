@@ -1,18 +1,18 @@
 -- What a page has after the calls of an order.
-use Rattle.std.proofs.Common.{◌≡◌, ◌+◌, ◌*◌, ◌-◌, ◌/◌, ◌≤◌, ◌<◌, ◌∷◌, ◌++◌, ◌∙◌, ◌&&◌, ◌||◌, ℕ, zero, suc, Bool, true, false, cond, leb, ltb, List, [], length, take, drop, replicate, Option, Some, None, refl, sym, ap, subst, arith, inl, inr, ⊎_elim, length-append}
+use Rattle.std.proofs.Common.{◌≡◌, ◌+◌, ◌*◌, ◌-◌, ◌/◌, ◌≤◌, ◌<◌, ◌∷◌, ◌++◌, ◌∙◌, ◌&&◌, ◌||◌, ℕ, zero, suc, Bool, true, false, cond, leb, ltb, List, [], length, take, drop, replicate, Option, Some, None, refl, sym, ap, subst, arith, inl, inr, ⊎_elim, length-append, length-drop}
 use Rattle.bdi_page.specs.Packing.{IsPage, packed}
-use Rattle.call_history.specs.Shows.{Carries, tag_by}
+use Rattle.call_history.specs.Shows.{Carries, Sees, SeesSo, tag_by}
 use Rattle.call_history.specs.declared.part.Part.{Part}
 use Rattle.joint_rule.proofs.Facts.{Known}
 use Rattle.joint_rule.specs.Begins.{AreCarried, Begin, HasEvent, back_at, content, ever, form_at, form_by, found, found_after, image}
-use Rattle.joint_rule.specs.Stages.{Changes, IsForm, IsNothing, IsPooled, IsRight, IsSmall, NoObj}
+use Rattle.joint_rule.specs.Stages.{Changes, IsForm, IsNothing, IsPooled, IsRight, IsSmall, NoObj, IsSeen}
 use Rattle.mem_account.specs.declared.weight.Weight.{Weight}
 use Rattle.page_steps.specs.Pages.{join, next_by, page_after}
 use Rattle.page_steps.specs.Steps.{on}
 use Rattle.plain_disk.specs.Calls.{Found, after, after_all, blank_by, ever_pooled, kept_as, leave_page, leaves_page}
 use Rattle.plain_disk.specs.Ends.{page_put}
 use Rattle.plain_disk.specs.Forms.{in_class, is_pooled, page_bytes}
-use Rattle.plain_disk.specs.Phases.{held_after}
+use Rattle.plain_disk.specs.Phases.{calls_on, held_after}
 use Rattle.size_class.specs.Classes.{shares_next, stands_below, stands_of}
 use Rattle.slot_entry.specs.Entries.{plain_page, weight_of}
 use Rattle.slot_entry.specs.Forms.{Blank, PageForm, Pooled, Word, bytes_in, class_for, class_in, form_of, form_weight, object_class, page_weight, pooled, zero_page}
@@ -20,11 +20,11 @@ use Rattle.slot_entry.specs.declared.kept.Kept.{Kept}
 use Rattle.slot_entry.specs.declared.kept.Stored.{Stored}
 use Rattle.std.proofs.Math.Seq.{drop-append-add}
 use Rattle.std.proofs.lemmas.Bool.{and_from, and_parts, cases_Bool, eq-eqb, le-leb, leb-true, lt-ltb}
-use Rattle.std.proofs.lemmas.List.{take_at}
-use Rattle.std.proofs.lemmas.List.Elements.{All-append}
+use Rattle.std.proofs.lemmas.List.{take_at, length-take-le}
+use Rattle.std.proofs.lemmas.List.Elements.{All-append, All-take, All-drop}
 use Rattle.std.specs.List.{flat_map, range_with_len}
-use Rattle.std.specs.Prelude.{All}
-use Rattle.zr_base.specs.Plain.{content as sectors, covers, has_whole, named, sector_after, sector_after_named, stuff_sector, zero_sector}
+use Rattle.std.specs.Prelude.{All, ⊤}
+use Rattle.zr_base.specs.Plain.{PageCalls, content as sectors, covers, has_whole, named, sector_after, sector_after_named, stuff_sector, zero_sector, IsSector, Look, start_from}
 use Rattle.zr_base.specs.Sectors.{page_sector}
 use Rattle.zr_base.specs.declared.op.Op.{Op}
 use Rattle.zr_base.specs.declared.op.Op.TheVariants.{Compact, Discard, Idle, Read, Write}
@@ -35,11 +35,11 @@ use Rattle.mem_account.specs.declared.weight.Weight.TheVariants as weight
 
 -- ---- lists
 
-content_append : (actors : List (List Op)) (s : ℕ) (old : List ℕ) (xs ys : List Tag)
-    → sectors actors s old (xs ++ ys) ≡ sectors actors s (sectors actors s old xs) ys
-content_append actors s old [] ys = refl
-content_append actors s old (x ∷ xs) ys =
-    content_append actors s (sector_after_named (named actors x) s old) xs ys
+content_append : (c : PageCalls) (s : ℕ) (old : List ℕ) (xs ys : List Tag)
+    → sectors c s old (xs ++ ys) ≡ sectors c s (sectors c s old xs) ys
+content_append c s old [] ys = refl
+content_append c s old (x ∷ xs) ys =
+    content_append c s (sector_after_named (named c.actors x) (c.finds x) s old) xs ys
 
 pub join_same : (f h : ℕ → List ℕ) (a n : ℕ) → ((k : ℕ) → a ≤ k → k < a + n → f k ≡ h k)
     → join f a n ≡ join h a n
@@ -82,64 +82,121 @@ flat_join f h a b (suc n) e =
 -- ---- pages
 
 module _ (g : Begin) where
-  pub holds_after : (f : Found) (order : List Tag) (s : ℕ)
-      → (after_all g.given.actors f order).holds s ≡ sectors g.given.actors s (f.holds s) order
-  holds_after f [] s = refl
-  holds_after f (t ∷ ts) s = holds_after (after (named g.given.actors t) f) ts s
+  pub holds_after : (p : ℕ) (f : Found) (order : List Tag) (s : ℕ)
+      → (after_all (calls_on g.given p) f order).holds s
+      ≡ sectors (calls_on g.given p) s (f.holds s) order
+  holds_after p f [] s = refl
+  holds_after p f (t ∷ ts) s =
+      holds_after p (after (named g.given.actors t) (g.given.finds p t) f) ts s
 
-  pub after_push : (f : Found) (order : List Tag) (t : Tag)
-      → after_all g.given.actors f (order ++ t ∷ [])
-      ≡ after (named g.given.actors t) (after_all g.given.actors f order)
-  after_push f [] t = refl
-  after_push f (x ∷ xs) t = after_push (after (named g.given.actors x) f) xs t
+  pub after_push : (p : ℕ) (f : Found) (order : List Tag) (t : Tag)
+      → after_all (calls_on g.given p) f (order ++ t ∷ [])
+      ≡ after (named g.given.actors t) (g.given.finds p t) (after_all (calls_on g.given p) f order)
+  after_push p f [] t = refl
+  after_push p f (x ∷ xs) t =
+      after_push p (after (named g.given.actors x) (g.given.finds p x) f) xs t
 
   abbrev of_page : ℕ → List Tag → ℕ → List ℕ
-  of_page p order k = held_after g.given order (8 * p + k)
+  of_page p order k = held_after g.given p order (8 * p + k)
 
   -- a page as its eight sectors
   pub content_join : (p : ℕ) (order : List Tag) → content g p order ≡ join (of_page p order) 0 8
   unfolding content
   content_join p order = flat_join (found_after g p order).holds (of_page p order) (8 * p) 0 8
-      (λ k. holds_after (found g p) order (8 * p + k)
+      (λ k. holds_after p (found g p) order (8 * p + k)
       ∙ ap (of_page p order) (let q : k ≡ 0 + k = omega arith in q))
 
 module _ (g : Begin) (ok : Known g) where
+  -- a call leaves a sector
+  call_sector : (p : ℕ) (t : Tag) (o : Option Op) (s : ℕ) (old : List ℕ)
+      → named g.given.actors t ≡ o → IsSector old
+      → IsSector (sector_after_named o (g.given.finds p t) s old)
+  call_sector p t None s old e i = i
+  call_sector p t (Some (Write start count stuff)) s old e i =
+      ok.proper.puts t (Write start count stuff) s (g.given.finds p t s old) e
+      (ok.proper.finds.sectors p t s old i)
+  call_sector p t (Some (Read start count)) s old e i =
+      ok.proper.puts t (Read start count) s old e i
+  call_sector p t (Some (Discard start count)) s old e i =
+      ok.proper.puts t (Discard start count) s old e i
+  call_sector p t (Some (Idle age)) s old e i = ok.proper.puts t (Idle age) s old e i
+  call_sector p t (Some Compact) s old e i = ok.proper.puts t Compact s old e i
+
+  sectors_by : (p : ℕ) (order : List Tag) (s : ℕ) (old : List ℕ) → IsSector old
+      → IsSector (sectors (calls_on g.given p) s old order)
+  sectors_by p [] s old i = i
+  sectors_by p (t ∷ ts) s old i = sectors_by p ts s
+      (sector_after_named (named g.given.actors t) (g.given.finds p t) s old)
+      (call_sector p t (named g.given.actors t) s old refl i)
+
+  -- so does each order
+  pub all_sectors : (p : ℕ) (order : List Tag) (s : ℕ) → IsSector (held_after g.given p order s)
+  all_sectors p order s = sectors_by p order s (g.given.before s) (ok.proper.before s)
+
   pub content_sector : (p : ℕ) (order : List Tag) (k : ℕ) → k < 8
-      → page_sector (content g p order) k ≡ held_after g.given order (8 * p + k)
+      → page_sector (content g p order) k ≡ held_after g.given p order (8 * p + k)
   content_sector p order k lt = ap (λ page. page_sector page k) (content_join g p order)
-      ∙ join_sector (of_page g p order) (λ i. (ok.proper.sectors order (8 * p + i)).0) 0 8 k lt
+      ∙ join_sector (of_page g p order) (λ i. (all_sectors p order (8 * p + i)).0) 0 8 k lt
       ∙ ap (of_page g p order) (let q : 0 + k ≡ k = omega arith in q)
 
   pub content_long : (p : ℕ) (order : List Tag) → length (content g p order) ≡ 4096
   content_long p order = ap length (content_join g p order)
-      ∙ join_long (of_page g p order) (λ i. (ok.proper.sectors order (8 * p + i)).0) 0 8
+      ∙ join_long (of_page g p order) (λ i. (all_sectors p order (8 * p + i)).0) 0 8
 
-  held_on : (order : List Tag) (t : Tag) (s : ℕ) → held_after g.given (order ++ t ∷ []) s
-      ≡ sector_after_named (named g.given.actors t) s (held_after g.given order s)
-  held_on order t s = content_append g.given.actors s (g.given.before s) order (t ∷ [])
+  -- the page that a call finds
+  abbrev pub seen_by : ℕ → List Tag → Tag → List ℕ
+  seen_by p order t =
+      join (λ k. g.given.finds p t (8 * p + k) (held_after g.given p order (8 * p + k))) 0 8
+
+  pub sees_page : (p : ℕ) (order : List Tag) (t : Tag)
+      → Sees (g.given.finds p t) p (content g p order) (seen_by p order t)
+  sees_page p order t = record {
+    each = λ k lt. join_sector
+        (λ i. g.given.finds p t (8 * p + i) (held_after g.given p order (8 * p + i)))
+        (λ i. (ok.proper.finds.sectors p t (8 * p + i) (held_after g.given p order (8 * p + i))
+        (all_sectors p order (8 * p + i))).0) 0 8 k lt
+        ∙ ap (λ i. g.given.finds p t (8 * p + i) (held_after g.given p order (8 * p + i)))
+        (let q : 0 + k ≡ k = omega arith in q)
+        ∙ ap (g.given.finds p t (8 * p + k)) (sym (content_sector p order k lt));
+  }
+
+  -- each piece may have seen it
+  pub sees_any : (op : Op) (p : ℕ) (order : List Tag) (t : Tag)
+      → SeesSo op (g.given.finds p t) p (content g p order) (seen_by p order t)
+  sees_any (Write start count stuff) p order t = tt
+  sees_any (Read start count) p order t = sees_page p order t
+  sees_any (Discard start count) p order t = tt
+  sees_any (Idle age) p order t = tt
+  sees_any Compact p order t = tt
+
+  held_on : (p : ℕ) (order : List Tag) (t : Tag) (s : ℕ)
+      → held_after g.given p (order ++ t ∷ []) s
+      ≡ sector_after_named (named g.given.actors t) (g.given.finds p t) s
+      (held_after g.given p order s)
+  held_on p order t s = content_append (calls_on g.given p) s (g.given.before s) order (t ∷ [])
 
   module _ (p : Part) (order : List Tag) (t : Tag) (is : named g.given.actors t ≡ Some p.op) where
-    pub content_on : content g p.page (order ++ t ∷ []) ≡ page_after p (content g p.page order)
+    -- it starts from this page
+    abbrev pub StartsFrom : List ℕ → Type 0
+    StartsFrom page = (k : ℕ) → k < 8
+        → start_from p.op (g.given.finds p.page t) (8 * p.page + k)
+        (held_after g.given p.page order (8 * p.page + k)) ≡ page_sector page k
+
+    pub content_on : (page : List ℕ) → StartsFrom page
+        → content g p.page (order ++ t ∷ []) ≡ page_after p page
     unfolding page_after
-    content_on = content_join g p.page (order ++ t ∷ [])
+    content_on page from = content_join g p.page (order ++ t ∷ [])
         ∙ join_same (of_page g p.page (order ++ t ∷ []))
-        (λ k. sector_after p.op (8 * p.page + k) (page_sector (content g p.page order) k)) 0 8
-        (λ k low high. held_on order t (8 * p.page + k)
-        ∙ ap (λ (o : Option Op). sector_after_named o (8 * p.page + k)
-        (held_after g.given order (8 * p.page + k))) is
-        ∙ ap (sector_after p.op (8 * p.page + k)) (sym (content_sector p.page order k
-        (omega arith))))
+        (λ k. sector_after p.op (8 * p.page + k) (page_sector page k)) 0 8
+        (λ k low high. held_on p.page order t (8 * p.page + k)
+        ∙ ap (λ (o : Option Op). sector_after_named o (g.given.finds p.page t) (8 * p.page + k)
+        (held_after g.given p.page order (8 * p.page + k))) is
+        ∙ ap (sector_after p.op (8 * p.page + k)) (from k (omega arith)))
 
     pub blank_on : (found_after g p.page (order ++ t ∷ [])).blank
         ≡ blank_by (Some p.op) (found_after g p.page order).blank
-    blank_on = ap (λ (f : Found). f.blank) (after_push g (found g p.page) order t)
+    blank_on = ap (λ (f : Found). f.blank) (after_push g p.page (found g p.page) order t)
         ∙ ap (λ (o : Option Op). blank_by o (found_after g p.page order).blank) is
-
-    pub form_on : form_at g p.page (order ++ t ∷ []) ≡ form_by
-        (blank_by (Some p.op) (found_after g p.page order).blank)
-        (form_of (page_after p (content g p.page order)))
-    unfolding form_at
-    form_on = λ i. form_by (blank_on i) (form_of (content_on i))
 
     -- a read leaves the page
     pub content_read : (start count : ℕ) → p.op ≡ Read start count
@@ -147,9 +204,9 @@ module _ (g : Begin) (ok : Known g) where
     content_read start count e =
         content_join g p.page (order ++ t ∷ []) ∙ join_same (of_page g p.page (order ++ t ∷ []))
         (of_page g p.page order) 0 8
-        (λ k low high. held_on order t (8 * p.page + k)
-        ∙ ap (λ (o : Option Op). sector_after_named o (8 * p.page + k)
-        (held_after g.given order (8 * p.page + k))) (is ∙ ap (λ (o : Op). Some o) e))
+        (λ k low high. held_on p.page order t (8 * p.page + k)
+        ∙ ap (λ (o : Option Op). sector_after_named o (g.given.finds p.page t) (8 * p.page + k)
+        (held_after g.given p.page order (8 * p.page + k))) (is ∙ ap (λ (o : Op). Some o) e))
         ∙ sym (content_join g p.page order)
 
     -- and its form
@@ -164,26 +221,27 @@ module _ (g : Begin) (ok : Known g) where
         λ i. form_by (b i) (form_of (c i))
 
   -- zeros where nothing stands
-  blank_step : (o : Option Op) (p k : ℕ) → k < 8 → HasEvent p o → (b : Bool) (old : List ℕ)
-      → (b ≡ true → old ≡ zero_sector) → blank_by o b ≡ true
-      → sector_after_named o (8 * p + k) old ≡ zero_sector
-  blank_step None p k lt ev b old zeros e = zeros e
-  blank_step (Some (Read start count)) p k lt ev b old zeros e = zeros e
-  blank_step (Some (Write start count stuff)) p k lt ev b old zeros e = absurd (cc)
-  blank_step (Some (Idle age)) p k lt ev b old zeros e = zeros e
-  blank_step (Some Compact) p k lt ev b old zeros e = zeros e
-  blank_step (Some (Discard start count)) p k lt ev b old zeros e =
+  blank_step : (o : Option Op) (look : Look) (p k : ℕ) → k < 8 → HasEvent p o → (b : Bool)
+      (old : List ℕ) → (b ≡ true → old ≡ zero_sector) → blank_by o b ≡ true
+      → sector_after_named o look (8 * p + k) old ≡ zero_sector
+  blank_step None look p k lt ev b old zeros e = zeros e
+  blank_step (Some (Read start count)) look p k lt ev b old zeros e = zeros e
+  blank_step (Some (Write start count stuff)) look p k lt ev b old zeros e = absurd (cc)
+  blank_step (Some (Idle age)) look p k lt ev b old zeros e = zeros e
+  blank_step (Some Compact) look p k lt ev b old zeros e = zeros e
+  blank_step (Some (Discard start count)) look p k lt ev b old zeros e =
       let q : (8 * p + k) / 8 ≡ p = omega arith in
       ap (λ (n : ℕ). cond (has_whole start count n) zero_sector old) q
       ∙ ap (λ (c : Bool). cond c zero_sector old) ev
 
   pub blank_zero : (order : List Tag) (p k : ℕ) → k < 8 → AreCarried g p order → (f : Found)
       → (f.blank ≡ true → f.holds (8 * p + k) ≡ zero_sector)
-      → (after_all g.given.actors f order).blank ≡ true
-      → (after_all g.given.actors f order).holds (8 * p + k) ≡ zero_sector
+      → (after_all (calls_on g.given p) f order).blank ≡ true
+      → (after_all (calls_on g.given p) f order).holds (8 * p + k) ≡ zero_sector
   blank_zero [] p k lt evs f zeros e = zeros e
   blank_zero (t ∷ ts) p k lt evs f zeros e = blank_zero ts p k lt evs.1
-      (after (named g.given.actors t) f) (blank_step (named g.given.actors t) p k lt evs.0 f.blank
+      (after (named g.given.actors t) (g.given.finds p t) f)
+      (blank_step (named g.given.actors t) (g.given.finds p t) p k lt evs.0 f.blank
       (f.holds (8 * p + k)) zeros) e
 
   zeros : ℕ → List ℕ
@@ -206,7 +264,7 @@ module _ (g : Begin) (ok : Known g) where
   unfolding zero_page zeros
   blank_page p order evs e = sym (content_join g p order
       ∙ join_same (of_page g p order) (λ k. zero_sector) 0 8
-      (λ k low high. sym (holds_after g (found g p) order (8 * p + k))
+      (λ k low high. sym (holds_after g p (found g p) order (8 * p + k))
       ∙ blank_zero order p k (omega arith) evs (found g p)
       (λ b. ok.proper.blanks p k (omega arith) b) e) ∙ zero_join 8 0)
 
@@ -269,7 +327,7 @@ module _ (g : Begin) (ok : Known g) where
     content_long g ok p order,
     subst (All (λ b. b < 256))
         (sym (content_join g p order)) (all_join (of_page g p order)
-        (λ k. (ok.proper.sectors order (8 * p + k)).1) 0 8),
+        (λ k. (all_sectors g ok p order (8 * p + k)).1) 0 8),
   )
 
   -- a form with no object tells the page
@@ -362,27 +420,103 @@ class_weight chain k (Pooled bytes false) i e =
     (ap (λ (m : ℕ). stands_of chain (m / 16)) (let q : length bytes + 8 - 17 ≡ length bytes - 9 =
     omega arith in q) ∙ sym e)
 
+-- a write leaves what its piece leaves of this page
+abbrev pub LeavesSo : Begin → Part → List Tag → Op → List ℕ → Type 0
+LeavesSo g p order (Write start count stuff) page = content g p.page order ≡ page_after p page
+LeavesSo g p order _ page = ⊤
+
 module _ (g : Begin) (ok : Known g) (p : Part) (order : List Tag) (t : Tag)
     (is : named g.given.actors t ≡ Some p.op) where
-  -- the form after a piece
-  abbrev told : Op → List ℕ → PageForm
-  told o page = form_by (blank_by (Some o) (found_after g p.page order).blank)
-      (form_of (page_after p page))
+  abbrev order_now : List Tag
+  order_now = order ++ t ∷ []
 
-  next_is : (o : Op) (page : List ℕ) → p.op ≡ o → Changes o
-      → IsRight o p.page page (content g p.page order) → told o (content g p.page order)
-      ≡ next_by o p page
-  next_is (Write start count stuff) page e c r = ap form_of
-      (⊎_elim (λ w. whole_same p start count stuff (content g p.page order) page e w)
-      (λ s. ap (page_after p) (sym s)) r)
-  next_is (Read start count) page e c r = absurd c
-  next_is (Discard start count) page e c r = refl
-  next_is (Idle age) page e c r = absurd c
-  next_is Compact page e c r = absurd c
+  leaves_form : (op : Op) (page : List ℕ) → p.op ≡ op → Changes op
+      → LeavesSo g p order_now op page → form_at g p.page order_now ≡ next_by op p page
+  unfolding form_at
+  leaves_form (Write start count stuff) page e c same =
+      let b = blank_on g ok p order t is
+      ∙ ap (λ (o : Op). blank_by (Some o) (found_after g p.page order).blank) e in
+      λ i. form_by (b i) (form_of (same i))
+  leaves_form (Read start count) page e c same = absurd c
+  leaves_form (Discard start count) page e c same =
+      let b = blank_on g ok p order t is
+      ∙ ap (λ (o : Op). blank_by (Some o) (found_after g p.page order).blank) e in
+      ap (λ (x : Bool). form_by x (form_of (content g p.page order_now))) b
+  leaves_form (Idle age) page e c same = absurd c
+  leaves_form Compact page e c same = absurd c
 
-  pub form_next : (page : List ℕ) → Changes p.op → IsRight p.op p.page page (content g p.page order)
-      → form_at g p.page (order ++ t ∷ []) ≡ next_by p.op p page
-  form_next page c r = form_on g ok p order t is ∙ next_is p.op page refl c r
+  -- the form after a piece that changes its page
+  pub form_next : (page : List ℕ) → Changes p.op → LeavesSo g p order_now p.op page
+      → form_at g p.page order_now ≡ next_by p.op p page
+  form_next page c same = leaves_form p.op page refl c same
+
+-- ---- what a piece leaves of the page that it sees
+
+-- a sector of a page
+pub sector_of : (page : List ℕ) (k : ℕ) → k < 8 → IsPage page → IsSector (page_sector page k)
+sector_of page k lt i = (
+  length-take-le 512 (drop (512 * k) page)
+      (let z = i.0 in omega (arith, length-drop (512 * k) page)),
+  All-take (λ b. b < 256) 512 (drop (512 * k) page) (All-drop (λ b. b < 256) (512 * k) page i.1),
+)
+
+seen_page : (other : Type 0) (page was : List ℕ) → IsPage was → IsSeen other page was → IsPage page
+seen_page other page was is s = ⊎_elim (λ same. subst IsPage (sym same) is) (λ o. o.1) s
+
+module _ (g : Begin) (ok : Known g) (p : Part) (t : Tag)
+    (is : named g.given.actors t ≡ Some p.op) where
+  join_page : (f : ℕ → List ℕ) (a n : ℕ) → ((k : ℕ) → a ≤ k → k < a + n → IsSector (f k))
+      → (length (join f a n) ≡ 512 * n) × All (λ b. b < 256) (join f a n)
+  join_page f a zero e = (refl, λ k d lt. absurd (let none : ⊥ = omega arith in none))
+  join_page f a (suc n) e =
+      let here = e a (omega arith) (omega arith) in
+      let r = join_page f (a + 1) n (λ k low high. e k (omega arith) (omega arith)) in (
+        (let x = here.0 in let y = r.0 in
+            let z = length-append (f a) (join f (a + 1) n) in omega arith),
+        All-append (λ b. b < 256) (f a) (join f (a + 1) n) here.1 r.1,
+      )
+
+  after_page : (page : List ℕ) → IsPage page → IsPage (page_after p page)
+  unfolding page_after
+  after_page page i = join_page (λ k. sector_after p.op (8 * p.page + k) (page_sector page k)) 0 8
+      (λ k low high. ok.proper.puts t p.op (8 * p.page + k) (page_sector page k) is
+      (sector_of page k (omega arith) i))
+
+  module _ (other : Type 0) (page was : List ℕ) (whole : IsPage was) where
+    next_page : (op : Op) → p.op ≡ op → Changes op → IsRight other op p.page page was
+        → (bytes : List ℕ) (huge : Bool) → next_by op p page ≡ Pooled bytes huge
+        → IsPage (page_after p page) × (form_of (page_after p page) ≡ Pooled bytes huge)
+    next_page (Write start count stuff) e c r bytes huge f = (
+      ⊎_elim (λ w. subst IsPage (sym (whole_same p start count stuff page was e w))
+          (after_page was whole))
+          (λ s. after_page page (seen_page other page was whole s)) r,
+      f,
+    )
+    next_page (Read start count) e c r bytes huge f = absurd c
+    next_page (Discard start count) e c r bytes huge f =
+        absurd (let q : Blank ≡ Pooled bytes huge = f in cc)
+    next_page (Idle age) e c r bytes huge f = absurd c
+    next_page Compact e c r bytes huge f = absurd c
+
+    -- an object that a piece leaves is that of a page
+    pub next_whole : Changes p.op → IsRight other p.op p.page page was
+        → (bytes : List ℕ) (huge : Bool) → next_by p.op p page ≡ Pooled bytes huge
+        → IsPage (page_after p page) × (form_of (page_after p page) ≡ Pooled bytes huge)
+    next_whole = next_page p.op refl
+
+    small_by : (f : PageForm) → ((bytes : List ℕ) (huge : Bool) → f ≡ Pooled bytes huge
+        → IsPage (page_after p page) × (form_of (page_after p page) ≡ Pooled bytes huge))
+        → IsSmall (form_weight f)
+    small_by Blank h = omega arith
+    small_by (Word w) h = omega arith
+    small_by (Pooled bytes true) h = omega arith
+    small_by (Pooled bytes false) h = let z = h bytes false refl in
+        ok.facts.packed_short (page_after p page) bytes z.0 z.1
+
+    -- and weighs little
+    pub next_light : Changes p.op → IsRight other p.op p.page page was
+        → IsSmall (form_weight (next_by p.op p page))
+    next_light c r = small_by (next_by p.op p page) (next_whole c r)
 
 -- ---- pages that were in the pool
 
@@ -420,7 +554,7 @@ module _ (g : Begin) (p : ℕ) where
 
   pub ever_one : (order : List Tag) → ever g p order ≤ 1
   unfolding bit
-  ever_one order = bit_one (ever_pooled page_weight p g.given.actors (found g p) order)
+  ever_one order = bit_one (ever_pooled page_weight p (calls_on g.given p) (found g p) order)
 
   or_left : (a b : Bool) → bit a ≤ bit (a || b)
   unfolding bit
@@ -438,15 +572,16 @@ module _ (g : Begin) (p : ℕ) where
   or_up false b c h = h
 
   abbrev ever_by : Found → List Tag → Bool
-  ever_by f order = ever_pooled page_weight p g.given.actors f order
+  ever_by f order = ever_pooled page_weight p (calls_on g.given p) f order
 
   up_by : (f : Found) (ts : List Tag) (t : Tag) → bit (ever_by f ts)
       ≤ bit (ever_by f (ts ++ t ∷ []))
   up_by f [] t = or_left (is_pooled (kept_as page_weight p f))
-      (ever_by (after (named g.given.actors t) f) [])
+      (ever_by (after (named g.given.actors t) (g.given.finds p t) f) [])
   up_by f (x ∷ ts) t = or_up (is_pooled (kept_as page_weight p f))
-      (ever_by (after (named g.given.actors x) f) ts) (ever_by (after (named g.given.actors x) f)
-      (ts ++ t ∷ [])) (up_by (after (named g.given.actors x) f) ts t)
+      (ever_by (after (named g.given.actors x) (g.given.finds p x) f) ts)
+      (ever_by (after (named g.given.actors x) (g.given.finds p x) f)
+      (ts ++ t ∷ [])) (up_by (after (named g.given.actors x) (g.given.finds p x) f) ts t)
 
   -- it only rises
   pub ever_up : (order : List Tag) (t : Tag) → ever g p order ≤ ever g p (order ++ t ∷ [])
@@ -454,12 +589,13 @@ module _ (g : Begin) (p : ℕ) where
   ever_up order t = up_by (found g p) order t
 
   now_by : (f : Found) (ts : List Tag) → bit (is_pooled
-      (kept_as page_weight p (after_all g.given.actors f ts))) ≤ bit (ever_by f ts)
+      (kept_as page_weight p (after_all (calls_on g.given p) f ts))) ≤ bit (ever_by f ts)
   now_by f [] = omega arith
   now_by f (x ∷ ts) = or_right (is_pooled (kept_as page_weight p f))
-      (is_pooled (kept_as page_weight p (after_all g.given.actors
-      (after (named g.given.actors x) f) ts))) (ever_by (after (named g.given.actors x) f) ts)
-      (now_by (after (named g.given.actors x) f) ts)
+      (is_pooled (kept_as page_weight p (after_all (calls_on g.given p)
+      (after (named g.given.actors x) (g.given.finds p x) f) ts)))
+      (ever_by (after (named g.given.actors x) (g.given.finds p x) f) ts)
+      (now_by (after (named g.given.actors x) (g.given.finds p x) f) ts)
 
   pub ever_now : (order : List Tag) → pooled (form_at g p order) ≤ ever g p order
   unfolding bit
@@ -500,15 +636,18 @@ image_len g p order o i = form_len g.chain (form_at g p order) o i
 module _ (g : Begin) (ok : Known g) (p : Part) (order : List Tag) (actor : ℕ)
     (is : named g.given.actors (tag_by actor p) ≡ Some p.op) where
   -- the piece is carried out on the content
-  pub content_carries : Carries actor p (content g p.page order) order
-      (content g p.page (order ++ tag_by actor p ∷ [])) (order ++ tag_by actor p ∷ [])
+  pub content_carries : Carries actor p (g.given.finds p.page (tag_by actor p))
+      (content g p.page order) order (content g p.page (order ++ tag_by actor p ∷ []))
+      (order ++ tag_by actor p ∷ [])
   content_carries = record {
     notes = refl;
     holds = λ k lt. content_sector g ok p.page (order ++ tag_by actor p ∷ []) k lt
-        ∙ held_on g ok order (tag_by actor p) (8 * p.page + k)
-        ∙ ap (λ (o : Option Op). sector_after_named o (8 * p.page + k)
-        (held_after g.given order (8 * p.page + k))) is
-        ∙ ap (sector_after p.op (8 * p.page + k)) (sym (content_sector g ok p.page order k lt));
+        ∙ held_on g ok p.page order (tag_by actor p) (8 * p.page + k)
+        ∙ ap (λ (o : Option Op). sector_after_named o (g.given.finds p.page (tag_by actor p))
+        (8 * p.page + k) (held_after g.given p.page order (8 * p.page + k))) is
+        ∙ ap (λ (old : List ℕ). sector_after p.op (8 * p.page + k)
+        (start_from p.op (g.given.finds p.page (tag_by actor p)) (8 * p.page + k) old))
+        (sym (content_sector g ok p.page order k lt));
   }
 
 -- ---- pages on the device

@@ -1,15 +1,15 @@
 -- Sectors keep their 512 bytes, whatever the calls, and blank pages their zeros.
-use Rattle.std.proofs.Common.{◌≡◌, ◌+◌, ◌*◌, ◌-◌, ◌/◌, ◌≤◌, ◌<◌, ◌∷◌, ◌∙◌, ◌^◌, ◌%◌, ℕ, zero, suc, true, leb, ltb, List, [], length, drop, sum_by, Option, Some, None, get_or, slice_get, refl, sym, ap, subst, arith, inl, inr, ⊎_elim, length-append}
+use Rattle.std.proofs.Common.{◌≡◌, ◌+◌, ◌*◌, ◌-◌, ◌/◌, ◌≤◌, ◌<◌, ◌∷◌, ◌∙◌, ◌^◌, ◌%◌, ℕ, zero, suc, true, leb, ltb, List, [], length, drop, sum_by, Some, None, get_or, slice_get, refl, sym, ap, subst, arith, inl, inr, ⊎_elim, length-append}
 use Rattle.joint_rule.proofs.Fitting.{touched_low}
 use Rattle.backing_dev.specs.Dev.{DeviceState}
 use Rattle.joint_rule.proofs.Ended.{entries, order_is}
 use Rattle.joint_rule.proofs.Facts.{Known}
-use Rattle.joint_rule.proofs.Pages.{blank_zero, holds_after}
+use Rattle.joint_rule.proofs.Pages.{all_sectors, blank_zero, holds_after}
 use Rattle.joint_rule.proofs.Ranges.{range_by, range_map, range_none}
 use Rattle.joint_rule.proofs.Rests.{at_rest}
-use Rattle.joint_rule.specs.Begins.{AreCarried, AreRequests, Begin, IsRoomy, IsSector, Proper, back_at, found_after}
+use Rattle.joint_rule.specs.Begins.{finding, AreCarried, AreRequests, Begin, FindsRight, IsRoomy, Proper, back_at, found_after}
 use Rattle.joint_rule.specs.Ends.{AllFinished, begin_at, new_rest, order_in, orders_of, rest_after, value_at, idle_in}
-use Rattle.joint_rule.specs.Rule.{Rule}
+use Rattle.joint_rule.specs.Rule.{Ruled}
 use Rattle.joint_rule.specs.Starts.{IsRenewed}
 use Rattle.lock_row.specs.declared.names.State.{State}
 use Rattle.mem_account.specs.Counters.{no_counts}
@@ -18,7 +18,7 @@ use Rattle.mem_account.specs.declared.weight.Weight.{Weight}
 use Rattle.page_steps.specs.Steps.{DiskHeld, on}
 use Rattle.plain_disk.specs.Legal.{sets}
 use Rattle.plain_disk.specs.Legal.{IsNew as IsNewDisk}
-use Rattle.plain_disk.specs.Phases.{begun, held_after, nth_order, touched_by}
+use Rattle.plain_disk.specs.Phases.{held_after, nth_order, touched_by}
 use Rattle.plain_disk.specs.Rests.{Rest, Settings, frames_of, kept_at, kept_pages, page_of, stats}
 use Rattle.size_class.specs.Classes.{chain_of}
 use Rattle.slot_entry.specs.Entries.{EntryState}
@@ -32,8 +32,7 @@ use Rattle.std.proofs.lemmas.Option.{get_or_from_slice_get}
 use Rattle.std.specs.Int.{byte_at, bytes_low_first, to_le_bytes, w64}
 use Rattle.std.specs.List.{AllByRecursion}
 use Rattle.std.specs.Prelude.{All}
-use Rattle.zr_base.specs.Plain.{HasBytes, HasSectors, covers, has_whole, named, sector_after_named, stuff_sector, words_from, zero_sector}
-use Rattle.zr_base.specs.Plain.{content as contents}
+use Rattle.zr_base.specs.Plain.{HasBytes, HasSectors, covers, has_whole, named, sector_after, stuff_sector, words_from, zero_sector, IsSector, Finds}
 use Rattle.zr_base.specs.declared.op.Op.{Op}
 use Rattle.zr_base.specs.declared.op.Op.TheVariants.{Compact, Discard, Idle, Read, Write}
 use Rattle.zr_base.specs.declared.op.Stuff.{Stuff}
@@ -97,11 +96,10 @@ put_sector (Hex bytes) count i has low lt = (
 )
 
 module _ (actors : List (List Op)) (requests : AreRequests actors) where
-  one_call : (t : Tag) (o : Option Op) (s : ℕ) (old : List ℕ) → named actors t ≡ o → IsSector old
-      → IsSector (sector_after_named o s old)
-  one_call t None s old e h = h
-  one_call t (Some (Read start count)) s old e h = h
-  one_call t (Some (Write start count stuff)) s old e h = elim (cases_Bool (covers start count s)) [
+  put_by : (t : Tag) (op : Op) (s : ℕ) (old : List ℕ) → named actors t ≡ Some op → IsSector old
+      → IsSector (sector_after op s old)
+  put_by t (Read start count) s old e h = h
+  put_by t (Write start count stuff) s old e h = elim (cases_Bool (covers start count s)) [
     | inl on ↦ rw on (
         let p = and_parts (leb start s) (ltb s (start + count)) on in
         let x = leb-true start s p.0 in let y = ltb-true s (start + count) p.1 in
@@ -109,29 +107,34 @@ module _ (actors : List (List Op)) (requests : AreRequests actors) where
         put_sector stuff count (s - start) q.1 q.2 (omega arith))
     | inr off ↦ rw off h
   ]
-  one_call t (Some (Idle age)) s old e h = h
-  one_call t (Some Compact) s old e h = h
-  one_call t (Some (Discard start count)) s old e h = elim
+  put_by t (Idle age) s old e h = h
+  put_by t Compact s old e h = h
+  put_by t (Discard start count) s old e h = elim
       (cases_Bool (has_whole start count (s / 8))) [ inl on ↦ rw on zero_is | inr off ↦ rw off h ]
 
-  all_calls : (order : List Tag) (s : ℕ) (old : List ℕ) → IsSector old
-      → IsSector (contents actors s old order)
-  all_calls [] s old h = h
-  all_calls (t ∷ ts) s old h = all_calls ts s (sector_after_named (named actors t) s old)
-      (one_call t (named actors t) s old refl h)
-
-pub proper_is : (h : Begin) → AreRequests h.given.actors → ((s : ℕ) → IsSector (h.given.before s))
+pub proper_is : (h : Begin) → AreRequests h.given.actors → FindsRight h
+    → ((s : ℕ) → IsSector (h.given.before s))
     → ((p k : ℕ) → k < 8 → h.blank p ≡ true → h.given.before (8 * p + k) ≡ zero_sector)
     → ((p : ℕ) → p < h.given.size → h.touched p ≤ h.clock) → IsRoomy h → Proper h
-proper_is h requests before blanks times room = record {
+proper_is h requests finds before blanks times room = record {
   some = room.some;
   times = times;
   blanks = blanks;
-  sectors = λ order s. all_calls h.given.actors requests order s (h.given.before s) (before s);
+  before = before;
+  puts = put_by h.given.actors requests;
+  finds = finds;
   least = room.least;
   most = room.most;
   few = room.few;
   pieces = room.pieces;
+}
+
+-- calls that find what is held find sectors
+held_right : (h : Begin) → ((p : ℕ) (t : Tag) (s : ℕ) (old : List ℕ)
+    → h.given.finds p t s old ≡ old) → FindsRight h
+held_right h held = record {
+  sectors = λ p t s old i. subst IsSector (sym (held p t s old)) i;
+  honest = λ honest. held;
 }
 
 past : {A : Type 0} (xs : List A) (i : ℕ) (d : A) → length xs ≤ i → get_or xs i d ≡ d
@@ -139,18 +142,20 @@ past [] i d le = refl
 past (x ∷ xs) zero d le = absurd (omega arith)
 past (x ∷ xs) (suc i) d le = past xs i d (omega arith)
 
-module _ (r : Rest) (actors : List (List Op)) (ok : Known (begin_at r actors)) (w : State DiskHeld)
-    (rule : Rule (begin_at r actors) w) (fin : AllFinished (begin_at r actors) w) where
+module _ (r : Rest) (actors : List (List Op)) (finds : ℕ → Finds)
+    (ok : Known (finding (begin_at r actors) finds)) (w : State DiskHeld)
+    (rule : Ruled (finding (begin_at r actors) finds) w)
+    (fin : AllFinished (finding (begin_at r actors) finds) w) where
   abbrev g : Begin
-  g = begin_at r actors
+  g = finding (begin_at r actors) finds
 
   abbrev m : Rest
-  m = rest_after r actors w.row
+  m = rest_after r actors finds w.row
 
   carried : (p : ℕ) → AreCarried g p (nth_order (orders_of r.size w.row) p)
   carried p = ⊎_elim
-      (λ lt. subst (AreCarried g p) (sym (order_is r actors ok w rule fin p lt))
-      (entries r actors ok w rule fin p lt).2.sound.calls)
+      (λ lt. subst (AreCarried g p) (sym (order_is r actors finds ok w rule fin p lt))
+      (entries r actors finds ok w rule fin p lt).2.sound.calls)
       (λ le. subst (AreCarried g p) (sym (past (orders_of r.size w.row) p []
       (let l = length-map-range_with_len (λ i. order_in (value_at w.row i)) 0 r.size in
       omega arith))) tt)
@@ -161,11 +166,12 @@ module _ (r : Rest) (actors : List (List Op)) (ok : Known (begin_at r actors)) (
       → IsRoomy (begin_at (sets m set) more) → r.set.clock ≤ set.clock
       → Proper (begin_at (sets m set) more)
   next_proper set more requests room later = proper_is (begin_at (sets m set) more) requests
-      (λ s. ok.proper.sectors (nth_order (orders_of r.size w.row) (s / 8)) s)
-      (λ p k lt blank. ap (λ (q : ℕ). held_after (begun r actors)
+      (held_right (begin_at (sets m set) more) (λ p t s old. refl))
+      (λ s. all_sectors g ok (s / 8) (nth_order (orders_of r.size w.row) (s / 8)) s)
+      (λ p k lt blank. ap (λ (q : ℕ). held_after g.given q
       (nth_order (orders_of r.size w.row) q) (8 * p + k))
       (let q : (8 * p + k) / 8 ≡ p = omega arith in q)
-      ∙ sym (holds_after g (page_of r p) (nth_order (orders_of r.size w.row) p) (8 * p + k))
+      ∙ sym (holds_after g p (page_of r p) (nth_order (orders_of r.size w.row) p) (8 * p + k))
       ∙ blank_zero g ok (nth_order (orders_of r.size w.row) p) p k lt (carried p) (page_of r p)
       (λ b. ok.proper.blanks p k lt b) blank)
       (λ p lt. touched_low (nth_order (orders_of r.size w.row) p) r.set.clock set.clock (r.touched p)
@@ -180,12 +186,12 @@ module _ (r : Rest) (actors : List (List Op)) (ok : Known (begin_at r actors)) (
   next_entry set more j e f at kept_same order under idle touched =
       let home = (at_rest g w rule fin).home j (holds.Slot e) at in
       let lt : j < r.size = home.sound.page in
-      let there = (entries r actors ok w rule fin j lt).1 in
-      let same : (entries r actors ok w rule fin j lt).0 ≡ e =
-      (let z : Some (holds.Slot (entries r actors ok w rule fin j lt).0) ≡ Some (holds.Slot e) =
+      let there = (entries r actors finds ok w rule fin j lt).1 in
+      let same : (entries r actors finds ok w rule fin j lt).0 ≡ e =
+      (let z : Some (holds.Slot (entries r actors finds ok w rule fin j lt).0) ≡ Some (holds.Slot e) =
       sym there ∙ get_or_from_slice_get w.row j (Some (holds.Slot e)) None at in cc) in
       let order_e : nth_order (orders_of r.size w.row) j ≡ e.order =
-      order_is r actors ok w rule fin j lt ∙ ap (λ (x : EntryState). x.order) same in record {
+      order_is r actors finds ok w rule fin j lt ∙ ap (λ (x : EntryState). x.order) same in record {
         kept = kept_same;
         order = order;
         under = under;
@@ -196,10 +202,10 @@ module _ (r : Rest) (actors : List (List Op)) (ok : Known (begin_at r actors)) (
             ∙ sym home.sound.touched;
         blank = ap (λ (o : List Tag). (found_after g j o).blank) order_e;
         back = ap (back_at g j) order_e;
-        before = λ k lt8. ap (λ (q : ℕ). held_after (begun r actors)
+        before = λ k lt8. ap (λ (q : ℕ). held_after g.given q
             (nth_order (orders_of r.size w.row) q) (8 * j + k))
             (let q : (8 * j + k) / 8 ≡ j = omega arith in q)
-            ∙ ap (λ (o : List Tag). held_after (begun r actors) o (8 * j + k)) order_e;
+            ∙ ap (λ (o : List Tag). held_after g.given j o (8 * j + k)) order_e;
       }
 
 -- ---- a new disk
@@ -209,7 +215,8 @@ pub new_proper : (n : ℕ) (set : Settings) (device : DeviceState) (actors : Lis
     → Proper (begin_at (new_rest n set device) actors)
 new_proper n set device actors requests room =
     proper_is (begin_at (new_rest n set device) actors) requests
-    (λ s. zero_is) (λ p k lt b. refl) (λ p lt. omega arith) room
+    (held_right (begin_at (new_rest n set device) actors) (λ p t s old. refl)) (λ s. zero_is)
+    (λ p k lt b. refl) (λ p lt. omega arith) room
 
 none_kept : (f : Weight → ℕ) → f weight.Empty ≡ 0 → (n : ℕ) (set : Settings)
     (device : DeviceState) → sum_by f (kept_pages page_weight (new_rest n set device)) ≡ 0

@@ -84,8 +84,8 @@ and_true false = refl
 module _ (g h : Begin) where
   module _ (j : ℕ) (e f : EntryState) (r : IsRenewed g h j e f) where
     same_content : content h j [] ≡ content g j e.order
-    same_content = content_join h j [] ∙ join_same (λ k. held_after h.given [] (8 * j + k))
-        (λ k. held_after g.given e.order (8 * j + k)) 0 8 (λ k low high. r.before k (omega arith))
+    same_content = content_join h j [] ∙ join_same (λ k. held_after h.given j [] (8 * j + k))
+        (λ k. held_after g.given j e.order (8 * j + k)) 0 8 (λ k low high. r.before k (omega arith))
         ∙ sym (content_join g j e.order)
 
     same_form : form_at h j f.order ≡ form_at g j e.order

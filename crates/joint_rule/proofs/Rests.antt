@@ -6,7 +6,7 @@ use Rattle.joint_rule.proofs.Sums.{row_nothing}
 use Rattle.joint_rule.specs.Begins.{Begin}
 use Rattle.joint_rule.specs.Ends.{AllFinished}
 use Rattle.joint_rule.specs.Joint.{IsActor, Joint}
-use Rattle.joint_rule.specs.Rule.{Rule}
+use Rattle.joint_rule.specs.Rule.{Ruled}
 use Rattle.joint_rule.specs.Stages.{NoneOf, StageBy, locks_by}
 use Rattle.joint_rule.specs.Starts.{AtRest}
 use Rattle.joint_rule.specs.Weights.{ahead, at_place, behind, block_claims, chains, claims, compactions, counters, device_size, fresh_claim, lies_at, map_size, measure, mosts, news_counter, none, nothing, object_weight, outs, owing, pages, pinned, refusal_counter, shown, stored, stored_at, used_blocks}
@@ -48,7 +48,7 @@ pub no_todo : (size : ℕ) (ps : List Part) (at : At) (c d : ℕ) → plan_by si
 no_todo size [] at c d e = refl
 no_todo size (p ∷ ps) at c d e = absurd (never_finished size at p c d e)
 
-module _ (g : Begin) (w : State DiskHeld) (r : Rule g w) (fin : AllFinished g w) where
+module _ (g : Begin) (w : State DiskHeld) (r : Ruled g w) (fin : AllFinished g w) where
   abbrev j : Joint g w
   j = r.joint
 

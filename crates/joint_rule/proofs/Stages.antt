@@ -6,7 +6,7 @@ use Rattle.call_history.specs.declared.part.Part.{Part}
 use Rattle.call_history.specs.declared.part.PartEnd.{PartEnd}
 use Rattle.joint_rule.proofs.Pages.{form_low}
 use Rattle.joint_rule.specs.Begins.{Begin, back_at, content, form_at, found_after}
-use Rattle.joint_rule.specs.Stages.{Bears, BlankAt, Changes, GoneBy, IsForm, IsObj, IsPooled, IsRight, IsWb, IsWrite, MayPin, NoObj, NoneOf, Stage, is_wb, locks_at, MayIdle}
+use Rattle.joint_rule.specs.Stages.{MaySeeOther, Bears, BlankAt, Changes, GoneBy, IsForm, IsObj, IsPooled, IsRight, IsWb, IsWrite, MayPin, NoObj, NoneOf, Stage, is_wb, locks_at, MayIdle}
 use Rattle.lock_row.specs.declared.names.At.TheVariants.{Old, Owing}
 use Rattle.lock_row.specs.declared.names.Object.{Object}
 use Rattle.lock_row.specs.declared.names.Pin.{Pin}
@@ -51,7 +51,8 @@ module _ (g : Begin) (p : Part) (e : EntryState) (fresh : Option Object) (pin : 
     (form_at g p.page e.order) e.kept) (backs : is_wb e.kept ≡ back_at g p.page e.order)
     (marks : MayIdle e.kept e.idle)
     (blank : BlankAt Old p.op ahead (found_after g p.page e.order).blank)
-    (right : IsRight p.op p.page (page_in page e.kept) (content g p.page e.order))
+    (right : IsRight (MaySeeOther g p.page e.order) p.op p.page (page_in page e.kept)
+    (content g p.page e.order))
     (more : NoneOf ahead) (less : NoneOf behind) (well : NoneOf fail)
     (begun : is_single g.given.size p.op ≡ false) where
   abbrev f : PageForm
@@ -194,25 +195,25 @@ module _ (P : Part → Type 0) where
   abbrev pub Every : List Part → Type 0
   Every ps = AllByRecursion P ps
 
-  every_without : (nr : ℕ) (ps : List Part) → Every ps → Every (without nr ps)
+  pub every_without : (nr : ℕ) (ps : List Part) → Every ps → Every (without nr ps)
   every_without nr [] all = tt
   every_without nr (p ∷ ps) all = elim (cases_Bool (eqb p.nr nr)) [
     | inl on ↦ rw on (every_without nr ps all.1)
     | inr off ↦ rw off (all.0, every_without nr ps all.1)
   ]
 
-  every_left : (end : PartEnd) (nr : ℕ) (ps : List Part) → Every ps → Every (left_by end nr ps)
+  pub every_left : (end : PartEnd) (nr : ℕ) (ps : List Part) → Every ps → Every (left_by end nr ps)
   every_left end nr ps all = elim (cases_Bool (is_carried end))
       [ inl on ↦ rw on all | inr off ↦ rw off (every_without nr ps all) ]
 
-  every_todo : (So : Part → PartEnd → Type 0) (ps : List Part) (ds : List Done) (todo : List Part)
+  pub every_todo : (So : Part → PartEnd → Type 0) (ps : List Part) (ds : List Done) (todo : List Part)
       → Follows So ps ds todo → Every ps → Every todo
   every_todo So ps [] todo f all = subst Every (sym f) all
   every_todo So [] (d ∷ ds) todo f all = absurd f
   every_todo So (p ∷ ps) (d ∷ ds) todo f all =
       every_todo So (left_by d.end p.nr ps) ds todo f.2 (every_left d.end p.nr ps all.1)
 
-  every_append : (ps qs : List Part) → Every ps → Every qs → Every (ps ++ qs)
+  pub every_append : (ps qs : List Part) → Every ps → Every qs → Every (ps ++ qs)
   every_append [] qs a b = b
   every_append (p ∷ ps) qs a b = (a.0, every_append ps qs a.1 b)
 

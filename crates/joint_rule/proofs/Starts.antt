@@ -20,7 +20,7 @@ use Rattle.joint_rule.proofs.Places.{IsAccount, IsDevice, IsMap, account_kind, d
 use Rattle.joint_rule.specs.Alone.{IsCalm, compacting}
 use Rattle.joint_rule.specs.Begins.{Begin, ground_of, pieces_each, pieces_on}
 use Rattle.joint_rule.specs.Joint.{AtHome, IsActor, Joint, KeepsDevice, Sound}
-use Rattle.joint_rule.specs.Rule.{FailKeeps, OfOrder, Rule, ShowsOrder, done_by, dones, owed, owed_by, reach_at}
+use Rattle.joint_rule.specs.Rule.{FailKeeps, OfOrder, Rule, Ruled, ShowsOrder, done_by, dones, owed, owed_by, reach_at}
 use Rattle.joint_rule.specs.Stages.{StageBy, locks_by}
 use Rattle.joint_rule.specs.Starts.{IsStart}
 use Rattle.joint_rule.specs.Weights.{HeldAll, News, ahead, at_place, behind, block_claims, chains, claims, compactions, counters, device_reads, device_size, each_one, ever_at, fails_so, faults_told, fixed, fixed_count, freed_at, freed_by, fresh_claim, lies_at, loose_pools, map_size, measure, mosts, news_count, news_counter, none, noted, nothing, object_weight, on_account, on_blocks, on_device, order_news, outs, owing, pages, pinned, refusal_count, refusal_counter, refusal_of, refusals, refused_by, same, shown, some_of, stored, stored_at, told_ahead, told_at, used_blocks}
@@ -298,6 +298,8 @@ module _ (g : Begin) (ok : Known g) (w : State DiskHeld) (s : IsStart g w) where
       reads = λ a i d at on. absurd (let q : slice_get (let ds : List Done = [] in ds) i ≡ Some d =
           subst (λ (ds : List Done). slice_get ds i ≡ Some d) (nothing_done a) at in cc);
     };
+    finds = λ at t is_at. absurd (let q : slice_get (let ts : List Tag = [] in ts) at ≡ Some t =
+        subst (λ (ts : List Tag). slice_get ts at ≡ Some t) is is_at in cc);
     spare = le;
     few = let z = ap length is in let r = owed_each k w.locals g.given.actors
         (λ a l e. let h = s.actors a l e in (h.ops, h.named, h.todo)) in omega arith;
@@ -327,8 +329,9 @@ module _ (g : Begin) (ok : Known g) (w : State DiskHeld) (s : IsStart g w) where
   within_end : (a : ℕ) → a < 2 ^ 64 → a ≡ at_most_end (a + 0)
   within_end a lt = omega arith
 
-  pub start_rule : Rule g w
-  start_rule = record {
+  pub start_ruled : Ruled g w
+  start_ruled = record {
+    finds = ok.proper.finds;
     joint = start_joint;
     told = record {
       in_row = start_order;
@@ -397,3 +400,7 @@ module _ (g : Begin) (ok : Known g) (w : State DiskHeld) (s : IsStart g w) where
               ap (compacting l.todo) h.at ∙ no_compaction l.todo in cc);
         };
   }
+
+  -- the phase's calls find what it begins with
+  pub start_rule : Rule g w
+  start_rule = record { finds = g.given.finds; ruled = start_ruled }

@@ -11,7 +11,7 @@ use Rattle.joint_rule.proofs.Pages.{blank_empty, blank_some, form_low, plain_rig
 use Rattle.joint_rule.proofs.Stages.{OnDisk, made_locks, made_stage, may_none, old_low, on_disk, settle_locks, settle_stage}
 use Rattle.joint_rule.specs.Begins.{Begin, back_at, content, form_at, found_after, ground_of, terms}
 use Rattle.joint_rule.specs.Joint.{AtHome, Backs, EntryFits, IsActor, Sound, Stands, Marks}
-use Rattle.joint_rule.specs.Stages.{Bears, BlankAt, BlankBy, Changes, FailBy, IsForm, IsNothing, IsObj, IsPartly, IsRight, IsSmall, IsWb, IsWrite, Looks, NoObj, NoneOf, Stage, StageBy, WasBlank, is_wb, locks_at, locks_by, MayIdle, IsScan}
+use Rattle.joint_rule.specs.Stages.{Bears, BlankAt, BlankBy, Changes, FailBy, IsForm, IsNothing, IsObj, IsPartly, IsRight, IsSmall, IsWb, IsWrite, Looks, NoObj, NoneOf, Stage, StageBy, WasBlank, is_wb, locks_at, locks_by, MayIdle, IsScan, MaySeeOther}
 use Rattle.joint_rule.specs.Weights.{measure}
 use Rattle.lock_row.specs.declared.names.At.{At}
 use Rattle.lock_row.specs.declared.names.At.TheVariants.{Away, Backed, Both, Counting, Failing, Fetching, Freeing, Giving, Inside, Leaving, Made, Missed, Old, Owing, Pinned, Pinning, Ready, Refusing, Releasing, Seen, Start, Unpinning, Wanting, Sweeping, Moving, Shrunk, Shrinking, Scanning, Marking}
@@ -75,7 +75,12 @@ module _ (g : Begin) (ok : Known g) (p : Part) (fresh : Option Object) (pin : Op
     no_blank (Idle age) i = absurd i
     no_blank Compact i = absurd i
 
-    made_there : IsWrite p.op → IsRight p.op p.page (page_in page x.kept) (content g p.page x.order)
+    -- the page that the piece sees is right
+    abbrev IsRightHere : Op → Type 0
+    IsRightHere o = IsRight (MaySeeOther g p.page x.order) o p.page (page_in page x.kept)
+        (content g p.page x.order)
+
+    made_there : IsWrite p.op → IsRightHere p.op
         → Goes (made_at (next_form p page x.kept) x.kept)
     made_there wr right = (
       made_locks (next_form p page x.kept) x.kept p (class_by x.kept)
@@ -98,8 +103,7 @@ module _ (g : Begin) (ok : Known g) (p : Part) (fresh : Option Object) (pin : Op
         backs = backs;
         marks = marks;
         partly = tt;
-        right = subst (λ (o : Op). IsRight o p.page (page_in page x.kept)
-            (content g p.page x.order)) (sym is) (is_right page start.right free);
+        right = subst IsRightHere (sym is) (inl (is_right page start.right free));
         counts = start.counts;
         blank = tt;
         fails = subst (λ (o : Op). FailBy g p o fail) (sym is) start.fails;
@@ -159,20 +163,18 @@ module _ (g : Begin) (ok : Known g) (p : Part) (fresh : Option Object) (pin : Op
 
       write_whole : has_whole start_ count p.page ≡ true
           → Goes (made_at (next_form p page x.kept) x.kept)
-      write_whole e = made_there is_write (subst (λ (o : Op).
-          IsRight o p.page (page_in page x.kept) (content g p.page x.order)) (sym is) (inl e))
+      write_whole e = made_there is_write (subst IsRightHere (sym is) (inl e))
 
       write_part : (k : Kept) → x.kept ≡ k → has_whole start_ count p.page ≡ false
           → Goes (part_at (next_form p page x.kept) k)
-      write_part kept.Empty e part = subst (λ (k : Kept). Goes (made_at (next_form p page x.kept) k)) e
-          (made_there is_write (subst (λ (o : Op). IsRight o p.page (page_in page x.kept)
-          (content g p.page x.order)) (sym is) (inr
-          (is_right page start.right (subst NoObj (sym e) tt)))))
+      write_part kept.Empty e part = subst (λ (k : Kept).
+          Goes (made_at (next_form p page x.kept) k)) e
+          (made_there is_write (subst IsRightHere (sym is) (inr (inl
+          (is_right page start.right (subst NoObj (sym e) tt))))))
       write_part (kept.Same w) e part = subst (λ (k : Kept).
           Goes (made_at (next_form p page x.kept) k)) e
-          (made_there is_write (subst (λ (o : Op). IsRight o p.page (page_in page x.kept)
-          (content g p.page x.order)) (sym is) (inr
-          (is_right page start.right (subst NoObj (sym e) tt)))))
+          (made_there is_write (subst IsRightHere (sym is) (inr (inl
+          (is_right page start.right (subst NoObj (sym e) tt))))))
       write_part (kept.Obj o) e part = sees (subst Looks (sym is) tt) (subst IsObj (sym e) tt)
       write_part (kept.Wb b) e part = goes_away (subst Looks (sym is) tt) (subst IsWb (sym e) tt)
           (subst (λ (o : Op). IsPartly o p.page) (sym is) part)
@@ -211,8 +213,7 @@ module _ (g : Begin) (ok : Known g) (p : Part) (fresh : Option Object) (pin : Op
         settle_stage g p x fresh pin owed ahead behind page fail
             (may_none x.kept pin start.pins) start.owes stands backs marks
             (was_blank false (blank_some g p.page x.order x.kept some stands))
-            (subst (λ (o : Op). IsRight o p.page (page_in page x.kept) (content g p.page x.order))
-            (sym is) tt) start.counts.0 start.counts.1 start.fails begun drops bears x.kept refl,
+            (subst IsRightHere (sym is) tt) start.counts.0 start.counts.1 start.fails begun drops bears x.kept refl,
       )
 
       none_by : (y : Option Weight) → NoneOf y → WasBlank p.op true
@@ -232,8 +233,7 @@ module _ (g : Begin) (ok : Known g) (p : Part) (fresh : Option Object) (pin : Op
           backs = tt;
           marks = tt;
           partly = tt;
-          right = subst (λ (o : Op). IsRight o p.page (page_in page x.kept)
-              (content g p.page x.order)) (sym is) tt;
+          right = subst IsRightHere (sym is) tt;
           counts = record {
             ahead = λ q. none_weight q ahead start.counts.0
                 ∙ sym (ap (λ (f : PageForm). measure q (form_weight f)) blank ∙ nothing_shown q);

@@ -1,22 +1,23 @@
 -- Each turn keeps orders, what they make of pages, and what pieces have read.
-use Rattle.std.proofs.Common.{◌≡◌, ◌≢◌, ◌+◌, ◌*◌, ◌-◌, ◌≤◌, ◌∷◌, ◌++◌, ◌∙◌, ℕ, Bool, true, false, cond, eqb, List, [], length, Option, Some, None, slice_get, slice_set, refl, sym, ap, subst, arith, inl, inr, ⊎_elim, length-append}
+use Rattle.std.proofs.Common.{◌≡◌, ◌≢◌, ◌+◌, ◌*◌, ◌-◌, ◌≤◌, ◌∷◌, ◌++◌, ◌∙◌, ◌⊎◌, ℕ, zero, suc, Bool, true, false, cond, eqb, List, [], length, take, Option, Some, None, slice_get, slice_set, refl, sym, ap, subst, arith, inl, inr, ⊎_elim, length-append}
 use Rattle.call_history.specs.Parts.{got_by, is_carried, is_on, is_read, left_by, stands_so, without}
-use Rattle.call_history.specs.Shows.{Grown, ShowsPage, got_from, tag_by}
+use Rattle.call_history.specs.Shows.{Grown, SeesSo, ShowsPage, got_from, tag_by}
 use Rattle.call_history.specs.declared.part.Done.{Done}
 use Rattle.call_history.specs.declared.part.Part.{Part}
 use Rattle.call_history.specs.declared.part.PartEnd.{PartEnd}
 use Rattle.call_history.specs.declared.part.PartEnd.TheVariants.{AtLimit, Carried, Eio, NoMemory, Whole}
+use Rattle.joint_rule.proofs.Chosen.{Chosen, FindsSo}
 use Rattle.joint_rule.proofs.Events.{Event}
 use Rattle.joint_rule.proofs.Facts.{Known}
 use Rattle.joint_rule.proofs.Gifts.{Gift, is_named, stage}
 use Rattle.joint_rule.proofs.Givings.{event_is, given_lock}
-use Rattle.joint_rule.proofs.Pages.{content_carries}
+use Rattle.joint_rule.proofs.Pages.{content_carries, seen_by, sees_any}
 use Rattle.joint_rule.proofs.Pools.{same_self}
 use Rattle.joint_rule.proofs.Sums.{each_take, get_else, get_here, get_set, gone, locals_two}
-use Rattle.joint_rule.specs.Begins.{Begin, content, piece_on, pieces_on, terms}
+use Rattle.joint_rule.specs.Begins.{Begin, back_at, content, piece_on, pieces_on, terms}
 use Rattle.joint_rule.specs.Joint.{Joint}
-use Rattle.joint_rule.specs.Rule.{OfOrder, ShowsOrder, Told, done_by, dones, owed, owed_by}
-use Rattle.joint_rule.specs.Stages.{Changes, FailBy, IsFault, IsRight, Looks}
+use Rattle.joint_rule.specs.Rule.{FindHeld, OfOrder, ShowsOrder, Told, done_by, dones, owed, owed_by}
+use Rattle.joint_rule.specs.Stages.{Changes, FailBy, IsFault}
 use Rattle.joint_rule.specs.Weights.{HeldAll, at_place, none, same}
 use Rattle.lock_row.specs.Totals.{held_sum, mass}
 use Rattle.lock_row.specs.declared.names.At.TheVariants.{Leaving, Missed, Ready, Marking}
@@ -115,6 +116,27 @@ module _ (size : ℕ) (P Q : ℕ → List Tag → ℕ → Type 0) where
     held_apart k f xs (omega arith) h.1,
   )
 
+push_at : {A : Type 0} (xs : List A) (x : A) (i : ℕ) (y : A)
+    → slice_get (xs ++ x ∷ []) i ≡ Some y
+    → ((slice_get xs i ≡ Some y) × (take i (xs ++ x ∷ []) ≡ take i xs))
+    ⊎ ((x ≡ y) × (take i (xs ++ x ∷ []) ≡ xs))
+push_at [] x zero y e = inr ((let q : Some x ≡ Some y = e in cc), refl)
+push_at [] x (suc i) y e = absurd (cc)
+push_at (z ∷ zs) x zero y e = inl (e, refl)
+push_at {A} (z ∷ zs) x (suc i) y e = ⊎_elim
+    (λ o. inl (o.0, ap (λ (ts : List A). z ∷ ts) o.1))
+    (λ o. inr (o.0, ap (λ (ts : List A). z ∷ ts) o.1)) (push_at zs x i y e)
+
+-- one more call finds what is held, where its page isn't on the device
+held_push : (g : Begin) (p : ℕ) (order : List Tag) (t : Tag) → FindHeld g p order
+    → (back_at g p order ≡ false → (s : ℕ) (old : List ℕ) → g.given.finds p t s old ≡ old)
+    → FindHeld g p (order ++ t ∷ [])
+held_push g p order t old new i u is off s bytes = ⊎_elim
+    (λ o. old i u o.0 (subst (λ (ts : List Tag). back_at g p ts ≡ false) o.1 off) s bytes)
+    (λ o. subst (λ (x : Tag). g.given.finds p x s bytes ≡ bytes) o.0
+    (new (subst (λ (ts : List Tag). back_at g p ts ≡ false) o.1 off) s bytes))
+    (push_at order t i u is)
+
 -- ---- what a giving does to orders
 
 module _ (g : Begin) (P : ℕ → List Tag → ℕ → Type 0) where
@@ -127,13 +149,17 @@ module _ (g : Begin) (P : ℕ → List Tag → ℕ → Type 0) where
     quiet : m.done ≡ l.done → m.todo ≡ l.todo → (HeldAll g.given.size (OfOrder P) l.held
         → OfOrder P (spot g.given.size k) v × HeldAll g.given.size (OfOrder P) m.held)
         → Tells l k v m
-    noted : (p : Part) (rest : List Part) (e f : EntryState) (end : PartEnd) (got : List (List ℕ))
-        → l.todo ≡ p ∷ rest → k ≡ slot p.page → l.held ≡ (slot p.page, holds.Slot e) ∷ []
+    noted : (p : Part) (rest : List Part) (e f : EntryState) (end : PartEnd)
+        (got : List (List ℕ)) (seen : List ℕ) → l.todo ≡ p ∷ rest → k ≡ slot p.page
+        → l.held ≡ (slot p.page, holds.Slot e) ∷ []
         → v ≡ holds.Slot f
         → is_single g.given.size p.op ≡ false → f.order ≡ e.order ++ tag_by l.actor p ∷ []
         → e.room ≤ f.room + 1 → stands_so p.op end ≡ true
-        → got ≡ cond (is_carried end) (got_from (content g p.page e.order) p) []
-        → m ≡ piece_over l p end got rest → Tells l k v m
+        → got ≡ cond (is_carried end) (got_from seen p) []
+        → SeesSo p.op (g.given.finds p.page (tag_by l.actor p)) p.page (content g p.page e.order)
+        seen
+        → FindsSo g p e.order (tag_by l.actor p) → m ≡ piece_over l p end got rest
+        → Tells l k v m
     refused : (p : Part) (rest : List Part) (end : PartEnd) → l.todo ≡ p ∷ rest
         → stands_so p.op end ≡ false → Carry l k v → m ≡ piece_over l p end [] rest → Tells l k v m
 
@@ -177,14 +203,6 @@ fault_got g p NoMemory got f = absurd f
 fault_got g p (Eio fault) got f = refl
 fault_got g p (Whole end) got f = absurd f
 
-right_read : (g : Begin) (q : Part) (op : Op) (p : ℕ) (page was : List ℕ) → Looks op
-    → FailBy g q op None → IsRight op p page was → page ≡ was
-right_read g q (Write start count stuff) p page was k f r = absurd f
-right_read g q (Read start count) p page was k f r = r
-right_read g q (Discard start count) p page was k f r = absurd k
-right_read g q (Idle age) p page was k f r = absurd k
-right_read g q Compact p page was k f r = absurd k
-
 module _ (g : Begin) (ok : Known g) (w : State DiskHeld) (j : Joint g w) (a : ℕ) (l : Here)
     (who : slice_get w.locals a ≡ Some l) (k : LockNo) (v : DiskHeld) (m : Here)
     (what : plan (terms g) l ≡ Give k) (P : ℕ → List Tag → ℕ → Type 0) where
@@ -193,63 +211,65 @@ module _ (g : Begin) (ok : Known g) (w : State DiskHeld) (j : Joint g w) (a : �
   same_tells v₀ m₀ e f t = subst (λ (x : DiskHeld × Here). Tells g P l k x.0 x.1)
       (λ i. (sym e i, sym f i)) t
 
-  pub tells_of : Event g l v m → Tells g P l k v m
-  tells_of (event.refuses p rest c todo at held v_is m_is) =
+  pub tells_of : (ev : Event g l v m) → Chosen g l v m ev → Tells g P l k v m
+  tells_of (event.refuses p rest c todo at held v_is m_is) chosen =
       same_tells _ m v_is refl (refused p rest (Whole ends.Range) todo refl (λ h. tt) m_is)
   tells_of (event.pins p rest e o q q' u u' cell todo at held is sw named_u free outside is_cell
-      in_cell lk v_is m_is) = same_tells _ _ v_is m_is (quiet refl refl
+      in_cell lk v_is m_is) chosen = same_tells _ _ v_is m_is (quiet refl refl
       (λ h. (tt, (subst (HeldAll g.given.size (OfOrder P)) held h).1)))
-  tells_of (event.unpins p rest e o q q' u u' todo at held is sw named_u outside free lk v_is m_is) =
+  tells_of (event.unpins p rest e o q q' u u' todo at held is sw named_u outside free lk v_is m_is)
+      chosen =
       same_tells _ _ v_is m_is (quiet refl refl (λ h. (
         tt,
         (subst (HeldAll g.given.size (OfOrder P)) held h).1,
       )))
   tells_of (event.charges p rest e c q q' cl h₁ need bytes huge todo at held is_form is_class within
-      al v_is m_is) = same_tells _ _ v_is m_is (quiet refl refl
+      al v_is m_is) chosen = same_tells _ _ v_is m_is (quiet refl refl
       (λ h. (tt, (tt, (subst (HeldAll g.given.size (OfOrder P)) held h).1.1))))
-  tells_of (event.limits p rest e c q cl need todo at held is_need past v_is m_is) =
+  tells_of (event.limits p rest e c q cl need todo at held is_need past v_is m_is) chosen =
       same_tells _ _ v_is m_is (quiet refl refl (λ h. (
         tt,
         (subst (HeldAll g.given.size (OfOrder P)) held h).1,
       )))
-  tells_of (event.starves p rest e c q cl todo at held v_is m_is) =
+  tells_of (event.starves p rest e c q cl todo at held v_is m_is) chosen =
       same_tells _ _ v_is m_is (quiet refl refl (λ h. (
         tt,
         (subst (HeldAll g.given.size (OfOrder P)) held h).1,
       )))
-  tells_of (event.stows p rest e q cl todo at held well v_is m_is) =
+  tells_of (event.stows p rest e q cl todo at held well v_is m_is) chosen =
       same_tells _ _ v_is m_is (quiet refl refl (λ h. (
         tt,
         (subst (HeldAll g.given.size (OfOrder P)) held h).1,
       )))
-  tells_of (event.quits p rest e q cl x todo at held bad v_is m_is) =
+  tells_of (event.quits p rest e q cl x todo at held bad v_is m_is) chosen =
       same_tells _ _ v_is m_is (quiet refl refl (λ h. (
         tt,
         (subst (HeldAll g.given.size (OfOrder P)) held h).1,
       )))
-  tells_of (event.frees p rest e o q q' frames todo at held is fp v_is m_is) =
+  tells_of (event.frees p rest e o q q' frames todo at held is fp v_is m_is) chosen =
       same_tells _ _ v_is m_is (quiet refl refl (λ h. (
         tt,
         (subst (HeldAll g.given.size (OfOrder P)) held h).1,
       )))
-  tells_of (event.repays p rest e c todo at held v_is m_is) =
+  tells_of (event.repays p rest e c todo at held v_is m_is) chosen =
       same_tells _ _ v_is m_is (quiet refl refl (λ h. (
         tt,
         (subst (HeldAll g.given.size (OfOrder P)) held h).1,
       )))
-  tells_of (event.puts p rest e f todo at held notes v_is m_is) =
+  tells_of (event.puts p rest e f todo at held notes v_is m_is) chosen =
       let st = stage g ok w j a l who p rest todo _ Ready held at in
-      noted p rest e f Carried [] todo (sym (given_lock g ok w j a l who k v m what (slot p.page)
+      noted p rest e f Carried [] (seen_by g ok p.page e.order (tag_by l.actor p)) todo
+      (sym (given_lock g ok w j a l who k v m what (slot p.page)
       (event_is g ok w j a l who k v m what p rest _ Ready todo held at))) held v_is st.begun
-      notes.order notes.room refl (no_got p.op p (content g p.page e.order) refl st.kind.0) m_is
-  tells_of (event.reads p rest e f todo at held well notes v_is m_is) =
+      notes.order notes.room refl (no_got p.op p _ refl st.kind.0)
+      (sees_any g ok p.op p.page e.order (tag_by l.actor p)) chosen.finds m_is
+  tells_of (event.reads p rest e f todo at held well notes v_is m_is) chosen =
       let st = stage g ok w j a l who p rest todo _ Leaving held at in
-      noted p rest e f Carried _ todo (sym (given_lock g ok w j a l who k v m what (slot p.page)
+      noted p rest e f Carried _ (page_in l.page e.kept) todo
+      (sym (given_lock g ok w j a l who k v m what (slot p.page)
       (event_is g ok w j a l who k v m what p rest _ Leaving todo held at))) held v_is st.begun
-      notes.order notes.room refl
-      (ap (λ (page : List ℕ). got_from page p) (right_read g p p.op p.page (page_in l.page e.kept)
-      (content g p.page e.order) st.kind (subst (FailBy g p p.op) well st.fails) st.right)) m_is
-  tells_of (event.fails p rest e x todo at held bad v_is m_is) =
+      notes.order notes.room refl refl chosen.sees chosen.finds m_is
+  tells_of (event.fails p rest e x todo at held bad v_is m_is) chosen =
       let st = stage g ok w j a l who p rest todo _ Leaving held at in
       let k_is = given_lock g ok w j a l who k v m what (slot p.page)
       (event_is g ok w j a l who k v m what p rest _ Leaving todo held at) in
@@ -257,29 +277,31 @@ module _ (g : Begin) (ok : Known g) (w : State DiskHeld) (j : Joint g w) (a : �
       (subst (FailBy g p p.op) bad st.fails)) (λ h.
       subst (λ (c : LockNo). OfOrder P (spot g.given.size c) (holds.Slot e)) k_is
       (subst (HeldAll g.given.size (OfOrder P)) held h).0) m_is)
-  tells_of (event.fetches p rest e b d d' page todo at held is reads is_page v_is m_is) =
+  tells_of (event.fetches p rest e b d d' page todo at held is reads is_page v_is m_is) chosen =
       same_tells _ _ v_is m_is (quiet refl refl (λ h. (
         tt,
         (subst (HeldAll g.given.size (OfOrder P)) held h).1,
       )))
-  tells_of (event.misses p rest e b d d' fault todo at held is fails v_is m_is) =
+  tells_of (event.misses p rest e b d d' fault todo at held is fails v_is m_is) chosen =
       same_tells _ _ v_is m_is (quiet refl refl (λ h. (
         tt,
         (subst (HeldAll g.given.size (OfOrder P)) held h).1,
       )))
-  tells_of (event.counts p rest e c todo at held v_is m_is) =
+  tells_of (event.counts p rest e c todo at held v_is m_is) chosen =
       same_tells _ _ v_is m_is (quiet refl refl (λ h. (
         tt,
         (subst (HeldAll g.given.size (OfOrder P)) held h).1,
       )))
-  tells_of (event.errs p rest e f x todo at held bad reads notes v_is m_is) =
+  tells_of (event.errs p rest e f x todo at held bad reads notes v_is m_is) chosen =
       let st = stage g ok w j a l who p rest todo _ Missed held at in
       let fault = subst (IsFault g p) bad st.fails in
-      noted p rest e f x [] todo (sym (given_lock g ok w j a l who k v m what (slot p.page)
+      noted p rest e f x [] (seen_by g ok p.page e.order (tag_by l.actor p)) todo
+      (sym (given_lock g ok w j a l who k v m what (slot p.page)
       (event_is g ok w j a l who k v m what p rest _ Missed todo held at))) held v_is st.begun
       notes.order notes.room (fault_stands g p p.op x true fault reads)
-      (fault_got g p x (got_from (content g p.page e.order) p) fault) m_is
-  tells_of (event.leaves p rest e x todo at held bad other v_is m_is) =
+      (fault_got g p x (got_from (seen_by g ok p.page e.order (tag_by l.actor p)) p) fault)
+      (sees_any g ok p.op p.page e.order (tag_by l.actor p)) chosen m_is
+  tells_of (event.leaves p rest e x todo at held bad other v_is m_is) chosen =
       let st = stage g ok w j a l who p rest todo _ Missed held at in
       let k_is = given_lock g ok w j a l who k v m what (slot p.page)
       (event_is g ok w j a l who k v m what p rest _ Missed todo held at) in
@@ -287,12 +309,12 @@ module _ (g : Begin) (ok : Known g) (w : State DiskHeld) (j : Joint g w) (a : �
       (subst (IsFault g p) bad st.fails) other) (λ h.
       subst (λ (c : LockNo). OfOrder P (spot g.given.size c) (holds.Slot e)) k_is
       (subst (HeldAll g.given.size (OfOrder P)) held h).0) m_is)
-  tells_of (event.releases p rest e b x todo at held is v_is m_is) =
+  tells_of (event.releases p rest e b x todo at held is v_is m_is) chosen =
       same_tells _ _ v_is m_is (quiet refl refl (λ h. (
         tt,
         (subst (HeldAll g.given.size (OfOrder P)) held h).1,
       )))
-  tells_of (event.scans p rest age x e todo op at held other v_is m_is) =
+  tells_of (event.scans p rest age x e todo op at held other v_is m_is) chosen =
       let k_is = given_lock g ok w j a l who k v m what (slot x.page)
       (event_is g ok w j a l who k v m what p rest _ (Marking x) todo held at) in
       same_tells _ _ v_is m_is (quiet refl refl (λ h. (
@@ -300,20 +322,20 @@ module _ (g : Begin) (ok : Known g) (w : State DiskHeld) (j : Joint g w) (a : �
             (subst (HeldAll g.given.size (OfOrder P)) held h).0,
         tt,
       )))
-  tells_of (event.stops p rest age x e todo op at held last v_is m_is) =
+  tells_of (event.stops p rest age x e todo op at held last v_is m_is) chosen =
       let k_is = given_lock g ok w j a l who k v m what (slot x.page)
       (event_is g ok w j a l who k v m what p rest _ (Marking x) todo held at) in
       same_tells _ m v_is refl (refused p rest (Whole (ends.Marked _)) todo refl (λ h.
       subst (λ (c : LockNo). OfOrder P (spot g.given.size c) (holds.Slot e)) k_is
       (subst (HeldAll g.given.size (OfOrder P)) held h).0) m_is)
-  tells_of (event.moves p rest x q q' u u' budget frames todo at held sh some one v_is m_is) =
+  tells_of (event.moves p rest x q q' u u' budget frames todo at held sh some one v_is m_is) chosen =
       same_tells _ _ v_is m_is (quiet refl refl (λ h. (tt, tt)))
-  tells_of (event.sweeps p rest x q todo at held stuck other v_is m_is) =
+  tells_of (event.sweeps p rest x q todo at held stuck other v_is m_is) chosen =
       same_tells _ _ v_is m_is (quiet refl refl (λ h. (tt, tt)))
-  tells_of (event.closes p rest x q todo at held stuck last v_is m_is) =
+  tells_of (event.closes p rest x q todo at held stuck last v_is m_is) chosen =
       same_tells _ m v_is refl (refused p rest (Whole (ends.Compacted x.moves x.frames)) todo refl
       (λ h. tt) m_is)
-  tells_of (event.shrinks p rest x c todo at held v_is m_is) =
+  tells_of (event.shrinks p rest x c todo at held v_is m_is) chosen =
       same_tells _ _ v_is m_is (quiet refl refl (λ h. (tt, tt)))
 
 -- ---- the law
@@ -335,6 +357,7 @@ module _ (g : Begin) (ok : Known g) (w : State DiskHeld) (j : Joint g w) (t : To
         let s : owed_by n i m ≡ owed_by n i l = ap (pieces_on n i) todo in record {
           shows = subst (λ (D : ℕ → List Done). ShowsPage g.given D i (content g i o) o)
               (dones_same w.locals a l m who done) h.shows;
+          finds = h.finds;
           spare = let z = h.spare in omega arith;
           few = let z = h.few in omega arith;
         }
@@ -423,17 +446,21 @@ module _ (g : Begin) (ok : Known g) (w : State DiskHeld) (j : Joint g w) (t : To
         let q = fewer p rest end got todo m_is i in record {
           shows = ok.facts.elsewhere g.given (dones w.locals) (dones (slice_set w.locals a m)) a
               (done_one p end got) i (content g i o) o (grown p rest end got m_is) off h.shows;
+          finds = h.finds;
           spare = let z = h.spare in omega arith;
           few = let z = h.few in omega arith;
         }
 
     note_here : (p : Part) (rest : List Part) (e f : EntryState) (end : PartEnd)
-        (got : List (List ℕ)) → l.todo ≡ p ∷ rest → is_single n p.op ≡ false
+        (got : List (List ℕ)) (seen : List ℕ) → l.todo ≡ p ∷ rest → is_single n p.op ≡ false
         → f.order ≡ e.order ++ tag_by l.actor p ∷ [] → e.room ≤ f.room + 1
         → stands_so p.op end ≡ true
-        → got ≡ cond (is_carried end) (got_from (content g p.page e.order) p) []
+        → got ≡ cond (is_carried end) (got_from seen p) []
+        → SeesSo p.op (g.given.finds p.page (tag_by l.actor p)) p.page (content g p.page e.order)
+        seen
+        → FindsSo g p e.order (tag_by l.actor p)
         → m ≡ piece_over l p end got rest → P p.page e.order e.room → Q p.page f.order f.room
-    note_here p rest e f end got todo begun order room stands got_is m_is h =
+    note_here p rest e f end got seen todo begun order room stands got_is sees held m_is h =
         let who_is = (j.each.in_local a l who).who in
         let named_a : named g.given.actors (tag_by a p) ≡ Some p.op =
         ap (λ (b : ℕ). named g.given.actors (tag_by b p)) (sym who_is)
@@ -445,10 +472,14 @@ module _ (g : Begin) (ok : Known g) (w : State DiskHeld) (j : Joint g w) (t : To
               (content g p.page o) o) (sym (order ∙ ap (λ (b : ℕ).
               e.order ++ tag_by b p ∷ []) who_is))
               (ok.facts.here g.given (dones w.locals) (dones (slice_set w.locals a m)) a
-              (done_one p end got) p (content g p.page e.order) e.order
+              (done_one p end got) p (content g p.page e.order) seen e.order
               (content g p.page (e.order ++ tag_by a p ∷ [])) (e.order ++ tag_by a p ∷ [])
               (grown p rest end got m_is) refl stands
-              (content_carries g ok p e.order a named_a) named_a got_is h.shows);
+              (content_carries g ok p e.order a named_a) named_a
+              (subst (λ (b : ℕ). SeesSo p.op (g.given.finds p.page (tag_by b p)) p.page
+              (content g p.page e.order) seen) who_is sees) got_is h.shows);
+          finds = subst (FindHeld g p.page) (sym order)
+              (held_push g p.page e.order (tag_by l.actor p) h.finds held);
           spare = let z = h.spare in omega arith;
           few = let z = h.few in omega arith;
         }
@@ -464,12 +495,13 @@ module _ (g : Begin) (ok : Known g) (w : State DiskHeld) (j : Joint g w) (t : To
         (and_right (eqb p.page i) (stands_so p.op end) off) in
         goes (λ i o r ne. f i o r) (carry (held_map n P Q f l.held (t.in_local a l who)))
         (empty_hand p rest end [] m_is)
-    told_give (noted p rest e f end got todo k_is held v_is begun order room stands got_is m_is) =
+    told_give (noted p rest e f end got seen todo k_is held v_is begun order room stands got_is sees
+        finds m_is) =
         goes (λ i o r ne. off_page p rest end got todo m_is i o r
         (and_left (eqb p.page i) (stands_so p.op end)
         (ne_eqb p.page i (λ s. ne (sym s ∙ ap (spot n) (sym k_is))))))
         (subst (λ (y : LockNo × DiskHeld). OfOrder Q (spot n y.0) y.1)
         (λ i. (sym k_is i, sym v_is i))
-        (note_here p rest e f end got todo begun order room stands got_is m_is
+        (note_here p rest e f end got seen todo begun order room stands got_is sees finds m_is
         (subst (HeldAll n (OfOrder P)) held (t.in_local a l who)).0))
         (empty_hand p rest end got m_is)

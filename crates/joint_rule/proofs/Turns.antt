@@ -10,9 +10,11 @@ use Rattle.class_pool.specs.Pool.{PoolState}
 use Rattle.joint_rule.proofs.Alone.{alone_give, alone_take, KeepsAges}
 use Rattle.joint_rule.proofs.Balances.{none_fresh}
 use Rattle.joint_rule.proofs.Bounds.{below, most_give, most_take, risen, times_le}
+use Rattle.joint_rule.proofs.Choices.{Choice, choice}
 use Rattle.joint_rule.proofs.Counts.{refusals_give, refusals_take, refuses_of}
+use Rattle.joint_rule.proofs.Chosen.{Chosen}
 use Rattle.joint_rule.proofs.Events.{Event}
-use Rattle.joint_rule.proofs.Facts.{Known}
+use Rattle.joint_rule.proofs.Facts.{Known, known_finding}
 use Rattle.joint_rule.proofs.Faults.{blames_of, faults_give, faults_rise, faults_take}
 use Rattle.joint_rule.proofs.Fetches.{fetches_give, fetches_take, reads_of}
 use Rattle.joint_rule.proofs.Freed.{freed_give, freed_take, frees_of}
@@ -26,11 +28,11 @@ use Rattle.joint_rule.proofs.Pools.{chain_low}
 use Rattle.joint_rule.proofs.Sums.{get_here, get_set, gone, row_le}
 use Rattle.joint_rule.proofs.Places.{form_claim}
 use Rattle.joint_rule.proofs.Tells.{tells_of, told_give, told_take}
-use Rattle.joint_rule.specs.Begins.{Begin, form_at, ground_of, image, terms}
+use Rattle.joint_rule.specs.Begins.{finding, Begin, form_at, ground_of, image, terms}
 use Rattle.joint_rule.specs.Joint.{Joint, PoolFits, Sound}
-use Rattle.joint_rule.specs.Rule.{FailKeeps, KeepsLimits, Rule, ShowsOrder, reach_at}
+use Rattle.joint_rule.specs.Rule.{FailKeeps, KeepsLimits, Rule, Ruled, ShowsOrder, reach_at}
 use Rattle.joint_rule.specs.Weights.{HeldAll, claims, device_faults, each_one, ever_at, none, one, pages, some_of}
-use Rattle.lock_row.specs.Machine.{Run}
+use Rattle.lock_row.specs.Machine.{Giving, Run}
 use Rattle.lock_row.specs.Totals.{held_sum}
 use Rattle.lock_row.specs.declared.names.At.TheVariants.{Both}
 use Rattle.lock_row.specs.declared.names.LockNo.{LockNo}
@@ -42,6 +44,7 @@ use Rattle.page_steps.specs.Pools.{IsNeed}
 use Rattle.page_steps.specs.Steps.{DiskHeld, Here, lock_of, piece_over, plan, slot, spot, took}
 use Rattle.plain_disk.specs.Ends.{Bounds}
 use Rattle.slot_entry.specs.Entries.{EntryState}
+use Rattle.zr_base.specs.Plain.{Finds}
 use Rattle.joint_rule.proofs.Events as event
 use Rattle.lock_row.specs.declared.names.LockNo.TheVariants as lock
 use Rattle.lock_row.specs.declared.names.Held.TheVariants as holds
@@ -209,14 +212,14 @@ module _ (g : Begin) (ok : Known g) (w : State DiskHeld) (j : Joint g w) (a : �
 
 -- ---- the rule
 
-module _ (g : Begin) (ok : Known g) (w : State DiskHeld) (r : Rule g w) (a : ℕ) (l : Here)
+module _ (g : Begin) (ok : Known g) (w : State DiskHeld) (r : Ruled g w) (a : ℕ) (l : Here)
     (who : slice_get w.locals a ≡ Some l) (k : LockNo) (v : DiskHeld) where
   abbrev size : ℕ
   size = g.given.size
 
   rule_take : plan (terms g) l ≡ Take k → slice_get w.row (spot size k) ≡ Some (Some v)
       → KeepsAges g w (gone size w a l who k None (took (terms g) l v))
-      → Rule g (gone size w a l who k None (took (terms g) l v))
+      → Ruled g (gone size w a l who k None (took (terms g) l v))
   rule_take what there ages =
       let m = took (terms g) l v in
       let held = ap (λ p. (lock_of p, v) ∷ l.held) what in
@@ -224,6 +227,7 @@ module _ (g : Begin) (ok : Known g) (w : State DiskHeld) (r : Rule g w) (a : ℕ
       let still = ok.facts.take (spot size) device_faults none w a l k v m who there held refl in
       let up : Above (reach_at g w) (reach_at g (gone size w a l who k None m)) =
       (omega arith, omega arith) in record {
+        finds = r.finds;
         joint = take_keeps g ok w r.joint a l who k v what there;
         told = told_take g ok w r.joint r.told a l who k v what there;
         most = most_take g ok w r.joint a l who k v what there r.most;
@@ -241,10 +245,10 @@ module _ (g : Begin) (ok : Known g) (w : State DiskHeld) (r : Rule g w) (a : ℕ
       }
 
   rule_give : (m : Here) → plan (terms g) l ≡ Give k → slice_get w.row (spot size k) ≡ Some None
-      → Event g l v m → KeepsAges g w (gone size w a l who k (Some v) m)
-      → Rule g (gone size w a l who k (Some v) m)
-  rule_give m what there ev ages =
-      let x = gift g ok w r.joint a l who k v m what ev in
+      → (ev : Event g l v m) → Chosen g l v m ev → KeepsAges g w (gone size w a l who k (Some v) m)
+      → Ruled g (gone size w a l who k (Some v) m)
+  rule_give m what there ev chosen ages =
+      let x = gift g ok w r.joint a l who k v m what ev chosen in
       let b = blames_of g ok w r.joint a l who k v m ev in
       let now = reach_at g (gone size w a l who k (Some v) m) in
       let up : Above (reach_at g w) now = (
@@ -253,16 +257,18 @@ module _ (g : Begin) (ok : Known g) (w : State DiskHeld) (r : Rule g w) (a : ℕ
       ) in
       let home = row_le size device_faults (slice_set w.row (spot size k) (Some v)) (spot size k)
       (Some v) (get_here w.row (spot size k) (Some v) None there) in record {
+        finds = r.finds;
         joint = give_keeps g ok w r.joint a l who k v m there x;
         told = told_give g ok w r.joint r.told a l who k v m there x
-            (tells_of g ok w r.joint a l who k v m what (ShowsOrder g (slice_set w.locals a m)) ev);
+            (tells_of g ok w r.joint a l who k v m what (ShowsOrder g (slice_set w.locals a m)) ev
+            chosen);
         most = most_give g ok w r.joint a l who k v m there x r.most;
         refusals = λ q. refusals_give g ok w r.joint a l who k v m q there
             (refuses_of g ok w r.joint a l who k v m q ev) (r.refusals q);
         freed = freed_give g ok w r.joint a l who k v m there
             (frees_of g ok w r.joint a l who k v m ev) r.freed;
         news = λ q. news_give g ok w r.joint a l who k v m q there
-            (news_gives g ok w r.joint a l who k v m what q ev) (r.news q);
+            (news_gives g ok w r.joint a l who k v m what q ev chosen) (r.news q);
         limits = λ i y e. ⊎_elim
             (λ s. subst (KeepsLimits g now) s.1 (limits_of g ok w r.joint a l who k v m now up
             (omega arith) ev (r.limits a l who)))
@@ -275,16 +281,34 @@ module _ (g : Begin) (ok : Known g) (w : State DiskHeld) (r : Rule g w) (a : ℕ
       }
 
 module _ (g : Begin) (ok : Known g) where
+  -- a giving, by what its call is chosen to have found
+  rule_given : (a : ℕ) (w n : State DiskHeld) (l : Here) (k : LockNo) (v : DiskHeld) (m : Here)
+      → Giving (spot g.given.size) (plan (terms g)) (took (terms g)) (Works (terms g)) a l k v m w n
+      → (finds : ℕ → Finds) → Choice (finding g finds) w l v m → Rule g n
+  rule_given a w n l k v m t finds c =
+      let known = known_finding g c.finds ok c.ruled.finds in
+      subst (Rule g) (sym t.after) (record {
+        finds = c.finds;
+        ruled = rule_give (finding g c.finds) known w c.ruled a l t.who k v m t.what t.there c.ev
+            c.chosen (subst (KeepsAges (finding g c.finds) w) t.after
+            (ages_turn (finding g c.finds) known a w n c.ruled (turn.given l k v m t)));
+      })
+
   pub rule_turn : (a : ℕ) (w n : State DiskHeld) → Rule g w → OneTurn g a w n → Rule g n
   rule_turn a w n r (turn.finished l who what e) = subst (Rule g) (sym e) r
   rule_turn a w n r (turn.missed l k who what there e) = subst (Rule g) (sym e) r
-  rule_turn a w n r (turn.taken l k v t) = subst (Rule g) (sym t.after)
-      (rule_take g ok w r a l t.who k v t.what t.there
-      (subst (KeepsAges g w) t.after (ages_turn g ok a w n r (turn.taken l k v t))))
-  rule_turn a w n r (turn.given l k v m t) = subst (Rule g) (sym t.after)
-      (rule_give g ok w r a l t.who k v m t.what t.there
-      (event_at g ok w r.joint a l t.who v m t.work)
-      (subst (KeepsAges g w) t.after (ages_turn g ok a w n r (turn.given l k v m t))))
+  rule_turn a w n r (turn.taken l k v t) = subst (Rule g) (sym t.after) (record {
+    finds = r.finds;
+    ruled = rule_take (finding g r.finds) (known_finding g r.finds ok r.ruled.finds) w r.ruled
+        a l t.who k v t.what t.there
+        (subst (KeepsAges (finding g r.finds) w) t.after (ages_turn (finding g r.finds)
+        (known_finding g r.finds ok r.ruled.finds) a w n r.ruled (turn.taken l k v t)));
+  })
+  rule_turn a w n r (turn.given l k v m t) =
+      rule_given a w n l k v m t r.finds (choice (finding g r.finds)
+      (known_finding g r.finds ok r.ruled.finds) w r.ruled a l t.who v m
+      (event_at (finding g r.finds) (known_finding g r.finds ok r.ruled.finds) w r.ruled.joint
+      a l t.who v m t.work))
 
   pub rule_run : (turns : List ℕ) (u w : State DiskHeld) → Rule g u
       → Run (spot g.given.size) (plan (terms g)) (took (terms g)) (Works (terms g)) turns u w

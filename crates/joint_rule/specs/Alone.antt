@@ -122,7 +122,7 @@ aged_in g p e = record {
 
 -- it after the pieces that are over
 abbrev pub aged_done : Begin → List Done → ℕ → Aged
-aged_done g done = pages_over page_weight g.clock (aged_at g) done
+aged_done g done = pages_over page_weight g.clock g.given.finds (aged_at g) done
 
 -- the scan in work has passed the pages below the one that it is at
 abbrev pub scanned_by : Begin → List Part → At → ℕ → Aged → Aged
@@ -147,7 +147,8 @@ IsAged g l p v = ⊤
 
 -- Each mark that was new was counted, and each page is as the actor has left it, at home or in hand.
 pub record Ages (g : Begin) (w : State DiskHeld) (l : Here) : Type 0 where
-  pub marks : AreMarkedOver page_weight g.clock g.given.size (aged_at g) l.done
+  pub marks : AreMarkedOver page_weight g.clock g.given.finds g.given.size (aged_at g)
+      l.done
   pub counts : CountsSo g l.todo l.at l.done
   pub home : (p : ℕ) (v : DiskHeld) → slice_get w.row p ≡ Some (Some v) → IsAged g l p v
   pub hand : HeldAll g.given.size (IsAged g l) l.held

@@ -1,15 +1,15 @@
 -- What a phase begins with, and what a page is after the calls of an order.
-use Rattle.std.specs.Prelude.{◌≡◌, ℕ, ◌+◌, ◌-◌, ◌*◌, ◌^◌, ◌<◌, ◌≤◌, ◌==◌, ◌&&◌, ⊤, Bool, true, List, [], ◌∷◌, length, All, Option, Some, None, if◌then◌else◌}
+use Rattle.std.specs.Prelude.{◌≡◌, ℕ, ◌+◌, ◌-◌, ◌*◌, ◌^◌, ◌<◌, ◌≤◌, ◌==◌, ◌&&◌, ⊤, Bool, true, List, [], ◌∷◌, length, Option, Some, None, if◌then◌else◌}
 use Rattle.std.specs.List.{AllByRecursion}
 use Rattle.zr_base.specs.declared.op.Tag.{Tag}
 use Rattle.zr_base.specs.declared.op.Op.{Op}
-use Rattle.zr_base.specs.Plain.{named, has_event, zero_sector, IsRequest}
+use Rattle.zr_base.specs.Plain.{Finds, named, has_event, sector_after, zero_sector, IsSector, IsRequest}
 use Rattle.mem_account.specs.Counters.{Counters}
-use Rattle.backing_dev.specs.Dev.{DeviceState}
+use Rattle.backing_dev.specs.Dev.{DeviceState, IsHonestDevice}
 use Rattle.plain_disk.specs.Forms.{page_bytes}
 use Rattle.plain_disk.specs.Ends.{Ground, is_single}
 use Rattle.plain_disk.specs.Calls.{Found, leave_page, after_all, ever_pooled}
-use Rattle.plain_disk.specs.Phases.{Given, held_after}
+use Rattle.plain_disk.specs.Phases.{Given, calls_on}
 use Rattle.call_history.specs.declared.part.Part.{Part}
 use Rattle.call_history.specs.Parts.{program}
 use Rattle.slot_entry.specs.Forms.{PageForm, Blank, form_of, bytes_in, page_weight}
@@ -30,6 +30,10 @@ pub record Begin : Type 0 where
   pub was : Counters
   pub device : DeviceState
   pub tight : Bool
+
+-- the phase where its calls find this on each page
+abbrev pub finding : Begin → (ℕ → Finds) → Begin
+finding g finds = record g { given = record g.given { finds = finds } }
 
 -- what the phase's steps go by
 abbrev pub terms : Begin → Terms
@@ -54,7 +58,7 @@ found g p = record { holds = g.given.before; blank = g.blank p }
 
 -- it after the calls of an order
 abbrev pub found_after : Begin → ℕ → List Tag → Found
-found_after g p order = after_all g.given.actors (found g p) order
+found_after g p order = after_all (calls_on g.given p) (found g p) order
 
 -- its bytes
 unfoldable pub content : Begin → ℕ → List Tag → List ℕ
@@ -74,7 +78,7 @@ image g p order = bytes_in (form_at g p order)
 
 -- 1 where it is in the pool after some first calls of its order, or before them all
 abbrev pub ever : Begin → ℕ → List Tag → ℕ
-ever g p order = if ever_pooled page_weight p g.given.actors (found g p) order then 1 else 0
+ever g p order = if ever_pooled page_weight p (calls_on g.given p) (found g p) order then 1 else 0
 
 -- whether a page is on the device: where it was before the phase, and its order has reads alone
 abbrev pub back_at : Begin → ℕ → List Tag → Bool
@@ -121,18 +125,24 @@ pub record IsRoomy (g : Begin) : Type 0 where
   pub few : g.given.size + length g.given.actors < 2 ^ 32 - 1
   pub pieces : (p : ℕ) → p < g.given.size → pieces_each g.given.size g.given.actors p < 2 ^ 32
 
--- 512 bytes
-abbrev pub IsSector : List ℕ → Type 0
-IsSector s = (length s ≡ 512) × All (λ b. b < 256) s
+-- Calls find sectors, and over an honest device what sectors hold.
+pub record FindsRight (g : Begin) : Type 0 where
+  pub sectors : (p : ℕ) (t : Tag) (s : ℕ) (old : List ℕ) → IsSector old
+      → IsSector (g.given.finds p t s old)
+  pub honest : IsHonestDevice g.device → (p : ℕ) (t : Tag) (s : ℕ) (old : List ℕ)
+      → g.given.finds p t s old ≡ old
 
--- Each sector has 512 bytes, whatever the order of the calls, and a blank page has zeros; no page was
--- touched after the phase's time; chains have a limit that classes know; there aren't too many pages,
--- actors and pieces; and where there are actors there is a page.
+-- Each sector has 512 bytes and keeps so many at each call, and a blank page has zeros; calls find
+-- sectors; no page was touched after the phase's time; chains have a limit that classes know; there
+-- aren't too many pages, actors and pieces; and where there are actors there is a page.
 pub record Proper (g : Begin) : Type 0 where
   pub some : 0 < length g.given.actors → 0 < g.given.size
   pub times : (p : ℕ) → p < g.given.size → g.touched p ≤ g.clock
   pub blanks : (p k : ℕ) → k < 8 → g.blank p ≡ true → g.given.before (8 * p + k) ≡ zero_sector
-  pub sectors : (order : List Tag) (s : ℕ) → IsSector (held_after g.given order s)
+  pub before : (s : ℕ) → IsSector (g.given.before s)
+  pub puts : (t : Tag) (op : Op) (s : ℕ) (old : List ℕ) → named g.given.actors t ≡ Some op
+      → IsSector old → IsSector (sector_after op s old)
+  pub finds : FindsRight g
   pub least : 4 ≤ g.chain
   pub most : g.chain ≤ 16
   pub few : g.given.size + length g.given.actors < 2 ^ 32 - 1

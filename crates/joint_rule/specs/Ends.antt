@@ -1,16 +1,16 @@
 -- What a finished phase leaves: the orders of its pages, the histories of its actors, and the rest
 -- of the plain disk.
-use Rattle.std.specs.Prelude.{◌≡◌, ℕ, ◌+◌, ◌/◌, Bool, ◌&&◌, true, false, List, [], map, get_or, Option, Some, None, slice_get}
+use Rattle.std.specs.Prelude.{◌≡◌, ℕ, ◌+◌, ◌/◌, Bool, true, false, List, [], map, get_or, Option, Some, None, slice_get}
 use Rattle.std.specs.List.{range_with_len}
 use Rattle.zr_base.specs.declared.op.Tag.{Tag}
 use Rattle.zr_base.specs.declared.op.Op.{Op}
-use Rattle.zr_base.specs.Plain.{zero_sector}
+use Rattle.zr_base.specs.Plain.{Finds, as_held, zero_sector}
 use Rattle.mem_account.specs.Counters.{Counters, no_counts}
 use Rattle.backing_dev.specs.Dev.{DeviceState}
-use Rattle.plain_disk.specs.Calls.{leave_page, after_all}
+use Rattle.plain_disk.specs.Calls.{after_all}
 use Rattle.plain_disk.specs.Compactions.{are_tight}
 use Rattle.plain_disk.specs.Rests.{Settings, Rest, page_of, stats, nothing_yet, so_far_of}
-use Rattle.plain_disk.specs.Phases.{begun, held_after, nth_order, touched_by}
+use Rattle.plain_disk.specs.Phases.{Given, calls_on, begun, back_after, held_after, nth_order, touched_by}
 use Rattle.call_history.specs.declared.part.Done.{Done}
 use Rattle.lock_row.specs.declared.names.Held.TheVariants as holds
 use Rattle.lock_row.specs.declared.names.Plan.TheVariants.{Finished}
@@ -20,10 +20,10 @@ use Rattle.page_steps.specs.Steps.{DiskHeld, Here, plan}
 use Rattle.joint_rule.specs.Begins.{Begin, terms}
 use Rattle.joint_rule.specs.Weights.{used_each}
 
--- a phase of these actors begins at a rest of the plain disk
+-- a phase of these actors begins at a rest of the plain disk; its calls find what is held
 abbrev pub begin_at : Rest → List (List Op) → Begin
 begin_at r actors = record {
-  given = begun r actors;
+  given = begun r actors (λ p. as_held);
   blank = r.blank;
   back = r.back;
   idle = r.idle;
@@ -86,12 +86,12 @@ device_of d size row = device_in d (value_at row (size + 257))
 
 -- The rest of the plain disk after a phase with these orders: pages by the calls, marks, pools,
 -- counters and the device by the row.
-abbrev pub rest_by : Rest → List (List Op) → List (List Tag) → List (Option DiskHeld) → Rest
-rest_by r actors orders row = record {
+abbrev pub rest_by : Rest → Given → List (List Tag) → List (Option DiskHeld) → Rest
+rest_by r g orders row = record {
   size = r.size;
-  holds = λ s. held_after (begun r actors) (nth_order orders (s / 8)) s;
-  blank = λ p. (after_all actors (page_of r p) (nth_order orders p)).blank;
-  back = λ p. r.back p && leave_page actors (nth_order orders p);
+  holds = λ s. held_after g (s / 8) (nth_order orders (s / 8)) s;
+  blank = λ p. (after_all (calls_on g p) (page_of r p) (nth_order orders p)).blank;
+  back = λ p. back_after r g.actors p (nth_order orders p);
   idle = λ p. idle_in (value_at row p);
   touched = λ p. touched_by (nth_order orders p) r.set.clock (r.touched p);
   used = λ k. used_in (value_at row (r.size + k));
@@ -101,9 +101,9 @@ rest_by r actors orders row = record {
   so_far = so_far_of (account_of r.size row);
 }
 
--- the rest that a phase leaves on a row
-abbrev pub rest_after : Rest → List (List Op) → List (Option DiskHeld) → Rest
-rest_after r actors row = rest_by r actors (orders_of r.size row) row
+-- the rest that a phase leaves on a row, whose calls found so much
+abbrev pub rest_after : Rest → List (List Op) → (ℕ → Finds) → List (Option DiskHeld) → Rest
+rest_after r actors finds row = rest_by r (begun r actors finds) (orders_of r.size row) row
 
 -- the rest of a new disk of so many pages, over this device
 abbrev pub new_rest : ℕ → Settings → DeviceState → Rest

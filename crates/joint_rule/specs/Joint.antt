@@ -136,7 +136,7 @@ pub record Joint (g : Begin) (w : State DiskHeld) : Type 0 where
   -- the map has no more blocks than the device
   pub size : total (spot g.given.size) map_size none w
       ≤ total (spot g.given.size) device_size none w
-  -- where a page is kept in a block, the device tells that the block has the page
+  -- where a page is kept in a block, the block has the page, if the device tells what it has
   pub disk : (b : ℕ) (bytes : List ℕ) → 0 < total (spot g.given.size) (lies_at g b bytes) none w
       → 0 < total (spot g.given.size) (stored_at b bytes) none w
   -- the cells that are out are those that actors have pinned

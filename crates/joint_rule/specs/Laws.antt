@@ -1,11 +1,11 @@
 -- What the rule of pages, pools and the account gives: statements that the laws claim.
 use Rattle.std.specs.Prelude.{◌≡◌, ℕ, ◌+◌, ◌*◌, ◌<◌, ◌≤◌, true, List, [], ◌∷◌, length, Option, Some, None, slice_get, ⊤}
 use Rattle.zr_base.specs.declared.op.Op.{Op}
-use Rattle.zr_base.specs.Plain.{zero_sector}
+use Rattle.zr_base.specs.Plain.{zero_sector, IsSector}
 use Rattle.mem_account.specs.Counters.{no_counts}
 use Rattle.backing_dev.specs.Dev.{DeviceState}
 use Rattle.plain_disk.specs.Rests.{Settings, Rest, stats}
-use Rattle.plain_disk.specs.Phases.{begun, bounds}
+use Rattle.plain_disk.specs.Phases.{begun, bounds, FindsHeld}
 use Rattle.plain_disk.specs.Legal.{sets}
 use Rattle.plain_disk.specs.Legal.{IsNew as IsNewDisk}
 use Rattle.class_pool.specs.Pool.{PoolState, objects}
@@ -26,7 +26,7 @@ use Rattle.slot_entry.specs.Forms.{page_weight}
 use Rattle.page_steps.specs.Steps.{DiskHeld, Here, spot, plan, took}
 use Rattle.page_steps.specs.Givings.{Works}
 use Rattle.page_steps.specs.Fits.{StageFits}
-use Rattle.joint_rule.specs.Begins.{Begin, terms, ground_of, AreRequests, IsSector, IsRoomy, Proper}
+use Rattle.joint_rule.specs.Begins.{Begin, finding, FindsRight, terms, ground_of, AreRequests, IsRoomy, Proper}
 use Rattle.joint_rule.specs.Weights.{none, stored, each_one}
 use Rattle.joint_rule.specs.Rule.{Rule}
 use Rattle.joint_rule.specs.Starts.{AtRest, IsStart, IsRenewed, Renewed, Matched, IsNextDisk, IsNew}
@@ -119,22 +119,33 @@ CompactedIsFew = (g : Begin) (w : State DiskHeld) (a : ℕ) (l : Here) (p : Part
 -- where all actors are finished, all values are at home, and the account's numbers are sums over
 -- pools and entries
 abbrev pub FinishedIsAtRest : Type 0
-FinishedIsAtRest = (g : Begin) (w : State DiskHeld) → Rule g w → AllFinished g w → AtRest g w.row
+FinishedIsAtRest = (g : Begin) (w : State DiskHeld) (x : Rule g w) → AllFinished g w
+    → AtRest (finding g x.finds) w.row
 
 -- the histories of the actors then agree with the orders of the pages
 abbrev pub FinishedAgrees : Type 0
 FinishedAgrees = (r : Rest) (actors : List (List Op)) (w : State DiskHeld)
-    → Proper (begin_at r actors) → Rule (begin_at r actors) w → AllFinished (begin_at r actors) w
-    → Agree (ground_of (begin_at r actors)) (bounds page_weight r actors (orders_of r.size w.row)
-    (rest_after r actors w.row).device.faults)
-    (begun r actors) (histories w.locals) (orders_of r.size w.row)
+    → Proper (begin_at r actors) → (x : Rule (begin_at r actors) w)
+    → AllFinished (begin_at r actors) w
+    → Agree (ground_of (begin_at r actors))
+    (bounds page_weight r (begun r actors x.finds) (orders_of r.size w.row)
+    (rest_after r actors x.finds w.row).device.faults)
+    (begun r actors x.finds) (histories w.locals) (orders_of r.size w.row)
+
+-- and their calls have found what is held, over an honest device and where their page isn't on it
+abbrev pub FinishedFinds : Type 0
+FinishedFinds = (r : Rest) (actors : List (List Op)) (w : State DiskHeld)
+    → Proper (begin_at r actors) → (x : Rule (begin_at r actors) w)
+    → AllFinished (begin_at r actors) w
+    → FindsHeld r actors (orders_of r.size w.row) x.finds
 
 -- and the account has counted what the pages of the rest, the orders and the histories say
 abbrev pub FinishedTallies : Type 0
 FinishedTallies = (r : Rest) (actors : List (List Op)) (w : State DiskHeld)
-    → Proper (begin_at r actors) → Rule (begin_at r actors) w → AllFinished (begin_at r actors) w
-    → Tallies page_weight r actors (histories w.locals) (orders_of r.size w.row)
-    (account_of r.size w.row) (rest_after r actors w.row)
+    → Proper (begin_at r actors) → (x : Rule (begin_at r actors) w)
+    → AllFinished (begin_at r actors) w
+    → Tallies page_weight r (begun r actors x.finds) (histories w.locals) (orders_of r.size w.row)
+    (account_of r.size w.row) (rest_after r actors x.finds w.row)
 
 -- a rest with emptied orders, or another limit, is one of the phase after
 abbrev pub RestGoesOn : Type 0
@@ -145,17 +156,22 @@ RestGoesOn = (g h : Begin) (xs ys : List (Option DiskHeld)) → IsNextDisk g h
 abbrev pub EntryGoesOn : Type 0
 EntryGoesOn = (r : Rest) (actors more : List (List Op)) (set : Settings) (w : State DiskHeld)
     (j : ℕ) (e f : EntryState)
-    → Proper (begin_at r actors) → Rule (begin_at r actors) w → AllFinished (begin_at r actors) w
+    → Proper (begin_at r actors) → (x : Rule (begin_at r actors) w)
+    → AllFinished (begin_at r actors) w
     → slice_get w.row j ≡ Some (Some (holds.Slot e)) → f.kept ≡ e.kept → f.order ≡ []
     → f.under ≡ e.under → f.idle ≡ e.idle → f.touched ≡ e.touched
-    → IsRenewed (begin_at r actors) (begin_at (sets (rest_after r actors w.row) set) more) j e f
+    → IsRenewed (finding (begin_at r actors) x.finds)
+    (begin_at (sets (rest_after r actors x.finds w.row) set) more) j e f
 
 -- and what is known of a phase is known of the phase after, where its time isn't before
 abbrev pub NextIsProper : Type 0
 NextIsProper = (r : Rest) (actors more : List (List Op)) (set : Settings) (w : State DiskHeld)
-    → Proper (begin_at r actors) → Rule (begin_at r actors) w → AllFinished (begin_at r actors) w
-    → AreRequests more → IsRoomy (begin_at (sets (rest_after r actors w.row) set) more)
-    → r.set.clock ≤ set.clock → Proper (begin_at (sets (rest_after r actors w.row) set) more)
+    → Proper (begin_at r actors) → (x : Rule (begin_at r actors) w)
+    → AllFinished (begin_at r actors) w
+    → AreRequests more
+    → IsRoomy (begin_at (sets (rest_after r actors x.finds w.row) set) more)
+    → r.set.clock ≤ set.clock
+    → Proper (begin_at (sets (rest_after r actors x.finds w.row) set) more)
 
 -- ---- new disks
 
@@ -169,7 +185,7 @@ NewIsAtRest = (g : Begin) (row : List (Option DiskHeld)) → length row ≡ g.gi
 -- what is known of a phase comes from what its sectors hold before it, from when its pages were
 -- touched, and from its requests
 abbrev pub RequestsAreProper : Type 0
-RequestsAreProper = (g : Begin) → AreRequests g.given.actors
+RequestsAreProper = (g : Begin) → AreRequests g.given.actors → FindsRight g
     → ((s : ℕ) → IsSector (g.given.before s))
     → ((p k : ℕ) → k < 8 → g.blank p ≡ true → g.given.before (8 * p + k) ≡ zero_sector)
     → ((p : ℕ) → p < g.given.size → g.touched p ≤ g.clock) → IsRoomy g → Proper g

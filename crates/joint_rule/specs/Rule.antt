@@ -1,5 +1,5 @@
 -- The whole rule of a phase: the joint rule, orders and replies, and the counters of the account.
-use Rattle.std.specs.Prelude.{◌≡◌, ℕ, ◌+◌, ◌*◌, ◌<◌, ◌≤◌, List, [], length, Option, Some, None, slice_get, ⊤}
+use Rattle.std.specs.Prelude.{◌≡◌, ℕ, ◌+◌, ◌*◌, ◌<◌, ◌≤◌, false, List, [], length, take, Option, Some, None, slice_get, ⊤}
 use Rattle.zr_base.specs.declared.op.Tag.{Tag}
 use Rattle.mem_account.specs.Counters.{at_most_end}
 use Rattle.plain_disk.specs.Ends.{Bounds}
@@ -11,7 +11,8 @@ use Rattle.lock_row.specs.declared.names.Held.TheVariants as holds
 use Rattle.lock_row.specs.declared.names.State.{State}
 use Rattle.lock_row.specs.Totals.{locals_sum, total}
 use Rattle.page_steps.specs.Steps.{DiskHeld, Here, spot}
-use Rattle.joint_rule.specs.Begins.{Begin, ground_of, content, pieces_on, pieces_each}
+use Rattle.zr_base.specs.Plain.{Finds}
+use Rattle.joint_rule.specs.Begins.{Begin, FindsRight, finding, ground_of, content, back_at, pieces_on, pieces_each}
 use Rattle.joint_rule.specs.Weights.{HeldAll, Each, none, one, pages, device_faults, device_reads, faults_told, fetches_told, fetches_noted, ever_at, mosts, Refusal, refusal_count, refusal_counter, refusals, compactions, freed_by, News, noted, told_ahead, news_count, news_counter}
 use Rattle.joint_rule.specs.Joint.{Joint}
 use Rattle.joint_rule.specs.Alone.{Alone}
@@ -35,11 +36,17 @@ owed_by size page l = pieces_on size page l.todo
 abbrev pub owed : ℕ → List Here → ℕ → ℕ
 owed size ls page = locals_sum (owed_by size page) ls
 
+-- the calls of an order find what is held, where their page isn't on the device
+abbrev pub FindHeld : Begin → ℕ → List Tag → Type 0
+FindHeld g p order = (at : ℕ) (t : Tag) → slice_get order at ≡ Some t
+    → back_at g p (take at order) ≡ false → (s : ℕ) (old : List ℕ) → g.given.finds p t s old ≡ old
+
 -- An order shows what its calls leave, and has spare room for the pieces that are left; with these
 -- it has no more than the phase has on the page.
 pub record ShowsOrder (g : Begin) (ls : List Here) (p : ℕ) (order : List Tag) (room : ℕ)
     : Type 0 where
   pub shows : ShowsPage g.given (dones ls) p (content g p order) order
+  pub finds : FindHeld g p order
   pub spare : owed g.given.size ls p ≤ room
   pub few : length order + owed g.given.size ls p ≤ pieces_each g.given.size g.given.actors p
 
@@ -124,8 +131,9 @@ FewFetches g w = total (spot g.given.size) device_reads none w
 
 -- ---- the rule
 
--- The rule that each state of a phase has.
-pub record Rule (g : Begin) (w : State DiskHeld) : Type 0 where
+-- The rule that each state of a phase has, by what its calls find.
+pub record Ruled (g : Begin) (w : State DiskHeld) : Type 0 where
+  pub finds : FindsRight g
   pub joint : Joint g w
   pub told : Told g w
   pub most : Most g w
@@ -136,3 +144,8 @@ pub record Rule (g : Begin) (w : State DiskHeld) : Type 0 where
   pub faults : FaultsDiffer w
   pub fetches : FewFetches g w
   pub alone : Alone g w
+
+-- There is something that the calls find by which the state has the rule.
+pub record Rule (g : Begin) (w : State DiskHeld) : Type 0 where
+  pub finds : ℕ → Finds
+  pub ruled : Ruled (finding g finds) w

@@ -27,6 +27,9 @@ use Rattle.slot_entry.specs.Forms.{PageForm, Blank, Word, Pooled, object_class, 
 use Rattle.page_steps.specs.Pages.{page_in, next_form}
 use Rattle.page_steps.specs.Steps.{slot}
 use Rattle.joint_rule.specs.Begins.{Begin, ground_of, found_after, content, form_at, back_at}
+use Rattle.backing_dev.specs.Dev.{IsHonestDevice}
+use Rattle.bdi_page.specs.Packing.{IsPage}
+use Rattle.zr_base.specs.declared.op.Tag.{Tag}
 use Rattle.joint_rule.specs.Weights.{Count, measure}
 
 -- ---- kinds
@@ -303,32 +306,42 @@ PartlyAt Away op page = IsPartly op page
 PartlyAt Fetching op page = IsPartly op page
 PartlyAt at op page = ⊤
 
+-- an actor may see another page than the one that is held: over a device that isn't honest, where the
+-- page is on it
+abbrev pub MaySeeOther : Begin → ℕ → List Tag → Type 0
+MaySeeOther g p order = (IsHonestDevice g.device → ⊥) × (back_at g p order ≡ true)
+
+-- the page that the actor sees is the one that is held, or another where it may be
+abbrev pub IsSeen : Type 0 → List ℕ → List ℕ → Type 0
+IsSeen other page was = (page ≡ was) ⊎ (other × IsPage page)
+
 -- the page that the actor sees is the page, where its piece depends on that
-abbrev pub IsRight : Op → ℕ → List ℕ → List ℕ → Type 0
-IsRight (Write start count stuff) p page was = (has_whole start count p ≡ true) ⊎ (page ≡ was)
-IsRight (Read start count) p page was = page ≡ was
-IsRight (Discard start count) p page was = ⊤
-IsRight (Idle age) p page was = ⊤
-IsRight Compact p page was = ⊤
+abbrev pub IsRight : Type 0 → Op → ℕ → List ℕ → List ℕ → Type 0
+IsRight other (Write start count stuff) p page was =
+    (has_whole start count p ≡ true) ⊎ IsSeen other page was
+IsRight other (Read start count) p page was = IsSeen other page was
+IsRight other (Discard start count) p page was = ⊤
+IsRight other (Idle age) p page was = ⊤
+IsRight other Compact p page was = ⊤
 
 -- nothing was read yet, or the page that the actor sees is right
-abbrev pub RightAt : At → Op → ℕ → Option (List ℕ) → List ℕ → List ℕ → Type 0
-RightAt Start op p x page was = NoneOf x
-RightAt Refusing op p x page was = NoneOf x
-RightAt Seen op p x page was = NoneOf x
-RightAt Pinning op p x page was = NoneOf x
-RightAt Away op p x page was = NoneOf x
-RightAt Fetching op p x page was = NoneOf x
-RightAt Failing op p x page was = NoneOf x
-RightAt Counting op p x page was = NoneOf x
-RightAt Missed op p x page was = NoneOf x
-RightAt (Scanning y) op p x page was = NoneOf x
-RightAt (Marking y) op p x page was = NoneOf x
-RightAt (Sweeping y) op p x page was = NoneOf x
-RightAt (Moving y) op p x page was = NoneOf x
-RightAt (Shrunk y) op p x page was = NoneOf x
-RightAt (Shrinking y) op p x page was = NoneOf x
-RightAt at op p x page was = IsRight op p page was
+abbrev pub RightAt : Type 0 → At → Op → ℕ → Option (List ℕ) → List ℕ → List ℕ → Type 0
+RightAt other Start op p x page was = NoneOf x
+RightAt other Refusing op p x page was = NoneOf x
+RightAt other Seen op p x page was = NoneOf x
+RightAt other Pinning op p x page was = NoneOf x
+RightAt other Away op p x page was = NoneOf x
+RightAt other Fetching op p x page was = NoneOf x
+RightAt other Failing op p x page was = NoneOf x
+RightAt other Counting op p x page was = NoneOf x
+RightAt other Missed op p x page was = NoneOf x
+RightAt other (Scanning y) op p x page was = NoneOf x
+RightAt other (Marking y) op p x page was = NoneOf x
+RightAt other (Sweeping y) op p x page was = NoneOf x
+RightAt other (Moving y) op p x page was = NoneOf x
+RightAt other (Shrunk y) op p x page was = NoneOf x
+RightAt other (Shrinking y) op p x page was = NoneOf x
+RightAt other at op p x page was = IsRight other op p page was
 
 -- a packed page has at most so many bytes
 abbrev pub IsSmall : Weight → Type 0
@@ -428,7 +441,8 @@ pub record Stage (g : Begin) (p : Part) (e : EntryState) (at : At) (fresh : Opti
   pub backs : BackAt at e.kept (back_at g p.page e.order)
   pub marks : MarkAt at e.kept e.idle
   pub partly : PartlyAt at p.op p.page
-  pub right : RightAt at p.op p.page page (page_in page e.kept) (content g p.page e.order)
+  pub right : RightAt (MaySeeOther g p.page e.order) at p.op p.page page (page_in page e.kept)
+      (content g p.page e.order)
   pub counts : CountAt at ahead behind (next_form p page e.kept) e.kept
   pub blank : BlankAt at p.op ahead (found_after g p.page e.order).blank
   pub fails : FailAt g p at p.op fail

@@ -91,7 +91,7 @@ pub record IsRenewed (g h : Begin) (j : ℕ) (e f : EntryState) : Type 0 where
   pub blank : h.blank j ≡ (found_after g j e.order).blank
   pub back : h.back j ≡ back_at g j e.order
   pub before : (k : ℕ) → k < 8
-      → h.given.before (8 * j + k) ≡ held_after g.given e.order (8 * j + k)
+      → h.given.before (8 * j + k) ≡ held_after g.given j e.order (8 * j + k)
 
 -- What lies between two phases does this to a value: orders are emptied; the account's limit and its
 -- maximum may change, where this stays at its frames or above; so may the budget of the map of blocks;

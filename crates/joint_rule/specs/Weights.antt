@@ -19,6 +19,7 @@ use Rattle.mem_account.specs.declared.weight.Weight.{Weight}
 use Rattle.plain_disk.specs.Ends.{failed_read, failed_write, starved, tells_fault, beyond, compacted}
 use Rattle.plain_disk.specs.Compactions.{loose}
 use Rattle.plain_disk.specs.Calls.{Found, calls_sum, made_huge, freed, may_fetch}
+use Rattle.plain_disk.specs.Phases.{calls_on}
 use Rattle.call_history.specs.declared.part.Part.{Part}
 use Rattle.call_history.specs.declared.part.PartEnd.{PartEnd}
 use Rattle.call_history.specs.Parts.{piece_gives, done_sum}
@@ -252,12 +253,12 @@ lies_by b bytes _ page = 0
 abbrev pub lies_at : Begin → ℕ → List ℕ → ℕ → DiskHeld → ℕ
 lies_at g b bytes = on_entry (λ j k order. lies_by b bytes k (content g j order))
 
--- 1 for a device of which this block is known to have these bytes
+-- 1 for a device whose block has these bytes, or that doesn't tell
 abbrev pub has_block : ℕ → List ℕ → Option (List (List ℕ)) → ℕ
-has_block b bytes None = 0
+has_block b bytes None = 1
 has_block b bytes (Some pages) = by_option (same_bytes bytes) (slice_get pages b)
 
--- 1 where the device's block has these bytes
+-- 1 where the device's block has these bytes, or the device doesn't tell
 abbrev pub stored_at : ℕ → List ℕ → ℕ → DiskHeld → ℕ
 stored_at b bytes = on_device (λ d. has_block b bytes d.contents)
 
@@ -317,7 +318,7 @@ fetches_told l = done_sum starved l.done + fetched_now l.todo l.at
 
 -- how often the calls of an entry's order may have read it
 abbrev pub fetches_noted : Begin → ℕ → DiskHeld → ℕ
-fetches_noted g = on_entry (λ j k order. calls_sum may_fetch g.given.actors (found g j) order)
+fetches_noted g = on_entry (λ j k order. calls_sum may_fetch (calls_on g.given j) (found g j) order)
 
 -- ---- frames
 
@@ -483,7 +484,7 @@ news_of FreedPages p = freed
 
 -- what the calls of an order give
 abbrev pub order_news : Begin → News → ℕ → List Tag → ℕ
-order_news g q p order = calls_sum (news_of q p) g.given.actors (found g p) order
+order_news g q p order = calls_sum (news_of q p) (calls_on g.given p) (found g p) order
 
 -- what the calls in an entry's order give
 abbrev pub noted : Begin → News → ℕ → DiskHeld → ℕ

@@ -2,7 +2,7 @@
 //! function whose body calls the laws that it rests on: who wants it calls it, and has its clauses.
 
 ghost use Rattle.joint_rule.specs.Facts.{Facts};
-ghost use Rattle.joint_rule.specs.Laws.{StartHasRule, TurnKeepsRule, ReachedHasRule, NobodyWaitsForever, TakesLock, GivesLock, TakenValueFits, ObjectsAreFew, CompactedIsFew, FinishedIsAtRest, FinishedAgrees, FinishedTallies, RestGoesOn, EntryGoesOn, NextIsProper, NewIsAtRest, RequestsAreProper, NewIsProper, NewCountsNothing, NewIsNew};
+ghost use Rattle.joint_rule.specs.Laws.{StartHasRule, TurnKeepsRule, ReachedHasRule, NobodyWaitsForever, TakesLock, GivesLock, TakenValueFits, ObjectsAreFew, CompactedIsFew, FinishedIsAtRest, FinishedAgrees, FinishedFinds, FinishedTallies, RestGoesOn, EntryGoesOn, NextIsProper, NewIsAtRest, RequestsAreProper, NewIsProper, NewCountsNothing, NewIsNew};
 
 use backing_dev::{Dev, MemBacking};
 use block_map::Blocks;
@@ -64,6 +64,7 @@ pub fn values_fit()
 pub fn phases_go_on()
     ensures rest { FinishedIsAtRest }
     ensures agree { FinishedAgrees }
+    ensures finds { FinishedFinds }
     ensures tallies { FinishedTallies }
     ensures next { RestGoesOn }
     ensures entry { EntryGoesOn }

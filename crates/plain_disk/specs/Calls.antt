@@ -3,7 +3,7 @@ use Rattle.std.specs.Prelude.{ℕ, ◌+◌, Bool, true, false, ◌||◌, ◌&&�
 use Rattle.zr_base.specs.declared.op.Tag.{Tag}
 use Rattle.zr_base.specs.declared.op.Op.{Op}
 use Rattle.zr_base.specs.declared.op.Op.TheVariants.{Write, Read, Discard}
-use Rattle.zr_base.specs.Plain.{named, sector_after_named}
+use Rattle.zr_base.specs.Plain.{Look, PageCalls, named, sector_after_named}
 use Rattle.mem_account.specs.declared.weight.Weight.{Weight}
 use Rattle.mem_account.specs.declared.weight.Weight.TheVariants.{Empty}
 use Rattle.plain_disk.specs.Forms.{page_bytes, is_pooled, is_huge}
@@ -20,10 +20,10 @@ blank_by (Some (Write start count stuff)) blank = false
 blank_by (Some (Discard start count)) blank = true
 blank_by _ blank = blank
 
--- the page after a call
-abbrev pub after : Option Op → Found → Found
-after op f =
-    record { holds = λ s. sector_after_named op s (f.holds s); blank = blank_by op f.blank }
+-- the page after a call that finds this
+abbrev pub after : Option Op → Look → Found → Found
+after op look f =
+    record { holds = λ s. sector_after_named op look s (f.holds s); blank = blank_by op f.blank }
 
 -- whether a call leaves a page where it is: only a read does
 abbrev pub leaves_page : Option Op → Bool
@@ -36,9 +36,9 @@ leave_page actors [] = true
 leave_page actors (tag ∷ tags) = leaves_page (named actors tag) && leave_page actors tags
 
 -- the page after the calls of an order
-abbrev pub after_all : List (List Op) → Found → List Tag → Found
-after_all actors f [] = f
-after_all actors f (tag ∷ tags) = after_all actors (after (named actors tag) f) tags
+abbrev pub after_all : PageCalls → Found → List Tag → Found
+after_all c f [] = f
+after_all c f (tag ∷ tags) = after_all c (after (named c.actors tag) (c.finds tag) f) tags
 
 -- how page p is kept: a blank page as nothing, another by its bytes
 abbrev pub kept_as : (List ℕ → Weight) → ℕ → Found → Weight
@@ -46,16 +46,17 @@ kept_as form p f = if f.blank then Empty else form (page_bytes f.holds p)
 
 -- whether page p has a form of the pool after some first calls of its order, or before them all; it may
 -- be on the device then
-abbrev pub ever_pooled : (List ℕ → Weight) → ℕ → List (List Op) → Found → List Tag → Bool
-ever_pooled form p actors f [] = is_pooled (kept_as form p f)
-ever_pooled form p actors f (tag ∷ tags) = is_pooled (kept_as form p f)
-    || ever_pooled form p actors (after (named actors tag) f) tags
+abbrev pub ever_pooled : (List ℕ → Weight) → ℕ → PageCalls → Found → List Tag → Bool
+ever_pooled form p c f [] = is_pooled (kept_as form p f)
+ever_pooled form p c f (tag ∷ tags) = is_pooled (kept_as form p f)
+    || ever_pooled form p c (after (named c.actors tag) (c.finds tag) f) tags
 
 -- the sum over the calls of an order of what each gives, by the page before it and after it
-abbrev pub calls_sum : (Option Op → Found → Found → ℕ) → List (List Op) → Found → List Tag → ℕ
-calls_sum w actors f [] = 0
-calls_sum w actors f (tag ∷ tags) = w (named actors tag) f (after (named actors tag) f)
-    + calls_sum w actors (after (named actors tag) f) tags
+abbrev pub calls_sum : (Option Op → Found → Found → ℕ) → PageCalls → Found → List Tag → ℕ
+calls_sum w c f [] = 0
+calls_sum w c f (tag ∷ tags) =
+    w (named c.actors tag) f (after (named c.actors tag) (c.finds tag) f)
+    + calls_sum w c (after (named c.actors tag) (c.finds tag) f) tags
 
 -- one for a write after which page p is kept as its 4096 bytes
 abbrev pub made_huge : (List ℕ → Weight) → ℕ → Option Op → Found → Found → ℕ

@@ -9,6 +9,7 @@ use Rattle.zr_base.specs.declared.op.Op.{Op}
 use Rattle.zr_base.specs.declared.op.Op.TheVariants.{Read, Idle, Compact}
 use Rattle.zr_base.specs.declared.op.OpEnd.{OpEnd}
 use Rattle.zr_base.specs.declared.op.OpEnd.TheVariants as ends
+use Rattle.zr_base.specs.Plain.{Finds}
 use Rattle.mem_account.specs.declared.weight.Weight.{Weight}
 use Rattle.size_class.specs.Classes.{per_of}
 use Rattle.plain_disk.specs.Forms.{is_pooled}
@@ -80,12 +81,13 @@ abbrev pub pooled_pages : (List ℕ → Weight) → Rest → ℕ
 pooled_pages form r = sum_by (λ w. if is_pooled w then 1 else 0) (kept_pages form r)
 
 -- What the operations of a phase's only actor leave, with these ends.
-pub record IsAlone (form : List ℕ → Weight) (r : Rest) (ops : List Op) (es : List OpEnd)
-    (m : Rest) : Type 0 where
+pub record IsAlone (form : List ℕ → Weight) (r : Rest) (finds : ℕ → Finds) (ops : List Op)
+    (es : List OpEnd) (m : Rest) : Type 0 where
   pub still : MoveNone (are_tight r.set.chain r.used) ops es
   pub least : tight_after (are_tight r.set.chain r.used) ops ≡ true
       → (k : ℕ) → k < 255 → IsLeast (per_of m.set.chain k) (m.used k)
   pub few : moves_after 0 ops es ≤ pooled_pages form m
   -- each mark is counted where it is new, and these pages are idle after the last operation
-  pub marks : AreMarked form r (pages_at r) ops es
-  pub idle : (p : ℕ) → p < r.size → m.idle p ≡ (pages_after form r (pages_at r) ops es p).idle
+  pub marks : AreMarked form r finds 0 (pages_at r) ops es
+  pub idle : (p : ℕ) → p < r.size
+      → m.idle p ≡ (pages_after form r finds 0 (pages_at r) ops es p).idle

@@ -1,13 +1,13 @@
 -- Idle pages: what the operations of a phase's only actor say of them, and what any phase leaves of
 -- them.
-use Rattle.std.specs.Prelude.{◌≡◌, ℕ, ◌<◌, Bool, true, false, ◌&&◌, ◌||◌, not, List, [], ◌∷◌, Option, Some, sum_by, if◌then◌else◌, ⊤}
+use Rattle.std.specs.Prelude.{◌≡◌, ℕ, ◌+◌, ◌<◌, Bool, true, false, ◌&&◌, ◌||◌, not, List, [], ◌∷◌, Option, Some, sum_by, if◌then◌else◌, ⊤}
 use Rattle.std.specs.List.{range_with_len}
 use Rattle.zr_base.specs.declared.op.Tag.{Tag}
 use Rattle.zr_base.specs.declared.op.Op.{Op}
 use Rattle.zr_base.specs.declared.op.Op.TheVariants.{Idle}
 use Rattle.zr_base.specs.declared.op.OpEnd.{OpEnd}
 use Rattle.zr_base.specs.declared.op.OpEnd.TheVariants as ends
-use Rattle.zr_base.specs.Plain.{is_older, is_marking, stands_on}
+use Rattle.zr_base.specs.Plain.{Look, Finds, is_older, is_marking, stands_on}
 use Rattle.mem_account.specs.declared.weight.Weight.{Weight}
 use Rattle.plain_disk.specs.Forms.{is_pooled}
 use Rattle.plain_disk.specs.Calls.{Found, kept_as, after, leaves_page}
@@ -32,10 +32,14 @@ may_mark form clock p age s =
 abbrev pub new_mark : (List ℕ → Weight) → ℕ → ℕ → Option ℕ → Aged → ℕ
 new_mark form clock p age s = if may_mark form clock p age s && not s.idle then 1 else 0
 
--- the page after a call that stands in its order
-abbrev pub accessed : ℕ → Op → Aged → Aged
-accessed clock op s = record {
-  found = after (Some op) s.found;
+-- the tag of an operation of the only actor
+abbrev pub only_tag : ℕ → Tag
+only_tag nr = record { actor = 0; op = nr }
+
+-- the page after a call that stands in its order and finds this
+abbrev pub accessed : ℕ → Op → Look → Aged → Aged
+accessed clock op look s = record {
+  found = after (Some op) look s.found;
   back = s.back && leaves_page (Some op);
   touched = clock;
   idle = false;
@@ -46,17 +50,23 @@ abbrev pub passed : (List ℕ → Weight) → ℕ → ℕ → Op → Aged → Ag
 passed form clock p (Idle age) s = record s { idle = s.idle || may_mark form clock p age s }
 passed form clock p _ s = s
 
--- the page after an operation with this end
-abbrev pub aged_by : (List ℕ → Weight) → ℕ → Op → OpEnd → ℕ → Aged → Aged
-aged_by form clock op end p s =
-    if stands_on op end p then accessed clock op s else passed form clock p op s
+-- the page after an operation with this end, which finds this
+abbrev pub aged_by : (List ℕ → Weight) → ℕ → Op → OpEnd → Look → ℕ → Aged → Aged
+aged_by form clock op end look p s =
+    if stands_on op end p then accessed clock op look s else passed form clock p op s
 
--- the pages after some operations
-abbrev pub pages_after : (List ℕ → Weight) → Rest → (ℕ → Aged) → List Op → List OpEnd → ℕ → Aged
-pages_after form r pages [] es p = pages p
-pages_after form r pages (op ∷ ops) [] p = pages p
-pages_after form r pages (op ∷ ops) (end ∷ es) p =
-    pages_after form r (λ q. aged_by form r.set.clock op end q (pages q)) ops es p
+-- all pages after an operation, which is the nr-th
+abbrev pub each_by : (List ℕ → Weight) → ℕ → (ℕ → Finds) → ℕ → Op → OpEnd → (ℕ → Aged) → ℕ → Aged
+each_by form clock finds nr op end pages p =
+    aged_by form clock op end (finds p (only_tag nr)) p (pages p)
+
+-- the pages after some operations, of which the first is the nr-th
+abbrev pub pages_after : (List ℕ → Weight) → Rest → (ℕ → Finds) → ℕ → (ℕ → Aged) → List Op
+    → List OpEnd → ℕ → Aged
+pages_after form r finds nr pages [] es p = pages p
+pages_after form r finds nr pages (op ∷ ops) [] p = pages p
+pages_after form r finds nr pages (op ∷ ops) (end ∷ es) p = pages_after form r finds (nr + 1)
+    (each_by form r.set.clock finds nr op end pages) ops es p
 
 -- an operation that marks has counted the marks that are new, on a disk of so many pages
 abbrev pub IsMarked : (List ℕ → Weight) → ℕ → ℕ → (ℕ → Aged) → Op → OpEnd → Type 0
@@ -65,11 +75,13 @@ IsMarked form clock size pages (Idle age) (ends.Marked n) =
 IsMarked form clock size pages op end = ⊤
 
 -- and so has each
-abbrev pub AreMarked : (List ℕ → Weight) → Rest → (ℕ → Aged) → List Op → List OpEnd → Type 0
-AreMarked form r pages [] es = ⊤
-AreMarked form r pages (op ∷ ops) [] = ⊤
-AreMarked form r pages (op ∷ ops) (end ∷ es) = IsMarked form r.set.clock r.size pages op end
-    × AreMarked form r (λ p. aged_by form r.set.clock op end p (pages p)) ops es
+abbrev pub AreMarked : (List ℕ → Weight) → Rest → (ℕ → Finds) → ℕ → (ℕ → Aged) → List Op
+    → List OpEnd → Type 0
+AreMarked form r finds nr pages [] es = ⊤
+AreMarked form r finds nr pages (op ∷ ops) [] = ⊤
+AreMarked form r finds nr pages (op ∷ ops) (end ∷ es) =
+    IsMarked form r.set.clock r.size pages op end
+    × AreMarked form r finds (nr + 1) (each_by form r.set.clock finds nr op end pages) ops es
 
 -- the pages as a phase finds them
 abbrev pub pages_at : Rest → ℕ → Aged

@@ -1,11 +1,11 @@
 -- What a phase may print, and the rest that it leaves: its ends, for each page an order of the
 -- calls on it, and for each read the bytes that the calls before it left.
-use Rattle.std.specs.Prelude.{◌≡◌, ℕ, ◌+◌, ◌*◌, ◌/◌, ◌<◌, ◌≤◌, ◌&&◌, List, [], ◌∷◌, length, get_or, sum_by, count_by}
+use Rattle.std.specs.Prelude.{◌≡◌, ℕ, ◌+◌, ◌*◌, ◌/◌, ◌<◌, ◌≤◌, ◌&&◌, Bool, false, List, [], ◌∷◌, length, get_or, take, sum_by, count_by, Some, slice_get}
 use Rattle.std.specs.List.{range_with_len}
 use Rattle.zr_base.specs.declared.op.Tag.{Tag}
 use Rattle.zr_base.specs.declared.op.Op.{Op}
 use Rattle.zr_base.specs.declared.op.OpEnd.{OpEnd}
-use Rattle.zr_base.specs.Plain.{content, order_before, IsOrder}
+use Rattle.zr_base.specs.Plain.{Finds, IsSector, PageCalls, content, order_before, IsOrder}
 use Rattle.mem_account.specs.declared.weight.Weight.{Weight}
 use Rattle.mem_account.specs.Counters.{at_most_end}
 use Rattle.backing_dev.specs.Dev.{DeviceState, IsHonestDevice}
@@ -20,25 +20,34 @@ use Rattle.plain_disk.specs.Rests.{SoFar, Rest, page_of, kept_at, kept_pages, fr
 -- ---- orders and contents
 
 -- what a phase begins with: the disk's pages, the operations of its actors, and what each sector
--- holds
+-- holds; and what calls find on each page
 pub record Given : Type 0 where
   pub size : ℕ
   pub actors : List (List Op)
   pub before : ℕ → List ℕ
+  pub finds : ℕ → Finds
 
--- what a sector holds after the calls of an order
-abbrev pub held_after : Given → List Tag → ℕ → List ℕ
-held_after g order s = content g.actors s (g.before s) order
+-- the calls that page p may have
+abbrev pub calls_on : Given → ℕ → PageCalls
+calls_on g p = record { actors = g.actors; finds = g.finds p }
+
+-- what a sector of page p holds after the calls of an order
+abbrev pub held_after : Given → ℕ → List Tag → ℕ → List ℕ
+held_after g p order s = content (calls_on g p) s (g.before s) order
 
 -- the order of a page
 abbrev pub nth_order : List (List Tag) → ℕ → List Tag
 nth_order orders p = get_or orders p []
 
--- a sector that an operation reads: what the plain disk holds after the calls before it in the
--- page's order
+-- what a call finds in a sector of page p, after the calls of an order
+abbrev pub found_in : Given → ℕ → Tag → List Tag → ℕ → List ℕ
+found_in g p tag order s = g.finds p tag s (held_after g p order s)
+
+-- a sector that an operation reads: what it finds after the calls before it in the page's order
 abbrev pub sector_read : Given → List (List Tag) → ℕ → ℕ → ℕ → List ℕ
 sector_read g orders a k s =
-    held_after g (order_before (record { actor = a; op = k }) (nth_order orders (s / 8))) s
+    found_in g (s / 8) (record { actor = a; op = k })
+    (order_before (record { actor = a; op = k }) (nth_order orders (s / 8))) s
 
 -- the sectors that the operations of the actors from the a-th on have to tell
 abbrev pub due : Given → List (List Tag) → ℕ → List (List Op) → List (List OpEnd)
@@ -50,9 +59,28 @@ due g orders a (ops ∷ more) (es ∷ others) =
 
 -- ---- what a phase is measured by
 
--- a phase of these actors begins
-abbrev pub begun : Rest → List (List Op) → Given
-begun r actors = record { size = r.size; actors = actors; before = r.holds }
+-- a phase of these actors begins, whose calls find so much
+abbrev pub begun : Rest → List (List Op) → (ℕ → Finds) → Given
+begun r actors finds =
+    record { size = r.size; actors = actors; before = r.holds; finds = finds }
+
+-- whether a page is on the device after the calls of an order: it was before the phase, and they are
+-- reads alone
+abbrev pub back_after : Rest → List (List Op) → ℕ → List Tag → Bool
+back_after r actors p order = r.back p && leave_page actors order
+
+-- Calls find sectors: what is held, over an honest device; and over any other, where their page isn't
+-- on it.
+pub record FindsHeld (r : Rest) (actors : List (List Op)) (orders : List (List Tag))
+    (finds : ℕ → Finds) : Type 0 where
+  pub sectors : (p : ℕ) (tag : Tag) (s : ℕ) (old : List ℕ) → IsSector old
+      → IsSector (finds p tag s old)
+  pub honest : IsHonestDevice r.device → (p : ℕ) (tag : Tag) (s : ℕ) (old : List ℕ)
+      → finds p tag s old ≡ old
+  pub pooled : (p at : ℕ) (tag : Tag) → p < r.size
+      → slice_get (nth_order orders p) at ≡ Some tag
+      → back_after r actors p (take at (nth_order orders p)) ≡ false
+      → (s : ℕ) (old : List ℕ) → finds p tag s old ≡ old
 
 -- what its ends are measured by from its start on
 abbrev pub phase_ground : (List ℕ → Weight) → Rest → Ground
@@ -66,20 +94,19 @@ phase_ground form r = record {
 }
 
 -- the pages that have a form of the pool before the phase or after some first calls of their orders
-abbrev pub ever : (List ℕ → Weight) → Rest → List (List Op) → List (List Tag) → ℕ
-ever form r actors orders =
-    count_by (λ p. ever_pooled form p actors (page_of r p) (nth_order orders p))
+abbrev pub ever : (List ℕ → Weight) → Rest → Given → List (List Tag) → ℕ
+ever form r g orders =
+    count_by (λ p. ever_pooled form p (calls_on g p) (page_of r p) (nth_order orders p))
     (range_with_len 0 r.size)
 
 -- those pages and the actors: each has the frames of one chain at most
-abbrev pub reach : (List ℕ → Weight) → Rest → List (List Op) → List (List Tag) → ℕ
-reach form r actors orders = ever form r actors orders + length actors
+abbrev pub reach : (List ℕ → Weight) → Rest → Given → List (List Tag) → ℕ
+reach form r g orders = ever form r g orders + length g.actors
 
 -- what the ends of an actor's operations are measured by at the phase's end, where so many calls of
 -- the device have failed
-abbrev pub bounds : (List ℕ → Weight) → Rest → List (List Op) → List (List Tag) → ℕ → ℕ → Bounds
-bounds form r actors orders faults a =
-    record { reach = reach form r actors orders; faults = faults }
+abbrev pub bounds : (List ℕ → Weight) → Rest → Given → List (List Tag) → ℕ → ℕ → Bounds
+bounds form r g orders faults a = record { reach = reach form r g orders; faults = faults }
 
 -- ---- the rest after a phase
 
@@ -89,16 +116,16 @@ phase_sum w r orders =
     sum_by (λ p. w p (page_of r p) (nth_order orders p)) (range_with_len 0 r.size)
 
 -- what has happened so far after a phase with these ends and orders
-abbrev pub so_far_after : (List ℕ → Weight) → Rest → List (List Op) → List (List OpEnd)
+abbrev pub so_far_after : (List ℕ → Weight) → Rest → Given → List (List OpEnd)
     → List (List Tag) → SoFar
-so_far_after form r actors ends orders = record r.so_far {
+so_far_after form r g ends orders = record r.so_far {
   huge = at_most_end
-      (r.so_far.huge + phase_sum (λ p. calls_sum (made_huge form p) actors) r orders);
-  compacted = at_most_end (r.so_far.compacted + ends_sum compacted actors ends);
-  failed_reads = at_most_end (r.so_far.failed_reads + ends_sum failed_read actors ends);
-  failed_writes = at_most_end (r.so_far.failed_writes + ends_sum failed_write actors ends);
-  beyond = at_most_end (r.so_far.beyond + ends_sum beyond actors ends);
-  freed = at_most_end (r.so_far.freed + phase_sum (λ p. calls_sum freed actors) r orders);
+      (r.so_far.huge + phase_sum (λ p. calls_sum (made_huge form p) (calls_on g p)) r orders);
+  compacted = at_most_end (r.so_far.compacted + ends_sum compacted g.actors ends);
+  failed_reads = at_most_end (r.so_far.failed_reads + ends_sum failed_read g.actors ends);
+  failed_writes = at_most_end (r.so_far.failed_writes + ends_sum failed_write g.actors ends);
+  beyond = at_most_end (r.so_far.beyond + ends_sum beyond g.actors ends);
+  freed = at_most_end (r.so_far.freed + phase_sum (λ p. calls_sum freed (calls_on g p)) r orders);
 }
 
 -- when a page is touched last: by the clock, where some call stands in its order
@@ -117,9 +144,9 @@ pub record IsMost (r : Rest) (reached most : ℕ) (used : ℕ → List ℕ) : Ty
 
 -- how often a phase may have read the device: once for each read and write in the orders, and for
 -- each write that was refused for memory
-abbrev pub fetches : Rest → List (List Op) → List (List OpEnd) → List (List Tag) → ℕ
-fetches r actors ends orders =
-    phase_sum (λ p. calls_sum may_fetch actors) r orders + ends_sum starved actors ends
+abbrev pub fetches : Rest → Given → List (List OpEnd) → List (List Tag) → ℕ
+fetches r g ends orders =
+    phase_sum (λ p. calls_sum may_fetch (calls_on g p)) r orders + ends_sum starved g.actors ends
 
 -- What a phase leaves of the device: it is the same, with as many blocks, honest where it was; its
 -- count of faults hasn't fallen; it has read at most so often; and nothing was written.
@@ -133,29 +160,28 @@ pub record LeavesDevice (d e : DeviceState) (most : ℕ) : Type 0 where
   pub writes : e.writes ≡ d.writes
 
 -- The rest that a phase with these orders leaves, but for what has happened so far.
-pub record LeavesPages (form : List ℕ → Weight) (r : Rest) (actors : List (List Op))
+pub record LeavesPages (form : List ℕ → Weight) (r : Rest) (g : Given)
     (orders : List (List Tag)) (m : Rest) : Type 0 where
   pub size : m.size ≡ r.size
   pub holds : (s : ℕ) → s < 8 * r.size
-      → m.holds s ≡ held_after (begun r actors) (nth_order orders (s / 8)) s
+      → m.holds s ≡ held_after g (s / 8) (nth_order orders (s / 8)) s
   pub blank : (p : ℕ) → p < r.size
-      → m.blank p ≡ (after_all actors (page_of r p) (nth_order orders p)).blank
-  pub back : (p : ℕ) → p < r.size
-      → m.back p ≡ (r.back p && leave_page actors (nth_order orders p))
-  pub idle : (p : ℕ) → p < r.size → KeepsMark
-      (is_pooled (kept_at form m p)) (r.idle p) (is_marked_in actors) (nth_order orders p) (m.idle p)
+      → m.blank p ≡ (after_all (calls_on g p) (page_of r p) (nth_order orders p)).blank
+  pub back : (p : ℕ) → p < r.size → m.back p ≡ back_after r g.actors p (nth_order orders p)
+  pub idle : (p : ℕ) → p < r.size → KeepsMark (is_pooled (kept_at form m p)) (r.idle p)
+      (is_marked_in g.actors) (nth_order orders p) (m.idle p)
   pub touched : (p : ℕ) → p < r.size
       → m.touched p ≡ touched_by (nth_order orders p) r.set.clock (r.touched p)
   pub used : AreUsed r.set.chain (kept_pages form m) m.used
-  pub most : IsMost r (reach form r actors orders) m.most m.used
+  pub most : IsMost r (reach form r g orders) m.most m.used
   pub set : m.set ≡ r.set
 
 -- The rest that a phase with these ends and orders leaves.
-pub record Leaves (form : List ℕ → Weight) (r : Rest) (actors : List (List Op))
+pub record Leaves (form : List ℕ → Weight) (r : Rest) (g : Given)
     (ends : List (List OpEnd)) (orders : List (List Tag)) (m : Rest) : Type 0 where
-  pub pages : LeavesPages form r actors orders m
-  pub so_far : m.so_far ≡ so_far_after form r actors ends orders
-  pub device : LeavesDevice r.device m.device (fetches r actors ends orders)
+  pub pages : LeavesPages form r g orders m
+  pub so_far : m.so_far ≡ so_far_after form r g ends orders
+  pub device : LeavesDevice r.device m.device (fetches r g ends orders)
 
 -- ---- phases
 
@@ -164,13 +190,16 @@ pub record IsPhase (form : List ℕ → Weight) (r : Rest) (actors : List (List 
     (lines : List OutLine) (m : Rest) : Type 0 where
   pub ends : List (List OpEnd)
   pub orders : List (List Tag)
-  pub may : MayEndEach (phase_ground form r) (bounds form r actors orders m.device.faults) 0
-      actors ends
+  -- what calls find on each page
+  pub finds : ℕ → Finds
+  pub held : FindsHeld r actors orders finds
+  pub may : MayEndEach (phase_ground form r)
+      (bounds form r (begun r actors finds) orders m.device.faults) 0 actors ends
   -- no two lines tell the same count of faults
   pub faults_differ : (f : ℕ) → ends_sum (tells_fault f) actors ends ≤ 1
   pub every_page : length orders ≡ r.size
   pub each : (p : ℕ) → p < r.size → IsOrder actors ends p (nth_order orders p)
-  pub lines_are : lines ≡ phase_lines ends (due (begun r actors) orders 0 actors ends) orders
-  pub leaves : Leaves form r actors ends orders m
+  pub lines_are : lines ≡ phase_lines ends (due (begun r actors finds) orders 0 actors ends) orders
+  pub leaves : Leaves form r (begun r actors finds) ends orders m
   pub alone : (ops : List Op) (es : List OpEnd) → actors ≡ ops ∷ [] → ends ≡ es ∷ []
-      → IsAlone form r ops es m
+      → IsAlone form r finds ops es m

@@ -1,6 +1,6 @@
 -- What a job's calls do to a plain disk: a list of sectors, and for each page the order of the
 -- calls on it.
-use Rattle.std.specs.Prelude.{◌≡◌, ℕ, ◌+◌, ◌-◌, ◌*◌, ◌<◌, ◌≤◌, ◌^◌, ◌/◌, ◌%◌, Bool, true, false, ◌&&◌, nat_lt, nat_le, ◌==◌, List, [], ◌∷◌, length, take, drop, get_or, replicate, count_by, Option, Some, None, option_and_then, slice_get, if◌then◌else◌}
+use Rattle.std.specs.Prelude.{◌≡◌, ℕ, ◌+◌, ◌-◌, ◌*◌, ◌<◌, ◌≤◌, ◌^◌, ◌/◌, ◌%◌, Bool, true, false, ◌&&◌, nat_lt, nat_le, ◌==◌, List, [], ◌∷◌, length, All, take, drop, get_or, replicate, count_by, Option, Some, None, option_and_then, slice_get, if◌then◌else◌}
 use Rattle.std.specs.List.{flat_map, range_with_len, AllByRecursion}
 use Rattle.std.specs.Int.{w64, to_le_bytes}
 use Rattle.zr_base.specs.declared.limits.TheConstants.{MOST_SECTORS}
@@ -35,6 +35,10 @@ abbrev pub HasBytes : Stuff → Type 0
 HasBytes (Fill word) = Unit {0}
 HasBytes (Seq base step) = Unit {0}
 HasBytes (Hex bytes) = (k : ℕ) → get_or bytes k 0 < 256
+
+-- 512 bytes
+abbrev pub IsSector : List ℕ → Type 0
+IsSector s = (length s ≡ 512) × All (λ b. b < 256) s
 
 -- a sector of zeros
 unfoldable pub zero_sector : List ℕ
@@ -138,16 +142,38 @@ sector_after Compact s old = old
 abbrev pub named : List (List Op) → Tag → Option Op
 named actors tag = option_and_then (λ ops. slice_get ops tag.op) (slice_get actors tag.actor)
 
--- the sector that held these bytes, after the operation that is named, if there is one
-abbrev pub sector_after_named : Option Op → ℕ → List ℕ → List ℕ
-sector_after_named None s old = old
-sector_after_named (Some op) s old = sector_after op s old
+-- what a call finds in a sector, by the bytes that the sector holds
+abbrev pub Look : Type 0
+Look = ℕ → List ℕ → List ℕ
 
--- the sector that held these bytes, after the operations of an order, one after the other
-abbrev pub content : List (List Op) → ℕ → List ℕ → List Tag → List ℕ
-content actors s old [] = old
-content actors s old (tag ∷ tags) =
-    content actors s (sector_after_named (named actors tag) s old) tags
+-- what each call finds, by its tag
+abbrev pub Finds : Type 0
+Finds = Tag → Look
+
+-- a call finds what a sector holds
+abbrev pub as_held : Finds
+as_held tag s old = old
+
+-- the calls that a page may have: the operations that tags name, and what each finds there
+pub record PageCalls : Type 0 where
+  pub actors : List (List Op)
+  pub finds : Finds
+
+-- what an operation starts from: a write leaves of its page what it finds, any other what is held
+abbrev pub start_from : Op → Look → Look
+start_from (Write start count stuff) look s old = look s old
+start_from _ look s old = old
+
+-- the sector that held these bytes, after the operation that is named, if there is one
+abbrev pub sector_after_named : Option Op → Look → Look
+sector_after_named None look s old = old
+sector_after_named (Some op) look s old = sector_after op s (start_from op look s old)
+
+-- the sector that held these bytes, after the calls of an order, one after the other
+abbrev pub content : PageCalls → ℕ → List ℕ → List Tag → List ℕ
+content c s old [] = old
+content c s old (tag ∷ tags) =
+    content c s (sector_after_named (named c.actors tag) (c.finds tag) s old) tags
 
 -- ---- orders
 

@@ -5,7 +5,7 @@ use Rattle.std.proofs.lemmas.List.{length-append, length_push, get_or-replicate,
 use Rattle.std.proofs.lemmas.List.FromFn.{map-range_with_len_more}
 use Rattle.std.proofs.lemmas.Option.{slice_get_within, get_or_from_slice_get}
 use Rattle.zr_base.specs.declared.limits.TheConstants.{MOST_PAGES}
-use Rattle.zr_base.specs.Plain.{zero_sector}
+use Rattle.zr_base.specs.Plain.{zero_sector, IsSector}
 use Rattle.mem_account.specs.Counters.{Counters, no_counts}
 use Rattle.block_map.specs.BlockMap.{BlockMap}
 use Rattle.backing_dev.specs.Dev.{DeviceState}
@@ -13,7 +13,7 @@ use Rattle.lock_row.specs.declared.names.LockNo.{LockNo}
 use Rattle.lock_row.specs.declared.names.LockNo.TheVariants as lock
 use Rattle.lock_row.specs.declared.names.Held.TheVariants as holds
 use Rattle.page_steps.specs.Steps.{DiskHeld, slot}
-use Rattle.joint_rule.specs.Begins.{Begin, IsSector, Proper}
+use Rattle.joint_rule.specs.Begins.{Begin, Proper}
 use Rattle.joint_rule.specs.Laws.{NewIsAtRest, RequestsAreProper}
 use Rattle.joint_rule.specs.Starts.{AreFree, IsNew}
 use Rattle.zr_core.specs.Machines.{order_in, without_calls, without_orders}
@@ -177,6 +177,7 @@ zero_is = (
 new_proper : RequestsAreProper → (pages limit : ℕ) (device : DeviceState) → pages ≤ MOST_PAGES
     → Proper (new_disk pages limit device)
 new_proper law pages limit device most = law (new_disk pages limit device) (λ tag op e. absurd (cc))
+    (record { sectors = λ p t s old ok. ok; honest = λ yes p t s old. refl })
     (λ s. zero_is) (λ p k lt e. refl) (λ p lt. omega arith) record {
       some = λ lt. absurd (let none : ⊥ = omega arith in none);
       least = omega arith;

@@ -4,7 +4,7 @@ use Rattle.zr_base.specs.declared.op.Op.{Op}
 use Rattle.backing_dev.specs.declared.backing.Backing.{Ghosts}
 use Rattle.plain_disk.specs.Output.{OutLine, phase_lines}
 use Rattle.call_history.specs.declared.part.Done.{Done}
-use Rattle.joint_rule.specs.Begins.{Begin}
+use Rattle.joint_rule.specs.Begins.{Begin, finding}
 use Rattle.joint_rule.specs.Rule.{Rule}
 use Rattle.zr_core.specs.declared.limits.TheConstants.{MOST_CHAIN}
 use Rattle.zr_core.specs.declared.disk.World.{World}
@@ -39,4 +39,4 @@ pub record HasEndedAs {D : Type 0} (g : Begin) (x : Playing D) : Type 0 where
   pub rule : Rule g (state_of x dones)
   pub finished : AllFinished (state_of x dones)
   pub lines : lines_shown x ≡ printed x.terms.size x.actors (state_of x dones)
-  pub rests : RestsAs (left g x.cells) x.terms.size x.cells
+  pub rests : RestsAs (left (finding g rule.finds) x.cells) x.terms.size x.cells

@@ -2,7 +2,7 @@
 use Rattle.std.specs.Prelude.{◌≡◌, ◌⊎◌, ℕ, zero, suc, ◌+◌, ◌/◌, ◌^◌, ◌<◌, ◌≤◌, ◌==◌, nat_lt, true, false, List, [], ◌∷◌, ◌++◌, map, get_or, length, if◌then◌else◌, Option, Some, None, is_some, IfSome, slice_get}
 use Rattle.std.specs.List.{range_with_len}
 use Rattle.zr_base.specs.declared.op.Op.{Op}
-use Rattle.zr_base.specs.Plain.{zero_sector}
+use Rattle.zr_base.specs.Plain.{as_held, zero_sector}
 use Rattle.class_pool.specs.Pool.{PoolState}
 use Rattle.mem_account.specs.Counters.{Counters, no_counts}
 use Rattle.block_map.specs.BlockMap.{BlockMap}
@@ -164,7 +164,12 @@ pub record IsAtRest (pages : ℕ) (noted : List ℕ) (cells : List (Option DiskH
 -- a new disk: zeros, nothing written, the limit, and the device
 abbrev pub new_disk : ℕ → ℕ → DeviceState → Begin
 new_disk pages limit device = record {
-  given = record { size = pages; actors = []; before = λ s. zero_sector };
+  given = record {
+    size = pages;
+    actors = [];
+    before = λ s. zero_sector;
+    finds = λ p. as_held;
+  };
   blank = λ p. true;
   back = λ p. false;
   idle = λ p. false;
@@ -202,7 +207,12 @@ with_lowered g = with_account g (record g.was { most = g.was.pages })
 -- a phase of these actors at this time
 abbrev pub begun : Begin → List (List Op) → ℕ → Begin
 begun g actors now = record {
-  given = record { size = g.given.size; actors = actors; before = g.given.before };
+  given = record {
+    size = g.given.size;
+    actors = actors;
+    before = g.given.before;
+    finds = λ p. as_held;
+  };
   blank = g.blank;
   back = g.back;
   idle = g.idle;
@@ -229,7 +239,8 @@ left g row = record {
   given = record {
     size = g.given.size;
     actors = [];
-    before = λ s. held_after g.given (order_at row (s / 8)) s;
+    before = λ s. held_after g.given (s / 8) (order_at row (s / 8)) s;
+    finds = λ p. as_held;
   };
   blank = λ p. (found_after g p (order_at row p)).blank;
   back = λ p. back_at g p (order_at row p);

@@ -6,8 +6,8 @@ pub returns-clause-rest : goal.returns-clause-rest
 returns-clause-rest c g row size whole new = new_at_rest g row size whole new
 
 pub returns-clause-proper : goal.returns-clause-proper
-returns-clause-proper c g requests before blanks times room =
-    proper_is g requests before blanks times room
+returns-clause-proper c g requests finds before blanks times room =
+    proper_is g requests finds before blanks times room
 
 pub returns-clause-new : goal.returns-clause-new
 returns-clause-new c n set device actors requests room = new_proper n set device actors requests room

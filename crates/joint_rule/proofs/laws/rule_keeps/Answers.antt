@@ -1,6 +1,8 @@
 use Rattle.joint_rule.proofs.Starts.{start_rule}
 use Rattle.joint_rule.proofs.Turns.{rule_turn, rule_run}
-use Rattle.joint_rule.proofs.Free.{free}
+use Rattle.joint_rule.proofs.Free.{free, moves_so}
+use Rattle.joint_rule.proofs.Facts.{known_finding}
+use Rattle.joint_rule.specs.Begins.{finding}
 use Rattle.joint_rule.proofs.laws.rule_keeps.Goals as goal
 
 pub returns-clause-start : goal.returns-clause-start
@@ -17,4 +19,5 @@ returns-clause-reached c g u w ok r t =
 
 pub returns-clause-free : goal.returns-clause-free
 returns-clause-free c g w a l ok r who go =
-    free g (record { proper = ok; facts = c.lower_laws.ensures }) w r.joint a l who go
+    moves_so g r.finds w (free (finding g r.finds) (known_finding g r.finds
+    (record { proper = ok; facts = c.lower_laws.ensures }) r.ruled.finds) w r.ruled.joint a l who go)
