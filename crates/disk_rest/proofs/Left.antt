@@ -7,7 +7,7 @@ use Rattle.zr_base.specs.declared.op.Tag.{Tag}
 use Rattle.zr_base.specs.declared.op.Op.{Op}
 use Rattle.plain_disk.specs.Output.{phase_lines}
 use Rattle.plain_disk.specs.Rests.{Rest, stats}
-use Rattle.plain_disk.specs.Phases.{IsPhase}
+use Rattle.plain_disk.specs.Phases.{IsPhase, begun}
 use Rattle.backing_dev.specs.Dev.{DeviceState}
 use Rattle.call_history.specs.declared.part.Part.{Part}
 use Rattle.call_history.specs.Laws.{TellsPhase, TellsAccount}
@@ -18,8 +18,8 @@ use Rattle.slot_entry.specs.Entries.{EntryState}
 use Rattle.slot_entry.specs.Forms.{page_weight}
 use Rattle.page_steps.specs.Pages.{new_class}
 use Rattle.page_steps.specs.Steps.{DiskHeld, class_by, entry_in, plan_by}
-use Rattle.joint_rule.specs.Begins.{Begin, Proper, IsRoomy}
-use Rattle.joint_rule.specs.Laws.{FinishedIsAtRest, FinishedAgrees, FinishedTallies, RestGoesOn, EntryGoesOn, NextIsProper}
+use Rattle.joint_rule.specs.Begins.{Begin, finding, Proper, IsRoomy}
+use Rattle.joint_rule.specs.Laws.{FinishedIsAtRest, FinishedAgrees, FinishedFinds, FinishedTallies, RestGoesOn, EntryGoesOn, NextIsProper}
 use Rattle.joint_rule.specs.Rule.{Rule}
 use Rattle.joint_rule.specs.Starts.{AtRest, Renewed, slots, accounts, pools, maps, devices}
 use Rattle.joint_rule.specs.Ends.{begin_at, AllFinished, orders_of, histories, account_of, device_in, rest_after}
@@ -47,6 +47,7 @@ orders_are size row orders are = ext_get_or [] orders (orders_of size row)
 pub record Ending : Type 0 where
   pub rest : FinishedIsAtRest
   pub agree : FinishedAgrees
+  pub finds : FinishedFinds
   pub tallies : FinishedTallies
   pub next : RestGoesOn
   pub entry : EntryGoesOn
@@ -58,8 +59,12 @@ module _ (laws : Ending) (r : Rest) (actors : List (List Op)) (w : State DiskHel
   abbrev g : Begin
   g = begin_at r actors
 
+  -- the phase with what its calls have found
+  abbrev gf : Begin
+  gf = finding g rule.finds
+
   abbrev m : Rest
-  m = rest_after r actors w.row
+  m = rest_after r actors rule.finds w.row
 
   -- what the next phase begins with
   abbrev h : Begin
@@ -68,7 +73,7 @@ module _ (laws : Ending) (r : Rest) (actors : List (List Op)) (w : State DiskHel
   finished : AllFinished g w
   finished = all_finished g w over
 
-  rest : AtRest g w.row
+  rest : AtRest gf w.row
   rest = laws.rest g w rule finished
 
   -- the device of the row is the rest's
@@ -89,16 +94,17 @@ module _ (laws : Ending) (r : Rest) (actors : List (List Op)) (w : State DiskHel
       (phase_lines (ends_each actors (histories w.locals))
       (told_each actors (histories w.locals)) x) m)
       (sym (orders_are r.size w.row orders are))
-      (tells page_weight r actors (histories w.locals) (orders_of r.size w.row)
-      (account_of r.size w.row) m some (laws.agree r actors w proper rule finished)
+      (tells page_weight r actors rule.finds (histories w.locals) (orders_of r.size w.row)
+      (account_of r.size w.row) m some (laws.finds r actors w proper rule finished)
+      (laws.agree r actors w proper rule finished)
       (laws.tallies r actors w proper rule finished))
 
   -- ---- what the row stands for
 
   account_right : TellsAccount → account_of r.size w.row ≡ stats page_weight m
   account_right tells =
-      tells page_weight r actors (histories w.locals) (orders_of r.size w.row)
-      (account_of r.size w.row) m (laws.tallies r actors w proper rule finished)
+      tells page_weight r (begun r actors rule.finds) (histories w.locals)
+      (orders_of r.size w.row) (account_of r.size w.row) m (laws.tallies r actors w proper rule finished)
 
   roomy : IsRoomy h
   roomy = record {
@@ -115,7 +121,7 @@ module _ (laws : Ending) (r : Rest) (actors : List (List Op)) (w : State DiskHel
 
   plain : IsPlain m
   plain = let p = next_proper in record {
-    sectors = p.sectors [];
+    sectors = p.before;
     blanks = p.blanks;
     times = p.times;
     least = p.least;
@@ -123,7 +129,7 @@ module _ (laws : Ending) (r : Rest) (actors : List (List Op)) (w : State DiskHel
   }
 
   renewed : (k : ℕ) (v : DiskHeld) → slice_get w.row k ≡ Some (Some v)
-      → Renewed g h k v (without_calls v)
+      → Renewed gf h k v (without_calls v)
   renewed k (holds.Slot e) at =
       let emptied : EntryState = record e { order = []; room = 0 } in
       slots e emptied refl refl
@@ -136,8 +142,8 @@ module _ (laws : Ending) (r : Rest) (actors : List (List Op)) (w : State DiskHel
 
   goes_on : AtRest h (without_orders w.row)
   goes_on =
-      laws.next g h w.row (without_orders w.row) (record { size = refl; chain = refl })
-      (matched (Renewed g h) w.row (without_orders w.row) (emptied_long w.row)
+      laws.next gf h w.row (without_orders w.row) (record { size = refl; chain = refl })
+      (matched (Renewed gf h) w.row (without_orders w.row) (emptied_long w.row)
       (λ k lt. let v = rest.whole k lt in record {
         old = v.0;
         new = without_calls v.0;
@@ -148,7 +154,7 @@ module _ (laws : Ending) (r : Rest) (actors : List (List Op)) (w : State DiskHel
 
   pub leaves : TellsAccount → StandsFor m w.row
   leaves tells =
-      let d = device_there g w.row rest in
+      let d = device_there gf w.row rest in
       record {
         plain = plain;
         rest = goes_on;

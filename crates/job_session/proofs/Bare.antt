@@ -1,6 +1,7 @@
 -- A disk without pages: nothing is printed, and nothing changes but the limit.
 use Rattle.std.proofs.Common.{◌≡◌, ℕ, ◌+◌, ◌<◌, ◌≤◌, List, [], ◌∷◌, length, Option, Some, slice_get, refl, sym, ap, ◌∙◌, subst, arith}
 use Rattle.std.proofs.lemmas.Option.{slice_get_within}
+use Rattle.zr_base.specs.Plain.{as_held}
 use Rattle.backing_dev.specs.Dev.{DeviceState}
 use Rattle.plain_disk.specs.Output.{OutLine}
 use Rattle.plain_disk.specs.Rests.{Rest, nothing_yet, frames_of, IsUsed}
@@ -105,6 +106,12 @@ module _ (r : Rest) (none : r.size ≡ 0) (unused : IsUnused r)
   known_phase = record {
     ends = [];
     orders = [];
+    finds = λ p. as_held;
+    held = record {
+      sectors = λ p t s old ok. ok;
+      honest = λ yes p t s old. refl;
+      pooled = λ p at t lt there gone s old. refl;
+    };
     may = tt;
     faults_differ = λ f. least_one;
     every_page = refl;

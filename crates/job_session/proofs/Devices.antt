@@ -188,20 +188,20 @@ module _ {D : Type 0} (clock : ℕ) (s t : Option (Spare D)) (pages after limit 
       }
 
 -- a disk on which a phase was set up and run
-pub is_run_on : {D : Type 0} (clock : ℕ) (s t u : Option (Spare D)) (pages between after limit now : ℕ)
-    (old mid new : List (Option DiskHeld)) → u ≡ t → after ≡ between → between ≡ pages
-    → now ≡ limit → device_by t between mid ≡ device_by s pages old
-    → blocks_by t between mid ≡ blocks_by s pages old → IsEarly after u
+pub is_run_on : {D : Type 0} (d : Disk) (clock : ℕ) (t u : Option (Spare D))
+    (between after now : ℕ) (mid new : List (Option DiskHeld)) → u ≡ t → after ≡ between
+    → between ≡ d.size → now ≡ d.limit → clock ≡ d.clock → device_by t between mid ≡ d.device
+    → blocks_by t between mid ≡ d.blocks → IsEarly after u
     → IsBare after new ⊎ ((g : Begin) × RestsAs g after new)
-    → IsRunOn (disk_by clock s pages limit old) (disk_by clock u after now new)
-is_run_on clock s t u p q r limit now old mid new beside run set same device blocks early rests = record {
+    → IsRunOn d (disk_by clock u after now new)
+is_run_on d clock t u q r now mid new beside run set same time device blocks early rests = record {
   size = run ∙ set;
   limit = same;
-  clock = refl;
+  clock = time;
   device = device_left u r mid new early rests
       ∙ (λ i. device_of (device_by (beside i) (run i) mid) ((run ∙ set) i) new)
-      ∙ ap (λ (x : DeviceState). device_of x p new) device;
+      ∙ ap (λ (x : DeviceState). device_of x d.size new) device;
   blocks = map_left u r mid new early
       ∙ (λ i. map_of (blocks_by (beside i) (run i) mid) ((run ∙ set) i) new)
-      ∙ ap (λ (x : BlockMap). map_of x p new) blocks;
+      ∙ ap (λ (x : BlockMap). map_of x d.size new) blocks;
 }

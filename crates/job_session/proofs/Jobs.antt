@@ -1,12 +1,8 @@
 -- Jobs item by item, as they are told.
-use Rattle.std.proofs.Common.{◌≡◌, ℕ, zero, suc, ◌<◌, ◌≤◌, Bool, true, false, List, [], ◌∷◌, ◌++◌, Option, Result, Ok, Err, OnOk, refl, sym, ap, ◌∙◌, subst, append_assoc, arith}
+use Rattle.std.proofs.Common.{◌≡◌, ℕ, zero, suc, ◌<◌, ◌≤◌, Bool, true, false, List, [], ◌∷◌, ◌++◌, Result, Ok, Err, OnOk, refl, sym, ap, ◌∙◌, subst, append_assoc, arith}
 use Rattle.std.proofs.lemmas.List.{append-nil}
-use Rattle.zr_base.specs.declared.op.Op.{Op}
-use Rattle.zr_base.specs.declared.op.Turns.{Turns}
 use Rattle.std.specs.Prelude.{nat_lt}
 use Rattle.plain_disk.specs.Output.{OutLine, disksize_busy, backing_busy, backing_range, refused}
-use Rattle.page_steps.specs.Steps.{DiskHeld}
-use Rattle.zr_core.specs.declared.limits.TheConstants.{MOST_CHAIN}
 use Rattle.zr_core.specs.Machines.{PhaseSteps}
 use Rattle.job_text.specs.declared.job.Attr.{Attr}
 use Rattle.job_text.specs.declared.job.Attr.TheVariants.{DiskPages, LimitPages, Backing, Clock, LowerMax}
@@ -14,7 +10,7 @@ use Rattle.job_text.specs.declared.job.Report.{Report}
 use Rattle.job_text.specs.declared.job.Item.{Item}
 use Rattle.job_text.specs.declared.job.Item.TheVariants as items
 use Rattle.job_text.specs.declared.job.PhaseText.{PhaseText}
-use Rattle.job_session.specs.Stepped.{Disk, terms_of, report_of, IsNewDisk, backed, SizeSteps, BackingSteps, AttrSteps, IsRunOn, Stepped, IsBySchedule, AreOwn}
+use Rattle.job_session.specs.Stepped.{Disk, terms_of, report_of, IsNewDisk, backed, SizeSteps, BackingSteps, AttrSteps, IsRunOn, Stepped, AreOwn}
 use Rattle.job_session.specs.declared.stop.Stop.{Stop}
 use Rattle.job_session.specs.Telling.{StopCause, OutputState, Tells, ItemsTold}
 use Rattle.job_session.proofs.Lawful.{KeepsPages, KeepsTimeOf}
@@ -22,7 +18,7 @@ use Rattle.job_session.proofs.Sending.{Tells-none, Tells-more, Tells-stop}
 
 -- ---- one after the other
 
-stepped_append : (xs ys : List Item) (d m last : Disk) (ts us : List (List ℕ))
+pub stepped_append : (xs ys : List Item) (d m last : Disk) (ts us : List (List ℕ))
     (ls ks : List OutLine)
     → Stepped d xs ts ls m → Stepped m ys us ks last
     → Stepped d (xs ++ ys) (ts ++ us) (ls ++ ks) last
@@ -56,7 +52,7 @@ stepped_append (items.Phase phase ∷ xs) ys d m last ts us ls ks s next = (
   ap (λ (x : List OutLine). x ++ ks) s.9 ∙ append_assoc s.3 s.4 ks,
 )
 
-own_append : (xs ys : List Item) (ts us : List (List ℕ)) → AreOwn xs ts → AreOwn ys us
+pub own_append : (xs ys : List Item) (ts us : List (List ℕ)) → AreOwn xs ts → AreOwn ys us
     → AreOwn (xs ++ ys) (ts ++ us)
 own_append [] ys ts us own next = subst (λ (x : List (List ℕ)). AreOwn ys (x ++ us)) (sym own) next
 own_append (items.Attr attr ∷ xs) ys ts us own next = own_append xs ys ts us own next
@@ -132,15 +128,6 @@ attr_keeps d m (Backing n) lines s = backing_same d.size (nat_lt d.device.blocks
 attr_keeps d m (Clock n) lines s = ap (λ (x : Disk). x.size) s.1
 attr_keeps d m LowerMax lines s = s.1.size
 
--- an item leaves these pages
-keeps_pages : (d m : Disk) (item : Item) (turns : List (List ℕ)) (lines : List OutLine)
-    → Stepped d (item ∷ []) turns lines m → KeepsPages item d.size m.size
-keeps_pages d m (items.Attr attr) turns lines s =
-    subst (λ (x : Disk). KeepsPages (items.Attr attr) d.size x.size) (sym s.4.2)
-    (attr_keeps d s.0 attr s.1 s.3)
-keeps_pages d m (items.Report report) turns lines s = ap (λ (x : Disk). x.size) s.1.2
-keeps_pages d m (items.Phase text) turns lines s = ap (λ (x : Disk). x.size) s.7.2 ∙ s.5.size
-
 -- a disk's size and a backing leave the time
 size_time : (size : ℕ) (d m : Disk) (n : ℕ) (lines : List OutLine) → SizeSteps size d n lines m
     → m.clock ≡ d.clock
@@ -161,27 +148,6 @@ attr_times d m (LimitPages n) lines s = s.1.clock
 attr_times d m (Backing n) lines s = backing_time d.size (nat_lt d.device.blocks n) d m n lines s
 attr_times d m (Clock n) lines s = ap (λ (x : Disk). x.clock) s.1
 attr_times d m LowerMax lines s = s.1.clock
-
--- an item leaves this time
-keeps_time : (d m : Disk) (item : Item) (turns : List (List ℕ)) (lines : List OutLine)
-    → Stepped d (item ∷ []) turns lines m → KeepsTimeOf item d.clock m.clock
-keeps_time d m (items.Attr attr) turns lines s =
-    subst (λ (x : Disk). KeepsTimeOf (items.Attr attr) d.clock x.clock) (sym s.4.2)
-    (attr_times d s.0 attr s.1 s.3)
-keeps_time d m (items.Report report) turns lines s = ap (λ (x : Disk). x.clock) s.1.2
-keeps_time d m (items.Phase text) turns lines s = ap (λ (x : Disk). x.clock) s.7.2 ∙ s.5.clock
-
--- so does one that was told
-pub item_times : (d m : Disk) (item : Item) (o p : OutputState)
-    → ItemsTold d (item ∷ []) m o p (Ok tt) → KeepsTimeOf item d.clock m.clock
-item_times d m item o p t =
-    keeps_time d m item t.turns t.lines (all_stepped (item ∷ []) d m o p t)
-
--- one that was told leaves those pages
-pub item_keeps : (d m : Disk) (item : Item) (o p : OutputState)
-    → ItemsTold d (item ∷ []) m o p (Ok tt) → KeepsPages item d.size m.size
-item_keeps d m item o p t =
-    keeps_pages d m item t.turns t.lines (all_stepped (item ∷ []) d m o p t)
 
 -- some items, and then others
 pub items_more : (xs ys : List Item) (d m n : Disk) (o p q : OutputState)
@@ -288,49 +254,19 @@ report_told d report o p r told = record {
   device = refl;
 }
 
--- the steps of a phase on the disk, by what they go by
-pub steps_on : (d : Disk) (size clock : ℕ) (actors : List (List Op)) (turns : List ℕ)
-    (lines : List OutLine) (after : List (Option DiskHeld)) → size ≡ d.size → clock ≡ d.clock
-    → PhaseSteps (record { size = size; chain = MOST_CHAIN; clock = clock }) actors d.row turns lines
-    after
-    → PhaseSteps (terms_of d) actors d.row turns lines after
-steps_on d size clock actors turns lines after same none =
-    subst (λ (x : ℕ × ℕ). PhaseSteps (record { size = x.0; chain = MOST_CHAIN; clock = x.1 }) actors
-    d.row turns lines after) (λ i. (same i, none i))
-
--- a phase of these actors that was run by its schedule
-pub phase_told : (d m : Disk) (phase : PhaseText) (actors : List (List Op)) (schedule : List Turns)
-    (turns : List ℕ)
-    (lines : List OutLine) (o p : OutputState) (r : Result (Unit {0}) Stop)
-    → actors ≡ phase.actors → schedule ≡ phase.schedule → IsRunOn d m
-    → IsBySchedule actors schedule turns
-    → PhaseSteps (terms_of d) actors d.row turns lines m.row → Tells o p r lines
-    → ItemsTold d (items.Phase phase ∷ []) m o p r
-phase_told d m phase actors schedule turns lines o p r are is run own steps told = record {
-  front = items.Phase phase ∷ [];
-  later = [];
-  parts = refl;
-  turns = turns ∷ [];
-  lines = lines;
-  last = m;
-  stepped = (
-    m,
-    turns,
-    [],
-    lines,
-    [],
-    run,
-    subst (λ (x : List (List Op)). PhaseSteps (terms_of d) x d.row turns lines m.row) are steps,
-    (refl, refl, refl),
-    refl,
-    sym (append-nil lines),
-  );
-  own = (
-    subst (λ (x : List (List Op) × List Turns). IsBySchedule x.0 x.1 turns)
-        (λ i. (are i, is i)) own,
-    refl,
-  );
-  told = told;
-  whole = no_more m r;
-  device = refl;
-}
+-- a phase that was run by these turns
+pub phase_steps : (d m : Disk) (phase : PhaseText) (turns : List ℕ) (lines : List OutLine)
+    → IsRunOn d m → PhaseSteps (terms_of d) phase.actors d.row turns lines m.row
+    → Stepped d (items.Phase phase ∷ []) (turns ∷ []) lines m
+phase_steps d m phase turns lines run steps = (
+  m,
+  turns,
+  [],
+  lines,
+  [],
+  run,
+  steps,
+  (refl, refl, refl),
+  refl,
+  sym (append-nil lines),
+)

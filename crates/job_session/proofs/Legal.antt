@@ -294,8 +294,8 @@ module _ (laws : Laws) where
         (few_operations actors (work_by u actors few may)))
         turns lines m.row has.stands (has_some_each u actors may)
         (subst (λ (t : Terms). PhaseSteps t actors d.row turns lines m.row) terms_are steps) in (
-          rest_after r actors m.row,
-          both.0,
+          rest_after r actors both.0 m.row,
+          both.1,
           record {
             size = s.size ∙ sym run.size;
             most = omega (arith, s.most, run.size);
@@ -303,7 +303,7 @@ module _ (laws : Laws) where
             clock = s.clock ∙ sym run.clock;
             chain = s.chain;
             device = (λ i. device_of (s.device i) (s.size i) m.row) ∙ sym run.device;
-            row = inr (record { some = omega (arith, has.some, run.size); stands = both.1 });
+            row = inr (record { some = omega (arith, has.some, run.size); stands = both.2 });
           },
         )
 

@@ -12,3 +12,7 @@ pub mod Times
 pub mod Written
 pub mod Devices
 pub mod Lent
+pub mod Extends
+pub mod Sent
+pub mod SoFar
+pub mod Calls

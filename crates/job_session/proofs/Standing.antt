@@ -3,6 +3,7 @@ use Rattle.std.proofs.Common.{◌≡◌, ℕ, ◌+◌, ◌<◌, List, [], Option
 use Rattle.std.proofs.lemmas.List.FromFn.{length-map-range_with_len, get_or-map-range_with_len}
 use Rattle.std.proofs.lemmas.Option.{slice_get_within}
 use Rattle.zr_base.specs.declared.op.Op.{Op}
+use Rattle.zr_base.specs.Plain.{Finds}
 use Rattle.mem_account.specs.Counters.{Counters, no_counts}
 use Rattle.backing_dev.specs.Dev.{DeviceState}
 use Rattle.plain_disk.specs.Output.{OutLine}
@@ -64,20 +65,22 @@ module _ (r : Rest) (actors : List (List Op)) (row : List (Option DiskHeld)) whe
 
   module _ (starts : StartHasRule) (reached : ReachedHasRule) (begin : BeginsPhase)
       (prints : PrintsPhase) (leaves : LeavesRest) (proper : Proper (begin_at r actors)) where
-    -- a phase prints what the plain disk allows, and the row stands for the rest that it leaves
+    -- a phase prints what the plain disk allows, and the row stands for the rest that it leaves, by what
+    -- its calls have found
     pub phase_on : (turns : List ℕ) (lines : List OutLine) (after : List (Option DiskHeld))
         → StandsFor r row → HasSomeEach actors
         → PhaseSteps (terms (begin_at r actors)) actors row turns lines after
-        → IsPhase page_weight r actors lines (rest_after r actors after)
-        × StandsFor (rest_after r actors after) after
+        → (finds : ℕ → Finds) × IsPhase page_weight r actors lines (rest_after r actors finds after)
+        × StandsFor (rest_after r actors finds after) after
     phase_on turns lines after stands some s =
         let rule = reached (begin_at r actors) s.start s.last proper
         (starts (begin_at r actors) s.start proper
         (begin r actors row s.start stands (set_up s.start s.is_set_up))) (turns, s.run) in
         let P : List OutLine × List (Option DiskHeld) → Type 0 =
-        λ x. IsPhase page_weight r actors x.0 (rest_after r actors x.1)
-        × StandsFor (rest_after r actors x.1) x.1 in
+        λ x. (finds : ℕ → Finds) × IsPhase page_weight r actors x.0 (rest_after r actors finds x.1)
+        × StandsFor (rest_after r actors finds x.1) x.1 in
         subst P (λ i. (sym s.prints i, sym s.leaves i)) (
+          rule.finds,
           prints r actors s.last (orders_of r.size s.last.row) proper rule s.finished some
               (orders s.last),
           leaves r actors s.last proper rule s.finished,

@@ -1,9 +1,7 @@
--- No page was touched after the time that is set, where the disk stands for a rest; and it stands for
--- one after each item.
-use Rattle.std.proofs.Common.{◌≡◌, ◌⊎◌, ℕ, ◌≤◌, false, List, [], ◌∷◌, Option, Some, slice_get, sym, ap, ◌∙◌, subst, inl, inr, arith, Ok}
+-- No page was touched after the time that is set, where the disk stands for a rest.
+use Rattle.std.proofs.Common.{◌≡◌, ◌⊎◌, ℕ, ◌≤◌, List, [], Option, Some, slice_get, sym, ap, ◌∙◌, subst, inl, inr, arith}
 use Rattle.std.specs.Option.{option_map}
 use Rattle.std.proofs.lemmas.Option.{slice_get-map}
-use Rattle.plain_disk.specs.Output.{OutLine}
 use Rattle.plain_disk.specs.Rests.{Rest}
 use Rattle.lock_row.specs.declared.names.Held.TheVariants as holds
 use Rattle.page_steps.specs.Steps.{DiskHeld}
@@ -11,17 +9,12 @@ use Rattle.slot_entry.specs.Entries.{EntryState}
 use Rattle.disk_rest.specs.Rows.{cell_without_calls}
 use Rattle.disk_rest.specs.Resting.{StandsFor}
 use Rattle.zr_core.specs.Rests.{no_blocks, IsTime}
-use Rattle.job_text.specs.declared.job.Item.{Item}
-use Rattle.job_text.specs.Jobs.{Used, MayFollow}
-use Rattle.job_session.specs.Legal.{Legal}
 use Rattle.job_session.specs.Stands.{IsBare, HasRow, Stands}
-use Rattle.job_session.specs.Stepped.{Disk, Stepped}
-use Rattle.job_session.specs.Telling.{OutputState, MayStand, StandsForSome, ItemsTold}
-use Rattle.job_session.proofs.Jobs.{all_stepped}
+use Rattle.job_session.specs.Stepped.{Disk}
+use Rattle.job_session.specs.Telling.{StandsForSome}
 use Rattle.job_session.proofs.Lawful.{no_item}
 use Rattle.job_session.proofs.Legal.{first_rest}
-use Rattle.job_session.proofs.Lent.{bare_disk}
-use Rattle.job_session.proofs.Written.{first_stands}
+use Rattle.job_session.proofs.Written.{bare_disk, first_stands}
 
 -- ---- the time
 
@@ -45,21 +38,6 @@ time_of d some p e is = by some.1.row
     by (inr has) =
         let time = touched_before some.0 d.row p e has.stands is in
         omega (arith, time, some.1.clock)
-
--- ---- from item to item
-
--- after an item that was told the disk stands for some rest
-pub stands_on : (legal : (u : Used) (r : Rest) (d : Disk) (job : List Item) (turns : List (List ℕ))
-    (lines : List OutLine) (last : Disk)
-    → MayFollow u job → (d.size ≡ 0 → u.disk ≡ false) → u.clock ≡ d.clock → Stands r d
-    → Stepped d job turns lines last
-    → (m : Rest) × Legal r job lines m × Stands m last)
-    (d m : Disk) (item : Item) (o p : OutputState) → MayStand d.size d.clock (item ∷ [])
-    → StandsForSome d → ItemsTold d (item ∷ []) m o p (Ok tt) → StandsForSome m
-stands_on legal d m item o p may some told =
-    let all = legal may.used some.0 d (item ∷ []) told.turns told.lines m may.may may.sized may.timed
-    some.1 (all_stepped (item ∷ []) d m o p told) in
-    (all.0, all.2)
 
 -- ---- before the first item
 

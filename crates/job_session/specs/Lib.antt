@@ -3,3 +3,5 @@ pub mod Stepped
 pub mod Stands
 pub mod Runs
 pub mod Telling
+pub mod Sessions
+pub mod Advances

@@ -1,9 +1,9 @@
 -- How a job's lines are told: sent to a sink, or left waiting in the buffer before it.
-use Rattle.std.specs.Prelude.{◌≡◌, ◌⊎◌, ◌≤◌, ◌<◌, ℕ, Bool, true, false, ◌||◌, List, [], ◌++◌, length, Option, Result, OnOk, IfErr, ⊤}
+use Rattle.std.specs.Prelude.{◌≡◌, ◌⊎◌, ◌≤◌, ◌<◌, ℕ, Bool, true, false, ◌||◌, List, [], ◌++◌, ◌∷◌, length, Option, Result, IfOk, OnOk, IfErr, ⊤}
 use Rattle.std.specs.Io.KnownBytes.{Appends, Consumes}
-use Rattle.backing_dev.specs.Dev.{DeviceState}
 use Rattle.plain_disk.specs.Output.{OutLine, any_refusal}
 use Rattle.job_text.specs.declared.job.Item.{Item}
+use Rattle.job_text.specs.declared.job.Item.TheVariants as items
 use Rattle.job_text.specs.declared.limits.TheConstants.{MOST_BYTES}
 use Rattle.job_text.specs.Jobs.{Used, MayFollow}
 use Rattle.job_session.specs.declared.sim.Status.{Status}
@@ -12,10 +12,10 @@ use Rattle.job_session.specs.declared.stop.Stop.{Stop}
 use Rattle.job_session.specs.declared.stop.Stop.TheVariants as stops
 use Rattle.job_session.specs.declared.stop.NoText.{NoText}
 use Rattle.job_session.specs.declared.stop.NoText.TheVariants as no
-use Rattle.job_session.specs.Runs.{Seen, Shows, IsUncounted, BeginsWith, WriteCause, IsTextRun, IsNoJob, IsTextCut}
+use Rattle.job_session.specs.Runs.{Seen, BeginsWith, WriteCause, IsTextRun, IsNoJob, IsTextCut}
 use Rattle.plain_disk.specs.Rests.{Rest}
 use Rattle.job_session.specs.Stands.{Stands}
-use Rattle.job_session.specs.Stepped.{Disk, without_pages, Stepped, AreOwn}
+use Rattle.job_session.specs.Stepped.{Disk, Stepped, AreOwn}
 use Rattle.job_print.specs.Texts.{text}
 
 -- ---- why a call was given up
@@ -88,14 +88,36 @@ pub record ItemsTold (d : Disk) (job : List Item) (m : Disk) (o p : OutputState)
   pub whole : OnOk r ((later ≡ []) × (last ≡ m))
   pub device : last.device ≡ m.device
 
--- A whole job was told, over a device that is seen so at entry and at exit.
-pub record JobTold (entry exit : Seen) (job : List Item) (o p : OutputState)
-    (r : Result (Unit {0}) Stop) : Type 0 where
-  pub device : DeviceState
-  pub at_entry : IsUncounted entry device
-  pub disk : Disk
-  pub items : ItemsTold (without_pages device) job disk o p r
-  pub at_exit : Shows exit disk.device
+-- none of these items is a phase
+abbrev pub NoPhases : List Item → Type 0
+NoPhases [] = ⊤
+NoPhases (items.Attr attr ∷ more) = NoPhases more
+NoPhases (items.Report report ∷ more) = NoPhases more
+NoPhases (items.Phase text ∷ more) = ⊥
+
+-- Lines were sent, or a beginning of them: all where nothing went wrong, and it is said whether some
+-- line tells of a refusal.
+pub record LinesSent (lines : List OutLine) (before after : Option (List ℕ))
+    (r : Result Bool Stop) : Type 0 where
+  pub sends : BeginsWith before after (text lines)
+  pub whole : IfOk r (λ refused. Appends before after (text lines)
+      × (refused ≡ any_refusal lines))
+
+-- Items without phases were run one after the other, on the disk d, and their lines were sent. Where
+-- nothing went wrong these are all items, and the disk m is the one after them; else it has the device
+-- that these items left.
+pub record ItemsSent (d : Disk) (job : List Item) (m : Disk) (before after : Option (List ℕ))
+    (r : Result Bool Stop) : Type 0 where
+  pub front : List Item
+  pub later : List Item
+  pub parts : job ≡ front ++ later
+  pub lines : List OutLine
+  pub last : Disk
+  pub stepped : Stepped d front [] lines last
+  pub own : AreOwn front []
+  pub sent : LinesSent lines before after r
+  pub whole : OnOk r ((later ≡ []) × (last ≡ m))
+  pub device : last.device ≡ m.device
 
 -- ---- texts
 

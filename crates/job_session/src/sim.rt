@@ -17,21 +17,24 @@
 //! locks and turns. They are *stepped*: the machine prints them where each phase makes the turns of
 //! its schedule, and then rounds (`Stepped`, `AreOwn`).
 
-ghost use Rattle.std.specs.Prelude.{◌≡◌, ◌⊎◌, ◌<◌, false, true, IsTrue, ◌↔◌, [], Ok, IfOk, OnOk, OnErr, IfErr};
+ghost use Rattle.std.specs.Prelude.{◌≡◌, ◌⊎◌, ℕ, ◌≤◌, List, ◌<◌, false, true, IsTrue, ◌↔◌, [], Ok, IfOk, OnOk, OnErr, IfErr};
 ghost use Rattle.std.specs.Io.KnownBytes.{Appends};
+ghost use Rattle.plain_disk.specs.Rests.{Rest};
 ghost use Rattle.job_text.specs.Jobs.{MayFollow, nothing_used};
+ghost use Rattle.job_session.specs.Stands.{Stands};
+ghost use Rattle.job_session.specs.Stepped.{Disk, without_pages, IsBySchedule};
+ghost use Rattle.job_session.specs.Sessions.{place, session_disk, IsHome, IsBetween, IsReady, FinishIs};
+ghost use Rattle.job_session.specs.Advances.{SessionRan, outcome_of};
 ghost use Rattle.job_session.specs.Runs.{status_number, seen, WriteCause, BeginsWith, IsRunWord, IsWritten, IsRun, IsCut, IsCutRun, IsRefused};
-ghost use Rattle.job_session.specs.Telling.{StopCause, LineStops, TextEnds, TextStops, stop_status};
+ghost use Rattle.job_session.specs.Telling.{StopCause, LineStops, TextEnds, TextStops};
 ghost use Rattle.job_print.specs.Texts.{usage_text, fault_text};
 
 use crate::io::{read_all, send};
-use crate::laws::jobs_are_legal;
-use crate::output::Output;
-use crate::session::run_job;
-use crate::stop::{NoText, Stop};
+use crate::session::{Next, Running, Session};
+use crate::stop::{NoText, Stop, stopped};
 use backing_dev::Backing;
 use job_print::put_fault;
-use job_text::{Cause, Item, JobFault, ReadFault, read_job};
+use job_text::{Cause, Job, JobFault, PhaseText, ReadFault, read_job};
 use std::alloc::Global;
 use zr_base::{Failed, Sink, Source};
 
@@ -77,16 +80,6 @@ impl Status {
     }
 }
 
-// The status of a run that was given up.
-fn stopped(stop: Stop) -> Status
-    ensures { result ≡ stop_status stop }
-{
-    match stop {
-        Stop::Memory => Status::NoMemory,
-        Stop::Write => Status::WriteFault,
-    }
-}
-
 // The usage line.
 #[tactic(auto, unfolding(job_print::specs::Texts::name_of, job_print::specs::Texts::words_of))]
 fn usage() -> &'static [u8]
@@ -104,19 +97,77 @@ fn is_run(words: &[&str]) -> bool
     }
 }
 
+// Whether something was refused, where a job has ended at one of the statuses that a job has.
+fn outcome(status: Status) -> Result<bool, Stop>
+    ensures { result ≡ outcome_of status }
+{
+    match status {
+        Status::Done => Ok(false),
+        Status::Refused => Ok(true),
+        Status::NoMemory => Err(Stop::Memory),
+        _ => Err(Stop::Write),
+    }
+}
+
+// Runs the phase that is prepared, by its schedule and then by rounds.
+fn run_phase<K: Sink, D: Backing>(session: &mut Session<D>, sink: &mut K) -> Result<(), Status>
+    requires ready { (d : Disk) × (text : PhaseText) × IsReady session.old d text }
+    ensures runs { (d : Disk) (text : PhaseText) → IsReady session.old d text
+        → (turns : List ℕ) × IsBySchedule text.actors text.schedule turns
+        × FinishIs (place session.old) session.new (K.written sink.old) (K.written sink.new)
+        (K.fault_count sink.old) (K.fault_count sink.new) (K.has_stopped sink.new)
+        d text turns result }
+    ensures later { K.fault_count sink.old ≤ K.fault_count sink.new }
+{
+    let Some(running) = session.start() else {
+        unreachable!()
+    };
+    let Running {
+        mut world,
+        mut phase,
+    } = running;
+    let text = session.text();
+    world.run(&mut phase, text.actors.as_slice(), text.schedule.as_slice());
+    session.finish(Running { world, phase }, sink)
+}
+
+// Runs a job to its end: whether something was refused.
+fn run_session<K: Sink, D: Backing>(session: &mut Session<D>, sink: &mut K) -> Result<bool, Stop>
+    requires between { IsBetween session.old }
+    requires none { session.old.at ≡ 0 }
+    requires quiet { session.old.refused ≡ false }
+    ensures runs { (first : Rest) → Stands first (session_disk session.old)
+        → session_disk session.old ≡ without_pages first.device
+        → SessionRan first session.old.job (session_disk session.new)
+        (K.written sink.old) (K.written sink.new) result }
+    ensures home { IsHome session.new }
+    ensures cause { IfErr result
+        (StopCause (K.fault_count sink.old) (K.fault_count sink.new) (K.has_stopped sink.new)) }
+{
+    'phases: loop {
+        match session.next(sink) {
+            Next::Phase => {}
+            Next::Ended(status) => return outcome(status),
+        }
+        if let Err(status) = run_phase(session, sink) {
+            return outcome(status);
+        }
+    }
+}
+
 // Runs a lawful job: whether something was refused.
 fn run_all<K: Sink, D: Backing>(
     alloc: Global,
     sink: &mut K,
     dev: &mut D,
-    job: &[Item],
+    job: Job,
 ) -> Result<bool, Stop>
-    requires { MayFollow nothing_used job.now }
-    ensures written { IfOk result (IsWritten job.now
+    requires { MayFollow nothing_used job }
+    ensures written { IfOk result (IsWritten job
         (seen D.block_count D.contents D.fault_count D.calls dev.old)
         (seen D.block_count D.contents D.fault_count D.calls dev.new)
         (Appends (K.written sink.old) (K.written sink.new))) }
-    ensures cut { OnErr result (IsCut job.now
+    ensures cut { OnErr result (IsCut job
         (seen D.block_count D.contents D.fault_count D.calls dev.old)
         (seen D.block_count D.contents D.fault_count D.calls dev.new)
         (BeginsWith (K.written sink.old) (K.written sink.new))) }
@@ -124,18 +175,10 @@ fn run_all<K: Sink, D: Backing>(
     ensures cause { IfErr result
         (StopCause (K.fault_count sink.old) (K.fault_count sink.new) (K.has_stopped sink.new)) }
 {
-    jobs_are_legal();
-    let mut out = Output::new(alloc, sink);
-    let run = run_job(&mut out, alloc, dev, job);
-    let Output {
-        sink,
-        buffer,
-        refused,
-        ..
-    } = out;
-    run?;
-    send(sink, &buffer)?;
-    Ok(refused)
+    let mut session = Session::new(alloc, job, dev);
+    let run = run_session(&mut session, sink);
+    let _dev = session.close();
+    run
 }
 
 // Writes the line of a text that is no job.
@@ -178,7 +221,7 @@ fn run_text<K: Sink, D: Backing>(
         Err(ReadFault::Bad(fault)) => return refuse(alloc, fault, sink),
         Err(ReadFault::Memory(_)) => return Err(Stop::Memory),
     };
-    match run_all(alloc, sink, dev, job.as_slice())? {
+    match run_all(alloc, sink, dev, job)? {
         false => Ok(Status::Done),
         true => Ok(Status::Refused),
     }

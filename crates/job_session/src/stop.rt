@@ -1,5 +1,9 @@
 //! Why a run was given up.
 
+ghost use Rattle.std.specs.Prelude.{◌≡◌};
+ghost use Rattle.job_session.specs.Telling.{stop_status};
+
+use crate::sim::Status;
 use std::alloc::AllocError;
 use zr_base::Failed;
 
@@ -10,6 +14,16 @@ pub(crate) enum Stop {
     Memory,
     /// The sink failed, or took nothing of some bytes.
     Write,
+}
+
+/// The status of a run that was given up.
+pub(crate) fn stopped(stop: Stop) -> Status
+    ensures { result ≡ stop_status stop }
+{
+    match stop {
+        Stop::Memory => Status::NoMemory,
+        Stop::Write => Status::WriteFault,
+    }
 }
 
 impl From<AllocError> for Stop {

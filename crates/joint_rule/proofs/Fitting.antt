@@ -1,6 +1,6 @@
 -- What an actor takes fits it.
 use Rattle.bdi_page.specs.Packing.{IsPage}
-use Rattle.std.proofs.Common.{◌≡◌, ◌+◌, ◌*◌, ◌-◌, ◌/◌, ◌≤◌, ◌<◌, ◌∷◌, ◌++◌, ◌∙◌, ℕ, zero, suc, Bool, true, false, cond, eqb, List, [], map, length, sum_by, Option, Some, None, get_or, slice_get, refl, sym, ap, subst, arith, inl, inr}
+use Rattle.std.proofs.Common.{◌≡◌, ◌+◌, ◌*◌, ◌-◌, ◌/◌, ◌≤◌, ◌<◌, ◌∷◌, ◌∙◌, ℕ, zero, suc, Bool, true, false, cond, eqb, List, [], map, length, sum_by, Option, Some, None, get_or, slice_get, refl, sym, ap, subst, arith, inl, inr}
 use Rattle.zr_base.specs.declared.op.Op.TheVariants.{Compact, Discard, Idle, Read, Write}
 use Rattle.zr_base.specs.declared.op.Op.{Op}
 use Rattle.plain_disk.specs.Phases.{touched_by}
@@ -29,7 +29,7 @@ use Rattle.joint_rule.proofs.Stages.{OnDisk, old_low, on_disk, write_changes}
 use Rattle.joint_rule.proofs.Sums.{get_here, gone, locals_le, locals_mono, row_le, total_mono, total_split}
 use Rattle.joint_rule.proofs.Places.{IsAccount, IsDevice, IsEntry, IsMap, IsPoolOf, account_kind, class_kind, device_kind, entry_kind, map_kind}
 use Rattle.joint_rule.proofs.Tells.{once}
-use Rattle.joint_rule.specs.Begins.{Begin, content, form_at, form_by, ground_of, piece_on, pieces_on, terms}
+use Rattle.joint_rule.specs.Begins.{Begin, content, form_at, ground_of, piece_on, pieces_on, terms}
 use Rattle.joint_rule.specs.Joint.{AtHome, IsActor, Joint, PoolFits, Sound}
 use Rattle.joint_rule.specs.Rule.{OfOrder, Ruled, ShowsOrder, owed, owed_by}
 use Rattle.joint_rule.specs.Stages.{Changes, CountAt, GoneBy, IsForm, IsPinned, IsRight, IsSmall, MayPin, Names, NoneOf, Stage, StageBy, locks_at, locks_by, MaySeeOther}

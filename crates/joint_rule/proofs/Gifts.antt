@@ -9,7 +9,7 @@ use Rattle.joint_rule.proofs.Balances.{invalid_count, invalid_fixed, none_fresh,
 use Rattle.joint_rule.proofs.Blocks.{Balanced, Storage, apart, entry_back, no_block, no_lies}
 use Rattle.joint_rule.proofs.Facts.{Known}
 use Rattle.joint_rule.proofs.Lookups.{none_weight, nothing_shown, sound}
-use Rattle.joint_rule.proofs.Pages.{back_change, back_read, content_read, ever_up, form_next, form_read, form_small, next_light, content_page, LeavesSo}
+use Rattle.joint_rule.proofs.Pages.{back_change, back_read, content_read, ever_up, form_next, form_read, next_light, content_page, LeavesSo}
 use Rattle.joint_rule.proofs.Stages.{on_disk}
 use Rattle.joint_rule.specs.Begins.{AreCarried, Begin, HasEvent, back_at, content, ever, form_at, ground_of, image}
 use Rattle.joint_rule.specs.Joint.{AtHome, EntryFits, IsActor, Joint, Sound}

@@ -1,10 +1,12 @@
 pub mod Facts
+pub mod Finds
 pub mod Sums
 pub mod Pages
 pub mod Pools
 pub mod Lookups
 pub mod Blocks
 pub mod Stages
+pub mod Apart
 pub mod Places
 pub mod Takes
 pub mod Zspages
@@ -32,6 +34,7 @@ pub mod Faults
 pub mod Fetches
 pub mod Aged
 pub mod Ages
+pub mod Choices
 pub mod Turns
 pub mod Starts
 pub mod Gets

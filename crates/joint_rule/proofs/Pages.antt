@@ -452,18 +452,19 @@ module _ (g : Begin) (ok : Known g) (p : Part) (order : List Tag) (t : Tag)
 
 -- ---- what a piece leaves of the page that it sees
 
+-- a sector of a page
+pub sector_of : (page : List ℕ) (k : ℕ) → k < 8 → IsPage page → IsSector (page_sector page k)
+sector_of page k lt i = (
+  length-take-le 512 (drop (512 * k) page)
+      (let z = i.0 in omega (arith, length-drop (512 * k) page)),
+  All-take (λ b. b < 256) 512 (drop (512 * k) page) (All-drop (λ b. b < 256) (512 * k) page i.1),
+)
+
 seen_page : (other : Type 0) (page was : List ℕ) → IsPage was → IsSeen other page was → IsPage page
 seen_page other page was is s = ⊎_elim (λ same. subst IsPage (sym same) is) (λ o. o.1) s
 
 module _ (g : Begin) (ok : Known g) (p : Part) (t : Tag)
     (is : named g.given.actors t ≡ Some p.op) where
-  sector_of : (page : List ℕ) (k : ℕ) → k < 8 → IsPage page → IsSector (page_sector page k)
-  sector_of page k lt i = (
-    length-take-le 512 (drop (512 * k) page)
-        (let z = i.0 in omega (arith, length-drop (512 * k) page)),
-    All-take (λ b. b < 256) 512 (drop (512 * k) page) (All-drop (λ b. b < 256) (512 * k) page i.1),
-  )
-
   join_page : (f : ℕ → List ℕ) (a n : ℕ) → ((k : ℕ) → a ≤ k → k < a + n → IsSector (f k))
       → (length (join f a n) ≡ 512 * n) × All (λ b. b < 256) (join f a n)
   join_page f a zero e = (refl, λ k d lt. absurd (let none : ⊥ = omega arith in none))

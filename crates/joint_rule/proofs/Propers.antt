@@ -1,5 +1,5 @@
 -- Sectors keep their 512 bytes, whatever the calls, and blank pages their zeros.
-use Rattle.std.proofs.Common.{◌≡◌, ◌+◌, ◌*◌, ◌-◌, ◌/◌, ◌≤◌, ◌<◌, ◌∷◌, ◌∙◌, ◌^◌, ◌%◌, ℕ, zero, suc, true, leb, ltb, List, [], length, drop, sum_by, Option, Some, None, get_or, slice_get, refl, sym, ap, subst, arith, inl, inr, ⊎_elim, length-append}
+use Rattle.std.proofs.Common.{◌≡◌, ◌+◌, ◌*◌, ◌-◌, ◌/◌, ◌≤◌, ◌<◌, ◌∷◌, ◌∙◌, ◌^◌, ◌%◌, ℕ, zero, suc, true, leb, ltb, List, [], length, drop, sum_by, Some, None, get_or, slice_get, refl, sym, ap, subst, arith, inl, inr, ⊎_elim, length-append}
 use Rattle.joint_rule.proofs.Fitting.{touched_low}
 use Rattle.backing_dev.specs.Dev.{DeviceState}
 use Rattle.joint_rule.proofs.Ended.{entries, order_is}
@@ -18,7 +18,7 @@ use Rattle.mem_account.specs.declared.weight.Weight.{Weight}
 use Rattle.page_steps.specs.Steps.{DiskHeld, on}
 use Rattle.plain_disk.specs.Legal.{sets}
 use Rattle.plain_disk.specs.Legal.{IsNew as IsNewDisk}
-use Rattle.plain_disk.specs.Phases.{begun, held_after, nth_order, touched_by}
+use Rattle.plain_disk.specs.Phases.{held_after, nth_order, touched_by}
 use Rattle.plain_disk.specs.Rests.{Rest, Settings, frames_of, kept_at, kept_pages, page_of, stats}
 use Rattle.size_class.specs.Classes.{chain_of}
 use Rattle.slot_entry.specs.Entries.{EntryState}
@@ -32,8 +32,7 @@ use Rattle.std.proofs.lemmas.Option.{get_or_from_slice_get}
 use Rattle.std.specs.Int.{byte_at, bytes_low_first, to_le_bytes, w64}
 use Rattle.std.specs.List.{AllByRecursion}
 use Rattle.std.specs.Prelude.{All}
-use Rattle.zr_base.specs.Plain.{HasBytes, HasSectors, covers, has_whole, named, sector_after, stuff_sector, words_from, zero_sector, IsSector, Finds, as_held}
-use Rattle.zr_base.specs.Plain.{content as contents}
+use Rattle.zr_base.specs.Plain.{HasBytes, HasSectors, covers, has_whole, named, sector_after, stuff_sector, words_from, zero_sector, IsSector, Finds}
 use Rattle.zr_base.specs.declared.op.Op.{Op}
 use Rattle.zr_base.specs.declared.op.Op.TheVariants.{Compact, Discard, Idle, Read, Write}
 use Rattle.zr_base.specs.declared.op.Stuff.{Stuff}

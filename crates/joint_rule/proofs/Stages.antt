@@ -195,25 +195,25 @@ module _ (P : Part → Type 0) where
   abbrev pub Every : List Part → Type 0
   Every ps = AllByRecursion P ps
 
-  every_without : (nr : ℕ) (ps : List Part) → Every ps → Every (without nr ps)
+  pub every_without : (nr : ℕ) (ps : List Part) → Every ps → Every (without nr ps)
   every_without nr [] all = tt
   every_without nr (p ∷ ps) all = elim (cases_Bool (eqb p.nr nr)) [
     | inl on ↦ rw on (every_without nr ps all.1)
     | inr off ↦ rw off (all.0, every_without nr ps all.1)
   ]
 
-  every_left : (end : PartEnd) (nr : ℕ) (ps : List Part) → Every ps → Every (left_by end nr ps)
+  pub every_left : (end : PartEnd) (nr : ℕ) (ps : List Part) → Every ps → Every (left_by end nr ps)
   every_left end nr ps all = elim (cases_Bool (is_carried end))
       [ inl on ↦ rw on all | inr off ↦ rw off (every_without nr ps all) ]
 
-  every_todo : (So : Part → PartEnd → Type 0) (ps : List Part) (ds : List Done) (todo : List Part)
+  pub every_todo : (So : Part → PartEnd → Type 0) (ps : List Part) (ds : List Done) (todo : List Part)
       → Follows So ps ds todo → Every ps → Every todo
   every_todo So ps [] todo f all = subst Every (sym f) all
   every_todo So [] (d ∷ ds) todo f all = absurd f
   every_todo So (p ∷ ps) (d ∷ ds) todo f all =
       every_todo So (left_by d.end p.nr ps) ds todo f.2 (every_left d.end p.nr ps all.1)
 
-  every_append : (ps qs : List Part) → Every ps → Every qs → Every (ps ++ qs)
+  pub every_append : (ps qs : List Part) → Every ps → Every qs → Every (ps ++ qs)
   every_append [] qs a b = b
   every_append (p ∷ ps) qs a b = (a.0, every_append ps qs a.1 b)
 

@@ -17,7 +17,7 @@ use Rattle.joint_rule.proofs.Sums.{each_take, get_else, get_here, get_set, gone,
 use Rattle.joint_rule.specs.Begins.{Begin, back_at, content, piece_on, pieces_on, terms}
 use Rattle.joint_rule.specs.Joint.{Joint}
 use Rattle.joint_rule.specs.Rule.{FindHeld, OfOrder, ShowsOrder, Told, done_by, dones, owed, owed_by}
-use Rattle.joint_rule.specs.Stages.{Changes, FailBy, IsFault, IsRight, Looks, IsSeen}
+use Rattle.joint_rule.specs.Stages.{Changes, FailBy, IsFault}
 use Rattle.joint_rule.specs.Weights.{HeldAll, at_place, none, same}
 use Rattle.lock_row.specs.Totals.{held_sum, mass}
 use Rattle.lock_row.specs.declared.names.At.TheVariants.{Leaving, Missed, Ready, Marking}

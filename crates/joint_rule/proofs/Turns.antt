@@ -10,6 +10,7 @@ use Rattle.class_pool.specs.Pool.{PoolState}
 use Rattle.joint_rule.proofs.Alone.{alone_give, alone_take, KeepsAges}
 use Rattle.joint_rule.proofs.Balances.{none_fresh}
 use Rattle.joint_rule.proofs.Bounds.{below, most_give, most_take, risen, times_le}
+use Rattle.joint_rule.proofs.Choices.{Choice, choice}
 use Rattle.joint_rule.proofs.Counts.{refusals_give, refusals_take, refuses_of}
 use Rattle.joint_rule.proofs.Chosen.{Chosen}
 use Rattle.joint_rule.proofs.Events.{Event}
@@ -31,7 +32,7 @@ use Rattle.joint_rule.specs.Begins.{finding, Begin, form_at, ground_of, image, t
 use Rattle.joint_rule.specs.Joint.{Joint, PoolFits, Sound}
 use Rattle.joint_rule.specs.Rule.{FailKeeps, KeepsLimits, Rule, Ruled, ShowsOrder, reach_at}
 use Rattle.joint_rule.specs.Weights.{HeldAll, claims, device_faults, each_one, ever_at, none, one, pages, some_of}
-use Rattle.lock_row.specs.Machine.{Run}
+use Rattle.lock_row.specs.Machine.{Giving, Run}
 use Rattle.lock_row.specs.Totals.{held_sum}
 use Rattle.lock_row.specs.declared.names.At.TheVariants.{Both}
 use Rattle.lock_row.specs.declared.names.LockNo.{LockNo}
@@ -43,6 +44,7 @@ use Rattle.page_steps.specs.Pools.{IsNeed}
 use Rattle.page_steps.specs.Steps.{DiskHeld, Here, lock_of, piece_over, plan, slot, spot, took}
 use Rattle.plain_disk.specs.Ends.{Bounds}
 use Rattle.slot_entry.specs.Entries.{EntryState}
+use Rattle.zr_base.specs.Plain.{Finds}
 use Rattle.joint_rule.proofs.Events as event
 use Rattle.lock_row.specs.declared.names.LockNo.TheVariants as lock
 use Rattle.lock_row.specs.declared.names.Held.TheVariants as holds
@@ -279,6 +281,19 @@ module _ (g : Begin) (ok : Known g) (w : State DiskHeld) (r : Ruled g w) (a : �
       }
 
 module _ (g : Begin) (ok : Known g) where
+  -- a giving, by what its call is chosen to have found
+  rule_given : (a : ℕ) (w n : State DiskHeld) (l : Here) (k : LockNo) (v : DiskHeld) (m : Here)
+      → Giving (spot g.given.size) (plan (terms g)) (took (terms g)) (Works (terms g)) a l k v m w n
+      → (finds : ℕ → Finds) → Choice (finding g finds) w l v m → Rule g n
+  rule_given a w n l k v m t finds c =
+      let known = known_finding g c.finds ok c.ruled.finds in
+      subst (Rule g) (sym t.after) (record {
+        finds = c.finds;
+        ruled = rule_give (finding g c.finds) known w c.ruled a l t.who k v m t.what t.there c.ev
+            c.chosen (subst (KeepsAges (finding g c.finds) w) t.after
+            (ages_turn (finding g c.finds) known a w n c.ruled (turn.given l k v m t)));
+      })
+
   pub rule_turn : (a : ℕ) (w n : State DiskHeld) → Rule g w → OneTurn g a w n → Rule g n
   rule_turn a w n r (turn.finished l who what e) = subst (Rule g) (sym e) r
   rule_turn a w n r (turn.missed l k who what there e) = subst (Rule g) (sym e) r
@@ -289,15 +304,11 @@ module _ (g : Begin) (ok : Known g) where
         (subst (KeepsAges (finding g r.finds) w) t.after (ages_turn (finding g r.finds)
         (known_finding g r.finds ok r.ruled.finds) a w n r.ruled (turn.taken l k v t)));
   })
-  rule_turn a w n r (turn.given l k v m t) = subst (Rule g) (sym t.after) (record {
-    finds = r.finds;
-    ruled = rule_give (finding g r.finds) (known_finding g r.finds ok r.ruled.finds) w r.ruled
-        a l t.who k v m t.what t.there
-        (event_at (finding g r.finds) (known_finding g r.finds ok r.ruled.finds) w r.ruled.joint
-        a l t.who v m t.work)
-        (subst (KeepsAges (finding g r.finds) w) t.after (ages_turn (finding g r.finds)
-        (known_finding g r.finds ok r.ruled.finds) a w n r.ruled (turn.given l k v m t)));
-  })
+  rule_turn a w n r (turn.given l k v m t) =
+      rule_given a w n l k v m t r.finds (choice (finding g r.finds)
+      (known_finding g r.finds ok r.ruled.finds) w r.ruled a l t.who v m
+      (event_at (finding g r.finds) (known_finding g r.finds ok r.ruled.finds) w r.ruled.joint
+      a l t.who v m t.work))
 
   pub rule_run : (turns : List ℕ) (u w : State DiskHeld) → Rule g u
       → Run (spot g.given.size) (plan (terms g)) (took (terms g)) (Works (terms g)) turns u w

@@ -6,7 +6,7 @@ use Rattle.call_history.specs.declared.part.Done.{Done}
 use Rattle.call_history.specs.Parts.{program}
 use Rattle.page_steps.specs.Steps.{Terms, DiskHeld}
 use Rattle.actor_steps.specs.Counts.{pieces_on as counted_on, pieces_each as counted_each}
-use Rattle.joint_rule.specs.Begins.{Begin, piece_on, pieces_on, pieces_each}
+use Rattle.joint_rule.specs.Begins.{Begin, finding, piece_on, pieces_on, pieces_each}
 use Rattle.joint_rule.specs.Laws.{RestGoesOn, FinishedIsAtRest, RequestsAreProper}
 use Rattle.zr_core.specs.declared.limits.TheConstants.{MOST_CHAIN}
 use Rattle.zr_core.specs.Machines.{AllFinished, printed, PhaseSteps}
@@ -35,8 +35,9 @@ module _ {D : Type 0} (x : Playing D) (fit : AreFit x.terms x.actors x.workers) 
   same_size : g.given.size ≡ x.terms.size
   same_size = ap (λ (t : Terms). t.size) j.of.goes_by
 
-  pub rests_as : RestsAs (left g x.cells) x.terms.size x.cells
-  rests_as = subst (λ (n : ℕ). RestsAs (left g x.cells) n x.cells) same_size
+  pub rests_as : RestsAs (left (finding g j.rule.finds) x.cells) x.terms.size x.cells
+  rests_as = subst (λ (n : ℕ). RestsAs (left (finding g j.rule.finds) x.cells) n x.cells)
+      same_size
       (left_rests g (state_of x j.dones) j.of.proper j.rule finished
       (ap (λ (t : Terms). t.chain) j.of.goes_by ∙ chain)
       (let a = j.of.some in let s = same_size in omega arith)
@@ -85,7 +86,7 @@ rests_over x can finished chain rests next law = by can.ruled where
     rests = inl none.0;
   }
   by (inr (g, j)) =
-      at_rest (left g x.cells) x.terms.size x.cells
+      at_rest (left (finding g j.rule.finds) x.cells) x.terms.size x.cells
       (rests_as x can.fit g j (finished j.dones) chain rests next law) x.noted
       (orders_over x can.fit g j (finished j.dones) chain rests next law can.pieces)
 

@@ -177,6 +177,7 @@ zero_is = (
 new_proper : RequestsAreProper → (pages limit : ℕ) (device : DeviceState) → pages ≤ MOST_PAGES
     → Proper (new_disk pages limit device)
 new_proper law pages limit device most = law (new_disk pages limit device) (λ tag op e. absurd (cc))
+    (record { sectors = λ p t s old ok. ok; honest = λ yes p t s old. refl })
     (λ s. zero_is) (λ p k lt e. refl) (λ p lt. omega arith) record {
       some = λ lt. absurd (let none : ⊥ = omega arith in none);
       least = omega arith;

@@ -419,7 +419,8 @@ module _ {D : Type 0} (t : Terms) (actors : List (List Op)) (cells cells' : Row)
       actors = refl;
       some = rests.some;
       most = rests.most;
-      proper = begins_proper law g rests.proper (begun g actors t.clock) work refl refl refl times
+      proper = begins_proper law g rests.proper (begun g actors t.clock) work
+          (λ p tag s old. refl) refl refl refl times
           (λ lt. let s = rests.size in let a = rests.some in omega arith)
           (let a = rests.size in let b = rests.most in let c = work.few in omega arith)
           (λ p lt. pieces_few g.given.size p actors work);

@@ -17,7 +17,7 @@ use Rattle.lock_row.specs.declared.names.State.{State}
 use Rattle.slot_entry.specs.Entries.{EntryState}
 use Rattle.page_steps.specs.Pages.{new_class}
 use Rattle.page_steps.specs.Steps.{DiskHeld, class_by, entry_in, plan_by}
-use Rattle.joint_rule.specs.Begins.{Begin, found_after, back_at, pieces_each, AreCarried, Proper}
+use Rattle.joint_rule.specs.Begins.{Begin, finding, found_after, back_at, pieces_each, AreCarried, Proper}
 use Rattle.joint_rule.specs.Ends.{idle_in, device_in}
 use Rattle.joint_rule.specs.Joint.{MarkFits, EntryFits, Sound}
 use Rattle.joint_rule.specs.Laws.{RestGoesOn, FinishedIsAtRest, RequestsAreProper}
@@ -28,7 +28,7 @@ use Rattle.zr_core.specs.declared.limits.TheConstants.{MOST_CHAIN}
 use Rattle.zr_core.specs.Noted.{HasAllOrders}
 use Rattle.zr_core.specs.Rests.{HasEntries, RestsAs, IsAtRest, begun, with_account, left, touched_in, account_in, account_of}
 use Rattle.zr_core.proofs.Lists.{get_here, get_else}
-use Rattle.zr_core.proofs.Blanks.{leaves_proper}
+use Rattle.zr_core.proofs.Blanks.{leaves_proper, proper_finding}
 use Rattle.zr_core.proofs.Matches.{Row, IsWhole, matched, emptied_long, emptied_at, was_at, was_whole, rows_same, order_is}
 
 -- ---- values by their places
@@ -431,7 +431,12 @@ module _ (g : Begin) (pages : ℕ) (cells : Row) (rests : RestsAs g pages cells)
         some = rests.proper.some;
         times = rests.proper.times;
         blanks = rests.proper.blanks;
-        sectors = rests.proper.sectors;
+        before = rests.proper.before;
+        puts = rests.proper.puts;
+        finds = record {
+          sectors = rests.proper.finds.sectors;
+          honest = rests.proper.finds.honest;
+        };
         least = rests.proper.least;
         most = rests.proper.most;
         few = rests.proper.few;
@@ -486,13 +491,17 @@ module _ (g : Begin) (w : State DiskHeld) (proper : Proper g) (rule : Rule g w)
     (finished : AllFinished w) (chain : g.chain ≡ MOST_CHAIN) (some : 1 ≤ g.given.size)
     (most : g.given.size ≤ MOST_PAGES) (rests : FinishedIsAtRest) (next : RestGoesOn)
     (law : RequestsAreProper) where
-  ends : AtRest g w.row
+  -- the phase with what its calls have found
+  abbrev gf : Begin
+  gf = finding g rule.finds
+
+  ends : AtRest gf w.row
   ends = rests g w rule (λ a l who. ap (λ ps. plan_by g.given.size ps l.at
       (class_by (entry_in l.held).kept) (new_class g.chain ps l.page (entry_in l.held).kept))
       (finished a l who))
 
   abbrev gone : Begin
-  gone = left g w.row
+  gone = left gf w.row
 
   gone_device : (x : DeviceState)
       → slice_get w.row (g.given.size + 257) ≡ Some (Some (holds.Device x)) → gone.device ≡ x
@@ -500,7 +509,7 @@ module _ (g : Begin) (w : State DiskHeld) (proper : Proper g) (rule : Rule g w)
       (get_or_from_slice_get w.row (g.given.size + 257) (Some (holds.Device x)) None at)
 
   gone_at : (j : ℕ) (v : DiskHeld) → slice_get w.row j ≡ Some (Some v)
-      → Renewed g gone j v (without_calls v)
+      → Renewed gf gone j v (without_calls v)
   gone_at j (holds.Slot e) at =
       let order = order_is w.row j e at in
       slots e (record e { order = []; room = 0 }) refl refl record {
@@ -511,10 +520,11 @@ module _ (g : Begin) (w : State DiskHeld) (proper : Proper g) (rule : Rule g w)
         mark = ap idle_in (get_or_from_slice_get w.row j (Some (holds.Slot e)) None at);
         touched = refl;
         time = ap touched_in (get_or_from_slice_get w.row j (Some (holds.Slot e)) None at);
-        blank = ap (λ (o : List Tag). (found_after g j o).blank) order;
-        back = ap (λ (o : List Tag). back_at g j o) order;
-        before = λ k lt. ap (λ (o : List Tag). held_after g.given o (8 * j + k))
-            (ap (order_at w.row) (let q : (8 * j + k) / 8 ≡ j = omega arith in q) ∙ order);
+        blank = ap (λ (o : List Tag). (found_after gf j o).blank) order;
+        back = ap (λ (o : List Tag). back_at gf j o) order;
+        before = λ k lt. ap (λ (n : ℕ). held_after gf.given n (order_at w.row n) (8 * j + k))
+            (let q : (8 * j + k) / 8 ≡ j = omega arith in q)
+            ∙ ap (λ (o : List Tag). held_after gf.given j o (8 * j + k)) order;
       }
   gone_at j (holds.Class q) at = pools q refl refl
   gone_at j (holds.Account c) at = accounts c c refl refl refl (λ le. le)
@@ -522,30 +532,30 @@ module _ (g : Begin) (w : State DiskHeld) (proper : Proper g) (rule : Rule g w)
   gone_at j (holds.Device x) at = devices x refl refl
       (gone_device x (ap (slice_get w.row) (sym (ends.home j (holds.Device x) at).sound.0) ∙ at))
 
-  carried : (p : ℕ) → AreCarried g p (order_at w.row p)
+  carried : (p : ℕ) → AreCarried gf p (order_at w.row p)
   carried p = by (slice_get w.row p) refl where
     by_value : (v : DiskHeld) → slice_get w.row p ≡ Some (Some v)
-        → AreCarried g p (order_in (Some v))
+        → AreCarried gf p (order_in (Some v))
     by_value (holds.Slot e) at = (ends.home p (holds.Slot e) at).sound.calls
     by_value (holds.Class q) at = tt
     by_value (holds.Account c) at = tt
     by_value (holds.Blocks x) at = tt
     by_value (holds.Device x) at = tt
 
-    by_cell : (c : Option DiskHeld) → slice_get w.row p ≡ Some c → AreCarried g p (order_in c)
+    by_cell : (c : Option DiskHeld) → slice_get w.row p ≡ Some c → AreCarried gf p (order_in c)
     by_cell None at = tt
     by_cell (Some v) at = by_value v at
 
-    by : (x : Option (Option DiskHeld)) → slice_get w.row p ≡ x → AreCarried g p (order_at w.row p)
-    by None is = subst (λ (c : Option DiskHeld). AreCarried g p (order_in c))
+    by : (x : Option (Option DiskHeld)) → slice_get w.row p ≡ x → AreCarried gf p (order_at w.row p)
+    by None is = subst (λ (c : Option DiskHeld). AreCarried gf p (order_in c))
         (sym (get_or_none w.row p is)) tt
-    by (Some c) is = subst (λ (d : Option DiskHeld). AreCarried g p (order_in d))
+    by (Some c) is = subst (λ (d : Option DiskHeld). AreCarried gf p (order_in d))
         (sym (get_or_from_slice_get w.row p c None is)) (by_cell c is)
 
   -- no page was touched after the phase's time
   gone_times : (p : ℕ) → p < g.given.size → gone.touched p ≤ g.clock
   gone_times p lt =
-      let e = entry_there g w.row ends p lt in
+      let e = entry_there gf w.row ends p lt in
       let is = ap touched_in (get_or_from_slice_get w.row p (Some (holds.Slot e.0)) None e.1)
       ∙ (ends.home p (holds.Slot e.0) e.1).sound.touched in
       let before = proper.times p lt in
@@ -553,17 +563,18 @@ module _ (g : Begin) (w : State DiskHeld) (proper : Proper g) (rule : Rule g w)
 
   pub left_rests : RestsAs gone g.given.size w.row
   left_rests =
-      let a = account_there g w.row ends in
-      let d = device_there g w.row ends in record {
+      let a = account_there gf w.row ends in
+      let d = device_there gf w.row ends in record {
         size = refl;
         some = some;
         most = most;
         none = refl;
         chain = chain;
-        proper = leaves_proper law g proper gone (order_at w.row) refl refl refl carried
-            (λ p. refl) (λ s. refl) gone_times;
-        row = next g gone w.row (without_orders w.row) record { size = refl; chain = refl }
-            (matched (Renewed g gone) w.row (without_orders w.row) (emptied_long w.row) ends.whole
+        proper = leaves_proper law gf (proper_finding g rule.finds proper rule.ruled.finds) gone
+            (order_at w.row) refl refl refl carried (λ p. refl) (λ s. refl)
+            (λ p t s old. refl) gone_times;
+        row = next gf gone w.row (without_orders w.row) record { size = refl; chain = refl }
+            (matched (Renewed gf gone) w.row (without_orders w.row) (emptied_long w.row) ends.whole
             (λ k v at. (without_calls v, emptied_at w.row k (Some v) at, gone_at k v at)))
             ends;
         account = a.1 ∙ ap (λ (c : Counters). Some (Some (holds.Account c)))
@@ -578,8 +589,8 @@ module _ (g : Begin) (w : State DiskHeld) (proper : Proper g) (rule : Rule g w)
   pub no_order : (p : ℕ) → p < g.given.size
       → pieces_each g.given.size g.given.actors p ≡ 0 → order_at w.row p ≡ []
   no_order p lt none =
-      let e = entry_there g w.row ends p lt in
-      let few = (rule.told.in_row p (holds.Slot e.0) e.1).few in
+      let e = entry_there gf w.row ends p lt in
+      let few = (rule.ruled.told.in_row p (holds.Slot e.0) e.1).few in
       order_is w.row p e.0 e.1 ∙ nothing e.0.order (omega arith) where
         nothing : (order : List Tag) → length order ≤ 0 → order ≡ []
         nothing [] le = refl

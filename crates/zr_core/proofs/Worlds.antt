@@ -102,7 +102,7 @@ module _ {D : Type 0} (x : Playing D) (a : ℕ) (ops : List Op) (w : Worker D) (
       let low = slice_get_within (names_of x.terms.size) (spot x.terms.size k) k
       (there x.terms.size k is) in
       let o = there_is x.cells (spot x.terms.size k)
-      (let n = names_long x.terms.size in let row = s.rule.rule.joint.row in let size = same_size in
+      (let n = names_long x.terms.size in let row = s.rule.rule.ruled.joint.row in let size = same_size in
       omega arith) in
       (o.0, cell_is k is ∙ o.1)
 

@@ -1,4 +1,4 @@
-use Rattle.std.proofs.Common.{arith}
+use Rattle.std.proofs.Common.{refl, arith}
 use Rattle.disk_rest.proofs.Asked.{are_requests}
 use Rattle.disk_rest.proofs.Onward.{starts}
 use Rattle.disk_rest.proofs.Pieces.{pieces_most}
@@ -11,8 +11,9 @@ returns-clause-start c r actors row w st up =
 
 pub returns-clause-proper : goal.returns-clause-proper
 returns-clause-proper c r actors row st asks some few short =
-    c.disks_begin.ensures.proper (begin_at r actors) (are_requests actors asks) st.plain.sectors
-    st.plain.blanks st.plain.times (record {
+    c.disks_begin.ensures.proper (begin_at r actors) (are_requests actors asks)
+    (record { sectors = λ p t s old ok. ok; honest = λ yes p t s old. refl })
+    st.plain.sectors st.plain.blanks st.plain.times (record {
       some = some;
       least = st.plain.least;
       most = st.plain.most;

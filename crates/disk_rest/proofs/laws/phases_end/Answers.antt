@@ -6,6 +6,7 @@ ending : After-phases_go_on → Ending
 ending c = record {
   rest = c.phases_go_on.ensures.rest;
   agree = c.phases_go_on.ensures.agree;
+  finds = c.phases_go_on.ensures.finds;
   tallies = c.phases_go_on.ensures.tallies;
   next = c.phases_go_on.ensures.next;
   entry = c.phases_go_on.ensures.entry;

@@ -1,41 +1,79 @@
-use Rattle.std.proofs.Common.{sym, ap, ◌∙◌, rules}
-use Rattle.std.proofs.lemmas.Result.{err_from_is_err_and}
-use Rattle.job_session.specs.Telling.{OutputState}
-use Rattle.job_session.proofs.Written.{cut_items, cut_rest, written}
+use Rattle.std.proofs.Common.{ap, sym, ◌∙◌, refl, rules, subst}
+use Rattle.backing_dev.specs.Dev.{DeviceState}
+use Rattle.job_session.specs.Stands.{Stands}
+use Rattle.job_session.specs.Stepped.{without_pages}
+use Rattle.job_session.specs.Runs.{Shows, IsUncounted, seen}
+use Rattle.job_session.specs.Sessions.{session_disk}
+use Rattle.job_session.specs.Advances.{SessionRan}
+use Rattle.job_session.proofs.SoFar.{run_written, run_cut, lent_back, ran_over, first_over}
 use Rattle.job_session.proofs.sim.run_all.Goals as goal
-
-pub returns-in_err-run-clause-cut : goal.returns-in_err-run-clause-cut
-returns-in_err-run-clause-cut g c =
-    let p = err_from_is_err_and c.from_residual.result c.from_residual.ensures.1 in
-    let from = ap (λ (o : OutputState). o.sent) (sym c.new-out.ensures) in
-    let none = ap (λ (o : OutputState). o.waits) c.new-out.ensures in
-    let to = ap (λ (o : OutputState). o.sent) c.out.view_is in
-    rw p.1
-    (cut_items c.jobs_are_legal.ensures.legal _ _ c.args.job.now c.new-out.result
-    c.run_job-run.new.out c.requires _ _ from none _ c.run_job-run.ensures.told (search rules ∙ to))
-
-pub returns-in_err-send-clause-cut : goal.returns-in_err-send-clause-cut
-returns-in_err-send-clause-cut g c =
-    let p = err_from_is_err_and c.from_residual-in_err-send.result
-    c.from_residual-in_err-send.ensures.1 in
-    let from = ap (λ (o : OutputState). o.sent) (sym c.new-out.ensures) in
-    let none = ap (λ (o : OutputState). o.waits) c.new-out.ensures in
-    let waits = c.deref.ensures.value ∙ ap (λ (o : OutputState). o.waits) c.out.view_is in
-    let begun = c.in_err-send.ensures.some in
-    rw p.1
-    (cut_rest c.jobs_are_legal.ensures.legal _ _ c.args.job.now c.new-out.result
-    c.run_job-run.new.out c.requires _ _ from none c.deref.result.now waits
-    (g.K.Sink.written c.send.new.out) (search rules) c.in_ok-run.ensures.told
-    (rw (← c.out.view_is) begun))
 
 pub returns-clause-written : goal.returns-clause-written
 returns-clause-written g c =
-    let from = ap (λ (o : OutputState). o.sent) (sym c.new-out.ensures) in
-    let none = ap (λ (o : OutputState). o.waits) c.new-out.ensures in
-    let waits = c.deref.ensures.value ∙ ap (λ (o : OutputState). o.waits) c.out.view_is in
-    written c.jobs_are_legal.ensures.legal _ _ c.args.job.now c.new-out.result
-    c.run_job-run.new.out c.requires _ _ from none c.deref.result.now waits
-    (g.K.Sink.written c.send.new.out) (search rules) c.in_ok-run.ensures.told
-    c.out.inside.refused (rw (← c.out.view_is) c.in_ok-send.ensures.all)
-    (ap (λ (o : OutputState). o.refused) c.out.view_is)
-    (ap (λ (o : OutputState). o.refused) c.new-out.ensures)
+    let new = c.new-session.ensures.new in
+    let over = new.is_first.over in
+    let ran = c.run_session-run.ensures.runs new.first
+    (subst (Stands new.first) (sym new.disk) new.stands)
+    (new.disk ∙ ap without_pages (sym over)) in
+    let named = lent_back _ _ _ _ _ _
+    (ran_over new.first _ _ _ _ c.run_session-run.result ran)
+    (ap (λ (x : DeviceState). x.references) over) c.close-dev.ensures.same in
+    run_written new.first (first_over _ new.first new.is_first) _ _
+    (subst (IsUncounted _) (sym over) (record {
+      shows = record { blocks = refl; contents = refl; faults = refl; calls = refl };
+      reads = refl;
+      writes = refl;
+    }))
+    c.args.job _ _ _ c.run_session-run.result
+    (subst (λ x. Shows (seen g.D.Backing.block_count g.D.Backing.contents g.D.Backing.fault_count
+    g.D.Backing.calls x) (session_disk c.run_session-run.new.session).device)
+    (sym (search (rules, named.0))) (record {
+      blocks = sym c.close-dev.ensures.blocks;
+      contents = sym c.close-dev.ensures.contents;
+      faults = sym c.close-dev.ensures.faults;
+      calls = sym c.close-dev.ensures.calls;
+    }))
+    (subst (λ job. SessionRan new.first job (session_disk c.run_session-run.new.session)
+    (g.K.Sink.written c.args.sink.now) (g.K.Sink.written c.run_session-run.new.sink)
+    c.run_session-run.result) new.whole ran)
+
+pub returns-clause-cut : goal.returns-clause-cut
+returns-clause-cut g c =
+    let new = c.new-session.ensures.new in
+    let over = new.is_first.over in
+    let ran = c.run_session-run.ensures.runs new.first
+    (subst (Stands new.first) (sym new.disk) new.stands)
+    (new.disk ∙ ap without_pages (sym over)) in
+    let named = lent_back _ _ _ _ _ _
+    (ran_over new.first _ _ _ _ c.run_session-run.result ran)
+    (ap (λ (x : DeviceState). x.references) over) c.close-dev.ensures.same in
+    run_cut new.first (first_over _ new.first new.is_first) _ _
+    (subst (IsUncounted _) (sym over) (record {
+      shows = record { blocks = refl; contents = refl; faults = refl; calls = refl };
+      reads = refl;
+      writes = refl;
+    }))
+    c.args.job _ _ _ c.run_session-run.result
+    (subst (λ x. Shows (seen g.D.Backing.block_count g.D.Backing.contents g.D.Backing.fault_count
+    g.D.Backing.calls x) (session_disk c.run_session-run.new.session).device)
+    (sym (search (rules, named.0))) (record {
+      blocks = sym c.close-dev.ensures.blocks;
+      contents = sym c.close-dev.ensures.contents;
+      faults = sym c.close-dev.ensures.faults;
+      calls = sym c.close-dev.ensures.calls;
+    }))
+    (subst (λ job. SessionRan new.first job (session_disk c.run_session-run.new.session)
+    (g.K.Sink.written c.args.sink.now) (g.K.Sink.written c.run_session-run.new.sink)
+    c.run_session-run.result) new.whole ran)
+
+pub returns-clause-same : goal.returns-clause-same
+returns-clause-same g c =
+    let new = c.new-session.ensures.new in
+    let over = new.is_first.over in
+    let ran = c.run_session-run.ensures.runs new.first
+    (subst (Stands new.first) (sym new.disk) new.stands)
+    (new.disk ∙ ap without_pages (sym over)) in
+    let named = lent_back _ _ _ _ _ _
+    (ran_over new.first _ _ _ _ c.run_session-run.result ran)
+    (ap (λ (x : DeviceState). x.references) over) c.close-dev.ensures.same in
+    ap g.D.Backing.references (search (rules, named.0)) ∙ named.1

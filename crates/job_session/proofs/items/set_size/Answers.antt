@@ -6,7 +6,7 @@ use Rattle.job_session.specs.Stepped.{disk_of}
 use Rattle.job_session.proofs.Devices.{is_new_disk}
 use Rattle.job_session.proofs.Jobs.{items_stop, size_busy, size_given, attr_told}
 use Rattle.job_session.proofs.Sending.{Tells-none}
-use Rattle.job_session.proofs.session.set_size.Goals as goal
+use Rattle.job_session.proofs.items.set_size.Goals as goal
 
 pub returns-then-pages-gt0-clause-item : goal.returns-then-pages-gt0-clause-item
 returns-then-pages-gt0-clause-item g c clock =

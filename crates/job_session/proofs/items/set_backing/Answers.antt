@@ -6,7 +6,7 @@ use Rattle.job_text.specs.declared.job.Attr.TheVariants.{Backing}
 use Rattle.job_session.specs.Stepped.{disk_of, backed}
 use Rattle.job_session.proofs.Jobs.{items_stop, backing_busy_now, backing_past, backing_given, attr_told}
 use Rattle.job_session.proofs.Sending.{Tells-none}
-use Rattle.job_session.proofs.session.set_backing.Goals as goal
+use Rattle.job_session.proofs.items.set_backing.Goals as goal
 
 pub returns-then-pages-gt0-clause-item : goal.returns-then-pages-gt0-clause-item
 returns-then-pages-gt0-clause-item g c clock =

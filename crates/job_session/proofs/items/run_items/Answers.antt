@@ -3,18 +3,18 @@ use Rattle.std.proofs.lemmas.List.{take-append-drop, take_more, drop_more}
 use Rattle.std.proofs.lemmas.Result.{err_from_is_err_and}
 use Rattle.job_text.specs.declared.job.Item.{Item}
 use Rattle.job_session.specs.Stepped.{Disk, disk_of}
-use Rattle.job_session.specs.Telling.{MayStand, ItemsTold}
-use Rattle.job_session.proofs.Jobs.{items_none, items_more, items_cut, item_keeps, item_times}
-use Rattle.job_session.proofs.Lawful.{stand_first, stand_on}
-use Rattle.job_session.proofs.Times.{stands_on}
-use Rattle.job_session.proofs.session.run_items.Goals as goal
+use Rattle.job_session.specs.Telling.{MayStand, NoPhases, ItemsTold}
+use Rattle.job_session.proofs.Extends.{none_first, none_later, stand_after}
+use Rattle.job_session.proofs.Jobs.{items_none, items_more, items_cut, all_stepped}
+use Rattle.job_session.proofs.Lawful.{stand_first}
+use Rattle.job_session.proofs.items.run_items.Goals as goal
 
 pub loop-item-init : goal.loop-item-init
 loop-item-init g c = record {
   told = items_none (disk_of c.args.clock.now c.args.world.now) c.args.out.now;
   may = c.requires.may;
+  none = c.requires.none;
   rest = c.requires.rest;
-  stands = c.requires.stands;
 }
 
 -- an item of a job, and what is left of it
@@ -31,6 +31,14 @@ run_item-requires-clause-may g c =
     (left_at c.args.job.now c.loop-item.item-index c.item-item.result c.loop-item-test.true
     c.item-item.is)
     c.loop-item.invariant.may)
+
+pub run_item-requires-clause-none : goal.run_item-requires-clause-none
+run_item-requires-clause-none g c =
+    none_first c.item-item.result (drop (c.loop-item.item-index + 1) c.args.job.now)
+    (subst NoPhases
+    (left_at c.args.job.now c.loop-item.item-index c.item-item.result c.loop-item-test.true
+    c.item-item.is)
+    c.loop-item.invariant.none)
 
 pub returns-in_err-run_item-clause-items : goal.returns-in_err-run_item-clause-items
 returns-in_err-run_item-clause-items g c =
@@ -69,16 +77,13 @@ loop-item-preserved g c =
     let left = left_at c.args.job.now at item c.loop-item-test.true c.item-item.is in
     let may = subst (MayStand c.loop-item.world.pages c.loop-item.clock) left
     c.loop-item.invariant.may in
+    let told = c.in_ok-run_item.ensures.item in
     record {
       told = subst (λ (xs : List Item). ItemsTold first xs n c.args.out.now c.run_item.new.out
           (Ok tt)) (sym taken)
-          (items_more front (item ∷ []) first d n _ _ _ _ c.loop-item.invariant.told
-          c.in_ok-run_item.ensures.item);
-      may = stand_on d.size n.size d.clock n.clock item back
-          (item_keeps d n item _ _ c.in_ok-run_item.ensures.item)
-          (item_times d n item _ _ c.in_ok-run_item.ensures.item) may;
+          (items_more front (item ∷ []) first d n _ _ _ _ c.loop-item.invariant.told told);
+      may = stand_after (item ∷ []) back d n told.turns told.lines
+          (all_stepped (item ∷ []) d n _ _ told) may;
+      none = none_later item back (subst NoPhases left c.loop-item.invariant.none);
       rest = c.in_ok-run_item.ensures.rest;
-      stands = stands_on c.jobs_are_legal.ensures.legal d n item _ _
-          (stand_first d.size d.clock item back may) c.loop-item.invariant.stands
-          c.in_ok-run_item.ensures.item;
     }

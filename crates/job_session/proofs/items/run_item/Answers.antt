@@ -1,6 +1,6 @@
 use Rattle.job_session.specs.Stepped.{disk_of}
 use Rattle.job_session.proofs.Jobs.{report_told}
-use Rattle.job_session.proofs.session.run_item.Goals as goal
+use Rattle.job_session.proofs.items.run_item.Goals as goal
 
 pub returns-in-Report-clause-item : goal.returns-in-Report-clause-item
 returns-in-Report-clause-item g c =

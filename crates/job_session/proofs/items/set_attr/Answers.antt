@@ -3,7 +3,7 @@ use Rattle.job_session.specs.Stepped.{disk_of}
 use Rattle.job_session.proofs.Devices.{is_limited, is_lowered}
 use Rattle.job_session.proofs.Jobs.{attr_told}
 use Rattle.job_session.proofs.Sending.{Tells-none}
-use Rattle.job_session.proofs.session.set_attr.Goals as goal
+use Rattle.job_session.proofs.items.set_attr.Goals as goal
 
 pub returns-in-DiskPages-clause-item : goal.returns-in-DiskPages-clause-item
 returns-in-DiskPages-clause-item g c = rw c.in-DiskPages.is (c.set_size.ensures.item c.args.clock.now)
