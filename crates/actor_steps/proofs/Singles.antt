@@ -24,7 +24,9 @@ use Rattle.page_steps.specs.declared.stage.Progress.{Progress}
 use Rattle.page_steps.specs.declared.stage.Progress.TheVariants as progress
 use Rattle.page_steps.specs.Steps.{Terms, DiskHeld, Here, start_plan}
 use Rattle.page_steps.specs.Nexts.{Next, ending_by}
-use Rattle.page_steps.specs.Givings.{Works, refuses, pins, unpins, fetches, misses, counts, charges, limits, starves, stows, quits, frees, releases, repays, puts, reads, fails, errs, leaves, marks, compacts}
+use Rattle.page_steps.specs.Givings.{Works, refuses, pins, unpins, fetches, misses, counts, charges, limits, starves, stows, quits, frees, releases, repays, puts, reads, fails, errs, leaves, marks, visits, compacts}
+use Rattle.page_steps.specs.Visits.{Visits, trip_at, onward_by, undoing_by, ending_with, passed_page, wrote_page, lost_page}
+use Rattle.page_steps.specs.Visits.{passes as visit_passes, reserves as visit_reserves, refrains as visit_refrains, quits as visit_quits, pins as visit_pins, unpins as visit_unpins, marks as visit_marks, stores as visit_stores, spoils as visit_spoils, frees as visit_frees, commits as visit_commits, pays as visit_pays, puts as visit_puts, loses as visit_loses, releases as visit_releases}
 use Rattle.page_steps.specs.Scans.{scans, scan_at, with_page, marking_by}
 use Rattle.page_steps.specs.Compactions.{moves, rests, shrinks, resting_by, compaction_at}
 use Rattle.page_steps.specs.Calls.{Frame, here, is_count, IsWork, IsFit, IsGoing, end_of, got_of}
@@ -80,6 +82,10 @@ whole_end (piece.AtLimit pages need limit) whole e = tt
 whole_end piece.NoMemory whole e = tt
 whole_end (piece.Eio fault) whole e = tt
 whole_end (piece.Marked pages) whole e = tt
+whole_end (piece.Written wrote lost) whole e = tt
+whole_end (piece.Budget wrote lost) whole e = tt
+whole_end (piece.NoBlock wrote lost) whole e = tt
+whole_end (piece.WriteEio fault wrote lost) whole e = tt
 whole_end (piece.Compacted n frames) whole e = tt
 
 no : {A : Type 0} (b : Bool) → b ≡ true → b ≡ false → A
