@@ -318,8 +318,12 @@ module _ {D : Type 0} (t : Terms) (backed : Bool) (ops : List Op) (v : Worker D)
           → slice_get w'.replies.items k ≡ Some y → y.end ≡ end_as backed k o (done ++ d ∷ [])
       end_now k o y named there = ⊎_elim
           (λ s. subst (λ (z : ℕ × Op × Reply). z.2.end ≡ end_as backed z.0 z.1 (done ++ d ∷ []))
-          (λ i. (sym s.0 i, (let q : Some op ≡ Some o = sym at
-          ∙ (ap (slice_get ops) (sym s.0) ∙ named) in let r : op ≡ o = cc in r) i, s.1 i))
+          (λ i. (
+            sym s.0 i,
+            (let q : Some op ≡ Some o = sym at
+                ∙ (ap (slice_get ops) (sym s.0) ∙ named) in let r : op ≡ o = cc in r) i,
+            s.1 i,
+          ))
           (m.ends ∙ sym (ap (λ (b : Bool). cond b ends.NoBacking (end_of nr (done ++ d ∷ []))) does
           ∙ end_here nr 0 done d refl keeps.carried
           ∙ ap (op_end (ending end)) (let q = keeps.count in

@@ -34,12 +34,7 @@ fn new_reply(alloc: Global, size: u32, backed: bool, op: &Op) -> Result<Reply, A
 }
 
 // The replies of an actor's operations.
-fn new_replies(
-    alloc: Global,
-    size: u32,
-    backed: bool,
-    ops: &[Op],
-) -> Result<Vec<Reply>, AllocError>
+fn new_replies(alloc: Global, size: u32, backed: bool, ops: &[Op]) -> Result<Vec<Reply>, AllocError>
     requires { AreRequests ops.now }
     ensures { IfOk result (λ replies. AreNewReplies size backed ops.now replies.items) }
 {

@@ -331,9 +331,9 @@ module _ (t : Ground) (b : Bounds) where
       → IsOp p nr op (end_as t.backed nr op front) front
   one_op p nr op front some m = elim (cases_Bool (is_void t.backed op)) [
     | inl void ↦ record {
-        may = rw void refl;
-        noted = rw void (ap (noted_on p) (none_left By front (mine_by true void)));
-      }
+      may = rw void refl;
+      noted = rw void (ap (noted_on p) (none_left By front (mine_by true void)));
+    }
     | inr does ↦
         let o = one_does p nr op front some (mine_by false does) in
         record { may = rw does o.may; noted = rw does o.noted }

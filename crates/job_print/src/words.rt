@@ -162,13 +162,7 @@ fn written(name: &[u8], wrote: &[u8], other: &[u8], lost: &[u8]) -> Option<(u32,
     }
 }
 
-fn write_fault(
-    fault: &[u8],
-    name: &[u8],
-    wrote: &[u8],
-    other: &[u8],
-    lost: &[u8],
-) -> Option<OpEnd>
+fn write_fault(fault: &[u8], name: &[u8], wrote: &[u8], other: &[u8], lost: &[u8]) -> Option<OpEnd>
     ensures { result ≡ write_fault_in fault.now name.now wrote.now other.now lost.now }
 {
     let fault = number(fault)?;
