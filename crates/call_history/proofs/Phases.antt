@@ -15,7 +15,7 @@ use Rattle.mem_account.specs.Counters.{Counters, at_most_end}
 use Rattle.plain_disk.specs.Ends.{Ground, Bounds, is_single, MayEndAll, MayEndEach, due_from, ends_sum, failed_read, failed_write, starved, tells_fault, left_back, written, compacted, beyond}
 use Rattle.plain_disk.specs.Output.{phase_lines}
 use Rattle.plain_disk.specs.Calls.{calls_sum, may_fetch}
-use Rattle.plain_disk.specs.Rests.{SoFar, Rest, is_backed, stats}
+use Rattle.plain_disk.specs.Rests.{SoFar, Rest, stats}
 use Rattle.plain_disk.specs.Phases.{Given, FindsHeld, calls_on, found_in, nth_order, sector_read, due, begun, phase_sum, phase_ground, bounds, new_back, LeavesDevice, Leaves, IsPhase}
 use Rattle.call_history.specs.declared.part.Part.{Part}
 use Rattle.call_history.specs.declared.part.PartEnd.{PartEnd}

@@ -12,7 +12,7 @@ use Rattle.call_history.specs.declared.part.PartEnd.{PartEnd}
 use Rattle.call_history.specs.declared.part.PartEnd.TheVariants as over
 use Rattle.call_history.specs.declared.part.Done.{Done}
 use Rattle.zr_base.specs.Plain.{is_void}
-use Rattle.call_history.specs.Parts.{parts_of, parts, program, Follows, is_carried, op_end, end_by, end_of, end_as, ends_from, piece_gives, done_sum, dones_sum}
+use Rattle.call_history.specs.Parts.{parts_of, parts, program, Follows, is_carried, op_end, end_by, end_as, ends_from, piece_gives, done_sum, dones_sum}
 use Rattle.call_history.specs.Histories.{ends_each}
 use Rattle.call_history.proofs.Told.{every_parts}
 use Rattle.call_history.proofs.Ends.{Mine, mine_on, none_left}
