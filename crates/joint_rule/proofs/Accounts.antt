@@ -70,6 +70,7 @@ module _ (g : Begin) (ok : Known g) (w : State DiskHeld) (j : Joint g w) (a : â„
       fails = sg.fails;
       begun = sg.begun;
       scans = tt;
+      visits = tt;
       compacts = tt;
     }
 
@@ -144,6 +145,7 @@ module _ (g : Begin) (ok : Known g) (w : State DiskHeld) (j : Joint g w) (a : â„
             fails = sc.fails;
             begun = sc.begun;
             scans = tt;
+            visits = tt;
             compacts = tt;
           }) (let lr = ap (held_sum (spot n) (claims g each_one)) held in
           let lx = ap (held_sum (spot n) (ever_at g)) held in

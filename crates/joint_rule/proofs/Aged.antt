@@ -15,7 +15,7 @@ use Rattle.joint_rule.specs.Joint.{Joint}
 use Rattle.joint_rule.specs.Stages.{IsForm, Scans}
 use Rattle.joint_rule.specs.Weights.{HeldAll}
 use Rattle.lock_row.specs.declared.names.At.{At}
-use Rattle.lock_row.specs.declared.names.At.TheVariants.{Away, Backed, Both, Counting, Failing, Fetching, Freeing, Giving, Inside, Leaving, Made, Marking, Missed, Moving, Old, Owing, Pinned, Pinning, Ready, Refusing, Releasing, Scanning, Seen, Shrinking, Shrunk, Start, Sweeping, Unpinning, Wanting}
+use Rattle.lock_row.specs.declared.names.At.TheVariants.{Away, Backed, Both, Counting, Failing, Fetching, Freeing, Giving, Inside, Leaving, Made, Marking, Missed, Moving, Old, Owing, Pinned, Pinning, Ready, Refusing, Releasing, Scanning, Seen, Shrinking, Shrunk, Start, Sweeping, Unpinning, Wanting, Visiting}
 use Rattle.lock_row.specs.declared.names.LockNo.{LockNo}
 use Rattle.lock_row.specs.declared.names.Pin.{Pin}
 use Rattle.lock_row.specs.declared.names.Plan.TheVariants.{Take}
@@ -37,7 +37,7 @@ use Rattle.std.proofs.lemmas.List.Sums.{sum_by-cons}
 use Rattle.std.specs.List.{range_with_len}
 use Rattle.zr_base.specs.Plain.{has_whole, is_beyond, is_maintenance, is_marking, is_older, named, Look, Finds}
 use Rattle.zr_base.specs.declared.op.Op.{Op}
-use Rattle.zr_base.specs.declared.op.Op.TheVariants.{Compact, Discard, Idle, Read, Write}
+use Rattle.zr_base.specs.declared.op.Op.TheVariants.{Compact, Discard, Idle, Read, Write, Writeback}
 use Rattle.zr_base.specs.declared.op.OpEnd.{OpEnd}
 use Rattle.zr_base.specs.declared.op.Tag.{Tag}
 use Rattle.lock_row.specs.declared.names.Held.TheVariants as holds
@@ -69,6 +69,7 @@ module _ (form : List ℕ → Weight) (clock : ℕ) where
   other_passes (Read start count) e p s = refl
   other_passes (Discard start count) e p s = refl
   other_passes (Idle age) e p s = absurd (cc)
+  other_passes (Writeback mode) e p s = absurd (cc)
   other_passes Compact e p s = refl
 
   other_marks : (size : ℕ) (pages : ℕ → Aged) (op : Op) (end : OpEnd) → is_marking op ≡ false
@@ -77,6 +78,7 @@ module _ (form : List ℕ → Weight) (clock : ℕ) where
   other_marks size pages (Read start count) end e = tt
   other_marks size pages (Discard start count) end e = tt
   other_marks size pages (Idle age) end e = absurd (cc)
+  other_marks size pages (Writeback mode) end e = absurd (cc)
   other_marks size pages Compact end e = tt
 
   -- a piece that is on no page, and doesn't mark, leaves each page
@@ -106,6 +108,7 @@ request_other (Write start count stuff) e = refl
 request_other (Read start count) e = refl
 request_other (Discard start count) e = refl
 request_other (Idle age) e = absurd (cc)
+request_other (Writeback mode) e = absurd (cc)
 request_other Compact e = refl
 
 -- ---- stages
@@ -152,6 +155,7 @@ still_entered (Write start count stuff) page f k = still_write (has_whole start 
 still_entered (Read start count) page f k = still_seen k
 still_entered (Discard start count) page f k = still_discard k
 still_entered (Idle age) page f k = refl
+still_entered (Writeback mode) page f k = refl
 still_entered Compact page f k = refl
 
 pub still_pinned : (op : Op) (f : PageForm) (k : Kept) → IsStill (pinned_at op f k)
@@ -159,6 +163,7 @@ still_pinned (Write start count stuff) f k = still_made f k
 still_pinned (Read start count) f k = refl
 still_pinned (Discard start count) f k = refl
 still_pinned (Idle age) f k = refl
+still_pinned (Writeback mode) f k = refl
 still_pinned Compact f k = refl
 
 pub still_fetched : (op : Op) (f : PageForm) (k : Kept) → IsStill (fetched_at op f k)
@@ -166,6 +171,7 @@ still_fetched (Write start count stuff) f k = still_made f k
 still_fetched (Read start count) f k = refl
 still_fetched (Discard start count) f k = refl
 still_fetched (Idle age) f k = refl
+still_fetched (Writeback mode) f k = refl
 still_fetched Compact f k = refl
 
 pub still_quit : (x : Option Pin) → IsStill (quit_at x)
@@ -177,6 +183,7 @@ still_first (Write start count stuff) = refl
 still_first (Read start count) = refl
 still_first (Discard start count) = refl
 still_first (Idle age) = refl
+still_first (Writeback mode) = refl
 still_first Compact = refl
 
 still_begun : (a b : Bool) (p : Part) (f : PageForm) (k : Kept) → IsStill (begun_at a b p f k)
@@ -212,6 +219,7 @@ scan_after size Giving p f k = refl
 scan_after size Ready p f k = refl
 scan_after size (Scanning x) p f k = refl
 scan_after size (Marking x) p f k = refl
+scan_after size (Visiting s x) p f k = refl
 scan_after size (Sweeping x) p f k = refl
 scan_after size (Moving x) p f k = refl
 scan_after size (Shrunk x) p f k = refl
@@ -256,6 +264,7 @@ module _ (g : Begin) where
         none (Read start count) = tt
         none (Discard start count) = tt
         none (Idle age) = refl
+        none (Writeback mode) = refl
         none Compact = tt
 
 -- ---- pages that a scan has passed

@@ -42,7 +42,7 @@ use Rattle.slot_entry.specs.declared.kept.Kept.{Kept}
 use Rattle.std.proofs.lemmas.Bool.{eqb-true}
 use Rattle.zr_base.specs.Plain.{is_maintenance, is_marking}
 use Rattle.zr_base.specs.declared.op.Op.{Op}
-use Rattle.zr_base.specs.declared.op.Op.TheVariants.{Compact, Discard, Idle, Read, Write}
+use Rattle.zr_base.specs.declared.op.Op.TheVariants.{Compact, Discard, Idle, Read, Write, Writeback}
 use Rattle.zr_base.specs.declared.op.Tag.{Tag}
 use Rattle.lock_row.specs.declared.names.Held.TheVariants as holds
 use Rattle.zr_base.specs.declared.op.OpEnd.TheVariants as ends
@@ -69,6 +69,7 @@ refused_off g p (Write start count stuff) (Whole end) f = refl
 refused_off g p (Read start count) x f = absurd f
 refused_off g p (Discard start count) x f = absurd f
 refused_off g p (Idle age) x f = absurd f
+refused_off g p (Writeback mode) x f = absurd f
 refused_off g p Compact x f = absurd f
 
 still_moved : (frames : ℕ) (x : Compaction) → IsStill (moved_at frames x)

@@ -30,7 +30,7 @@ use Rattle.plain_disk.specs.Ends.{is_single}
 use Rattle.std.proofs.lemmas.Bool.{ltb-true, or_parts}
 use Rattle.zr_base.specs.Plain.{is_beyond, is_maintenance}
 use Rattle.zr_base.specs.declared.op.Op.{Op}
-use Rattle.zr_base.specs.declared.op.Op.TheVariants.{Compact, Discard, Idle, Read, Write}
+use Rattle.zr_base.specs.declared.op.Op.TheVariants.{Compact, Discard, Idle, Read, Write, Writeback}
 use Rattle.joint_rule.proofs.Events as event
 use Rattle.lock_row.specs.declared.names.LockNo.TheVariants as lock
 use Rattle.lock_row.specs.declared.names.Held.TheVariants as holds
@@ -53,6 +53,7 @@ no_write (Write start count stuff) i e = cc
 no_write (Read start count) i e = i
 no_write (Discard start count) i e = i
 no_write (Idle age) i e = i
+no_write (Writeback mode) i e = i
 no_write Compact i e = i
 
 no_change : (op : Op) → Changes op → is_read op ≡ true → ⊥
@@ -60,6 +61,7 @@ no_change (Write start count stuff) i e = cc
 no_change (Read start count) i e = i
 no_change (Discard start count) i e = cc
 no_change (Idle age) i e = i
+no_change (Writeback mode) i e = i
 no_change Compact i e = i
 
 -- what is beyond the disk is no compaction
@@ -68,6 +70,8 @@ beyond_other size (Write start count stuff) e = refl
 beyond_other size (Read start count) e = refl
 beyond_other size (Discard start count) e = refl
 beyond_other size (Idle age) e = absurd (let z = ltb-true (8 * size) (0 + 0) e in
+    let no : ⊥ = omega arith in no)
+beyond_other size (Writeback mode) e = absurd (let z = ltb-true (8 * size) (0 + 0) e in
     let no : ⊥ = omega arith in no)
 beyond_other size Compact e = absurd (let z = ltb-true (8 * size) (0 + 0) e in
     let no : ⊥ = omega arith in no)
@@ -86,6 +90,7 @@ refused_still g p (Write start count stuff) (Whole end) f = absurd f
 refused_still g p (Read start count) (Whole end) f = absurd f
 refused_still g p (Discard start count) (Whole end) f = absurd f
 refused_still g p (Idle age) (Whole end) f = absurd f
+refused_still g p (Writeback mode) (Whole end) f = absurd f
 refused_still g p Compact (Whole end) f = absurd f
 
 fault_still : (g : Begin) (p : Part) (x : PartEnd) → IsFault g p (Some x) → MovesNone (op_end x 0)

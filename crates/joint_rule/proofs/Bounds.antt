@@ -19,7 +19,7 @@ use Rattle.joint_rule.specs.Stages.{OweAt, StageBy}
 use Rattle.joint_rule.specs.Weights.{Limit, cell_weight, chains, claims, each_one, ever_at, fixed, fixed_count, fresh_claim, leaning, mosts, none, one, owing, pages, some_of, stored}
 use Rattle.lock_row.specs.Totals.{held_sum, locals_sum, mass, row_sum, total}
 use Rattle.lock_row.specs.declared.names.At.{At}
-use Rattle.lock_row.specs.declared.names.At.TheVariants.{Away, Backed, Both, Counting, Failing, Fetching, Freeing, Giving, Inside, Leaving, Made, Missed, Old, Owing, Pinned, Pinning, Ready, Refusing, Releasing, Seen, Start, Unpinning, Wanting, Sweeping, Moving, Shrunk, Shrinking, Scanning, Marking}
+use Rattle.lock_row.specs.declared.names.At.TheVariants.{Away, Backed, Both, Counting, Failing, Fetching, Freeing, Giving, Inside, Leaving, Made, Missed, Old, Owing, Pinned, Pinning, Ready, Refusing, Releasing, Seen, Start, Unpinning, Wanting, Sweeping, Moving, Shrunk, Shrinking, Scanning, Marking, Visiting}
 use Rattle.lock_row.specs.declared.names.LockNo.{LockNo}
 use Rattle.lock_row.specs.declared.names.Object.{Object}
 use Rattle.lock_row.specs.declared.names.Pin.{Pin}
@@ -144,6 +144,7 @@ module _ (g : Begin) (ok : Known g) where
   owed_at Ready n o = owed_none n o
   owed_at (Scanning x) n o = owed_none n o
   owed_at (Marking x) n o = owed_none n o
+  owed_at (Visiting s x) n o = owed_none n o
   owed_at (Sweeping x) n o = owed_none n o
   owed_at (Moving x) n o = owed_none n o
   owed_at (Shrunk x) n o = owed_some n o

@@ -15,7 +15,7 @@ use Rattle.joint_rule.specs.Begins.{Begin, terms}
 use Rattle.joint_rule.specs.Weights.{each_one, loose_pools, none, stored}
 use Rattle.lock_row.specs.Totals.{mass, total}
 use Rattle.lock_row.specs.declared.names.At.{At}
-use Rattle.lock_row.specs.declared.names.At.TheVariants.{Away, Backed, Both, Counting, Failing, Fetching, Freeing, Giving, Inside, Leaving, Made, Missed, Moving, Old, Owing, Pinned, Pinning, Ready, Refusing, Releasing, Seen, Shrinking, Shrunk, Start, Sweeping, Unpinning, Wanting, Scanning, Marking}
+use Rattle.lock_row.specs.declared.names.At.TheVariants.{Away, Backed, Both, Counting, Failing, Fetching, Freeing, Giving, Inside, Leaving, Made, Missed, Moving, Old, Owing, Pinned, Pinning, Ready, Refusing, Releasing, Seen, Shrinking, Shrunk, Start, Sweeping, Unpinning, Wanting, Scanning, Marking, Visiting}
 use Rattle.lock_row.specs.declared.names.Compaction.{Compaction}
 use Rattle.lock_row.specs.declared.names.LockNo.{LockNo}
 use Rattle.lock_row.specs.declared.names.Pin.{Pin}
@@ -28,7 +28,7 @@ use Rattle.slot_entry.specs.Forms.{Blank, PageForm, Pooled, Word}
 use Rattle.slot_entry.specs.declared.kept.Kept.{Kept}
 use Rattle.zr_base.specs.Plain.{has_whole, is_beyond, is_maintenance}
 use Rattle.zr_base.specs.declared.op.Op.{Op}
-use Rattle.zr_base.specs.declared.op.Op.TheVariants.{Compact, Discard, Idle, Read, Write}
+use Rattle.zr_base.specs.declared.op.Op.TheVariants.{Compact, Discard, Idle, Read, Write, Writeback}
 use Rattle.zr_base.specs.declared.op.OpEnd.{OpEnd}
 use Rattle.lock_row.specs.declared.names.LockNo.TheVariants as lock
 use Rattle.lock_row.specs.declared.names.Held.TheVariants as holds
@@ -79,6 +79,7 @@ plain_entered (Write start count stuff) page f k = plain_write (has_whole start 
 plain_entered (Read start count) page f k = plain_seen k
 plain_entered (Discard start count) page f k = plain_discard k
 plain_entered (Idle age) page f k = (refl, λ op. refl)
+plain_entered (Writeback mode) page f k = (refl, λ op. refl)
 plain_entered Compact page f k = (refl, λ op. refl)
 
 pub plain_pinned : (op : Op) (f : PageForm) (k : Kept) → IsPlain (pinned_at op f k)
@@ -86,6 +87,7 @@ plain_pinned (Write start count stuff) f k = plain_made f k
 plain_pinned (Read start count) f k = (refl, λ op. refl)
 plain_pinned (Discard start count) f k = (refl, λ op. refl)
 plain_pinned (Idle age) f k = (refl, λ op. refl)
+plain_pinned (Writeback mode) f k = (refl, λ op. refl)
 plain_pinned Compact f k = (refl, λ op. refl)
 
 pub plain_fetched : (op : Op) (f : PageForm) (k : Kept) → IsPlain (fetched_at op f k)
@@ -93,6 +95,7 @@ plain_fetched (Write start count stuff) f k = plain_made f k
 plain_fetched (Read start count) f k = (refl, λ op. refl)
 plain_fetched (Discard start count) f k = (refl, λ op. refl)
 plain_fetched (Idle age) f k = (refl, λ op. refl)
+plain_fetched (Writeback mode) f k = (refl, λ op. refl)
 plain_fetched Compact f k = (refl, λ op. refl)
 
 pub plain_quit : (x : Option Pin) → IsPlain (quit_at x)
@@ -102,6 +105,7 @@ plain_quit (Some x) = (refl, λ op. refl)
 -- a taking begins no compaction but at class 0
 first_of : (op : Op) (x : Compaction) → compacting_at (first_at op) ≡ Some x → x ≡ first_class
 first_of (Idle age) x e = absurd (cc)
+first_of (Writeback mode) x e = absurd (cc)
 first_of (Write start count stuff) x e = let q : first_class ≡ x = cc in sym q
 first_of (Read start count) x e = let q : first_class ≡ x = cc in sym q
 first_of (Discard start count) x e = let q : first_class ≡ x = cc in sym q
@@ -142,6 +146,7 @@ same_after size Giving p f k x e = inl e
 same_after size Ready p f k x e = inl e
 same_after size (Scanning y) p f k x e = inl e
 same_after size (Marking y) p f k x e = inl e
+same_after size (Visiting s y) p f k x e = inl e
 same_after size (Sweeping y) p f k x e = inl e
 same_after size (Moving y) p f k x e = inl e
 same_after size (Shrunk y) p f k x e = inl e
@@ -180,6 +185,7 @@ calm_after size Giving p f k e = e
 calm_after size Ready p f k e = e
 calm_after size (Scanning x) p f k e = e
 calm_after size (Marking x) p f k e = e
+calm_after size (Visiting s x) p f k e = e
 calm_after size (Sweeping x) p f k e = e
 calm_after size (Moving x) p f k e = e
 calm_after size (Shrunk x) p f k e = e
@@ -219,6 +225,7 @@ plain_push (Write start count stuff) end t n loose objects e h = ((λ f. absurd 
 plain_push (Read start count) end t n loose objects e h = h refl
 plain_push (Discard start count) end t n loose objects e h = ((λ f. absurd (cc)), omega arith)
 plain_push (Idle age) end t n loose objects e h = absurd (cc)
+plain_push (Writeback mode) end t n loose objects e h = absurd (cc)
 plain_push Compact end t n loose objects e h = absurd (cc)
 
 -- ---- an actor alone

@@ -28,7 +28,7 @@ use Rattle.std.specs.Prelude.{âŠ¤}
 use Rattle.zr_base.specs.Plain.{Finds, IsSector, Look, named, start_from}
 use Rattle.zr_base.specs.Sectors.{page_sector}
 use Rattle.zr_base.specs.declared.op.Op.{Op}
-use Rattle.zr_base.specs.declared.op.Op.TheVariants.{Compact, Discard, Idle, Read, Write}
+use Rattle.zr_base.specs.declared.op.Op.TheVariants.{Compact, Discard, Idle, Read, Write, Writeback}
 use Rattle.zr_base.specs.declared.op.Tag.{Tag}
 use Rattle.joint_rule.proofs.Events as event
 use Rattle.lock_row.specs.declared.names.Held.TheVariants as holds
@@ -92,6 +92,7 @@ read_seen other g q (Write start count stuff) p page was k f r = absurd f
 read_seen other g q (Read start count) p page was k f r = r
 read_seen other g q (Discard start count) p page was k f r = absurd k
 read_seen other g q (Idle age) p page was k f r = absurd k
+read_seen other g q (Writeback mode) p page was k f r = absurd k
 read_seen other g q Compact p page was k f r = absurd k
 
 -- a write of this page leaves what one of that page leaves
@@ -115,6 +116,8 @@ change_sight g p order page (Read start count) e r =
 change_sight g p order page (Discard start count) e r =
     (content g p.page order, plain_sight g p.page order (content g p.page order) refl, tt)
 change_sight g p order page (Idle age) e r =
+    (content g p.page order, plain_sight g p.page order (content g p.page order) refl, tt)
+change_sight g p order page (Writeback mode) e r =
     (content g p.page order, plain_sight g p.page order (content g p.page order) refl, tt)
 change_sight g p order page Compact e r =
     (content g p.page order, plain_sight g p.page order (content g p.page order) refl, tt)
@@ -193,6 +196,7 @@ module _ (g : Begin) (ok : Known g) (w : State DiskHeld) (r : Ruled g w) (a : â„
       leaves_so page (Read start count) op_is same = tt
       leaves_so page (Discard start count) op_is same = tt
       leaves_so page (Idle age) op_is same = tt
+      leaves_so page (Writeback mode) op_is same = tt
       leaves_so page Compact op_is same = tt
 
       sees : Sees (h.given.finds p.page t) p.page (content h p.page e.order) seen
@@ -206,6 +210,7 @@ module _ (g : Begin) (ok : Known g) (w : State DiskHeld) (r : Ruled g w) (a : â„
       sees_so (Read start count) = sees
       sees_so (Discard start count) = tt
       sees_so (Idle age) = tt
+      sees_so (Writeback mode) = tt
       sees_so Compact = tt
 
   pub choice : (v : DiskHeld) (m : Here) â†’ Event g l v m â†’ Choice g w l v m

@@ -86,6 +86,7 @@ module _ (g : Begin) (ok : Known g) (w : State DiskHeld) (j : Joint g w) (a : â„
         fails = st.fails;
         begun = st.begun;
         scans = tt;
+        visits = tt;
         compacts = record { class = st.compacts.class; frames = within };
       }
       moved_stage (suc m) le within = record {
@@ -103,6 +104,7 @@ module _ (g : Begin) (ok : Known g) (w : State DiskHeld) (j : Joint g w) (a : â„
         fails = st.fails;
         begun = st.begun;
         scans = tt;
+        visits = tt;
         compacts = record { class = st.compacts.class; frames = within };
       }
 
@@ -168,6 +170,7 @@ module _ (g : Begin) (ok : Known g) (w : State DiskHeld) (j : Joint g w) (a : â„
             fails = st.fails;
             begun = st.begun;
             scans = tt;
+            visits = tt;
             compacts = record {
               class = stands_low g.chain (254 - (x.class + 1));
               frames = st.compacts.frames;
@@ -257,6 +260,7 @@ module _ (g : Begin) (ok : Known g) (w : State DiskHeld) (j : Joint g w) (a : â„
             fails = ss.fails;
             begun = ss.begun;
             scans = tt;
+            visits = tt;
             compacts = record {
               class = ss.compacts.class;
               frames = (let y = ss.compacts.frames in omega arith);

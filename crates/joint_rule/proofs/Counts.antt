@@ -37,7 +37,7 @@ use Rattle.slot_entry.specs.declared.kept.Kept.{Kept}
 use Rattle.std.specs.Prelude.{⊤}
 use Rattle.zr_base.specs.Plain.{is_beyond, is_maintenance}
 use Rattle.zr_base.specs.declared.op.Op.{Op}
-use Rattle.zr_base.specs.declared.op.Op.TheVariants.{Compact, Discard, Idle, Read, Write}
+use Rattle.zr_base.specs.declared.op.Op.TheVariants.{Compact, Discard, Idle, Read, Write, Writeback}
 use Rattle.zr_base.specs.declared.op.OpEnd.{OpEnd}
 use Rattle.joint_rule.proofs.Events as event
 use Rattle.lock_row.specs.declared.names.LockNo.TheVariants as lock
@@ -147,6 +147,7 @@ speaks_pinned (Write start count stuff) f k = speaks_made f k
 speaks_pinned (Read start count) f k = tt
 speaks_pinned (Discard start count) f k = tt
 speaks_pinned (Idle age) f k = tt
+speaks_pinned (Writeback mode) f k = tt
 speaks_pinned Compact f k = tt
 
 speaks_fetched : (op : Op) (f : PageForm) (k : Kept) → Speaks (fetched_at op f k)
@@ -154,6 +155,7 @@ speaks_fetched (Write start count stuff) f k = speaks_made f k
 speaks_fetched (Read start count) f k = tt
 speaks_fetched (Discard start count) f k = tt
 speaks_fetched (Idle age) f k = tt
+speaks_fetched (Writeback mode) f k = tt
 speaks_fetched Compact f k = tt
 
 speaks_quit : (x : Option Pin) → Speaks (quit_at x)

@@ -33,7 +33,7 @@ use Rattle.slot_entry.specs.Forms.{PageForm}
 use Rattle.slot_entry.specs.declared.kept.Kept.{Kept}
 use Rattle.std.proofs.lemmas.Bool.{and_parts}
 use Rattle.zr_base.specs.declared.op.Op.{Op}
-use Rattle.zr_base.specs.declared.op.Op.TheVariants.{Compact, Discard, Idle, Read, Write}
+use Rattle.zr_base.specs.declared.op.Op.TheVariants.{Compact, Discard, Idle, Read, Write, Writeback}
 use Rattle.lock_row.specs.declared.names.LockNo.TheVariants as lock
 use Rattle.lock_row.specs.declared.names.Held.TheVariants as holds
 use Rattle.slot_entry.specs.declared.kept.Kept.TheVariants as kept
@@ -121,10 +121,12 @@ module _ (g : Begin) (ok : Known g) (w : State DiskHeld) (j : Joint g w) (a : â„
         fails = subst (Î» (x : Op). FailBy g p x l.fail) (sym e_op) st.fails;
         begun = st.begun;
         scans = tt;
+        visits = tt;
         compacts = tt;
       }
       fetched_stage (Discard start count) e_op = absurd (subst Looks e_op st.kind.0)
       fetched_stage (Idle age) e_op = absurd (subst Looks e_op st.kind.0)
+      fetched_stage (Writeback mode) e_op = absurd (subst Looks e_op st.kind.0)
       fetched_stage Compact e_op = absurd (subst Looks e_op st.kind.0)
 
       fetched_locks : (op : Op) (f : PageForm) (c d : â„•)
@@ -133,6 +135,7 @@ module _ (g : Begin) (ok : Known g) (w : State DiskHeld) (j : Joint g w) (a : â„
       fetched_locks (Read start count) f c d = refl
       fetched_locks (Discard start count) f c d = refl
       fetched_locks (Idle age) f c d = refl
+      fetched_locks (Writeback mode) f c d = refl
       fetched_locks Compact f c d = refl
 
       pub give_fetches : Gift g a l lock.Device (holds.Device d')
@@ -186,6 +189,7 @@ module _ (g : Begin) (ok : Known g) (w : State DiskHeld) (j : Joint g w) (a : â„
       may_fault (Read start count) looks part = fault_at
       may_fault (Discard start count) looks part = absurd looks
       may_fault (Idle age) looks part = absurd looks
+      may_fault (Writeback mode) looks part = absurd looks
       may_fault Compact looks part = absurd looks
 
       missed_stage : Stage g p e Failing l.fresh l.pin l.owed l.ahead l.behind l.page
@@ -205,6 +209,7 @@ module _ (g : Begin) (ok : Known g) (w : State DiskHeld) (j : Joint g w) (a : â„
         fails = (st.begun, may_fault p.op st.kind.0 st.partly);
         begun = st.begun;
         scans = tt;
+        visits = tt;
         compacts = tt;
       }
 
@@ -281,6 +286,7 @@ module _ (g : Begin) (ok : Known g) (w : State DiskHeld) (j : Joint g w) (a : â„
           [] (ends x bad) start count is notes
       by_op (Discard start count) is r = absurd (cc)
       by_op (Idle age) is r = absurd (cc)
+      by_op (Writeback mode) is r = absurd (cc)
       by_op Compact is r = absurd (cc)
 
     pub give_leaves : (x : PartEnd) â†’ l.fail â‰¡ Some x
@@ -326,6 +332,7 @@ module _ (g : Begin) (ok : Known g) (w : State DiskHeld) (j : Joint g w) (a : â„
       fails = sr.fails;
       begun = sr.begun;
       scans = tt;
+      visits = tt;
       compacts = tt;
     }
 

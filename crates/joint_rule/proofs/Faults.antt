@@ -29,7 +29,7 @@ use Rattle.page_steps.specs.Steps.{DiskHeld, Here, entry_in, on, piece_over, slo
 use Rattle.plain_disk.specs.Ends.{Bounds, Ground, MayBeSingle, tells_fault}
 use Rattle.std.proofs.lemmas.Bool.{cases_eq, eq-eqb, ne_eqb}
 use Rattle.zr_base.specs.declared.op.Op.{Op}
-use Rattle.zr_base.specs.declared.op.Op.TheVariants.{Compact, Discard, Idle, Read, Write}
+use Rattle.zr_base.specs.declared.op.Op.TheVariants.{Compact, Discard, Idle, Read, Write, Writeback}
 use Rattle.zr_base.specs.declared.op.OpEnd.{OpEnd}
 use Rattle.joint_rule.proofs.Events as event
 use Rattle.lock_row.specs.declared.names.LockNo.TheVariants as lock
@@ -84,6 +84,7 @@ module _ (g : Begin) (p : Part) where
   write_ends (Read start count) x i = absurd i
   write_ends (Discard start count) x i = absurd i
   write_ends (Idle age) x i = absurd i
+  write_ends (Writeback mode) x i = absurd i
   write_ends Compact x i = absurd i
 
   -- so did the piece in work, where it is refused

@@ -37,7 +37,7 @@ use Rattle.slot_entry.specs.Forms.{Blank, PageForm, Pooled, Word}
 use Rattle.slot_entry.specs.declared.kept.Kept.{Kept}
 use Rattle.zr_base.specs.Plain.{named}
 use Rattle.zr_base.specs.declared.op.Op.{Op}
-use Rattle.zr_base.specs.declared.op.Op.TheVariants.{Compact, Discard, Idle, Read, Write}
+use Rattle.zr_base.specs.declared.op.Op.TheVariants.{Compact, Discard, Idle, Read, Write, Writeback}
 use Rattle.zr_base.specs.declared.op.Tag.{Tag}
 use Rattle.joint_rule.proofs.Events as event
 use Rattle.lock_row.specs.declared.names.Held.TheVariants as holds
@@ -63,6 +63,7 @@ looks_pinned (Write start count stuff) f k op = looks_made f k op
 looks_pinned (Read start count) f k op = refl
 looks_pinned (Discard start count) f k op = refl
 looks_pinned (Idle age) f k op = refl
+looks_pinned (Writeback mode) f k op = refl
 looks_pinned Compact f k op = refl
 
 looks_fetched : (o : Op) (f : PageForm) (k : Kept) (op : Op)
@@ -71,6 +72,7 @@ looks_fetched (Write start count stuff) f k op = looks_made f k op
 looks_fetched (Read start count) f k op = refl
 looks_fetched (Discard start count) f k op = refl
 looks_fetched (Idle age) f k op = refl
+looks_fetched (Writeback mode) f k op = refl
 looks_fetched Compact f k op = refl
 
 looks_quit : (x : Option Pin) (op : Op) → fetched_by (quit_at x) op ≡ looks op
@@ -83,6 +85,7 @@ looks_one (Write start count stuff) i = refl
 looks_one (Read start count) i = refl
 looks_one (Discard start count) i = absurd i
 looks_one (Idle age) i = absurd i
+looks_one (Writeback mode) i = absurd i
 looks_one Compact i = absurd i
 
 -- a taking loses nothing

@@ -38,7 +38,7 @@ use Rattle.std.specs.List.{AllByRecursion}
 use Rattle.std.specs.Prelude.{⊤}
 use Rattle.zr_base.specs.Plain.{Finds, IsSector, Look, content as sectors, named, same_tag, sector_after_named}
 use Rattle.zr_base.specs.declared.op.Op.{Op}
-use Rattle.zr_base.specs.declared.op.Op.TheVariants.{Compact, Discard, Idle, Read, Write}
+use Rattle.zr_base.specs.declared.op.Op.TheVariants.{Compact, Discard, Idle, Read, Write, Writeback}
 use Rattle.zr_base.specs.declared.op.OpEnd.TheVariants as ends
 use Rattle.zr_base.specs.declared.op.Tag.{Tag}
 use Rattle.lock_row.specs.declared.names.Held.TheVariants as holds
@@ -262,6 +262,7 @@ module _ (g : Begin) (finds : ℕ → Finds) where
   by_alike p (Read start count) x f = f
   by_alike p (Discard start count) x f = f
   by_alike p (Idle age) x f = f
+  by_alike p (Writeback mode) x f = f
   by_alike p Compact x f = f
 
   may_alike : (p : Part) (x : Option PartEnd) → MayFail g p x → MayFail h p x
@@ -343,6 +344,7 @@ module _ (g : Begin) (finds : ℕ → Finds) where
         fails = fail_alike p at p.op fail s.fails;
         begun = s.begun;
         scans = scan_alike p at e a s.scans;
+        visits = tt;
         compacts = s.compacts;
       }
 

@@ -1,7 +1,7 @@
 -- What an actor takes fits it.
 use Rattle.bdi_page.specs.Packing.{IsPage}
 use Rattle.std.proofs.Common.{◌≡◌, ◌+◌, ◌*◌, ◌-◌, ◌/◌, ◌≤◌, ◌<◌, ◌∷◌, ◌∙◌, ℕ, zero, suc, Bool, true, false, cond, eqb, List, [], map, length, sum_by, Option, Some, None, get_or, slice_get, refl, sym, ap, subst, arith, inl, inr}
-use Rattle.zr_base.specs.declared.op.Op.TheVariants.{Compact, Discard, Idle, Read, Write}
+use Rattle.zr_base.specs.declared.op.Op.TheVariants.{Compact, Discard, Idle, Read, Write, Writeback}
 use Rattle.zr_base.specs.declared.op.Op.{Op}
 use Rattle.plain_disk.specs.Phases.{touched_by}
 use Rattle.joint_rule.proofs.Takes.{some_actor}
@@ -357,6 +357,8 @@ module _ (g : Begin) (ok : Known g) (w : State DiskHeld) (r : Ruled g w) (a : �
 
     first_fits : (op : Op) → k ≡ first_lock op → FirstFits (terms g) op v
     first_fits (Idle age) k_is =
+        scan_fits 0 (ok.proper.some (some_actor g.given.actors a fit.ops fit.named)) k_is
+    first_fits (Writeback mode) k_is =
         scan_fits 0 (ok.proper.some (some_actor g.given.actors a fit.ops fit.named)) k_is
     first_fits (Write start count stuff) k_is = sweep_fits 0 (omega arith) k_is
     first_fits (Read start count) k_is = sweep_fits 0 (omega arith) k_is

@@ -1,7 +1,7 @@
 -- Takings go from slots to classes, and last to the account, the blocks or the device, so some actor
 -- can always move.
 use Rattle.std.proofs.Common.{◌≡◌, ◌+◌, ◌≤◌, ◌<◌, ◌∷◌, ◌∙◌, ℕ, zero, suc, Bool, true, false, List, [], map, length, Option, Some, None, slice_get, refl, sym, ap, subst, arith, ⊎_elim}
-use Rattle.zr_base.specs.declared.op.Op.TheVariants.{Compact, Discard, Idle, Read, Write}
+use Rattle.zr_base.specs.declared.op.Op.TheVariants.{Compact, Discard, Idle, Read, Write, Writeback}
 use Rattle.zr_base.specs.declared.op.Op.{Op}
 use Rattle.joint_rule.proofs.Takes.{some_actor}
 use Rattle.call_history.specs.Parts.{EndsSo, Follows, program}
@@ -21,7 +21,7 @@ use Rattle.joint_rule.specs.Stages.{Stage, locks_at, locks_by}
 use Rattle.joint_rule.specs.Weights.{HeldAll, at_place, none, same}
 use Rattle.lock_row.specs.Totals.{held_sum, locals_sum, mass, row_sum}
 use Rattle.lock_row.specs.declared.names.At.{At}
-use Rattle.lock_row.specs.declared.names.At.TheVariants.{Away, Backed, Both, Counting, Failing, Fetching, Freeing, Giving, Inside, Leaving, Made, Missed, Old, Owing, Pinned, Pinning, Ready, Refusing, Releasing, Seen, Start, Unpinning, Wanting, Sweeping, Moving, Shrunk, Shrinking, Scanning, Marking}
+use Rattle.lock_row.specs.declared.names.At.TheVariants.{Away, Backed, Both, Counting, Failing, Fetching, Freeing, Giving, Inside, Leaving, Made, Missed, Old, Owing, Pinned, Pinning, Ready, Refusing, Releasing, Seen, Start, Unpinning, Wanting, Sweeping, Moving, Shrunk, Shrinking, Scanning, Marking, Visiting}
 use Rattle.lock_row.specs.declared.names.LockNo.{LockNo}
 use Rattle.lock_row.specs.declared.names.Plan.{Plan}
 use Rattle.lock_row.specs.declared.names.Plan.TheVariants.{Finished, Give, Take}
@@ -90,6 +90,10 @@ gives_last size Start p c d k e = absurd (no_start_gives p k (is_maintenance p.o
     (is_beyond size p.op) e)
 gives_last size (Scanning x) p c d k e = absurd (cc)
 gives_last size (Marking x) p c d k e = (
+  [],
+  (let q : slot x.page ≡ k = cc in
+      ap (λ (y : LockNo). y ∷ []) q),
+gives_last size (Visiting s x) p c d k e = (
   [],
   (let q : slot x.page ≡ k = cc in
       ap (λ (y : LockNo). y ∷ []) q),
@@ -260,6 +264,7 @@ module _ (g : Begin) (ok : Known g) (w : State DiskHeld) (j : Joint g w) where
       -- the first lock of what is no request is one of the disk
       first_is : (op : Op) → IsLock n (first_lock op)
       first_is (Idle age) = some
+      first_is (Writeback mode) = some
       first_is (Write start count stuff) = omega arith
       first_is (Read start count) = omega arith
       first_is (Discard start count) = omega arith
@@ -326,6 +331,7 @@ module _ (g : Begin) (ok : Known g) (w : State DiskHeld) (j : Joint g w) where
       above k Giving is e = absurd (cc)
       above k Ready is e = absurd (cc)
       above k (Marking x) is e = absurd (cc)
+      above k (Visiting s x) is e = absurd (cc)
       above k (Moving x) is e = absurd (cc)
       above k (Shrinking x) is e = absurd (cc)
 
@@ -374,6 +380,7 @@ module _ (g : Begin) (ok : Known g) (w : State DiskHeld) (j : Joint g w) where
       take_lock k Giving is e = absurd (cc)
       take_lock k Ready is e = absurd (cc)
       take_lock k (Marking x) is e = absurd (cc)
+      take_lock k (Visiting s x) is e = absurd (cc)
       take_lock k (Moving x) is e = absurd (cc)
       take_lock k (Shrinking x) is e = absurd (cc)
 
@@ -383,6 +390,8 @@ module _ (g : Begin) (ok : Known g) (w : State DiskHeld) (j : Joint g w) where
           (is_beyond n p.op) e)
       give_lock k (Marking x) is e = subst (IsLock n) (let q : slot x.page ≡ k = cc in q)
           (here (Marking x) is).scans.scan.page
+      give_lock k (Visiting s x) is e = subst (IsLock n) (let q : slot x.page ≡ k = cc in q)
+          (here (Visiting s x) is).scans.scan.page
       give_lock k (Moving x) is e = subst (IsLock n) (let q : lock.Class x.class ≡ k = cc in q)
           (here (Moving x) is).compacts.class
       give_lock k (Shrinking x) is e = subst (IsLock n) (let q : lock.Account ≡ k = cc in q) tt

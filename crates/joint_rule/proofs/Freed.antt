@@ -38,7 +38,7 @@ use Rattle.slot_entry.specs.Forms.{PageForm, form_weight}
 use Rattle.slot_entry.specs.declared.kept.Kept.{Kept}
 use Rattle.zr_base.specs.Plain.{is_beyond, is_maintenance}
 use Rattle.zr_base.specs.declared.op.Op.{Op}
-use Rattle.zr_base.specs.declared.op.Op.TheVariants.{Compact, Discard, Idle, Read, Write}
+use Rattle.zr_base.specs.declared.op.Op.TheVariants.{Compact, Discard, Idle, Read, Write, Writeback}
 use Rattle.joint_rule.proofs.Events as event
 use Rattle.zr_base.specs.declared.op.OpEnd.TheVariants as ends
 
@@ -62,6 +62,7 @@ freed_moved (suc m) x = refl
 
 freed_first : (op : Op) → freed (first_at op) ≡ 0
 freed_first (Idle age) = refl
+freed_first (Writeback mode) = refl
 freed_first (Write start count stuff) = refl
 freed_first (Read start count) = refl
 freed_first (Discard start count) = refl
@@ -102,6 +103,7 @@ refusal_frees g p (Write start count stuff) (Eio fault) f = absurd f
 refusal_frees g p (Read start count) x f = absurd f
 refusal_frees g p (Discard start count) x f = absurd f
 refusal_frees g p (Idle age) x f = absurd f
+refusal_frees g p (Writeback mode) x f = absurd f
 refusal_frees g p Compact x f = absurd f
 
 fault_frees : (g : Begin) (p : Part) (op : Op) (x : PartEnd) → IsFault g p (Some x)
@@ -117,6 +119,7 @@ fault_compacted (Write start count stuff) c = refl
 fault_compacted (Read start count) c = refl
 fault_compacted (Discard start count) c = refl
 fault_compacted (Idle age) c = refl
+fault_compacted (Writeback mode) c = refl
 fault_compacted Compact c = refl
 
 -- ---- givings

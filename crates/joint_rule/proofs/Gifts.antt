@@ -36,7 +36,7 @@ use Rattle.slot_entry.specs.declared.kept.Kept.{Kept}
 use Rattle.std.proofs.lemmas.Bool.{cases_Bool}
 use Rattle.zr_base.specs.Plain.{has_event, is_beyond, is_maintenance, named}
 use Rattle.zr_base.specs.declared.op.Op.{Op}
-use Rattle.zr_base.specs.declared.op.Op.TheVariants.{Compact, Discard, Idle, Read, Write}
+use Rattle.zr_base.specs.declared.op.Op.TheVariants.{Compact, Discard, Idle, Read, Write, Writeback}
 use Rattle.zr_base.specs.declared.op.Tag.{Tag}
 use Rattle.lock_row.specs.declared.names.LockNo.TheVariants as lock
 use Rattle.lock_row.specs.declared.names.Held.TheVariants as holds
@@ -109,6 +109,7 @@ ends_badly g p (Write start count stuff) NoMemory f = f
 ends_badly g p (Read start count) x f = absurd f
 ends_badly g p (Discard start count) x f = absurd f
 ends_badly g p (Idle age) x f = absurd f
+ends_badly g p (Writeback mode) x f = absurd f
 ends_badly g p Compact x f = absurd f
 
 -- what was counted of the page is what the entry and the actor tell
@@ -151,6 +152,7 @@ start_stage g (p ∷ ps) e = record {
   fails = tt;
   begun = tt;
   scans = tt;
+  visits = tt;
   compacts = tt;
 }
 
@@ -520,6 +522,7 @@ module _ (g : Begin) (ok : Known g) (w : State DiskHeld) (j : Joint g w) (a : �
             (got_from (page_in l.page e.kept) p) sl.begun start count is notes
         by_op (Discard start count) is k b = absurd b
         by_op (Idle age) is k b = absurd b
+        by_op (Writeback mode) is k b = absurd b
         by_op Compact is k b = absurd b
 
       pub give_fails : (x : PartEnd) → l.fail ≡ Some x → Gift g a l (slot p.page) (holds.Slot e)

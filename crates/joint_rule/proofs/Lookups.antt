@@ -12,7 +12,7 @@ use Rattle.joint_rule.specs.Stages.{CountAt, Names, NoneOf, StageBy}
 use Rattle.joint_rule.specs.Weights.{Backs, Count, HeldAll, Huges, PackedBytes, Packs, PinWeigh, Sames, Weigh, ahead, at_place, behind, cell_weight, chains, claim_by, claims, counter, counters, fresh_claim, measure, none, nothing, on_account, out_weight, outs, owing, pages, pin_in, pinned, same, same_pin, shown, stored}
 use Rattle.lock_row.specs.Totals.{by_option, held_sum, mass, total}
 use Rattle.lock_row.specs.declared.names.At.{At}
-use Rattle.lock_row.specs.declared.names.At.TheVariants.{Away, Backed, Both, Counting, Failing, Fetching, Freeing, Giving, Inside, Leaving, Made, Missed, Old, Owing, Pinned, Pinning, Ready, Refusing, Releasing, Seen, Start, Unpinning, Wanting, Sweeping, Moving, Shrunk, Shrinking, Scanning, Marking}
+use Rattle.lock_row.specs.declared.names.At.TheVariants.{Away, Backed, Both, Counting, Failing, Fetching, Freeing, Giving, Inside, Leaving, Made, Missed, Old, Owing, Pinned, Pinning, Ready, Refusing, Releasing, Seen, Start, Unpinning, Wanting, Sweeping, Moving, Shrunk, Shrinking, Scanning, Marking, Visiting}
 use Rattle.lock_row.specs.declared.names.LockNo.{LockNo}
 use Rattle.lock_row.specs.declared.names.Object.{Object}
 use Rattle.lock_row.specs.declared.names.Pin.{Pin}
@@ -148,6 +148,7 @@ behind_at q Owing x y f k c = let r = none_weight q y c.1 in omega arith
 behind_at q Giving x y f k c = let r = none_weight q y c.1 in omega arith
 behind_at q (Scanning z) x y f k c = let r = none_weight q y c.1 in omega arith
 behind_at q (Marking z) x y f k c = let r = none_weight q y c.1 in omega arith
+behind_at q (Visiting s z) x y f k c = let r = none_weight q y c.1 in omega arith
 behind_at q (Sweeping z) x y f k c = let r = none_weight q y c.1 in omega arith
 behind_at q (Moving z) x y f k c = let r = none_weight q y c.1 in omega arith
 behind_at q (Shrunk z) x y f k c = let r = none_weight q y c.1 in omega arith

@@ -47,7 +47,7 @@ use Rattle.slot_entry.specs.declared.kept.Kept.{Kept}
 use Rattle.zr_base.specs.Plain.{PageCalls, is_beyond, is_maintenance, named}
 use Rattle.plain_disk.specs.Phases.{calls_on}
 use Rattle.zr_base.specs.declared.op.Op.{Op}
-use Rattle.zr_base.specs.declared.op.Op.TheVariants.{Compact, Discard, Idle, Read, Write}
+use Rattle.zr_base.specs.declared.op.Op.TheVariants.{Compact, Discard, Idle, Read, Write, Writeback}
 use Rattle.zr_base.specs.declared.op.Tag.{Tag}
 use Rattle.joint_rule.proofs.Events as event
 use Rattle.lock_row.specs.declared.names.Held.TheVariants as holds
@@ -99,6 +99,7 @@ only_read g p (Write start count stuff) i f = absurd f
 only_read g p (Read start count) i f = refl
 only_read g p (Discard start count) i f = absurd f
 only_read g p (Idle age) i f = absurd f
+only_read g p (Writeback mode) i f = absurd f
 only_read g p Compact i f = absurd f
 
 told_none : (q : News) (op : Op) → told_by q op None ≡ 0
@@ -107,6 +108,7 @@ told_none FreedPages (Write start count stuff) = refl
 told_none FreedPages (Read start count) = refl
 told_none FreedPages (Discard start count) = refl
 told_none FreedPages (Idle age) = refl
+told_none FreedPages (Writeback mode) = refl
 told_none FreedPages Compact = refl
 
 told_quiet : (q : News) (at : At) (ps : List Part) → told_at q at ps None ≡ 0
@@ -138,6 +140,7 @@ told_pinned q (Write start count stuff) f k ps x = told_made q f k ps x
 told_pinned q (Read start count) f k ps x = refl
 told_pinned q (Discard start count) f k ps x = refl
 told_pinned q (Idle age) f k ps x = refl
+told_pinned q (Writeback mode) f k ps x = refl
 told_pinned q Compact f k ps x = refl
 
 told_fetched : (q : News) (op : Op) (f : PageForm) (k : Kept) (ps : List Part) (x : Option Weight)
@@ -146,6 +149,7 @@ told_fetched q (Write start count stuff) f k ps x = told_made q f k ps x
 told_fetched q (Read start count) f k ps x = refl
 told_fetched q (Discard start count) f k ps x = refl
 told_fetched q (Idle age) f k ps x = refl
+told_fetched q (Writeback mode) f k ps x = refl
 told_fetched q Compact f k ps x = refl
 
 told_quit : (q : News) (y : Option Pin) (ps : List Part) (x : Option Weight)
@@ -211,6 +215,7 @@ tells_huge (Write start count stuff) c = refl
 tells_huge (Read start count) c = refl
 tells_huge (Discard start count) c = refl
 tells_huge (Idle age) c = refl
+tells_huge (Writeback mode) c = refl
 tells_huge Compact c = refl
 
 tells_freed : (op : Op) (c : Counters) (w : Weight) → (tells op c).notify_free
@@ -219,6 +224,7 @@ tells_freed (Write start count stuff) c w = refl
 tells_freed (Read start count) c w = refl
 tells_freed (Discard start count) c w = refl
 tells_freed (Idle age) c w = refl
+tells_freed (Writeback mode) c w = refl
 tells_freed Compact c w = refl
 
 settled_news : (q : News) (op : Op) (n : ℕ) (old new : Weight) (c : Counters)
@@ -238,6 +244,7 @@ told_one FreedPages (Write start count stuff) w = omega arith
 told_one FreedPages (Read start count) w = omega arith
 told_one FreedPages (Discard start count) w = omega arith
 told_one FreedPages (Idle age) w = omega arith
+told_one FreedPages (Writeback mode) w = omega arith
 told_one FreedPages Compact w = omega arith
 
 same_failed : (q : News) (c : Counters) → news_count q (counted c delta.FailedWrite)
@@ -254,11 +261,13 @@ same_fault HugeWrites (Write start count stuff) c = refl
 same_fault HugeWrites (Read start count) c = refl
 same_fault HugeWrites (Discard start count) c = refl
 same_fault HugeWrites (Idle age) c = refl
+same_fault HugeWrites (Writeback mode) c = refl
 same_fault HugeWrites Compact c = refl
 same_fault FreedPages (Write start count stuff) c = refl
 same_fault FreedPages (Read start count) c = refl
 same_fault FreedPages (Discard start count) c = refl
 same_fault FreedPages (Idle age) c = refl
+same_fault FreedPages (Writeback mode) c = refl
 same_fault FreedPages Compact c = refl
 
 same_shrunk : (q : News) (c : Counters) (n : ℕ) → news_count q (shrunk n c) ≡ news_count q c
@@ -334,6 +343,7 @@ module _ (g : Begin) (ok : Known g) (w : State DiskHeld) (j : Joint g w) (a : �
           ∙ huge_bit (form_weight (next_form p l.page e.kept)) ∙ sym (st.counts.ahead Huges)
       huge_told (Read start count) is c = absurd c
       huge_told (Idle age) is c = absurd c
+      huge_told (Writeback mode) is c = absurd c
       huge_told Compact is c = absurd c
       huge_told (Discard start count) is c = sym (st.counts.ahead Huges
           ∙ ap (λ (o : Op). huge_of (form_weight (next_by o p (page_in l.page e.kept)))) is)
@@ -344,6 +354,7 @@ module _ (g : Begin) (ok : Known g) (w : State DiskHeld) (j : Joint g w) (a : �
       blank_told (Write start count stuff) x b c i = refl
       blank_told (Read start count) x b c i = absurd c
       blank_told (Idle age) x b c i = absurd c
+      blank_told (Writeback mode) x b c i = absurd c
       blank_told Compact x b c i = absurd c
       blank_told (Discard start count) None b c i = ap (λ (y : Bool). cond {A = ℕ} y 0 1) i
       blank_told (Discard start count) (Some x) b c i = ap (λ (y : Bool). cond {A = ℕ} y 0 1) i
@@ -374,6 +385,7 @@ module _ (g : Begin) (ok : Known g) (w : State DiskHeld) (j : Joint g w) (a : �
     read_order q (Write start count stuff) is i notes = absurd (cc)
     read_order q (Discard start count) is i notes = absurd (cc)
     read_order q (Idle age) is i notes = absurd (cc)
+    read_order q (Writeback mode) is i notes = absurd (cc)
     read_order q Compact is i notes = absurd (cc)
     read_order q (Read start count) is i notes =
         let s = ap (order_news g q p.page) notes.order in let o = order_more q p e.order is_op in

@@ -37,7 +37,7 @@ use Rattle.slot_entry.specs.declared.kept.Kept.{Kept}
 use Rattle.slot_entry.specs.declared.kept.Stored.{Stored}
 use Rattle.zr_base.specs.Plain.{has_whole}
 use Rattle.zr_base.specs.declared.op.Op.{Op}
-use Rattle.zr_base.specs.declared.op.Op.TheVariants.{Compact, Discard, Idle, Read, Write}
+use Rattle.zr_base.specs.declared.op.Op.TheVariants.{Compact, Discard, Idle, Read, Write, Writeback}
 use Rattle.zr_base.specs.declared.op.Stuff.{Stuff}
 use Rattle.zspage.specs.Cells.{CellState, IsStored, UsedCell, object_in}
 use Rattle.lock_row.specs.declared.names.LockNo.TheVariants as lock
@@ -140,10 +140,12 @@ module _ (g : Begin) (ok : Known g) (w : State DiskHeld) (j : Joint g w) (a : â„
           fails = subst (Î» (x : Op). FailBy g p x l.fail) (sym e_op) st.fails;
           begun = st.begun;
           scans = tt;
+          visits = tt;
           compacts = tt;
         }
         pinned_stage (Discard start count) e_op = absurd (subst Looks e_op st.kind.0)
         pinned_stage (Idle age) e_op = absurd (subst Looks e_op st.kind.0)
+        pinned_stage (Writeback mode) e_op = absurd (subst Looks e_op st.kind.0)
         pinned_stage Compact e_op = absurd (subst Looks e_op st.kind.0)
 
         is_pin : (y : UsedCell) â†’ y.handle â‰¡ o.handle.0 â†’ y.cell â‰¡ cell
@@ -163,6 +165,7 @@ module _ (g : Begin) (ok : Known g) (w : State DiskHeld) (j : Joint g w) (a : â„
         pinned_locks (Read start count) f c d = refl
         pinned_locks (Discard start count) f c d = refl
         pinned_locks (Idle age) f c d = refl
+        pinned_locks (Writeback mode) f c d = refl
         pinned_locks Compact f c d = refl
 
         pub give_pins : Gift g a l (lock.Class o.class) (holds.Class q')
@@ -236,6 +239,7 @@ module _ (g : Begin) (ok : Known g) (w : State DiskHeld) (j : Joint g w) (a : â„
                 fails = su.fails;
                 begun = su.begun;
                 scans = tt;
+                visits = tt;
                 compacts = tt;
               }) (let lr =
               ap (held_sum (spot n) (claims g each_one)) held in
@@ -328,6 +332,7 @@ module _ (g : Begin) (ok : Known g) (w : State DiskHeld) (j : Joint g w) (a : â„
         fails = sf.fails;
         begun = sf.begun;
         scans = tt;
+        visits = tt;
         compacts = tt;
       }
 
@@ -431,6 +436,7 @@ module _ (g : Begin) (ok : Known g) (w : State DiskHeld) (j : Joint g w) (a : â„
         fails = may_by l.fail sb.fails;
         begun = sb.begun;
         scans = tt;
+        visits = tt;
         compacts = tt;
       } where
         made_by : (x : Option PartEnd) â†’ NoneOf x â†’ MadeBy g.chain x (next_form p l.page e.kept)
@@ -515,6 +521,7 @@ module _ (g : Begin) (ok : Known g) (w : State DiskHeld) (j : Joint g w) (a : â„
     may_want (Read start count) e_op i = absurd i
     may_want (Discard start count) e_op i = absurd i
     may_want (Idle age) e_op i = absurd i
+    may_want (Writeback mode) e_op i = absurd i
     may_want Compact e_op i = absurd i
 
     class_num : cl â‰¡ class_in g.chain (next_form p l.page e.kept)
@@ -530,6 +537,7 @@ module _ (g : Begin) (ok : Known g) (w : State DiskHeld) (j : Joint g w) (a : â„
     of_class_is (Read start count) e_op i = absurd i
     of_class_is (Discard start count) e_op i = absurd i
     of_class_is (Idle age) e_op i = absurd i
+    of_class_is (Writeback mode) e_op i = absurd i
     of_class_is Compact e_op i = absurd i
 
     pub memory_refusal : IsRefusal g p NoMemory
@@ -586,6 +594,7 @@ module _ (g : Begin) (ok : Known g) (w : State DiskHeld) (j : Joint g w) (a : â„
             fails = is;
             begun = sb.begun;
             scans = tt;
+            visits = tt;
             compacts = tt;
           }) (let lr = ap (held_sum (spot n) (claims g each_one)) held in
           let lx = ap (held_sum (spot n) (ever_at g)) held in
@@ -620,6 +629,7 @@ module _ (g : Begin) (ok : Known g) (w : State DiskHeld) (j : Joint g w) (a : â„
     writes_change (Read start count) i = absurd i
     writes_change (Discard start count) i = absurd i
     writes_change (Idle age) i = absurd i
+    writes_change (Writeback mode) i = absurd i
     writes_change Compact i = absurd i
 
     pub give_stows : l.fail â‰¡ None â†’ Gift g a l (lock.Class cl) (holds.Class q)
@@ -673,6 +683,7 @@ module _ (g : Begin) (ok : Known g) (w : State DiskHeld) (j : Joint g w) (a : â„
       write_fails (Read start count) y i k f = absurd k
       write_fails (Discard start count) y i k f = absurd k
       write_fails (Idle age) y i k f = absurd k
+      write_fails (Writeback mode) y i k f = absurd k
       write_fails Compact y i k f = absurd k
 
       write_looks : (op : Op) â†’ IsWrite op â†’ Looks op
@@ -680,6 +691,7 @@ module _ (g : Begin) (ok : Known g) (w : State DiskHeld) (j : Joint g w) (a : â„
       write_looks (Read start count) k = absurd k
       write_looks (Discard start count) k = absurd k
       write_looks (Idle age) k = absurd k
+      write_looks (Writeback mode) k = absurd k
       write_looks Compact k = absurd k
 
       named_obj : (k : Kept) (y : Pin) â†’ Names k y â†’ IsObj k
@@ -705,6 +717,7 @@ module _ (g : Begin) (ok : Known g) (w : State DiskHeld) (j : Joint g w) (a : â„
         fails = write_fails p.op l.fail bad sm.kind.0 sm.fails;
         begun = sm.begun;
         scans = tt;
+        visits = tt;
         compacts = tt;
       }
       quit_stage (Some y) i = record {
@@ -722,6 +735,7 @@ module _ (g : Begin) (ok : Known g) (w : State DiskHeld) (j : Joint g w) (a : â„
         fails = write_fails p.op l.fail bad sm.kind.0 sm.fails;
         begun = sm.begun;
         scans = tt;
+        visits = tt;
         compacts = tt;
       }
 

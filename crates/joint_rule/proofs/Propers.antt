@@ -34,7 +34,7 @@ use Rattle.std.specs.List.{AllByRecursion}
 use Rattle.std.specs.Prelude.{All}
 use Rattle.zr_base.specs.Plain.{HasBytes, HasSectors, covers, has_whole, named, sector_after, stuff_sector, words_from, zero_sector, IsSector, Finds}
 use Rattle.zr_base.specs.declared.op.Op.{Op}
-use Rattle.zr_base.specs.declared.op.Op.TheVariants.{Compact, Discard, Idle, Read, Write}
+use Rattle.zr_base.specs.declared.op.Op.TheVariants.{Compact, Discard, Idle, Read, Write, Writeback}
 use Rattle.zr_base.specs.declared.op.Stuff.{Stuff}
 use Rattle.zr_base.specs.declared.op.Stuff.TheVariants.{Fill, Hex, Seq}
 use Rattle.zr_base.specs.declared.op.Tag.{Tag}
@@ -108,6 +108,7 @@ module _ (actors : List (List Op)) (requests : AreRequests actors) where
     | inr off ↦ rw off h
   ]
   put_by t (Idle age) s old e h = h
+  put_by t (Writeback mode) s old e h = h
   put_by t Compact s old e h = h
   put_by t (Discard start count) s old e h = elim
       (cases_Bool (has_whole start count (s / 8))) [ inl on ↦ rw on zero_is | inr off ↦ rw off h ]

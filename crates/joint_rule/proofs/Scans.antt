@@ -149,6 +149,7 @@ module _ (g : Begin) (ok : Known g) (w : State DiskHeld) (j : Joint g w) (a : â„
             fails = st.fails;
             begun = st.begun;
             scans = record { page = next_page; marked = few };
+            visits = tt;
             compacts = tt;
           })
           (let z = none_fresh each_one l.fresh st.made in let o = some_one l.owed in omega arith);

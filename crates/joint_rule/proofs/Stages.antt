@@ -22,7 +22,7 @@ use Rattle.std.specs.List.{AllByRecursion}
 use Rattle.zr_base.specs.Pieces.{first_page, pages_of}
 use Rattle.zr_base.specs.Plain.{count_of, has_event, is_beyond, is_maintenance, start_of}
 use Rattle.zr_base.specs.declared.op.Op.{Op}
-use Rattle.zr_base.specs.declared.op.Op.TheVariants.{Compact, Discard, Idle, Read, Write}
+use Rattle.zr_base.specs.declared.op.Op.TheVariants.{Compact, Discard, Idle, Read, Write, Writeback}
 use Rattle.slot_entry.specs.declared.kept.Kept.TheVariants as kept
 
 gone_none : (x : Option Weight) (k : Kept) → NoneOf x → GoneBy x k
@@ -78,6 +78,7 @@ module _ (g : Begin) (p : Part) (e : EntryState) (fresh : Option Object) (pin : 
       fails = well;
       begun = begun;
       scans = tt;
+      visits = tt;
       compacts = tt;
     }
 
@@ -100,6 +101,7 @@ module _ (g : Begin) (p : Part) (e : EntryState) (fresh : Option Object) (pin : 
       fails = well;
       begun = begun;
       scans = tt;
+      visits = tt;
       compacts = tt;
     }
     settle_stage (kept.Wb b) is = record {
@@ -117,6 +119,7 @@ module _ (g : Begin) (p : Part) (e : EntryState) (fresh : Option Object) (pin : 
       fails = well;
       begun = begun;
       scans = tt;
+      visits = tt;
       compacts = tt;
     }
 
@@ -125,6 +128,7 @@ module _ (g : Begin) (p : Part) (e : EntryState) (fresh : Option Object) (pin : 
   writes_change (Read start count) w = absurd w
   writes_change (Discard start count) w = absurd w
   writes_change (Idle age) w = absurd w
+  writes_change (Writeback mode) w = absurd w
   writes_change Compact w = absurd w
 
   pub made_stage : IsWrite p.op → NoneOf fresh → (h : PageForm) → f ≡ h → (k : Kept) → e.kept ≡ k
@@ -148,6 +152,7 @@ module _ (g : Begin) (p : Part) (e : EntryState) (fresh : Option Object) (pin : 
     fails = well;
     begun = begun;
     scans = tt;
+    visits = tt;
     compacts = tt;
   }
 
@@ -156,6 +161,7 @@ write_changes (Write start count stuff) i = tt
 write_changes (Read start count) i = absurd i
 write_changes (Discard start count) i = absurd i
 write_changes (Idle age) i = absurd i
+write_changes (Writeback mode) i = absurd i
 write_changes Compact i = absurd i
 
 pub write_blank : (op : Op) → IsWrite op → (x : Option Weight) (b : Bool) → BlankAt Old op x b
@@ -163,6 +169,7 @@ write_blank (Write start count stuff) i x b = tt
 write_blank (Read start count) i x b = absurd i
 write_blank (Discard start count) i x b = absurd i
 write_blank (Idle age) i x b = absurd i
+write_blank (Writeback mode) i x b = absurd i
 write_blank Compact i x b = absurd i
 
 -- ---- locks

@@ -14,7 +14,7 @@ use Rattle.joint_rule.specs.Joint.{AtHome, Backs, EntryFits, IsActor, Sound, Sta
 use Rattle.joint_rule.specs.Stages.{Bears, BlankAt, BlankBy, Changes, FailBy, IsForm, IsNothing, IsObj, IsPartly, IsRight, IsSmall, IsWb, IsWrite, Looks, NoObj, NoneOf, Stage, StageBy, WasBlank, locks_at, locks_by, MayIdle, IsScan, MaySeeOther}
 use Rattle.joint_rule.specs.Weights.{measure}
 use Rattle.lock_row.specs.declared.names.At.{At}
-use Rattle.lock_row.specs.declared.names.At.TheVariants.{Away, Backed, Both, Counting, Failing, Fetching, Freeing, Giving, Inside, Leaving, Made, Missed, Old, Owing, Pinned, Pinning, Ready, Refusing, Releasing, Seen, Start, Unpinning, Wanting, Sweeping, Moving, Shrunk, Shrinking, Scanning, Marking}
+use Rattle.lock_row.specs.declared.names.At.TheVariants.{Away, Backed, Both, Counting, Failing, Fetching, Freeing, Giving, Inside, Leaving, Made, Missed, Old, Owing, Pinned, Pinning, Ready, Refusing, Releasing, Seen, Start, Unpinning, Wanting, Sweeping, Moving, Shrunk, Shrinking, Scanning, Marking, Visiting}
 use Rattle.lock_row.specs.declared.names.LockNo.{LockNo}
 use Rattle.lock_row.specs.declared.names.Object.{Object}
 use Rattle.lock_row.specs.declared.names.Pin.{Pin}
@@ -29,7 +29,7 @@ use Rattle.slot_entry.specs.declared.kept.Kept.{Kept}
 use Rattle.std.proofs.lemmas.Bool.{or_from}
 use Rattle.zr_base.specs.Plain.{has_whole, is_beyond, is_maintenance, is_marking}
 use Rattle.zr_base.specs.declared.op.Op.{Op}
-use Rattle.zr_base.specs.declared.op.Op.TheVariants.{Compact, Discard, Idle, Read, Write}
+use Rattle.zr_base.specs.declared.op.Op.TheVariants.{Compact, Discard, Idle, Read, Write, Writeback}
 use Rattle.zr_base.specs.declared.op.Stuff.{Stuff}
 use Rattle.lock_row.specs.declared.names.LockNo.TheVariants as lock
 use Rattle.lock_row.specs.declared.names.Held.TheVariants as holds
@@ -73,6 +73,7 @@ module _ (g : Begin) (ok : Known g) (p : Part) (fresh : Option Object) (pin : Op
     no_blank (Read start_ count) i = absurd i
     no_blank (Discard start_ count) i = absurd i
     no_blank (Idle age) i = absurd i
+    no_blank (Writeback mode) i = absurd i
     no_blank Compact i = absurd i
 
     -- the page that the piece sees is right
@@ -109,6 +110,7 @@ module _ (g : Begin) (ok : Known g) (p : Part) (fresh : Option Object) (pin : Op
         fails = subst (λ (o : Op). FailBy g p o fail) (sym is) start.fails;
         begun = begun;
         scans = tt;
+        visits = tt;
         compacts = tt;
       },
     )
@@ -131,6 +133,7 @@ module _ (g : Begin) (ok : Known g) (p : Part) (fresh : Option Object) (pin : Op
         fails = start.fails;
         begun = begun;
         scans = tt;
+        visits = tt;
         compacts = tt;
       },
     )
@@ -153,6 +156,7 @@ module _ (g : Begin) (ok : Known g) (p : Part) (fresh : Option Object) (pin : Op
         fails = start.fails;
         begun = begun;
         scans = tt;
+        visits = tt;
         compacts = tt;
       },
     )
@@ -247,6 +251,7 @@ module _ (g : Begin) (ok : Known g) (p : Part) (fresh : Option Object) (pin : Op
           fails = start.fails;
           begun = begun;
           scans = tt;
+          visits = tt;
           compacts = tt;
         },
       )
@@ -266,6 +271,7 @@ module _ (g : Begin) (ok : Known g) (p : Part) (fresh : Option Object) (pin : Op
     entered (Read start_ count) is = read_by start_ count is x.kept refl
     entered (Discard start_ count) is = discard_by start_ count is x.kept refl
     entered (Idle age) is = absurd (let e = on_page (Idle age) is in cc)
+    entered (Writeback mode) is = absurd (let e = on_page (Writeback mode) is in cc)
     entered Compact is = absurd (let e = on_page Compact is in cc)
 
   -- ---- takings
@@ -345,6 +351,7 @@ module _ (g : Begin) (ok : Known g) (p : Part) (fresh : Option Object) (pin : Op
               fails = s.fails;
               begun = marking;
               scans = record { scan = scan; stands = st; backs = ba; marks = ma };
+              visits = tt;
               compacts = tt;
             },
           )
@@ -361,6 +368,9 @@ module _ (g : Begin) (ok : Known g) (p : Part) (fresh : Option Object) (pin : Op
     first_take (Read start count) is a kind stands backs marks locks s = absurd (cc)
     first_take (Discard start count) is a kind stands backs marks locks s = absurd (cc)
     first_take (Idle age) is a kind stands backs marks locks s =
+        scan_take first_scan (record { page = some; marked = omega arith }) (ap is_marking is) kind
+        stands backs marks locks s
+    first_take (Writeback mode) is a kind stands backs marks locks s =
         scan_take first_scan (record { page = some; marked = omega arith }) (ap is_marking is) kind
         stands backs marks locks s
     first_take Compact is a kind stands backs marks locks s =
@@ -381,6 +391,7 @@ module _ (g : Begin) (ok : Known g) (p : Part) (fresh : Option Object) (pin : Op
           fails = s.fails;
           begun = is;
           scans = tt;
+          visits = tt;
           compacts = record { class = omega arith; frames = (let o = s.owes in omega arith) };
         })
 
@@ -413,6 +424,7 @@ module _ (g : Begin) (ok : Known g) (p : Part) (fresh : Option Object) (pin : Op
               fails = s.fails;
               begun = b;
               scans = tt;
+              visits = tt;
               compacts = tt;
             },
           )
@@ -465,6 +477,7 @@ module _ (g : Begin) (ok : Known g) (p : Part) (fresh : Option Object) (pin : Op
           fails = s.fails;
           begun = s.begun;
           scans = tt;
+          visits = tt;
           compacts = tt;
         })
     at_take Pinned what kind stands backs marks locks s = by_pool c Unpinning
@@ -485,6 +498,7 @@ module _ (g : Begin) (ok : Known g) (p : Part) (fresh : Option Object) (pin : Op
           fails = s.fails;
           begun = s.begun;
           scans = tt;
+          visits = tt;
           compacts = tt;
         })
     at_take Away what kind stands backs marks locks s = by_device Fetching kind
@@ -504,6 +518,7 @@ module _ (g : Begin) (ok : Known g) (p : Part) (fresh : Option Object) (pin : Op
           fails = s.fails;
           begun = s.begun;
           scans = tt;
+          visits = tt;
           compacts = tt;
         })
     at_take Failing what kind stands backs marks locks s = by_account Counting kind
@@ -523,6 +538,7 @@ module _ (g : Begin) (ok : Known g) (p : Part) (fresh : Option Object) (pin : Op
           fails = s.fails;
           begun = s.begun;
           scans = tt;
+          visits = tt;
           compacts = tt;
         })
     at_take Wanting what kind stands backs marks locks s = by_pool d Inside
@@ -543,6 +559,7 @@ module _ (g : Begin) (ok : Known g) (p : Part) (fresh : Option Object) (pin : Op
           fails = s.fails;
           begun = s.begun;
           scans = tt;
+          visits = tt;
           compacts = tt;
         })
     at_take Inside what kind stands backs marks locks s = by_account Both kind
@@ -562,6 +579,7 @@ module _ (g : Begin) (ok : Known g) (p : Part) (fresh : Option Object) (pin : Op
           fails = s.fails;
           begun = s.begun;
           scans = tt;
+          visits = tt;
           compacts = tt;
         })
     at_take Old what kind stands backs marks locks s = by_pool c Freeing
@@ -582,6 +600,7 @@ module _ (g : Begin) (ok : Known g) (p : Part) (fresh : Option Object) (pin : Op
           fails = s.fails;
           begun = s.begun;
           scans = tt;
+          visits = tt;
           compacts = tt;
         })
     at_take Backed what kind stands backs marks locks s = by_map Releasing kind
@@ -601,6 +620,7 @@ module _ (g : Begin) (ok : Known g) (p : Part) (fresh : Option Object) (pin : Op
           fails = s.fails;
           begun = s.begun;
           scans = tt;
+          visits = tt;
           compacts = tt;
         })
     at_take Owing what kind stands backs marks locks s = by_account Giving kind
@@ -620,6 +640,7 @@ module _ (g : Begin) (ok : Known g) (p : Part) (fresh : Option Object) (pin : Op
           fails = s.fails;
           begun = s.begun;
           scans = tt;
+          visits = tt;
           compacts = tt;
         })
     at_take (Scanning x) what kind stands backs marks locks s =
@@ -638,6 +659,7 @@ module _ (g : Begin) (ok : Known g) (p : Part) (fresh : Option Object) (pin : Op
           fails = s.fails;
           begun = tt;
           scans = tt;
+          visits = tt;
           compacts = tt;
         })
     at_take (Sweeping x) what kind stands backs marks locks s =
@@ -658,6 +680,7 @@ module _ (g : Begin) (ok : Known g) (p : Part) (fresh : Option Object) (pin : Op
           fails = s.fails;
           begun = s.begun;
           scans = tt;
+          visits = tt;
           compacts = s.compacts;
         })
     at_take (Shrunk x) what kind stands backs marks locks s = by_account (Shrinking x) kind
@@ -677,6 +700,7 @@ module _ (g : Begin) (ok : Known g) (p : Part) (fresh : Option Object) (pin : Op
           fails = s.fails;
           begun = s.begun;
           scans = tt;
+          visits = tt;
           compacts = s.compacts;
         })
     at_take Refusing what kind stands backs marks locks s = absurd (cc)
@@ -693,6 +717,7 @@ module _ (g : Begin) (ok : Known g) (p : Part) (fresh : Option Object) (pin : Op
     at_take Giving what kind stands backs marks locks s = absurd (cc)
     at_take Ready what kind stands backs marks locks s = absurd (cc)
     at_take (Marking x) what kind stands backs marks locks s = absurd (cc)
+    at_take (Visiting step x) what kind stands backs marks locks s = absurd (cc)
     at_take (Moving x) what kind stands backs marks locks s = absurd (cc)
     at_take (Shrinking x) what kind stands backs marks locks s = absurd (cc)
 

@@ -33,7 +33,7 @@ use Rattle.std.proofs.lemmas.Bool.{and_left, and_right, cases_Bool, eq-eqb, ne_e
 use Rattle.zr_base.specs.Plain.{named}
 use Rattle.zr_base.specs.Sectors.{page_sector}
 use Rattle.zr_base.specs.declared.op.Op.{Op}
-use Rattle.zr_base.specs.declared.op.Op.TheVariants.{Compact, Discard, Idle, Read, Write}
+use Rattle.zr_base.specs.declared.op.Op.TheVariants.{Compact, Discard, Idle, Read, Write, Writeback}
 use Rattle.zr_base.specs.declared.op.Tag.{Tag}
 use mathlib.Core.Logic.{dite}
 use mathlib.Core.Path.{fun_ext}
@@ -172,6 +172,7 @@ no_got (Write start count stuff) p page e c = ap (λ (o : Op). got_at o p page) 
 no_got (Read start count) p page e c = absurd c
 no_got (Discard start count) p page e c = ap (λ (o : Op). got_at o p page) (sym e)
 no_got (Idle age) p page e c = absurd c
+no_got (Writeback mode) p page e c = absurd c
 no_got Compact p page e c = absurd c
 
 bad_stands : (g : Begin) (p : Part) (op : Op) (x : PartEnd) → FailBy g p op (Some x)
@@ -184,6 +185,7 @@ bad_stands g p (Write start count stuff) (Eio fault) f = absurd f
 bad_stands g p (Read start count) x f = absurd f
 bad_stands g p (Discard start count) x f = absurd f
 bad_stands g p (Idle age) x f = absurd f
+bad_stands g p (Writeback mode) x f = absurd f
 bad_stands g p Compact x f = absurd f
 
 -- a piece of which the device failed stands where it is a read, and has read nothing

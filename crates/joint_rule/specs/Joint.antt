@@ -12,12 +12,12 @@ use Rattle.lock_row.specs.declared.names.LockNo.{LockNo}
 use Rattle.lock_row.specs.declared.names.Held.TheVariants as holds
 use Rattle.lock_row.specs.declared.names.State.{State}
 use Rattle.lock_row.specs.Totals.{held_sum, total}
-use Rattle.slot_entry.specs.Entries.{EntryState, weight_of, is_wb}
+use Rattle.slot_entry.specs.Entries.{EntryState, weight_of}
 use Rattle.page_steps.specs.Pages.{new_class}
 use Rattle.page_steps.specs.Steps.{DiskHeld, Here, spot, class_by, entry_in}
 use Rattle.joint_rule.specs.Begins.{Begin, ground_of, form_at, back_at, AreCarried}
 use Rattle.joint_rule.specs.Weights.{HeldAll, Each, nothing, none, at_place, Weigh, each_one, claims, fresh_claim, BlockWeigh, block_claims, block_uses, used_blocks, map_size, device_size, lies_at, written_at, stored_at, mark_at, carried_at, carries, shows_at, cell_weight, stored, names, PinWeigh, outs, pinned, pages, chains, owing, ever_at, leaning, Fixed, fixed, fixed_count, Count, counters, shown, ahead, behind}
-use Rattle.joint_rule.specs.Stages.{IsForm, IsBack, MayMark, IsSmall, StageBy, locks_by}
+use Rattle.joint_rule.specs.Stages.{IsForm, IsBack, HasMarks, IsSmall, StageBy, locks_by}
 
 -- ---- each value by itself
 
@@ -30,12 +30,11 @@ pub record PoolFits (chain : ℕ) (p : PoolState) : Type 0 where
   pub pool : IsPool p
   pub once : (h : ℕ) → sum_by (cell_weight (names h)) (used_cells p.zspages) ≤ 1
 
--- A page stays idle where it was before the phase, no call stands in its order, and it isn't on the
--- device; and where no operation marks pages, no other page is idle.
-pub record MarkFits (g : Begin) (j : ℕ) (e : EntryState) : Type 0 where
-  pub stays : e.order ≡ [] → g.idle j ≡ true → is_wb e.kept ≡ false → e.idle ≡ true
-  pub only : is_marked_in g.given.actors ≡ false → e.idle ≡ true
-      → (e.order ≡ []) × (g.idle j ≡ true)
+-- where no operation marks pages, a page is idle only where it was before the phase, and no call
+-- stands in its order
+abbrev pub MarkFits : Begin → ℕ → EntryState → Type 0
+MarkFits g j e = is_marked_in g.given.actors ≡ false → e.idle ≡ true
+    → (e.order ≡ []) × (g.idle j ≡ true)
 
 -- An entry is that of a page, the calls of its order are carried out there, it was touched when it
 -- was last, its mark is one of the phase, and its object is small.
@@ -81,20 +80,20 @@ Backs g j (holds.Account c) = ⊤
 Backs g j (holds.Blocks x) = ⊤
 Backs g j (holds.Device x) = ⊤
 
--- an entry that is marked has its page in the pool
-abbrev pub Marks : DiskHeld → Type 0
-Marks (holds.Slot e) = MayMark e.kept e.idle e.under
-Marks (holds.Class p) = ⊤
-Marks (holds.Account c) = ⊤
-Marks (holds.Blocks x) = ⊤
-Marks (holds.Device x) = ⊤
+-- an entry is marked as it has to be
+abbrev pub Marks : Begin → ℕ → DiskHeld → Type 0
+Marks g j (holds.Slot e) = HasMarks g j e
+Marks g j (holds.Class p) = ⊤
+Marks g j (holds.Account c) = ⊤
+Marks g j (holds.Blocks x) = ⊤
+Marks g j (holds.Device x) = ⊤
 
 -- A value at home fits its place, and its page is kept and marked as it has to be.
 pub record AtHome (g : Begin) (j : ℕ) (v : DiskHeld) : Type 0 where
   pub sound : Sound g j v
   pub stands : Stands g j v
   pub backs : Backs g j v
-  pub marks : Marks v
+  pub marks : Marks g j v
 
 -- ---- each actor by itself
 

@@ -34,6 +34,8 @@ use Rattle.page_steps.specs.Steps.{slot, is_mark_of}
 use Rattle.joint_rule.specs.Begins.{Begin, ground_of, found_after, content, form_at, back_at}
 use Rattle.backing_dev.specs.Dev.{IsHonestDevice}
 use Rattle.bdi_page.specs.Packing.{IsPage}
+use Rattle.zr_base.specs.declared.op.OpEnd.{OpEnd}
+use Rattle.zr_base.specs.declared.op.OpEnd.TheVariants as ends
 use Rattle.zr_base.specs.declared.op.Tag.{Tag}
 use Rattle.joint_rule.specs.Weights.{Count, measure}
 
@@ -133,6 +135,13 @@ MayPin k (Some x) = Names k x
 
 -- ---- refusals
 
+-- a writeback that stops before its last page tells so many pages written back and lost
+abbrev pub StopsSo : Trip → OpEnd → Type 0
+StopsSo y (ends.Budget wrote lost) = (wrote ≡ y.wrote) × (lost ≡ y.lost)
+StopsSo y (ends.NoBlock wrote lost) = (wrote ≡ y.wrote) × (lost ≡ y.lost)
+StopsSo y (ends.WriteEio fault wrote lost) = (wrote ≡ y.wrote) × (lost ≡ y.lost)
+StopsSo y _ = ⊥
+
 module _ (g : Begin) (p : Part) where
   -- the piece may be refused so
   abbrev pub IsRefusal : PartEnd → Type 0
@@ -166,24 +175,24 @@ module _ (g : Begin) (p : Part) where
   FailBy (Writeback m) x = ⊥
   FailBy Compact x = ⊥
 
-  -- a writeback is over so
-  abbrev pub IsQuit : Option PartEnd → Type 0
-  IsQuit (Some (Whole end)) = EndsSo (ground_of g) p (Whole end)
-  IsQuit _ = ⊥
+  -- a writeback is over so, and tells what it has done
+  abbrev pub IsQuit : Trip → Option PartEnd → Type 0
+  IsQuit y (Some (Whole end)) = EndsSo (ground_of g) p (Whole end) × StopsSo y end
+  IsQuit y _ = ⊥
 
   -- nothing is refused, or a writeback is over so
-  abbrev pub MayQuit : Option PartEnd → Type 0
-  MayQuit None = ⊤
-  MayQuit (Some x) = IsQuit (Some x)
+  abbrev pub MayQuit : Trip → Option PartEnd → Type 0
+  MayQuit y None = ⊤
+  MayQuit y (Some x) = IsQuit y (Some x)
 
   -- by the step of a writeback
-  abbrev pub QuitAt : Step → Option PartEnd → Type 0
-  QuitAt step.Quitting x = IsQuit x
-  QuitAt step.Landing x = MayQuit x
-  QuitAt step.Losing x = MayQuit x
-  QuitAt step.Undoing x = MayQuit x
-  QuitAt step.Releasing x = MayQuit x
-  QuitAt s x = NoneOf x
+  abbrev pub QuitAt : Step → Trip → Option PartEnd → Type 0
+  QuitAt step.Quitting y x = IsQuit y x
+  QuitAt step.Landing y x = MayQuit y x
+  QuitAt step.Losing y x = MayQuit y x
+  QuitAt step.Undoing y x = MayQuit y x
+  QuitAt step.Releasing y x = MayQuit y x
+  QuitAt s y x = NoneOf x
 
   -- the refusal, by the stage
   abbrev pub FailAt : At → Op → Option PartEnd → Type 0
@@ -194,7 +203,7 @@ module _ (g : Begin) (p : Part) where
   FailAt Counting op x = IsFault x
   FailAt Missed op x = IsFault x
   FailAt Made op x = MayFail x
-  FailAt (Visiting s y) op x = QuitAt s x
+  FailAt (Visiting s y) op x = QuitAt s y x
   FailAt at op x = NoneOf x
 
 -- ---- stages
@@ -332,26 +341,28 @@ BackAt g at k back = IsBack g k back
 abbrev pub MayIdle : Kept → Bool → Type 0
 MayIdle k idle = idle ≡ true → is_obj k ≡ true
 
--- A page that is marked is in the pool.
-pub record MayMark (k : Kept) (idle : Bool) (under : Option ℕ) : Type 0 where
-  pub idle_one : MayIdle k idle
-  pub under_one : is_some under ≡ true → is_obj k ≡ true
+-- A page that is marked is in the pool; and one that was idle before the phase stays so where no call
+-- stands in its order, and it isn't on the device.
+pub record HasMarks (g : Begin) (p : ℕ) (e : EntryState) : Type 0 where
+  pub idle_one : MayIdle e.kept e.idle
+  pub under_one : is_some e.under ≡ true → is_obj e.kept ≡ true
+  pub stays : e.order ≡ [] → g.idle p ≡ true → is_wb e.kept ≡ false → e.idle ≡ true
 
--- a page that is marked is in the pool, until its object is given up
-abbrev pub MarkAt : At → Kept → Bool → Option ℕ → Type 0
-MarkAt Start k idle under = ⊤
-MarkAt Refusing k idle under = ⊤
-MarkAt Owing k idle under = ⊤
-MarkAt Giving k idle under = ⊤
-MarkAt Ready k idle under = ⊤
-MarkAt (Scanning x) k idle under = ⊤
-MarkAt (Marking x) k idle under = ⊤
-MarkAt (Visiting s x) k idle under = ⊤
-MarkAt (Sweeping x) k idle under = ⊤
-MarkAt (Moving x) k idle under = ⊤
-MarkAt (Shrunk x) k idle under = ⊤
-MarkAt (Shrinking x) k idle under = ⊤
-MarkAt at k idle under = MayMark k idle under
+-- an entry is marked so, until its object is given up
+abbrev pub MarkAt : Begin → At → ℕ → EntryState → Type 0
+MarkAt g Start p e = ⊤
+MarkAt g Refusing p e = ⊤
+MarkAt g Owing p e = ⊤
+MarkAt g Giving p e = ⊤
+MarkAt g Ready p e = ⊤
+MarkAt g (Scanning x) p e = ⊤
+MarkAt g (Marking x) p e = ⊤
+MarkAt g (Visiting s x) p e = ⊤
+MarkAt g (Sweeping x) p e = ⊤
+MarkAt g (Moving x) p e = ⊤
+MarkAt g (Shrunk x) p e = ⊤
+MarkAt g (Shrinking x) p e = ⊤
+MarkAt g at p e = HasMarks g p e
 
 -- a write that reads the device has only a part of its page
 abbrev pub IsPartly : Op → ℕ → Type 0
@@ -503,7 +514,7 @@ pub record Scans (g : Begin) (x : Scan) (e : EntryState) : Type 0 where
   pub scan : IsScan g.given.size x
   pub stands : IsForm g.chain (form_at g x.page e.order) e.kept
   pub backs : IsBack g e.kept (back_at g x.page e.order)
-  pub marks : MayMark e.kept e.idle e.under
+  pub marks : HasMarks g x.page e
 
 -- where a scan stands
 abbrev pub ScanAt : Begin → At → EntryState → Type 0
@@ -522,7 +533,7 @@ pub record IsTrip (size : ℕ) (x : Trip) : Type 0 where
 pub record VisitsPage (g : Begin) (x : Trip) (e : EntryState) : Type 0 where
   pub stands : IsForm g.chain (form_at g x.page e.order) e.kept
   pub backs : IsBack g e.kept (back_at g x.page e.order)
-  pub marks : MayMark e.kept e.idle e.under
+  pub marks : HasMarks g x.page e
 
 -- A page that is to be written back is in the pool, and not under writeback.
 pub record VisitsObject (g : Begin) (x : Trip) (e : EntryState) : Type 0 where
@@ -539,6 +550,11 @@ HasSome (Some x) = ⊤
 abbrev pub IsCopied : Option (List ℕ) → List ℕ → Type 0
 IsCopied None was = ⊥
 IsCopied (Some page) was = page ≡ was
+
+-- where its write succeeded, its mark is gone
+abbrev pub IsUnmarked : Option PartEnd → Option ℕ → Option ℕ → Type 0
+IsUnmarked None block under = is_mark_of block under ≡ false
+IsUnmarked (Some end) block under = ⊤
 
 -- the page that it carries is a page
 abbrev pub IsCarried : Option (List ℕ) → Type 0
@@ -557,45 +573,50 @@ pub record HasEvicted (g : Begin) (x : Trip) (e : EntryState) : Type 0 where
   pub pooled : IsPooled (form_at g x.page e.order)
   pub mark : is_mark_of x.block e.under ≡ true
 
+-- What a writeback has that has lost its mark, or whose write failed.
+pub record HasLost (g : Begin) (x : Trip) (e : EntryState) (fail : Option PartEnd) : Type 0 where
+  pub page : VisitsPage g x e
+  pub gone : IsUnmarked fail x.block e.under
+
 -- what a writeback has, by its step: its page's entry, its block, and the page that it has copied
-abbrev pub StepAt : Begin → Step → Trip → EntryState → Option (List ℕ) → Type 0
-StepAt g step.Arriving x e page = NoneOf x.block × NoneOf page
-StepAt g step.Passing x e page = VisitsPage g x e × NoneOf x.block × NoneOf page
-StepAt g step.Asking x e page = VisitsObject g x e × NoneOf x.block × NoneOf page
-StepAt g step.Reserving x e page = VisitsObject g x e × NoneOf x.block × NoneOf page
-StepAt g step.Quitting x e page = VisitsObject g x e × NoneOf x.block × NoneOf page
-StepAt g step.Seen x e page = VisitsObject g x e × HasSome x.block × NoneOf page
-StepAt g step.Pinning x e page = VisitsObject g x e × HasSome x.block × NoneOf page
-StepAt g step.Pinned x e page = VisitsObject g x e × HasSome x.block
+abbrev pub StepAt : Begin → Step → Trip → EntryState → Option (List ℕ) → Option PartEnd → Type 0
+StepAt g step.Arriving x e page fail = NoneOf x.block × NoneOf page
+StepAt g step.Passing x e page fail = VisitsPage g x e × NoneOf x.block × NoneOf page
+StepAt g step.Asking x e page fail = VisitsObject g x e × NoneOf x.block × NoneOf page
+StepAt g step.Reserving x e page fail = VisitsObject g x e × NoneOf x.block × NoneOf page
+StepAt g step.Quitting x e page fail = VisitsObject g x e × NoneOf x.block × NoneOf page
+StepAt g step.Seen x e page fail = VisitsObject g x e × HasSome x.block × NoneOf page
+StepAt g step.Pinning x e page fail = VisitsObject g x e × HasSome x.block × NoneOf page
+StepAt g step.Pinned x e page fail = VisitsObject g x e × HasSome x.block
     × IsCopied page (content g x.page e.order)
-StepAt g step.Unpinning x e page = VisitsObject g x e × HasSome x.block
+StepAt g step.Unpinning x e page fail = VisitsObject g x e × HasSome x.block
     × IsCopied page (content g x.page e.order)
-StepAt g step.Marking x e page = VisitsObject g x e × HasSome x.block
+StepAt g step.Marking x e page fail = VisitsObject g x e × HasSome x.block
     × IsCopied page (content g x.page e.order)
-StepAt g step.Flying x e page = HasSome x.block × IsCarried page
-StepAt g step.Storing x e page = HasSome x.block × IsCarried page
-StepAt g step.Landing x e page = HasSome x.block × IsCarried page
-StepAt g step.Won x e page = HasWon g x e × HasSome x.block × IsCarried page
-StepAt g step.Freeing x e page = HasWon g x e × HasSome x.block × IsCarried page
-StepAt g step.Backing x e page = HasEvicted g x e × HasSome x.block × IsCarried page
-StepAt g step.Committing x e page = HasEvicted g x e × HasSome x.block × IsCarried page
-StepAt g step.Owing x e page = HasEvicted g x e × HasSome x.block × IsCarried page
-StepAt g step.Paying x e page = HasEvicted g x e × HasSome x.block × IsCarried page
-StepAt g step.Putting x e page = HasEvicted g x e × HasSome x.block × IsCarried page
-StepAt g step.Losing x e page = VisitsPage g x e × HasSome x.block × IsCarried page
-StepAt g step.Undoing x e page = HasSome x.block × NoneOf page
-StepAt g step.Releasing x e page = HasSome x.block × NoneOf page
+StepAt g step.Flying x e page fail = HasSome x.block × IsCarried page
+StepAt g step.Storing x e page fail = HasSome x.block × IsCarried page
+StepAt g step.Landing x e page fail = HasSome x.block × IsCarried page
+StepAt g step.Won x e page fail = HasWon g x e × HasSome x.block × IsCarried page
+StepAt g step.Freeing x e page fail = HasWon g x e × HasSome x.block × IsCarried page
+StepAt g step.Backing x e page fail = HasEvicted g x e × HasSome x.block × IsCarried page
+StepAt g step.Committing x e page fail = HasEvicted g x e × HasSome x.block × IsCarried page
+StepAt g step.Owing x e page fail = HasEvicted g x e × HasSome x.block × IsCarried page
+StepAt g step.Paying x e page fail = HasEvicted g x e × HasSome x.block × IsCarried page
+StepAt g step.Putting x e page fail = HasEvicted g x e × HasSome x.block × IsCarried page
+StepAt g step.Losing x e page fail = HasLost g x e fail × HasSome x.block × IsCarried page
+StepAt g step.Undoing x e page fail = HasSome x.block × NoneOf page
+StepAt g step.Releasing x e page fail = HasSome x.block × NoneOf page
 
 -- A writeback is at a step.
-pub record IsVisiting (g : Begin) (s : Step) (x : Trip) (op : Op) (e : EntryState)
-    (page : Option (List ℕ)) : Type 0 where
+pub record IsVisiting (g : Begin) (s : Step) (x : Trip) (e : EntryState) (page : Option (List ℕ))
+    (fail : Option PartEnd) : Type 0 where
   pub trip : IsTrip g.given.size x
-  pub step : StepAt g s x e page
+  pub step : StepAt g s x e page fail
 
 -- where a writeback stands
-abbrev pub VisitAt : Begin → At → Op → EntryState → Option (List ℕ) → Type 0
-VisitAt g (Visiting s x) op e page = IsVisiting g s x op e page
-VisitAt g at op e page = ⊤
+abbrev pub VisitAt : Begin → At → EntryState → Option (List ℕ) → Option PartEnd → Type 0
+VisitAt g (Visiting s x) e page fail = IsVisiting g s x e page fail
+VisitAt g at e page fail = ⊤
 
 -- An actor at a piece, with the entry that it holds.
 pub record Stage (g : Begin) (p : Part) (e : EntryState) (at : At) (fresh : Option Object)
@@ -607,7 +628,7 @@ pub record Stage (g : Begin) (p : Part) (e : EntryState) (at : At) (fresh : Opti
   pub owes : OweAt g.chain at owed
   pub stands : StandAt g.chain at (form_at g p.page e.order) e.kept
   pub backs : BackAt g at e.kept (back_at g p.page e.order)
-  pub marks : MarkAt at e.kept e.idle e.under
+  pub marks : MarkAt g at p.page e
   pub partly : PartlyAt at p.op p.page
   pub right : RightAt (MaySeeOther g p.page e.order) at p.op p.page page (page_in page e.kept)
       (content g p.page e.order)
@@ -616,13 +637,14 @@ pub record Stage (g : Begin) (p : Part) (e : EntryState) (at : At) (fresh : Opti
   pub fails : FailAt g p at p.op fail
   pub begun : BeginAt g.given.size at p
   pub scans : ScanAt g at e
-  pub visits : VisitAt g at p.op e page
+  pub visits : VisitAt g at e page fail
   pub compacts : CompactAt g.chain at owed
 
 -- An actor between two pieces, or finished.
-pub record Quiet (fresh : Option Object) (pin : Option Pin) (owed : ℕ)
+pub record Quiet (at : At) (fresh : Option Object) (pin : Option Pin) (owed : ℕ)
     (ahead behind : Option Weight) (page : Option (List ℕ)) (fail : Option PartEnd)
     : Type 0 where
+  pub begun : at ≡ Start
   pub made : NoneOf fresh
   pub pins : NoneOf pin
   pub owes : owed ≡ 0
@@ -635,7 +657,7 @@ pub record Quiet (fresh : Option Object) (pin : Option Pin) (owed : ℕ)
 abbrev pub StageBy : Begin → List Part → EntryState → At → Option Object → Option Pin → ℕ
     → Option Weight → Option Weight → Option (List ℕ) → Option PartEnd → Type 0
 StageBy g [] e at fresh pin owed ahead behind page fail =
-    Quiet fresh pin owed ahead behind page fail
+    Quiet at fresh pin owed ahead behind page fail
 StageBy g (p ∷ ps) e at fresh pin owed ahead behind page fail =
     Stage g p e at fresh pin owed ahead behind page fail
 
