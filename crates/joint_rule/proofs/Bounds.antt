@@ -237,7 +237,7 @@ module _ (g : Begin) (ok : Known g) (w : State DiskHeld) (j : Joint g w) (a : �
       let up = same (ever_at g) one refl in let p = same pages none refl in
       most_up _ (same mosts none refl) (omega arith) (omega arith) most
 
-  module _ (m : Here) (there : slice_get w.row (spot n k) ≡ Some None) (x : Gift g a l k v m) where
+  module _ (m : Here) (there : slice_get w.row (spot n k) ≡ Some None) (x : Gift g w a l k v m) where
     abbrev after : State DiskHeld
     after = gone n w a l who k (Some v) m
 

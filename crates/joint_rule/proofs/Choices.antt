@@ -147,8 +147,8 @@ module _ (g : Begin) (ok : Known g) (w : State DiskHeld) (r : Ruled g w) (a : �
         let f = fit g ok w r.joint a l who p rest todo in
         subst (λ (ds : List Done). Lacks p.nr (noted_on p.page ds))
         (sym (ap (dones w.locals) f.who ∙ ap done_by who))
-        (piece_lacks (EndsSo (ground_of g)) g.given.size f.ops l.done p rest
-        (subst (λ (ps : List Part). Follows (EndsSo (ground_of g)) (program g.given.size 0 f.ops)
+        (piece_lacks (EndsSo (ground_of g)) g.given.size g.given.backed f.ops l.done p rest
+        (subst (λ (ps : List Part). Follows (EndsSo (ground_of g)) (program g.given.size g.given.backed 0 f.ops)
         l.done ps) todo f.follows))
 
     module _ (seen : List ℕ) (s : Sight g p.page e.order seen) where

@@ -138,7 +138,7 @@ module _ (g : Begin) (ok : Known g) (w : State DiskHeld) (j : Joint g w) (a : �
       fetched_locks (Writeback mode) f c d = refl
       fetched_locks Compact f c d = refl
 
-      pub give_fetches : Gift g a l lock.Device (holds.Device d')
+      pub give_fetches : Gift g w a l lock.Device (holds.Device d')
           (on l (fetched_at p.op (next_form p (Some page) e.kept) e.kept)
           ((slot p.page, holds.Slot e) ∷ []) l.fresh l.pin l.owed l.ahead l.behind (Some page)
           l.fail)
@@ -213,7 +213,7 @@ module _ (g : Begin) (ok : Known g) (w : State DiskHeld) (j : Joint g w) (a : �
         compacts = tt;
       }
 
-      pub give_misses : Gift g a l lock.Device (holds.Device d')
+      pub give_misses : Gift g w a l lock.Device (holds.Device d')
           (on l Failing ((slot p.page, holds.Slot e) ∷ []) l.fresh l.pin l.owed l.ahead l.behind
           l.page (Some (Eio fault)))
       give_misses = record {
@@ -277,10 +277,10 @@ module _ (g : Begin) (ok : Known g) (w : State DiskHeld) (j : Joint g w) (a : �
 
     pub give_errs : (x : PartEnd) → l.fail ≡ Some x → is_read p.op ≡ true
         → Notes g.clock e f e.kept (tag_by l.actor p)
-        → Gift g a l (slot p.page) (holds.Slot f) (piece_over l p x [] rest)
+        → Gift g w a l (slot p.page) (holds.Slot f) (piece_over l p x [] rest)
     give_errs x bad reads notes = by_op p.op refl reads where
       by_op : (op : Op) → p.op ≡ op → is_read op ≡ true
-          → Gift g a l (slot p.page) (holds.Slot f) (piece_over l p x [] rest)
+          → Gift g w a l (slot p.page) (holds.Slot f) (piece_over l p x [] rest)
       by_op (Write start count stuff) is r = absurd (cc)
       by_op (Read start count) is r = give_noted g ok w j a l who p rest todo e f held bare_missed x
           [] (ends x bad) start count is notes
@@ -290,7 +290,7 @@ module _ (g : Begin) (ok : Known g) (w : State DiskHeld) (j : Joint g w) (a : �
       by_op Compact is r = absurd (cc)
 
     pub give_leaves : (x : PartEnd) → l.fail ≡ Some x
-        → Gift g a l (slot p.page) (holds.Slot e) (piece_over l p x [] rest)
+        → Gift g w a l (slot p.page) (holds.Slot e) (piece_over l p x [] rest)
     give_leaves x bad = give_left g ok w j a l who p rest todo e f held bare_missed x (ends x bad)
 
   -- ---- the map of blocks
@@ -345,7 +345,7 @@ module _ (g : Begin) (ok : Known g) (w : State DiskHeld) (j : Joint g w) (a : �
       small = omega arith;
     }
 
-    pub give_releases : Gift g a l lock.Blocks (holds.Blocks (with_state x b Free))
+    pub give_releases : Gift g w a l lock.Blocks (holds.Blocks (with_state x b Free))
         (on l Owing ((slot p.page, holds.Slot (emptied e)) ∷ []) l.fresh None 0
         (Some (weight_of e.kept)) l.behind l.page l.fail)
     give_releases = record {

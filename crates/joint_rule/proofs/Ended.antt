@@ -418,7 +418,7 @@ module _ (r : Rest) (actors : List (List Op)) (finds : ℕ → Finds)
         let same_ops : f.ops ≡ ops = (let q : Some f.ops ≡ Some ops = sym f.named ∙ named_ops in
         cc) in
         subst (λ (x : List Op × List Done × List Part).
-        Follows (EndsSo (ground_of g)) (program size 0 x.0) x.1 x.2)
+        Follows (EndsSo (ground_of g)) (program size g.given.backed 0 x.0) x.1 x.2)
         (λ i. (same_ops i, l.2 i, over g w rule fin a l.0 l.1 i)) f.follows;
     every_page = length-map-range_with_len (λ p. order_in (value_at row p)) 0 size;
     turns = λ p a lt. ap (ops_of a) (order_is p lt) ∙ (shows p lt).shows.turns a

@@ -144,7 +144,7 @@ module _ (g : Begin) (w : State DiskHeld) (j : Joint g w) (lim : Limits g w) (n 
   actor_tells a l who =
       let f = j.each.in_local a l who in let k = lim a l who in
       let x = dones_tell (ground_of g) (reach_at g w) n l.done lt
-      (ends_over (EndsSo (ground_of g)) (program g.given.size 0 f.ops) l.done l.todo f.follows)
+      (ends_over (EndsSo (ground_of g)) (program g.given.size g.given.backed 0 f.ops) l.done l.todo f.follows)
       k.over in
       let y = now_tells l l.todo l.fail f.stage k refl in omega arith
 

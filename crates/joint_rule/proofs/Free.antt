@@ -236,8 +236,8 @@ module _ (g : Begin) (ok : Known g) (w : State DiskHeld) (j : Joint g w) where
 
     module _ (p : Part) (rest : List Part) (todo : l.todo ≡ p ∷ rest) where
       disk : OnDisk n p
-      disk = on_disk (EndsSo (ground_of g)) n fit.ops l.done p rest
-          (subst (Follows (EndsSo (ground_of g)) (program n 0 fit.ops) l.done) todo fit.follows)
+      disk = on_disk (EndsSo (ground_of g)) n g.given.backed fit.ops l.done p rest
+          (subst (Follows (EndsSo (ground_of g)) (program n g.given.backed 0 fit.ops) l.done) todo fit.follows)
 
       abbrev c : ℕ
       c = class_by (entry_in l.held).kept

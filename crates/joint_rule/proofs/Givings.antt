@@ -31,8 +31,8 @@ module _ (g : Begin) (ok : Known g) (w : State DiskHeld) (j : Joint g w) (a : �
     (who : slice_get w.locals a ≡ Some l) (k : LockNo) (v : DiskHeld) (m : Here)
     (what : plan (terms g) l ≡ Give k) where
   at_lock : (m₀ : Here) (k₀ : LockNo) (v₀ : DiskHeld) → k₀ ≡ k → v ≡ v₀ → m ≡ m₀
-      → Gift g a l k₀ v₀ m₀ → Gift g a l k v m
-  at_lock m₀ k₀ v₀ e f h t = subst (λ (x : LockNo × DiskHeld × Here). Gift g a l x.0 x.1 x.2)
+      → Gift g w a l k₀ v₀ m₀ → Gift g w a l k v m
+  at_lock m₀ k₀ v₀ e f h t = subst (λ (x : LockNo × DiskHeld × Here). Gift g w a l x.0 x.1 x.2)
       (λ i. (e i, sym f i, sym h i)) t
 
   pub event_is : (p : Part) (rest : List Part) (held : List (LockNo × DiskHeld)) (at : At)
@@ -57,7 +57,7 @@ module _ (g : Begin) (ok : Known g) (w : State DiskHeld) (j : Joint g w) (a : �
   new_lock c d xs ys e f = (let q : lock.Class c ≡ lock.Class d = cc in q)
       ∙ given_lock (lock.Class d) f
 
-  pub gift : (ev : Event g l v m) → Chosen g l v m ev → Gift g a l k v m
+  pub gift : (ev : Event g l v m) → Chosen g l v m ev → Gift g w a l k v m
   gift (event.refuses p rest c todo at held v_is m_is) chosen =
       at_lock _ lock.Account _ (given_lock lock.Account (event_is p rest _ Refusing todo held at))
       v_is m_is (give_refuses g ok w j a l who p rest todo c at held)

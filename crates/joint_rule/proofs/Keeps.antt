@@ -56,7 +56,7 @@ module _ (g : Begin) (ok : Known g) (w : State DiskHeld) (j : Joint g w) (a : �
             ∙ (j.counts q ∙ sym (same (shown q) (ahead q) refl));
       }
 
-  pub give_keeps : (m : Here) → slice_get w.row (spot n k) ≡ Some None → Gift g a l k v m
+  pub give_keeps : (m : Here) → slice_get w.row (spot n k) ≡ Some None → Gift g w a l k v m
       → Joint g (gone n w a l who k (Some v) m)
   give_keeps m there x =
       let gives : (f : ℕ → DiskHeld → ℕ) (h : Here → ℕ)

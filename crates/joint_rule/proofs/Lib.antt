@@ -5,6 +5,7 @@ pub mod Pages
 pub mod Pools
 pub mod Lookups
 pub mod Blocks
+pub mod Trips
 pub mod Stages
 pub mod Apart
 pub mod Places

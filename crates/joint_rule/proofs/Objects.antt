@@ -1,4 +1,5 @@
 -- What each giving does that has to do with pools and the account.
+use Rattle.joint_rule.proofs.Trips.{quiet_storage, plain_pinned, plain_settle, plain_quit}
 use Rattle.std.proofs.Common.{◌≡◌, ◌+◌, ◌≤◌, ◌∷◌, ◌∙◌, ℕ, Bool, true, false, List, [], length, sum_by, Option, Some, None, slice_get, refl, sym, ap, subst, arith, inl, inr, ⊎_elim}
 use Rattle.call_history.specs.declared.part.Part.{Part}
 use Rattle.call_history.specs.declared.part.PartEnd.{PartEnd}
@@ -168,7 +169,7 @@ module _ (g : Begin) (ok : Known g) (w : State DiskHeld) (j : Joint g w) (a : �
         pinned_locks (Writeback mode) f c d = refl
         pinned_locks Compact f c d = refl
 
-        pub give_pins : Gift g a l (lock.Class o.class) (holds.Class q')
+        pub give_pins : Gift g w a l (lock.Class o.class) (holds.Class q')
             (on l (pinned_at p.op (next_form p (Some page) e.kept) e.kept)
             ((slot p.page, holds.Slot e) ∷ []) l.fresh pinned_cell l.owed l.ahead l.behind
             (Some page) l.fail)
@@ -186,8 +187,9 @@ module _ (g : Begin) (ok : Known g) (w : State DiskHeld) (j : Joint g w) (a : �
           owners = λ f. let r = ap (held_sum (spot n) (claims g f)) held in
               let x = ap (held_sum (spot n) (stored f)) held in
               let s = swap_stored q q' u u' sw f in omega arith;
-          storage = apart g l _ _ _ (λ f z y. let r = ap (held_sum (spot n) f) held in
-              let s = z (n + o.class) q in let t = z (n + o.class) q' in omega arith);
+          storage = quiet_storage g w a l _ _ _ j who Pinning at tt (plain_pinned p.op (next_form p (Some page) e.kept) e.kept)
+            (apart g a l _ _ _ (λ f z y. let r = ap (held_sum (spot n) f) held in
+              let s = z (n + o.class) q in let t = z (n + o.class) q' in omega arith));
           pins = λ f. let r = ap (held_sum (spot n) (outs f)) held in
               let x = ap (held_sum (spot n) nothing) held in
               let s = swap_out q q' u u' sw free taken f in
@@ -216,7 +218,7 @@ module _ (g : Begin) (ok : Known g) (w : State DiskHeld) (j : Joint g w) (a : �
         unpinned f (Some x) e_pin i = ap f (pin_is g w j a l who p.page o q e held is x e_pin i u
             sw.there (named_u ∙ sym (subst (λ (k : Kept). Names k x) is i).1))
 
-        pub give_unpins : Gift g a l (lock.Class o.class) (holds.Class q')
+        pub give_unpins : Gift g w a l (lock.Class o.class) (holds.Class q')
             (on l Leaving ((slot p.page, holds.Slot e) ∷ []) l.fresh None l.owed l.ahead l.behind
             l.page l.fail)
         give_unpins = record {
@@ -249,8 +251,9 @@ module _ (g : Begin) (ok : Known g) (w : State DiskHeld) (j : Joint g w) (a : �
           owners = λ f. let r = ap (held_sum (spot n) (claims g f)) held in
               let x = ap (held_sum (spot n) (stored f)) held in
               let s = swap_stored q q' u u' sw f in omega arith;
-          storage = apart g l _ _ _ (λ f z y. let r = ap (held_sum (spot n) f) held in
-              let s = z (n + o.class) q in let t = z (n + o.class) q' in omega arith);
+          storage = quiet_storage g w a l _ _ _ j who Unpinning at tt tt
+            (apart g a l _ _ _ (λ f z y. let r = ap (held_sum (spot n) f) held in
+              let s = z (n + o.class) q in let t = z (n + o.class) q' in omega arith));
           pins = λ f. let r = ap (held_sum (spot n) (outs f)) held in
               let x = ap (held_sum (spot n) nothing) held in
               let s = swap_home q q' u u' sw taken free f in
@@ -345,7 +348,7 @@ module _ (g : Begin) (ok : Known g) (w : State DiskHeld) (j : Joint g w) (a : �
         small = omega arith;
       }
 
-      pub give_frees : Gift g a l (lock.Class o.class) (holds.Class q')
+      pub give_frees : Gift g w a l (lock.Class o.class) (holds.Class q')
           (on l Owing ((slot p.page, holds.Slot (emptied e)) ∷ []) l.fresh None m
           (Some (weight_of e.kept)) l.behind l.page l.fail)
       give_frees = record {
@@ -449,7 +452,7 @@ module _ (g : Begin) (ok : Known g) (w : State DiskHeld) (j : Joint g w) (a : �
         may_by None i = tt
         may_by (Some x) i = absurd i
 
-      pub give_charges : Gift g a l lock.Account (holds.Account (charged c need))
+      pub give_charges : Gift g w a l lock.Account (holds.Account (charged c need))
           (on l Made ((lock.Class cl, holds.Class q') ∷ (slot p.page, holds.Slot e) ∷ [])
           (Some new_object) l.pin l.owed l.ahead l.behind l.page l.fail)
       give_charges = record {
@@ -477,9 +480,10 @@ module _ (g : Begin) (ok : Known g) (w : State DiskHeld) (j : Joint g w) (a : �
             let s = more_stored q q' h need bytes al f in let y = none_fresh f l.fresh sb.made in
             let z : f q.class h bytes ≡ f cl h bytes = ap (λ (k : ℕ). f k h bytes) class_q in
             omega arith;
-        storage = apart g l _ _ _ (λ f z y. let r = ap (held_sum (spot n) f) held in
+        storage = quiet_storage g w a l _ _ _ j who Both at tt tt
+            (apart g a l _ _ _ (λ f z y. let r = ap (held_sum (spot n) f) held in
             let s = z (n + cl) q in let t = z (n + cl) q' in let u = y (n + 255) c in
-            let v = y (n + 255) (charged c need) in omega arith);
+            let v = y (n + 255) (charged c need) in omega arith));
         pins = λ f. let r = ap (held_sum (spot n) (outs f)) held in
             let x = ap (held_sum (spot n) nothing) held in
             let s = more_outs q q' h need bytes al f in omega arith;
@@ -570,7 +574,7 @@ module _ (g : Begin) (ok : Known g) (w : State DiskHeld) (j : Joint g w) (a : �
       },
     )
 
-    pub give_refused : (x : PartEnd) → IsRefusal g p x → Gift g a l lock.Account
+    pub give_refused : (x : PartEnd) → IsRefusal g p x → Gift g w a l lock.Account
         (holds.Account (counted c delta.FailedWrite)) (on l Made
         ((lock.Class cl, holds.Class q) ∷ (slot p.page, holds.Slot e) ∷ []) l.fresh l.pin l.owed
         l.ahead l.behind l.page (Some x))
@@ -602,8 +606,9 @@ module _ (g : Begin) (ok : Known g) (w : State DiskHeld) (j : Joint g w) (a : �
       alone = λ i. let r = ap (held_sum (spot n) (at_place i)) held in omega arith;
       owners = λ f. let r = ap (held_sum (spot n) (claims g f)) held in
           let x = ap (held_sum (spot n) (stored f)) held in omega arith;
-      storage = apart g l _ _ _ (λ f z y. let r = ap (held_sum (spot n) f) held in
-          let s = y (n + 255) c in let t = y (n + 255) (counted c delta.FailedWrite) in omega arith);
+      storage = quiet_storage g w a l _ _ _ j who Both at tt tt
+            (apart g a l _ _ _ (λ f z y. let r = ap (held_sum (spot n) f) held in
+          let s = y (n + 255) c in let t = y (n + 255) (counted c delta.FailedWrite) in omega arith));
       pins = λ f. let r = ap (held_sum (spot n) (outs f)) held in
           let x = ap (held_sum (spot n) nothing) held in omega arith;
       frames = let r = ap (held_sum (spot n) pages) held in
@@ -632,7 +637,7 @@ module _ (g : Begin) (ok : Known g) (w : State DiskHeld) (j : Joint g w) (a : �
     writes_change (Writeback mode) i = absurd i
     writes_change Compact i = absurd i
 
-    pub give_stows : l.fail ≡ None → Gift g a l (lock.Class cl) (holds.Class q)
+    pub give_stows : l.fail ≡ None → Gift g w a l (lock.Class cl) (holds.Class q)
         (on l (settle_at e.kept) ((slot p.page, holds.Slot e) ∷ []) l.fresh l.pin l.owed l.ahead
         l.behind l.page l.fail)
     give_stows well = record {
@@ -655,8 +660,9 @@ module _ (g : Begin) (ok : Known g) (w : State DiskHeld) (j : Joint g w) (a : �
       alone = λ i. let r = ap (held_sum (spot n) (at_place i)) held in omega arith;
       owners = λ f. let r = ap (held_sum (spot n) (claims g f)) held in
           let x = ap (held_sum (spot n) (stored f)) held in omega arith;
-      storage = apart g l _ _ _ (λ f z y. let r = ap (held_sum (spot n) f) held in
-          let s = z (n + cl) q in omega arith);
+      storage = quiet_storage g w a l _ _ _ j who Made at tt (plain_settle e.kept)
+            (apart g a l _ _ _ (λ f z y. let r = ap (held_sum (spot n) f) held in
+          let s = z (n + cl) q in omega arith));
       pins = λ f. let r = ap (held_sum (spot n) (outs f)) held in
           let x = ap (held_sum (spot n) nothing) held in omega arith;
       frames = let r = ap (held_sum (spot n) pages) held in
@@ -743,7 +749,7 @@ module _ (g : Begin) (ok : Known g) (w : State DiskHeld) (j : Joint g w) (a : �
       quit_locks None c d = refl
       quit_locks (Some y) c d = refl
 
-      pub give_quits : Gift g a l (lock.Class cl) (holds.Class q)
+      pub give_quits : Gift g w a l (lock.Class cl) (holds.Class q)
           (on l (quit_at l.pin) ((slot p.page, holds.Slot e) ∷ []) l.fresh l.pin l.owed l.ahead
           l.behind l.page l.fail)
       give_quits = record {
@@ -762,8 +768,9 @@ module _ (g : Begin) (ok : Known g) (w : State DiskHeld) (j : Joint g w) (a : �
         alone = λ i. let r = ap (held_sum (spot n) (at_place i)) held in omega arith;
         owners = λ f. let r = ap (held_sum (spot n) (claims g f)) held in
             let x = ap (held_sum (spot n) (stored f)) held in omega arith;
-        storage = apart g l _ _ _ (λ f z y. let r = ap (held_sum (spot n) f) held in
-            let s = z (n + cl) q in omega arith);
+        storage = quiet_storage g w a l _ _ _ j who Made at tt (plain_quit l.pin)
+            (apart g a l _ _ _ (λ f z y. let r = ap (held_sum (spot n) f) held in
+            let s = z (n + cl) q in omega arith));
         pins = λ f. let r = ap (held_sum (spot n) (outs f)) held in
             let x = ap (held_sum (spot n) nothing) held in omega arith;
         frames = let r = ap (held_sum (spot n) pages) held in

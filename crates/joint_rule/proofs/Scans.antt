@@ -94,7 +94,7 @@ module _ (g : Begin) (ok : Known g) (w : State DiskHeld) (j : Joint g w) (a : â„
   some_marks =
       let i = fit g ok w j a l who p rest todo in
       let there : slice_get i.ops p.nr â‰¡ Some (Idle age) =
-      ok.facts.named (ground_of g) n i.ops l.done p rest (next g ok w j a l who p rest todo)
+      ok.facts.named (ground_of g) n g.given.backed i.ops l.done p rest (next g ok w j a l who p rest todo)
       âˆ™ ap (Î» (o : Op). Some o) op in
       marked_here g.given.actors a i.ops i.named (marks_here i.ops p.nr age there)
 
@@ -128,7 +128,7 @@ module _ (g : Begin) (ok : Known g) (w : State DiskHeld) (j : Joint g w) (a : â„
     next_page = let z = eqb-false (x.page + 1) n other in let lt = st.scans.scan.page in
         elim (cases_eq (x.page + 1) n) [ inl q â†¦ absurd (z q) | inr q â†¦ omega arith ]
 
-    pub give_scans : Gift g a l (slot x.page) (holds.Slot f)
+    pub give_scans : Gift g w a l (slot x.page) (holds.Slot f)
         (on l (Scanning y) [] l.fresh l.pin l.owed l.ahead l.behind l.page l.fail)
     give_scans = record {
       home = marked_home;
@@ -178,7 +178,7 @@ module _ (g : Begin) (ok : Known g) (w : State DiskHeld) (j : Joint g w) (a : â„
   ends_so : EndsSo (ground_of g) p (Whole (ends.Marked y.marked))
   ends_so = (marking_single n p.op age op, may_end)
 
-  pub give_stops : Gift g a l (slot x.page) (holds.Slot f)
+  pub give_stops : Gift g w a l (slot x.page) (holds.Slot f)
       (piece_over l p (Whole (ends.Marked y.marked)) [] rest)
   give_stops = record {
     home = marked_home;

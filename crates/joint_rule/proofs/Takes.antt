@@ -754,8 +754,8 @@ module _ (g : Begin) (ok : Known g) where
       let backs = subst (λ (m : LockNo). Backs g (spot g.given.size m) v) q home.backs in
       let t = by_take l v k l.todo (entry_in l.held) (map (λ (x : LockNo × DiskHeld). x.0) l.held)
       (ok.proper.some (some_actor g.given.actors a f.ops f.named))
-      (λ p rest is. on_disk (EndsSo (ground_of g)) g.given.size f.ops l.done p rest
-      (subst (Follows (EndsSo (ground_of g)) (program g.given.size 0 f.ops) l.done) is
+      (λ p rest is. on_disk (EndsSo (ground_of g)) g.given.size g.given.backed f.ops l.done p rest
+      (subst (Follows (EndsSo (ground_of g)) (program g.given.size g.given.backed 0 f.ops) l.done) is
       f.follows)) what kind stands backs home.marks f.locks f.stage in
       record {
         who = f.who;

@@ -382,7 +382,7 @@ module _ (g : Begin) (ok : Known g) (w : State DiskHeld) (j : Joint g w) (t : To
         held_map n P Q f l.held (t.in_local a l who),
       )
 
-  module _ (m : Here) (there : slice_get w.row (spot n k) ≡ Some None) (x : Gift g a l k v m) where
+  module _ (m : Here) (there : slice_get w.row (spot n k) ≡ Some None) (x : Gift g w a l k v m) where
     abbrev P : ℕ → List Tag → ℕ → Type 0
     P = ShowsOrder g w.locals
 
