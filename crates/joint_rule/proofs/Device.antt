@@ -1,7 +1,9 @@
 -- What each giving does that has to do with the device and its blocks.
+use Rattle.plain_disk.specs.Idles.{may_write}
+use Rattle.joint_rule.proofs.Trips.{NoTrip, plain_fetched, quiet_storage}
 use Rattle.bdi_page.specs.Packing.{IsPage}
 use Rattle.backing_dev.specs.Contents.{IsHonest}
-use Rattle.std.proofs.Common.{◌≡◌, ◌∷◌, ◌∙◌, ℕ, true, List, [], Option, Some, None, slice_get, refl, sym, ap, subst, arith, inl, inr, length-set, ⊎_elim}
+use Rattle.std.proofs.Common.{◌≡◌, ◌∷◌, ◌∙◌, ℕ, true, List, [], Option, Some, None, slice_get, refl, sym, ap, subst, arith, inl, inr, length-set, ⊎_elim, ◌⊎◌}
 use Rattle.backing_dev.specs.Dev.{DeviceState, FailsToRead, ReadsBlock, IsHonestDevice}
 use Rattle.block_map.specs.BlockMap.{BlockMap, with_state}
 use Rattle.block_map.specs.declared.state.BlockState.TheVariants.{Free, Owned}
@@ -16,10 +18,10 @@ use Rattle.joint_rule.proofs.Gifts.{Gift, IsBare, all, fit, give_left, give_note
 use Rattle.joint_rule.proofs.Lookups.{none_weight, nothing_shown}
 use Rattle.joint_rule.proofs.Pages.{kept_small}
 use Rattle.joint_rule.proofs.Stages.{made_locks, made_stage, may_none, write_blank}
-use Rattle.joint_rule.specs.Begins.{Begin, content, ground_of, image}
+use Rattle.joint_rule.specs.Begins.{Begin, content, ground_of, image, back_at}
 use Rattle.joint_rule.specs.Joint.{EntryFits, Joint, KeepsDevice, Sound}
 use Rattle.joint_rule.specs.Stages.{Bears, FailBy, IsFault, IsPartly, IsRight, IsSmall, IsWrite, Looks, Stage, locks_at, MaySeeOther, IsSeen}
-use Rattle.joint_rule.specs.Weights.{HeldAll, at_place, block_by, block_claims, chains, claim_by, claims, counters, device_size, each_one, ever_at, fixed, lies_at, map_size, mosts, nothing, outs, pages, shown, stored, stored_at, used_blocks}
+use Rattle.joint_rule.specs.Weights.{HeldAll, at_place, block_by, block_claims, chains, claim_by, claims, counters, device_size, each_one, ever_at, fixed, lies_at, map_size, mosts, nothing, outs, pages, shown, stored, stored_at, used_blocks, mark_at, shows_at}
 use Rattle.lock_row.specs.Totals.{held_sum}
 use Rattle.lock_row.specs.declared.names.At.TheVariants.{Failing, Fetching, Missed, Owing, Releasing}
 use Rattle.lock_row.specs.declared.names.State.{State}
@@ -31,7 +33,7 @@ use Rattle.plain_disk.specs.Ends.{IsFaultAt, MayFault}
 use Rattle.slot_entry.specs.Entries.{EntryState, weight_of, is_wb}
 use Rattle.slot_entry.specs.Forms.{PageForm}
 use Rattle.slot_entry.specs.declared.kept.Kept.{Kept}
-use Rattle.std.proofs.lemmas.Bool.{and_parts}
+use Rattle.std.proofs.lemmas.Bool.{and_parts, cases_Bool, or_left, or_right}
 use Rattle.zr_base.specs.declared.op.Op.{Op}
 use Rattle.zr_base.specs.declared.op.Op.TheVariants.{Compact, Discard, Idle, Read, Write, Writeback}
 use Rattle.lock_row.specs.declared.names.LockNo.TheVariants as lock
@@ -89,9 +91,17 @@ module _ (g : Begin) (ok : Known g) (w : State DiskHeld) (j : Joint g w) (a : �
       not_honest none honest = subst (λ (c : Option (List (List ℕ))). IsHonest c d.blocks) none
           (sounds.0.1.honest honest)
 
+      -- the page may be on the device
+      there : (back_at g p.page e.order ≡ true)
+          ⊎ (may_write g.given.backed g.given.actors ≡ true)
+      there = elim (cases_Bool (may_write g.given.backed g.given.actors)) [
+        | inl on ↦ inr on
+        | inr off ↦ inl (sym (st.backs.only off) ∙ ap is_wb is)
+      ]
+
       is_content : IsSeen (MaySeeOther g p.page e.order) page (content g p.page e.order)
       is_content = ⊎_elim (λ same. inl same)
-          (λ none. inr ((not_honest none, sym st.backs ∙ ap is_wb is), whole))
+          (λ none. inr ((not_honest none, there), whole))
           (page_is g w j a l who b p.page e is d held page r.bytes)
 
       fetched_stage : (op : Op) → p.op ≡ op → Stage g p e
@@ -160,7 +170,8 @@ module _ (g : Begin) (ok : Known g) (w : State DiskHeld) (j : Joint g w) (a : �
         alone = λ i. let r = ap (held_sum (spot n) (at_place i)) held in omega arith;
         owners = λ f. let r = ap (held_sum (spot n) (claims g f)) held in
             let x = ap (held_sum (spot n) (stored f)) held in omega arith;
-        storage = called_storage g l _ p.page d d' e held refl r.called r.contents;
+        storage = quiet_storage g w a l _ _ _ j who Fetching at tt (plain_fetched p.op (next_form p (Some page) e.kept) e.kept)
+            (called_storage g a l _ p.page d d' e held refl r.called r.contents);
         pins = λ f. let r = ap (held_sum (spot n) (outs f)) held in
             let x = ap (held_sum (spot n) nothing) held in omega arith;
         frames = let r = ap (held_sum (spot n) pages) held in
@@ -179,7 +190,11 @@ module _ (g : Begin) (ok : Known g) (w : State DiskHeld) (j : Joint g w) (a : �
       -- the page was there at the phase's start, and the count has risen
       fault_at : IsFaultAt (ground_of g) p.page fault
       fault_at = record {
-        back = (and_parts (g.back p.page) _ (sym st.backs ∙ ap is_wb is)).0;
+        back = elim (cases_Bool (may_write g.given.backed g.given.actors)) [
+          | inl on ↦ or_right (g.back p.page) (may_write g.given.backed g.given.actors) on
+          | inr off ↦ or_left (g.back p.page) (may_write g.given.backed g.given.actors)
+              (and_parts (g.back p.page) _ (sym (st.backs.only off) ∙ ap is_wb is)).0
+        ];
         rose = let x = r.count in let y = r.rose in let z = sounds.0.1.faults in omega arith;
       }
 
@@ -232,7 +247,8 @@ module _ (g : Begin) (ok : Known g) (w : State DiskHeld) (j : Joint g w) (a : �
         alone = λ i. let r = ap (held_sum (spot n) (at_place i)) held in omega arith;
         owners = λ f. let r = ap (held_sum (spot n) (claims g f)) held in
             let x = ap (held_sum (spot n) (stored f)) held in omega arith;
-        storage = called_storage g l _ p.page d d' e held refl r.called r.contents;
+        storage = quiet_storage g w a l _ _ _ j who Fetching at tt tt
+            (called_storage g a l _ p.page d d' e held refl r.called r.contents);
         pins = λ f. let r = ap (held_sum (spot n) (outs f)) held in
             let x = ap (held_sum (spot n) nothing) held in omega arith;
         frames = let r = ap (held_sum (spot n) pages) held in
@@ -266,6 +282,7 @@ module _ (g : Begin) (ok : Known g) (w : State DiskHeld) (j : Joint g w) (a : �
       less = sm.counts.1;
       fits = (all g ok w j a l who p rest todo _ Missed held at).0;
       begun = sm.begun;
+      plain = subst NoTrip (sym at) tt;
     }
 
     fault_ends : (x : PartEnd) → IsFault g p (Some x) → EndsSo (ground_of g) p x
@@ -341,7 +358,7 @@ module _ (g : Begin) (ok : Known g) (w : State DiskHeld) (j : Joint g w) (a : �
       page = y.page;
       calls = y.calls;
       touched = y.touched;
-      mark = record { under = y.mark.under; stays = y.mark.stays; only = y.mark.only };
+      mark = y.mark;
       small = omega arith;
     }
 
@@ -363,7 +380,7 @@ module _ (g : Begin) (ok : Known g) (w : State DiskHeld) (j : Joint g w) (a : �
           let y = ap (held_sum (spot n) (stored f)) held in
           let c : claim_by f e.kept (image g p.page e.order) ≡ 0 =
           ap (λ (k : Kept). claim_by f k (image g p.page e.order)) is in omega arith;
-      storage = record {
+      storage = quiet_storage g w a l _ _ _ j who Releasing at tt tt (record {
         blocks = λ f. let r = ap (held_sum (spot n) (block_claims f)) held in
             let y = ap (held_sum (spot n) (used_blocks f)) held in
             let z : block_by f e.kept ≡ f 1 b = ap (block_by f) is in
@@ -374,7 +391,10 @@ module _ (g : Begin) (ok : Known g) (w : State DiskHeld) (j : Joint g w) (a : �
         devices = let r = ap (held_sum (spot n) device_size) held in omega arith;
         lies = λ i bytes. let r = ap (held_sum (spot n) (lies_at g i bytes)) held in omega arith;
         stored = λ i bytes. let r = ap (held_sum (spot n) (stored_at i bytes)) held in omega arith;
-      };
+        marks = λ i c bytes. let r = ap (held_sum (spot n) (mark_at g i c bytes)) held in
+            omega arith;
+        shows = λ c i d ne. let r = ap (held_sum (spot n) (shows_at c i d)) held in omega arith;
+      });
       pins = λ f. let r = ap (held_sum (spot n) (outs f)) held in
           let y = ap (held_sum (spot n) nothing) held in let z = none_pin f l.pin sr.pins in
           omega arith;

@@ -6,6 +6,7 @@ pub mod Pools
 pub mod Lookups
 pub mod Blocks
 pub mod Trips
+pub mod Alikes
 pub mod Stages
 pub mod Apart
 pub mod Places

@@ -18,7 +18,7 @@ use Rattle.joint_rule.proofs.Places.{form_claim}
 use Rattle.joint_rule.specs.Begins.{Begin, content, form_at, ground_of, image}
 use Rattle.joint_rule.specs.Joint.{AtHome, EntryFits, Joint, PoolFits, Sound}
 use Rattle.joint_rule.specs.Stages.{Bears, Changes, FailBy, IsForm, IsObj, IsPinned, IsRefusal, IsRight, IsSmall, IsWrite, Looks, MadeBy, MayFail, MayPin, Names, NoneOf, Stage, locks_at, MaySeeOther}
-use Rattle.joint_rule.specs.Weights.{HeldAll, Limit, PinWeigh, at_place, block_by, block_claims, cell_weight, chains, claim_by, claims, counters, device_size, each_one, ever_at, fixed, fixed_count, lies_at, map_size, mosts, nothing, outs, pages, pin_in, shown, some_of, stored, stored_at, used_blocks}
+use Rattle.joint_rule.specs.Weights.{HeldAll, Limit, PinWeigh, at_place, block_by, block_claims, cell_weight, chains, claim_by, claims, counters, device_size, each_one, ever_at, fixed, fixed_count, lies_at, map_size, mosts, nothing, outs, pages, pin_in, shown, some_of, stored, stored_at, used_blocks, mark_at, shows_at}
 use Rattle.lock_row.specs.Totals.{by_option, held_sum}
 use Rattle.lock_row.specs.declared.names.At.TheVariants.{Both, Freeing, Leaving, Made, Owing, Pinning, Unpinning}
 use Rattle.lock_row.specs.declared.names.LockNo.{LockNo}
@@ -344,7 +344,7 @@ module _ (g : Begin) (ok : Known g) (w : State DiskHeld) (j : Joint g w) (a : �
         page = x.page;
         calls = x.calls;
         touched = x.touched;
-        mark = record { under = x.mark.under; stays = x.mark.stays; only = x.mark.only };
+        mark = x.mark;
         small = omega arith;
       }
 
@@ -372,7 +372,7 @@ module _ (g : Begin) (ok : Known g) (w : State DiskHeld) (j : Joint g w) (a : �
             ap (λ (k : Kept). claim_by f k (image g p.page e.order)) is
             ∙ (λ i. f (sym (back.class ∙ class) i) (sym fp.named i) (sym freed_bytes i)) in
             omega arith;
-        storage = record {
+        storage = quiet_storage g w a l _ _ _ j who Freeing at tt tt (record {
           blocks = λ f. let r = ap (held_sum (spot n) (block_claims f)) held in
               let x = ap (held_sum (spot n) (used_blocks f)) held in
               let z = ap (block_by f) is in omega arith;
@@ -380,7 +380,10 @@ module _ (g : Begin) (ok : Known g) (w : State DiskHeld) (j : Joint g w) (a : �
           devices = let r = ap (held_sum (spot n) device_size) held in omega arith;
           lies = λ b bytes. let r = ap (held_sum (spot n) (lies_at g b bytes)) held in omega arith;
           stored = λ b bytes. let r = ap (held_sum (spot n) (stored_at b bytes)) held in omega arith;
-        };
+          marks = λ i b bytes. let r = ap (held_sum (spot n) (mark_at g i b bytes)) held in
+              omega arith;
+          shows = λ c i b ne. let r = ap (held_sum (spot n) (shows_at c i b)) held in omega arith;
+        });
         pins = λ f. let r = ap (held_sum (spot n) (outs f)) held in
             let x = ap (held_sum (spot n) nothing) held in
             let s = less_outs mid q' u m fp.gone fp.home f in let c = back.outs f in omega arith;

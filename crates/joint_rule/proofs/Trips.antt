@@ -1,5 +1,6 @@
 -- What a giving does to blocks, to the marks of writebacks and to the device, and what the joint rule
 -- tells of who has a block.
+use Rattle.zr_base.specs.Plain.{has_whole}
 use Rattle.std.proofs.Common.{◌≡◌, ◌≢◌, ◌+◌, ◌≤◌, ◌<◌, ◌∷◌, ◌++◌, ◌∙◌, ◌==◌, ◌&&◌, ℕ, zero, suc, Bool, true, false, cond, eqb, is_none, option_map, List, [], Option, Some, None, slice_get, refl, sym, ap, subst, arith, inl, inr, ⊎_elim}
 use Rattle.std.specs.Prelude.{⊤}
 use Rattle.block_map.specs.declared.state.BlockState.{BlockState}
@@ -19,7 +20,7 @@ use Rattle.lock_row.specs.declared.names.State.{State}
 use Rattle.lock_row.specs.declared.names.Step.{Step}
 use Rattle.lock_row.specs.declared.names.Step.TheVariants as step
 use Rattle.lock_row.specs.declared.names.Trip.{Trip}
-use Rattle.page_steps.specs.Steps.{DiskHeld, Here, fetched_at, made_at, pinned_at, quit_at, settle_at, slot, spot}
+use Rattle.page_steps.specs.Steps.{DiskHeld, Here, fetched_at, made_at, pinned_at, quit_at, settle_at, slot, spot, discard_at, entered_at, part_at, seen_at, write_at}
 use Rattle.slot_entry.specs.Entries.{EntryState}
 use Rattle.slot_entry.specs.Forms.{Blank, PageForm, Pooled, Word, same_list}
 use Rattle.slot_entry.specs.declared.kept.Kept.{Kept}
@@ -97,6 +98,36 @@ plain_fetched Compact f k = tt
 pub plain_quit : (x : Option Pin) → NoTrip (quit_at x)
 plain_quit None = tt
 plain_quit (Some x) = tt
+
+plain_part : (f : PageForm) (k : Kept) → NoTrip (part_at f k)
+plain_part f kept.Empty = plain_made f kept.Empty
+plain_part f (kept.Same w) = plain_made f (kept.Same w)
+plain_part f (kept.Obj o) = tt
+plain_part f (kept.Wb b) = tt
+
+plain_write : (b : Bool) (f : PageForm) (k : Kept) → NoTrip (write_at b f k)
+plain_write true f k = plain_made f k
+plain_write false f k = plain_part f k
+
+plain_seen : (k : Kept) → NoTrip (seen_at k)
+plain_seen kept.Empty = tt
+plain_seen (kept.Same w) = tt
+plain_seen (kept.Obj o) = tt
+plain_seen (kept.Wb b) = tt
+
+plain_discard : (k : Kept) → NoTrip (discard_at k)
+plain_discard kept.Empty = tt
+plain_discard (kept.Same w) = tt
+plain_discard (kept.Obj o) = tt
+plain_discard (kept.Wb b) = tt
+
+pub plain_entered : (op : Op) (page : ℕ) (f : PageForm) (k : Kept) → NoTrip (entered_at op page f k)
+plain_entered (Write start count stuff) page f k = plain_write (has_whole start count page) f k
+plain_entered (Read start count) page f k = plain_seen k
+plain_entered (Discard start count) page f k = plain_discard k
+plain_entered (Idle age) page f k = tt
+plain_entered (Writeback mode) page f k = tt
+plain_entered Compact page f k = tt
 
 -- ---- marks
 
@@ -192,7 +223,7 @@ module _ (g : Begin) (w : State DiskHeld) (a : ℕ) (l : Here) (k : LockNo) (v :
     pub uses : (f : BlockWeigh) → block_uses f m ≡ block_uses f l
     pub written : (b : ℕ) (bytes : List ℕ) → written_at b bytes m ≤ written_at b bytes l
     pub carried : (s b : ℕ) (bytes : List ℕ) → carried_at s b bytes m ≡ carried_at s b bytes l
-    pub carries : (s b : ℕ) → carries m ≡ Some (s, b) → carries l ≡ Some (s, b)
+    pub carrier : (s b : ℕ) → carries m ≡ Some (s, b) → carries l ≡ Some (s, b)
     pub shows : (s b : ℕ) → carries m ≡ Some (s, b)
         → mass (spot g.given.size) (shows_at a s b) none l
         ≤ mass (spot g.given.size) (shows_at a s b) none m + shows_at a s b (spot g.given.size k) v
@@ -209,7 +240,7 @@ module _ (g : Begin) (w : State DiskHeld) (a : ℕ) (l : Here) (k : LockNo) (v :
           let r = j.marks i b bytes in let p = held_nothing g.given.size l.held in
           let q = held_nothing g.given.size m.held in omega arith;
       theirs = λ i y c b there ne is. s.shows i c b ne;
-      mine = λ c b is. let y = j.carriers a l c b who (x.carries c b is) in
+      mine = λ c b is. let y = j.carriers a l c b who (x.carrier c b is) in
           let z = x.shows c b is in omega arith;
     }
 
@@ -218,7 +249,7 @@ module _ (g : Begin) (w : State DiskHeld) (a : ℕ) (l : Here) (k : LockNo) (v :
       uses = λ f. uses_none f m now ∙ sym (uses_none f l was);
       written = λ b bytes. let y = written_none b bytes m now in omega arith;
       carried = λ i b bytes. carried_none i b bytes m now ∙ sym (carried_none i b bytes l was);
-      carries = λ i b is. absurd (let q : None ≡ Some (i, b) = sym (carries_none m now) ∙ is in cc);
+      carrier = λ i b is. absurd (let q : None ≡ Some (i, b) = sym (carries_none m now) ∙ is in cc);
       shows = λ i b is. absurd (let q : None ≡ Some (i, b) = sym (carries_none m now) ∙ is in cc);
     })
 
