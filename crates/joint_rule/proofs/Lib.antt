@@ -10,6 +10,8 @@ pub mod Alikes
 pub mod Stages
 pub mod Apart
 pub mod Places
+pub mod Takings
+pub mod Arrivals
 pub mod Takes
 pub mod Zspages
 pub mod Classes
