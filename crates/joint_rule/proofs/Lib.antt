@@ -16,6 +16,7 @@ pub mod Takes
 pub mod Zspages
 pub mod Classes
 pub mod Calm
+pub mod Visits
 pub mod Events
 pub mod Chosen
 pub mod Balances
