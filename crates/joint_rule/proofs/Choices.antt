@@ -1,4 +1,5 @@
 -- What the call that a giving notes has found, chosen by the page that its piece sees.
+use Rattle.plain_disk.specs.Idles.{may_write}
 use Rattle.std.proofs.Common.{◌≡◌, ◌+◌, ◌*◌, ◌-◌, ◌/◌, ◌<◌, ◌∷◌, ◌++◌, ◌∙◌, ℕ, Bool, true, false, cond, eqb, List, [], Some, None, slice_get, refl, sym, ap, subst, arith, inl, inr, ⊎_elim}
 use Rattle.backing_dev.specs.Dev.{IsHonestDevice}
 use Rattle.bdi_page.specs.Packing.{IsPage}
@@ -59,7 +60,8 @@ module _ (g : Begin) (p : ℕ) (order : List Tag) where
     pub look : Look
     pub sectors : (s : ℕ) (old : List ℕ) → IsSector old → IsSector (look s old)
     pub honest : IsHonestDevice g.device → (s : ℕ) (old : List ℕ) → look s old ≡ old
-    pub held : back_at g p order ≡ false → (s : ℕ) (old : List ℕ) → look s old ≡ old
+    pub held : may_write g.given.backed g.given.actors ≡ false → back_at g p order ≡ false
+        → (s : ℕ) (old : List ℕ) → look s old ≡ old
     pub sees : Sees look p (content g p order) page
 
   -- it sees the page that is held
@@ -68,7 +70,7 @@ module _ (g : Begin) (p : ℕ) (order : List Tag) where
     look = λ s old. old;
     sectors = λ s old i. i;
     honest = λ is s old. refl;
-    held = λ off s old. refl;
+    held = λ none off s old. refl;
     sees = record { each = λ k lt. ap (λ (b : List ℕ). page_sector b k) same };
   }
 
@@ -78,7 +80,8 @@ module _ (g : Begin) (p : ℕ) (order : List Tag) where
     look = look_at p page;
     sectors = λ s old i. look_sector p page s old is i;
     honest = λ on. absurd (may.0 on);
-    held = λ off. absurd (let q : true ≡ false = sym may.1 ∙ off in cc);
+    held = λ none off. absurd (⊎_elim (λ on. let q : true ≡ false = sym on ∙ off in cc)
+        (λ on. let q : true ≡ false = sym on ∙ none in cc) may.1);
     sees = record { each = λ k lt. look_here p page k (page_sector (content g p order) k) lt };
   }
 
@@ -173,8 +176,8 @@ module _ (g : Begin) (ok : Known g) (w : State DiskHeld) (r : Ruled g w) (a : �
 
       -- where the page isn't on the device, the call finds what is held
       finds_so : FindsSo h p e.order t
-      finds_so off sector old = (λ i. changed_here g p.page t s.look i sector old)
-          ∙ s.held off sector old
+      finds_so none off sector old = (λ i. changed_here g p.page t s.look i sector old)
+          ∙ s.held none off sector old
 
       -- the sector from which a write starts
       write_from : (k : ℕ) → k < 8 → h.given.finds p.page t (8 * p.page + k)

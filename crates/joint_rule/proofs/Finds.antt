@@ -1,4 +1,7 @@
 -- The rule of a phase where its calls find something else at tags that stand in no order.
+use Rattle.lock_row.specs.declared.names.Step.{Step}
+use Rattle.lock_row.specs.declared.names.Step.TheVariants as step
+use Rattle.lock_row.specs.declared.names.Trip.{Trip}
 use Rattle.std.proofs.Common.{◌≡◌, ◌+◌, ◌*◌, ◌≤◌, ◌∷◌, ◌∙◌, ◌&&◌, ◌||◌, ℕ, zero, suc, Bool, true, false, cond, eqb, List, [], map, take, Option, Some, None, slice_get, refl, sym, ap, subst, arith, inl, inr}
 use Rattle.backing_dev.specs.Dev.{IsHonestDevice}
 use Rattle.call_history.specs.Alone.{AreMarkedOver, aged_over, each_over, pages_over}
@@ -10,13 +13,13 @@ use Rattle.call_history.specs.declared.part.PartEnd.{PartEnd}
 use Rattle.call_history.specs.declared.part.PartEnd.TheVariants.{AtLimit, Carried, Eio, NoMemory, Whole}
 use Rattle.joint_rule.specs.Alone.{CountsSo, IsAged, IsOnly, aged_at, aged_done, aged_now, scanned_by}
 use Rattle.joint_rule.specs.Begins.{Begin, FindsRight, back_at, content, ever, finding, form_at, form_by, found, found_after, image}
-use Rattle.joint_rule.specs.Joint.{AtHome, EntryFits, IsActor, Backs, Joint, Sound, Stands}
+use Rattle.joint_rule.specs.Joint.{AtHome, EntryFits, IsActor, Backs, Joint, Sound, Stands, Marks}
 use Rattle.joint_rule.specs.Rule.{FailKeeps, KeepsLimits, Most, OfOrder, Ruled, ShowsOrder, dones, reach_at}
-use Rattle.joint_rule.specs.Stages.{FailAt, FailBy, IsFault, IsForm, IsRefusal, MaySeeOther, MayFail, RightAt, ScanAt, Stage, StageBy, StandAt, BlankAt, locks_at, locks_by}
-use Rattle.joint_rule.specs.Weights.{Each, HeldAll, Weigh, claim_by, claims, each_one, ever_at, fetches_noted, lies_at, lies_by, News, news_of, device_faults, fetches_told, fresh_claim, mosts, news_count, none, noted, on_entry, one, told_ahead}
+use Rattle.joint_rule.specs.Stages.{FailAt, FailBy, IsFault, IsForm, IsRefusal, MaySeeOther, MayFail, RightAt, ScanAt, Stage, StageBy, StandAt, BlankAt, locks_at, locks_by, BackAt, HasEvicted, HasMarks, HasWon, IsBack, IsCopied, IsPooled, IsQuit, MarkAt, MayQuit, QuitAt, StepAt, VisitAt, VisitsObject, VisitsPage, visit_locks}
+use Rattle.joint_rule.specs.Weights.{Each, HeldAll, Weigh, claim_by, claims, each_one, ever_at, fetches_noted, lies_at, lies_by, News, news_of, device_faults, fetches_told, fresh_claim, mosts, news_count, none, noted, on_entry, one, told_ahead, mark_at, mark_by, written_at}
 use Rattle.lock_row.specs.Totals.{held_sum, locals_sum, mass, row_sum, total}
 use Rattle.lock_row.specs.declared.names.At.{At}
-use Rattle.lock_row.specs.declared.names.At.TheVariants.{Counting, Failing, Leaving, Made, Marking, Missed, Pinned, Unpinning}
+use Rattle.lock_row.specs.declared.names.At.TheVariants.{Counting, Failing, Leaving, Made, Marking, Missed, Pinned, Unpinning, Start, Refusing, Owing, Giving, Ready, Scanning, Visiting, Sweeping, Moving, Shrunk, Shrinking}
 use Rattle.lock_row.specs.declared.names.LockNo.{LockNo}
 use Rattle.lock_row.specs.declared.names.Object.{Object}
 use Rattle.lock_row.specs.declared.names.Pin.{Pin}
@@ -200,6 +203,15 @@ module _ (g : Begin) (finds : ℕ → Finds) where
   lies_alike b bytes = entry_alike _ _
       (λ p k order a. ap (lies_by b bytes k) (content_alike p order a))
 
+  mark_alike : (s b : ℕ) (bytes : List ℕ) (p : ℕ) (v : DiskHeld) → Own p v
+      → mark_at g s b bytes p v ≡ mark_at h s b bytes p v
+  mark_alike s b bytes p (holds.Slot x) a =
+      ap (mark_by s b bytes p x.under) (content_alike p x.order a)
+  mark_alike s b bytes p (holds.Class x) a = refl
+  mark_alike s b bytes p (holds.Account x) a = refl
+  mark_alike s b bytes p (holds.Blocks x) a = refl
+  mark_alike s b bytes p (holds.Device x) a = refl
+
   evers_alike : (p : ℕ) (v : DiskHeld) → Own p v → ever_at g p v ≡ ever_at h p v
   evers_alike = entry_alike _ _ (λ p k order a. ever_alike p order a)
 
@@ -214,7 +226,7 @@ module _ (g : Begin) (finds : ℕ → Finds) where
     page = f.page;
     calls = f.calls;
     touched = f.touched;
-    mark = record { under = f.mark.under; stays = f.mark.stays; only = f.mark.only };
+    mark = f.mark;
     small = f.small;
   }
 
@@ -233,19 +245,33 @@ module _ (g : Begin) (finds : ℕ → Finds) where
   stands_alike p (holds.Blocks x) a s = tt
   stands_alike p (holds.Device x) a s = tt
 
+  back_alike : (k : Kept) (back : Bool) → IsBack g k back → IsBack h k back
+  back_alike k back s = record { there = s.there; only = s.only }
+
+  has_alike : (p : ℕ) (e : EntryState) → HasMarks g p e → HasMarks h p e
+  has_alike p e s =
+      record { idle_one = s.idle_one; under_one = s.under_one; stays = s.stays }
+
   home_alike : (p : ℕ) (v : DiskHeld) → Own p v → AtHome g p v → AtHome h p v
   home_alike p v a x = record {
     sound = sound_alike p v x.sound;
     stands = stands_alike p v a x.stands;
     backs = backs_alike p v x.backs;
-    marks = x.marks;
+    marks = marked_alike p v x.marks;
   } where
     backs_alike : (p : ℕ) (v : DiskHeld) → Backs g p v → Backs h p v
-    backs_alike p (holds.Slot e) s = s
+    backs_alike p (holds.Slot e) s = back_alike e.kept (back_at g p e.order) s
     backs_alike p (holds.Class x) s = s
     backs_alike p (holds.Account x) s = s
     backs_alike p (holds.Blocks x) s = s
     backs_alike p (holds.Device x) s = s
+
+    marked_alike : (p : ℕ) (v : DiskHeld) → Marks g p v → Marks h p v
+    marked_alike p (holds.Slot e) s = has_alike p e s
+    marked_alike p (holds.Class x) s = s
+    marked_alike p (holds.Account x) s = s
+    marked_alike p (holds.Blocks x) s = s
+    marked_alike p (holds.Device x) s = s
 
   -- ---- actors
 
@@ -273,6 +299,23 @@ module _ (g : Begin) (finds : ℕ → Finds) where
   fault_alike p (Some (Eio fault)) f = f
   fault_alike p x f = f
 
+  is_quit_alike : (p : Part) (y : Trip) (x : Option PartEnd) → IsQuit g p y x → IsQuit h p y x
+  is_quit_alike p y (Some (Whole end)) f = f
+  is_quit_alike p y x f = f
+
+  may_quit_alike : (p : Part) (y : Trip) (x : Option PartEnd) → MayQuit g p y x → MayQuit h p y x
+  may_quit_alike p y None f = f
+  may_quit_alike p y (Some x) f = is_quit_alike p y (Some x) f
+
+  quit_alike : (p : Part) (s : Step) (y : Trip) (x : Option PartEnd) → QuitAt g p s y x
+      → QuitAt h p s y x
+  quit_alike p step.Quitting y x f = is_quit_alike p y x f
+  quit_alike p step.Landing y x f = may_quit_alike p y x f
+  quit_alike p step.Losing y x f = may_quit_alike p y x f
+  quit_alike p step.Undoing y x f = may_quit_alike p y x f
+  quit_alike p step.Releasing y x f = may_quit_alike p y x f
+  quit_alike p s y x f = f
+
   fail_alike : (p : Part) (at : At) (op : Op) (x : Option PartEnd) → FailAt g p at op x
       → FailAt h p at op x
   fail_alike p Pinned op x f = by_alike p op x f
@@ -282,11 +325,13 @@ module _ (g : Begin) (finds : ℕ → Finds) where
   fail_alike p Counting op x f = fault_alike p x f
   fail_alike p Missed op x f = fault_alike p x f
   fail_alike p Made op x f = may_alike p x f
+  fail_alike p (Visiting s y) op x f = quit_alike p s y x f
   fail_alike p at op x f = f
 
   -- the page at which a stage is
   abbrev page_of : Part → At → ℕ
   page_of p (Marking x) = x.page
+  page_of p (Visiting s x) = x.page
   page_of p at = p.page
 
   scan_alike : (p : Part) (at : At) (e : EntryState) → Alike (page_of p at) e.order → ScanAt g at e
@@ -294,15 +339,106 @@ module _ (g : Begin) (finds : ℕ → Finds) where
   scan_alike p (Marking x) e a s = record {
     scan = s.scan;
     stands = subst (λ (f : PageForm). IsForm g.chain f e.kept) (form_alike x.page e.order a) s.stands;
-    backs = s.backs;
-    marks = s.marks;
+    backs = back_alike e.kept (back_at g x.page e.order) s.backs;
+    marks = has_alike x.page e s.marks;
   }
   scan_alike p at e a s = s
+
+  page_alike : (x : Trip) (e : EntryState) → Alike x.page e.order → VisitsPage g x e
+      → VisitsPage h x e
+  page_alike x e a s = record {
+    stands = subst (λ (f : PageForm). IsForm g.chain f e.kept) (form_alike x.page e.order a) s.stands;
+    backs = back_alike e.kept (back_at g x.page e.order) s.backs;
+    marks = has_alike x.page e s.marks;
+  }
+
+  object_alike : (x : Trip) (e : EntryState) → Alike x.page e.order → VisitsObject g x e
+      → VisitsObject h x e
+  object_alike x e a s =
+      record { page = page_alike x e a s.page; object = s.object; clear = s.clear }
+
+  copied_alike : (x : Trip) (e : EntryState) (page : Option (List ℕ)) → Alike x.page e.order
+      → IsCopied page (content g x.page e.order) → IsCopied page (content h x.page e.order)
+  copied_alike x e page a s = subst (IsCopied page) (content_alike x.page e.order a) s
+
+  won_alike : (x : Trip) (e : EntryState) → Alike x.page e.order → HasWon g x e → HasWon h x e
+  won_alike x e a s = record { page = page_alike x e a s.page; object = s.object; mark = s.mark }
+
+  evicted_alike : (x : Trip) (e : EntryState) → Alike x.page e.order → HasEvicted g x e
+      → HasEvicted h x e
+  evicted_alike x e a s = record {
+    gone = s.gone;
+    pooled = subst IsPooled (form_alike x.page e.order a) s.pooled;
+    mark = s.mark;
+  }
+
+  module _ (x : Trip) (e : EntryState) (page : Option (List ℕ)) (fail : Option PartEnd)
+      (a : Alike x.page e.order) where
+    step_alike : (s : Step) → StepAt g s x e page fail → StepAt h s x e page fail
+    step_alike step.Passing i = (page_alike x e a i.0, i.1, i.2)
+    step_alike step.Asking i = (object_alike x e a i.0, i.1, i.2)
+    step_alike step.Reserving i = (object_alike x e a i.0, i.1, i.2)
+    step_alike step.Quitting i = (object_alike x e a i.0, i.1, i.2)
+    step_alike step.Seen i = (object_alike x e a i.0, i.1, i.2)
+    step_alike step.Pinning i = (object_alike x e a i.0, i.1, i.2)
+    step_alike step.Pinned i = (object_alike x e a i.0, i.1, copied_alike x e page a i.2)
+    step_alike step.Unpinning i = (object_alike x e a i.0, i.1, copied_alike x e page a i.2)
+    step_alike step.Marking i = (object_alike x e a i.0, i.1, copied_alike x e page a i.2)
+    step_alike step.Won i = (won_alike x e a i.0, i.1, i.2)
+    step_alike step.Freeing i = (won_alike x e a i.0, i.1, i.2)
+    step_alike step.Backing i = (evicted_alike x e a i.0, i.1, i.2)
+    step_alike step.Committing i = (evicted_alike x e a i.0, i.1, i.2)
+    step_alike step.Owing i = (evicted_alike x e a i.0, i.1, i.2)
+    step_alike step.Paying i = (evicted_alike x e a i.0, i.1, i.2)
+    step_alike step.Putting i = (evicted_alike x e a i.0, i.1, i.2)
+    step_alike step.Losing i =
+        (record { page = page_alike x e a i.0.page; gone = i.0.gone }, i.1, i.2)
+    step_alike s i = i
+
+  visit_alike : (p : Part) (at : At) (e : EntryState) (page : Option (List ℕ))
+      (fail : Option PartEnd) → Alike (page_of p at) e.order → VisitAt g at e page fail
+      → VisitAt h at e page fail
+  visit_alike p (Visiting s x) e page fail a i = record {
+    trip = record { page = i.trip.page; few = i.trip.few };
+    step = step_alike x e page fail a s i.step;
+  }
+  visit_alike p at e page fail a i = i
+
+  backs_by : (at : At) (k : Kept) (back : Bool) → BackAt g at k back → BackAt h at k back
+  backs_by Start k back s = tt
+  backs_by Refusing k back s = tt
+  backs_by Owing k back s = tt
+  backs_by Giving k back s = tt
+  backs_by Ready k back s = tt
+  backs_by (Scanning x) k back s = tt
+  backs_by (Marking x) k back s = tt
+  backs_by (Visiting t x) k back s = tt
+  backs_by (Sweeping x) k back s = tt
+  backs_by (Moving x) k back s = tt
+  backs_by (Shrunk x) k back s = tt
+  backs_by (Shrinking x) k back s = tt
+  backs_by at k back s = back_alike k back s
+
+  marks_by : (at : At) (p : ℕ) (e : EntryState) → MarkAt g at p e → MarkAt h at p e
+  marks_by Start p e s = tt
+  marks_by Refusing p e s = tt
+  marks_by Owing p e s = tt
+  marks_by Giving p e s = tt
+  marks_by Ready p e s = tt
+  marks_by (Scanning x) p e s = tt
+  marks_by (Marking x) p e s = tt
+  marks_by (Visiting t x) p e s = tt
+  marks_by (Sweeping x) p e s = tt
+  marks_by (Moving x) p e s = tt
+  marks_by (Shrunk x) p e s = tt
+  marks_by (Shrinking x) p e s = tt
+  marks_by at p e s = has_alike p e s
 
   stands_by : (p : Part) (at : At) (e : EntryState) → Alike (page_of p at) e.order
       → StandAt g.chain at (form_at g p.page e.order) e.kept
       → StandAt h.chain at (form_at h p.page e.order) e.kept
   stands_by p (Marking x) e a s = tt
+  stands_by p (Visiting t x) e a s = tt
   stands_by p at e a s = subst (λ (f : PageForm). StandAt g.chain at f e.kept)
       (form_alike p.page e.order a) s
 
@@ -311,6 +447,7 @@ module _ (g : Begin) (finds : ℕ → Finds) where
       → BlankAt at p.op x (found_after g p.page e.order).blank
       → BlankAt at p.op x (found_after h p.page e.order).blank
   blank_by p (Marking x) e y a s = tt
+  blank_by p (Visiting t x) e y a s = tt
   blank_by p at e y a s = subst (λ (f : Found). BlankAt at p.op y f.blank)
       (found_alike p.page e.order a) s
 
@@ -319,6 +456,7 @@ module _ (g : Begin) (finds : ℕ → Finds) where
       → RightAt (MaySeeOther g p.page e.order) at p.op p.page x page (content g p.page e.order)
       → RightAt (MaySeeOther h p.page e.order) at p.op p.page x page (content h p.page e.order)
   right_by p (Marking y) e x page a r = r
+  right_by p (Visiting t y) e x page a r = r
   right_by p at e x page a r =
       subst (λ (was : List ℕ). RightAt (MaySeeOther g p.page e.order) at p.op p.page x page was)
       (content_alike p.page e.order a) r
@@ -335,8 +473,8 @@ module _ (g : Begin) (finds : ℕ → Finds) where
         pins = s.pins;
         owes = s.owes;
         stands = stands_by p at e a s.stands;
-        backs = s.backs;
-        marks = s.marks;
+        backs = backs_by at e.kept _ s.backs;
+        marks = marks_by at p.page e s.marks;
         partly = s.partly;
         right = right_by p at e page _ a s.right;
         counts = s.counts;
@@ -344,7 +482,7 @@ module _ (g : Begin) (finds : ℕ → Finds) where
         fails = fail_alike p at p.op fail s.fails;
         begun = s.begun;
         scans = scan_alike p at e a s.scans;
-        visits = tt;
+        visits = visit_alike p at e page fail a s.visits;
         compacts = s.compacts;
       }
 
@@ -353,9 +491,25 @@ module _ (g : Begin) (finds : ℕ → Finds) where
   SlotIs q (lock.Slot s) = s.0 ≡ q
   SlotIs q k = ⊤
 
+  visit_slots : (s : Step) (x : Trip) (c : ℕ) → AllByRecursion (SlotIs x.page) (visit_locks s x c)
+  visit_slots step.Arriving x c = tt
+  visit_slots step.Reserving x c = (tt, refl, tt)
+  visit_slots step.Pinning x c = (tt, refl, tt)
+  visit_slots step.Unpinning x c = (tt, refl, tt)
+  visit_slots step.Flying x c = tt
+  visit_slots step.Storing x c = (tt, tt)
+  visit_slots step.Landing x c = tt
+  visit_slots step.Freeing x c = (tt, refl, tt)
+  visit_slots step.Committing x c = (tt, refl, tt)
+  visit_slots step.Paying x c = (tt, refl, tt)
+  visit_slots step.Undoing x c = tt
+  visit_slots step.Releasing x c = (tt, tt)
+  visit_slots s x c = (refl, tt)
+
   slots_are : (p : Part) (at : At) (c d : ℕ)
       → AllByRecursion (SlotIs (page_of p at)) (locks_at at p c d)
   slots_are p (Marking x) c d = (refl, tt)
+  slots_are p (Visiting s x) c d = visit_slots s x c
   slots_are p at c d = search
 
   one_alike : (q : ℕ) (k : LockNo) (v : DiskHeld) (d : EntryState) → SlotIs q k
@@ -437,8 +591,8 @@ module _ (g : Begin) (finds : ℕ → Finds) where
     shows = subst (λ (page : List ℕ). ShowsPage h.given (dones ls) p page order)
         (content_alike p order al)
         (shows_alike (dones ls) p (content g p order) order al s.shows);
-    finds = λ at t e back sector old.
-        sym (λ i. alike_at p order at t e al i sector old) ∙ s.finds at t e back sector old;
+    finds = λ none at t e back sector old.
+        sym (λ i. alike_at p order at t e al i sector old) ∙ s.finds none at t e back sector old;
     spare = s.spare;
     few = s.few;
   }
@@ -535,12 +689,12 @@ module _ (g : Begin) (finds : ℕ → Finds) where
   only_alike w l own who all o = record {
     still = o.still;
     calm = λ is. let c = o.calm is in record { tight = c.tight; few = c.few };
-    ages = record {
-      marks = marks_alike l.done (aged_at g) all o.ages.marks;
-      counts = counts_alike l.todo l.at l.done all o.ages.counts;
-      home = λ p v e. aged_alike l all p v (own.in_row p v e) (o.ages.home p v e);
+    ages = λ none. let ages = o.ages none in record {
+      marks = marks_alike l.done (aged_at g) all ages.marks;
+      counts = counts_alike l.todo l.at l.done all ages.counts;
+      home = λ p v e. aged_alike l all p v (own.in_row p v e) (ages.home p v e);
       hand = held_both g.given.size Own (IsAged g l) (IsAged h l) (aged_alike l all) l.held
-          (own.in_local 0 l who) o.ages.hand;
+          (own.in_local 0 l who) ages.hand;
     };
     sweeps = λ x e. let s = o.sweeps x e in record {
       tight = s.tight;
@@ -579,8 +733,11 @@ module _ (g : Begin) (finds : ℕ → Finds) where
           ∙ j.owners f;
       blocks = j.blocks;
       size = j.size;
-      disk = λ b bytes some. let e = sums (lies_at g b bytes) (lies_at h b bytes) none
-          (lies_alike b bytes) in j.disk b bytes (omega arith);
+      disk = λ b bytes some. let e = sums (lies_at g b bytes) (lies_at h b bytes)
+          (written_at b bytes) (lies_alike b bytes) in j.disk b bytes (omega arith);
+      marks = λ s b bytes. let e = sums (mark_at g s b bytes) (mark_at h s b bytes) none
+          (mark_alike s b bytes) in let r = j.marks s b bytes in omega arith;
+      carriers = j.carriers;
       pins = j.pins;
       frames = j.frames;
       stays = j.stays;
@@ -621,6 +778,8 @@ module _ (g : Begin) (finds : ℕ → Finds) where
       faults = r.faults;
       fetches = let e = sums (fetches_noted g) (fetches_noted h) fetches_told fetches_alike in
           let f = r.fetches in omega arith;
+      writes = r.writes;
+      back = r.back;
       alone = λ l e. only_alike w l own (ap (λ (ls : List Here). slice_get ls 0) e) (over l e)
           (r.alone l e);
     }

@@ -10,7 +10,7 @@ use Rattle.joint_rule.proofs.Pools.{bit, pick, same_is, same_lists, same_self}
 use Rattle.joint_rule.proofs.Sums.{held_nothing, locals_le, locals_two, row_nothing, some_local, total_mono}
 use Rattle.joint_rule.specs.Begins.{Begin, content}
 use Rattle.joint_rule.specs.Joint.{Joint, Sound}
-use Rattle.joint_rule.specs.Weights.{BlockWeigh, at_place, block_claims, block_uses, carried_at, carried_by, carries, carries_at, device_size, foreign, is_carrying, lies_at, map_size, mark_at, mark_by, marks_of, none, nothing, pair, same, same_bytes, shows_at, stored_at, use_at, use_by, use_in, used_blocks, used_from, written_at, written_by}
+use Rattle.joint_rule.specs.Weights.{BlockWeigh, at_place, block_claims, block_uses, carried_at, carried_by, carries, carries_at, device_size, foreign, is_carrying, lies_at, map_size, mark_at, mark_by, marks_of, none, nothing, pair, same, same_bytes, shows_at, stored_at, use_at, use_by, use_in, used_blocks, used_from, written_at, written_by, is_written}
 use Rattle.lock_row.specs.Totals.{by_option, held_sum, locals_sum, mass, total}
 use Rattle.lock_row.specs.declared.names.At.{At}
 use Rattle.lock_row.specs.declared.names.At.TheVariants.{Visiting}
@@ -24,7 +24,7 @@ use Rattle.page_steps.specs.Steps.{DiskHeld, Here, fetched_at, made_at, pinned_a
 use Rattle.slot_entry.specs.Entries.{EntryState}
 use Rattle.slot_entry.specs.Forms.{Blank, PageForm, Pooled, Word, same_list}
 use Rattle.slot_entry.specs.declared.kept.Kept.{Kept}
-use Rattle.std.proofs.lemmas.Bool.{and_parts, cases_Bool, eqb-true}
+use Rattle.std.proofs.lemmas.Bool.{and_parts, cases_Bool, eqb-true, and_right}
 use Rattle.zr_base.specs.declared.op.Op.{Op}
 use Rattle.zr_base.specs.declared.op.Op.TheVariants.{Compact, Discard, Idle, Read, Write, Writeback}
 use Rattle.zr_base.specs.declared.op.Tag.{Tag}
@@ -67,6 +67,68 @@ carries_none l i = by_at l.at i where
   by_at : (at : At) → NoTrip at → carries_at at ≡ None
   by_at (Visiting s x) i = absurd i
   by_at at i = refl
+
+-- An actor has no block, and carries nothing.
+pub record SaysNone (l : Here) : Type 0 where
+  pub uses : (f : BlockWeigh) → block_uses f l ≡ 0
+  pub written : (b : ℕ) (bytes : List ℕ) → written_at b bytes l ≡ 0
+  pub carried : (i b : ℕ) (bytes : List ℕ) → carried_at i b bytes l ≡ 0
+  pub carries : carries l ≡ None
+
+pub plain_says : (l : Here) → NoTrip l.at → SaysNone l
+plain_says l i = record {
+  uses = λ f. uses_none f l i;
+  written = λ b bytes. written_none b bytes l i;
+  carried = λ s b bytes. carried_none s b bytes l i;
+  carries = carries_none l i;
+}
+
+-- at these steps it has none
+abbrev pub IsBare : Step → Type 0
+IsBare step.Arriving = ⊤
+IsBare step.Passing = ⊤
+IsBare step.Reserving = ⊤
+IsBare step.Quitting = ⊤
+IsBare s = ⊥
+
+bare_uses : (f : BlockWeigh) (s : Step) (x : Trip) → IsBare s → use_at f s x ≡ 0
+bare_uses f step.Arriving x i = refl
+bare_uses f step.Passing x i = refl
+bare_uses f step.Reserving x i = refl
+bare_uses f step.Quitting x i = refl
+bare_uses f s x i = absurd i
+
+bare_carries : (s : Step) → IsBare s → is_carrying s ≡ false
+bare_carries step.Arriving i = refl
+bare_carries step.Passing i = refl
+bare_carries step.Reserving i = refl
+bare_carries step.Quitting i = refl
+bare_carries s i = absurd i
+
+-- what isn't carried
+module _ (l : Here) (s : Step) (x : Trip) (at : l.at ≡ Visiting s x)
+    (off : is_carrying s ≡ false) where
+  pub idle_written : (b : ℕ) (bytes : List ℕ) → written_at b bytes l ≡ 0
+  idle_written b bytes = cond_none (is_none l.fail) (written_by b bytes l.at l.page)
+      (ap (λ (i : At). written_by b bytes i l.page) at
+      ∙ ap (λ (c : Bool). cond c (pair b bytes x.block l.page) 0)
+      (ap (λ (c : Bool). is_written s && c) off ∙ and_right (is_written s) false refl))
+
+  pub idle_carried : (i b : ℕ) (bytes : List ℕ) → carried_at i b bytes l ≡ 0
+  idle_carried i b bytes = ap (λ (c : At). carried_by i b bytes c l.page) at
+      ∙ ap (λ (c : Bool). cond (c && (i == x.page)) (pair b bytes x.block l.page) 0) off
+
+  pub idle_carries : carries l ≡ None
+  idle_carries = ap carries_at at
+      ∙ ap (λ (c : Bool). cond c (option_map (λ b. (x.page, b)) x.block) None) off
+
+pub bare_says : (l : Here) (s : Step) (x : Trip) → l.at ≡ Visiting s x → IsBare s → SaysNone l
+bare_says l s x at i = record {
+  uses = λ f. ap (use_in f) at ∙ bare_uses f s x i;
+  written = idle_written l s x at (bare_carries s i);
+  carried = idle_carried l s x at (bare_carries s i);
+  carries = idle_carries l s x at (bare_carries s i);
+}
 
 pub plain_settle : (k : Kept) → NoTrip (settle_at k)
 plain_settle kept.Empty = tt
@@ -218,9 +280,25 @@ module _ (g : Begin) (w : State DiskHeld) (a : ℕ) (l : Here) (k : LockNo) (v :
         < total (spot g.given.size) (shows_at a s b) none w
         + mass (spot g.given.size) (shows_at a s b) none m + shows_at a s b (spot g.given.size k) v
 
-  -- what the actor says of blocks and marks is as before, or it says less of what it has written
-  pub record IsAlike : Type 0 where
-    pub uses : (f : BlockWeigh) → block_uses f m ≡ block_uses f l
+  -- Blocks aside, a giving changes nothing of blocks, marks and the device.
+  pub record Steady : Type 0 where
+    pub maps : Same g a l k v m map_size
+    pub devices : Same g a l k v m device_size
+    pub lies : (b : ℕ) (bytes : List ℕ)
+        → mass (spot g.given.size) (lies_at g b bytes) none m
+        + lies_at g b bytes (spot g.given.size k) v
+        ≤ mass (spot g.given.size) (lies_at g b bytes) none l
+    pub stored : (b : ℕ) (bytes : List ℕ) → Same g a l k v m (stored_at b bytes)
+    pub marks : (s b : ℕ) (bytes : List ℕ)
+        → mass (spot g.given.size) (mark_at g s b bytes) none m
+        + mark_at g s b bytes (spot g.given.size k) v
+        ≤ mass (spot g.given.size) (mark_at g s b bytes) none l
+    pub shows : (i s b : ℕ) → i ≢ a → mass (spot g.given.size) (shows_at i s b) none l
+        ≤ mass (spot g.given.size) (shows_at i s b) none m + shows_at i s b (spot g.given.size k) v
+
+  -- What the actor says of marks and of the device is as before, or it says less of what it has
+  -- written.
+  pub record IsKept : Type 0 where
     pub written : (b : ℕ) (bytes : List ℕ) → written_at b bytes m ≤ written_at b bytes l
     pub carried : (s b : ℕ) (bytes : List ℕ) → carried_at s b bytes m ≡ carried_at s b bytes l
     pub carrier : (s b : ℕ) → carries m ≡ Some (s, b) → carries l ≡ Some (s, b)
@@ -228,10 +306,15 @@ module _ (g : Begin) (w : State DiskHeld) (a : ℕ) (l : Here) (k : LockNo) (v :
         → mass (spot g.given.size) (shows_at a s b) none l
         ≤ mass (spot g.given.size) (shows_at a s b) none m + shows_at a s b (spot g.given.size k) v
 
+  -- the changes of the map are those of the blocks that pages and actors have
+  abbrev pub BlocksMove : Type 0
+  BlocksMove = (f : BlockWeigh)
+      → Balanced g l k v m (block_claims f) (block_uses f) (used_blocks f) none
+
   module _ (j : Joint g w) (who : slice_get w.locals a ≡ Some l) where
-    pub alike_storage : Still g a l k v m → IsAlike → Storage
-    alike_storage s x = record {
-      blocks = λ f. let y = s.blocks f in let z = x.uses f in omega arith;
+    pub steady_storage : BlocksMove → Steady → IsKept → Storage
+    steady_storage blocks s x = record {
+      blocks = blocks;
       maps = s.maps;
       devices = s.devices;
       disk = λ b bytes lt. let y = s.lies b bytes in let z = x.written b bytes in
@@ -244,14 +327,30 @@ module _ (g : Begin) (w : State DiskHeld) (a : ℕ) (l : Here) (k : LockNo) (v :
           let z = x.shows c b is in omega arith;
     }
 
-    pub still_storage : Still g a l k v m → NoTrip l.at → NoTrip m.at → Storage
-    still_storage s was now = alike_storage s (record {
-      uses = λ f. uses_none f m now ∙ sym (uses_none f l was);
-      written = λ b bytes. let y = written_none b bytes m now in omega arith;
-      carried = λ i b bytes. carried_none i b bytes m now ∙ sym (carried_none i b bytes l was);
-      carrier = λ i b is. absurd (let q : None ≡ Some (i, b) = sym (carries_none m now) ∙ is in cc);
-      shows = λ i b is. absurd (let q : None ≡ Some (i, b) = sym (carries_none m now) ∙ is in cc);
+    pub alike_storage : Still g a l k v m → ((f : BlockWeigh) → block_uses f m ≡ block_uses f l)
+        → IsKept → Storage
+    alike_storage s uses x = steady_storage
+        (λ f. let y = s.blocks f in let z = uses f in omega arith)
+        (record {
+          maps = s.maps;
+          devices = s.devices;
+          lies = s.lies;
+          stored = s.stored;
+          marks = s.marks;
+          shows = s.shows;
+        }) x
+
+    -- where it says nothing, before and after
+    pub none_storage : Still g a l k v m → SaysNone l → SaysNone m → Storage
+    none_storage s was now = alike_storage s (λ f. now.uses f ∙ sym (was.uses f)) (record {
+      written = λ b bytes. let y = now.written b bytes in omega arith;
+      carried = λ i b bytes. now.carried i b bytes ∙ sym (was.carried i b bytes);
+      carrier = λ i b is. absurd (let q : None ≡ Some (i, b) = sym now.carries ∙ is in cc);
+      shows = λ i b is. absurd (let q : None ≡ Some (i, b) = sym now.carries ∙ is in cc);
     })
+
+    pub still_storage : Still g a l k v m → NoTrip l.at → NoTrip m.at → Storage
+    still_storage s was now = none_storage s (plain_says l was) (plain_says m now)
 
     -- where the actor's stage was this one of no writeback
     pub quiet_storage : (at : At) → l.at ≡ at → NoTrip at → NoTrip m.at → Still g a l k v m
