@@ -1,6 +1,7 @@
 -- The account's counters of refusals: each giving raises them by what its actor tells then.
+use Rattle.joint_rule.proofs.Alikes.{visited_is}
 use Rattle.std.proofs.Common.{◌≡◌, ◌+◌, ◌≤◌, ◌∷◌, ◌∙◌, ℕ, zero, suc, List, [], Option, Some, None, slice_get, slice_set, refl, sym, ap, subst, arith}
-use Rattle.slot_entry.specs.Entries.{is_new_mark}
+use Rattle.slot_entry.specs.Entries.{is_new_mark, EntryState}
 use Rattle.page_steps.specs.Scans.{with_page}
 use Rattle.call_history.specs.Parts.{done_sum, left_by, piece_gives}
 use Rattle.call_history.specs.declared.part.Part.{Part}
@@ -19,7 +20,7 @@ use Rattle.joint_rule.specs.Stages.{FailAt, IsFault, IsWrite, Looks, NoneOf, Sta
 use Rattle.joint_rule.specs.Weights.{FailedReads, FailedWrites, OutOfRange, Refusal, fails_so, none, on_account, refusal_count, refusal_counter, refusal_of, refusals, refused_by}
 use Rattle.lock_row.specs.Totals.{by_option, held_sum, locals_sum, mass, total}
 use Rattle.lock_row.specs.declared.names.At.{At}
-use Rattle.lock_row.specs.declared.names.At.TheVariants.{Both, Counting, Failing, Fetching, Freeing, Giving, Leaving, Made, Missed, Moving, Pinning, Ready, Refusing, Releasing, Shrinking, Start, Unpinning, Marking}
+use Rattle.lock_row.specs.declared.names.At.TheVariants.{Both, Counting, Failing, Fetching, Freeing, Giving, Leaving, Made, Missed, Moving, Pinning, Ready, Refusing, Releasing, Shrinking, Start, Unpinning, Marking, Visiting}
 use Rattle.lock_row.specs.declared.names.Compaction.{Compaction}
 use Rattle.lock_row.specs.declared.names.LockNo.{LockNo}
 use Rattle.lock_row.specs.declared.names.Object.{Object}
@@ -40,6 +41,7 @@ use Rattle.zr_base.specs.declared.op.Op.{Op}
 use Rattle.zr_base.specs.declared.op.Op.TheVariants.{Compact, Discard, Idle, Read, Write, Writeback}
 use Rattle.zr_base.specs.declared.op.OpEnd.{OpEnd}
 use Rattle.joint_rule.proofs.Events as event
+use Rattle.joint_rule.proofs.Courses as course
 use Rattle.lock_row.specs.declared.names.LockNo.TheVariants as lock
 use Rattle.lock_row.specs.declared.names.Held.TheVariants as holds
 use Rattle.mem_account.specs.declared.weight.Delta.TheVariants as delta
@@ -168,16 +170,18 @@ speaks_moved (suc n) x = tt
 
 -- a taking tells nothing
 refused_after : (g : Begin) (q : Refusal) (at : At) (p : Part) (ps : List Part) (f : PageForm)
-    (k : Kept) (x : Option PartEnd) → FailAt g p at p.op x
-    → refused_by q (after_take g.given.size at p f k) (p ∷ ps) x ≡ refused_by q at (p ∷ ps) x
+    (k : EntryState) (x : Option PartEnd) → FailAt g p at p.op x
+    → refused_by q (after_take g.given.size at p f k x) (p ∷ ps) x ≡ refused_by q at (p ∷ ps) x
 refused_after g q Start p ps f k x i =
     refused_no q (begun_at (is_maintenance p.op) (is_beyond g.given.size p.op) p f k) (p ∷ ps) x i
     ∙ sym (refused_no q Start (p ∷ ps) x i)
+refused_after g q (Visiting s y) p ps f k x i =
+    ap (λ (at : At). refused_by q at (p ∷ ps) x) (visited_is s y p.op k x).2
 refused_after g q at p ps f k x i = refl
 
 refused_taken : (g : Begin) (q : Refusal) (l : Here) (v : DiskHeld) (ps : List Part)
     → StageBy g ps (entry_in l.held) l.at l.fresh l.pin l.owed l.ahead l.behind l.page l.fail
-    → refused_by q (taken_at g.given.size ps l.at l.page (entry_or v (entry_in l.held)).kept) ps
+    → refused_by q (taken_at g.given.size ps l.at l.page (entry_or v (entry_in l.held)) l.fail) ps
     l.fail ≡ refused_by q l.at ps l.fail
 refused_taken g q l v [] s = refl
 refused_taken g q l v (p ∷ ps) s = refused_after g q l.at p ps _ _ l.fail s.fails
@@ -368,7 +372,83 @@ module _ (g : Begin) (ok : Known g) (w : State DiskHeld) (j : Joint g w) (a : �
       let s : fails_so (refusal_of q) l.todo l.fail ≡ piece_gives (refusal_of q) p.op (Eio fault) =
       (λ i. fails_so (refusal_of q) (todo i) (fail i)) in omega arith
 
-  pub refuses_of : (q : Refusal) → Event g l v m → Refuses q v m
+  -- an end of a writeback is no refusal
+  trip_gives : (q : Refusal) (op : Op) (end : OpEnd) → IsTripEnd end
+      → piece_gives (refusal_of q) op (Whole end) ≡ 0
+  trip_gives q op (ends.Written wrote lost) i = by_kind q where
+    by_kind : (q : Refusal) → refusal_of q op (ends.Written wrote lost) ≡ 0
+    by_kind FailedReads = read_none op where
+      read_none : (o : Op) → failed_read o (ends.Written wrote lost) ≡ 0
+      read_none (Read start count) = refl
+      read_none o = refl
+    by_kind FailedWrites = write_none op where
+      write_none : (o : Op) → failed_write o (ends.Written wrote lost) ≡ 0
+      write_none (Write start count stuff) = refl
+      write_none o = refl
+    by_kind OutOfRange = refl
+  trip_gives FailedReads (Read start count) (ends.Budget wrote lost) i = refl
+  trip_gives FailedReads op (ends.Budget wrote lost) i = refl
+  trip_gives FailedWrites (Write start count stuff) (ends.Budget wrote lost) i = refl
+  trip_gives FailedWrites op (ends.Budget wrote lost) i = refl
+  trip_gives OutOfRange op (ends.Budget wrote lost) i = refl
+  trip_gives FailedReads (Read start count) (ends.NoBlock wrote lost) i = refl
+  trip_gives FailedReads op (ends.NoBlock wrote lost) i = refl
+  trip_gives FailedWrites (Write start count stuff) (ends.NoBlock wrote lost) i = refl
+  trip_gives FailedWrites op (ends.NoBlock wrote lost) i = refl
+  trip_gives OutOfRange op (ends.NoBlock wrote lost) i = refl
+  trip_gives FailedReads (Read start count) (ends.WriteEio fault wrote lost) i = refl
+  trip_gives FailedReads op (ends.WriteEio fault wrote lost) i = refl
+  trip_gives FailedWrites (Write start count stuff) (ends.WriteEio fault wrote lost) i = refl
+  trip_gives FailedWrites op (ends.WriteEio fault wrote lost) i = refl
+  trip_gives OutOfRange op (ends.WriteEio fault wrote lost) i = refl
+  trip_gives q op end i = absurd i
+
+  -- a giving of a writeback tells no refusal
+  visit_refuses : (q : Refusal) (c : IsCourse g l v m) → Weighs g ok w j a l who v m k
+      → Refuses q v m
+  visit_refuses q c x = still_so q v m (told c.course)
+      (x.account (refusal_count q) (kept_refusals q)) where
+        kept_refusals : (r : Refusal) (y : Counters) (owed : ℕ) (was : Weight)
+            → refusal_count r (counted (repaid y owed) (delta.Kept was Back)) ≡ refusal_count r y
+        kept_refusals r y owed was = settled_refusals Compact owed was Back y r
+
+        goes_on : (s : Step) (y : Trip) (fail : Option PartEnd) → m.done ≡ l.done
+            → m.todo ≡ l.todo → m.at ≡ Visiting s y → m.fail ≡ fail
+            → fails_so (refusal_of q) l.todo fail ≡ fails_so (refusal_of q) l.todo l.fail
+            → refusals q m ≡ refusals q l
+        goes_on s y fail done todo at is same =
+            let d = ap (done_sum (refusal_of q)) done in
+            let r : refused_by q m.at m.todo m.fail ≡ fails_so (refusal_of q) l.todo fail =
+            (λ i. refused_by q (at i) (todo i) (is i)) in
+            let t : refused_by q l.at l.todo l.fail ≡ fails_so (refusal_of q) l.todo l.fail =
+            ap (λ (i : At). refused_by q i l.todo l.fail) c.at in omega arith
+
+        no_more : (end : OpEnd) → IsTripEnd end → NoneOf l.fail
+            → fails_so (refusal_of q) l.todo (Some (Whole end))
+            ≡ fails_so (refusal_of q) l.todo l.fail
+        no_more end i well =
+            let r : fails_so (refusal_of q) l.todo (Some (Whole end))
+            ≡ piece_gives (refusal_of q) c.p.op (Whole end) =
+            ap (λ (ps : List Part). fails_so (refusal_of q) ps (Some (Whole end))) c.todo in
+            let z = trip_gives q c.p.op end i in
+            let y = ap (fails_so (refusal_of q) l.todo) (no_one l.fail well) in
+            let u = fails_none (refusal_of q) l.todo in omega arith
+
+        told : Course l v c.p c.rest m → refusals q m ≡ refusals q l
+        told (course.goes s y done todo at fail) = goes_on s y l.fail done todo at fail refl
+        told (course.halts s y end done todo at well fail i) =
+            goes_on s y (Some (Whole end)) done todo at fail (no_more end (refused_trip end i) well)
+        told (course.errs s y d d' b fault wrote lost done todo at well fail held v_is failed) =
+            goes_on s y (Some (Whole (ends.WriteEio fault wrote lost))) done todo at fail
+            (no_more (ends.WriteEio fault wrote lost) tt well)
+        told (course.tells wrote lost well m_is) =
+            ap (refusals q) m_is ∙ (let s = over_told q c.p (Whole (ends.Written wrote lost)) [] c.rest in
+            let z = trip_gives q c.p.op (ends.Written wrote lost) tt in
+            let t = none_told q well in omega arith)
+        told (course.closes end i fail m_is) = ap (refusals q) m_is
+            ∙ failed_over q c.p c.rest (Whole end) (Visiting c.s c.x) c.todo c.at tt fail
+
+  pub refuses_of : (q : Refusal) → Event g l v m → Plan_is → Refuses q v m
   refuses_of q (event.pins p rest e o x x' u u' cell todo at held is sw named_u free outside is_cell
       in_cell lk v_is m_is) = same_refuses q _ _ v_is m_is
       (stays_so q Pinning _ at tt (speaks_pinned p.op _ e.kept)

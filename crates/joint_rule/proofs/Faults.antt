@@ -32,6 +32,7 @@ use Rattle.zr_base.specs.declared.op.Op.{Op}
 use Rattle.zr_base.specs.declared.op.Op.TheVariants.{Compact, Discard, Idle, Read, Write, Writeback}
 use Rattle.zr_base.specs.declared.op.OpEnd.{OpEnd}
 use Rattle.joint_rule.proofs.Events as event
+use Rattle.joint_rule.proofs.Courses as course
 use Rattle.lock_row.specs.declared.names.LockNo.TheVariants as lock
 use Rattle.lock_row.specs.declared.names.Held.TheVariants as holds
 use Rattle.zr_base.specs.declared.op.OpEnd.TheVariants as ends

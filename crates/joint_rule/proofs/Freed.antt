@@ -1,5 +1,7 @@
 -- The account's counter of the frames that compactions freed: each giving raises it by what its actor
 -- tells then.
+use Rattle.slot_entry.specs.Entries.{EntryState, is_eligible}
+use Rattle.joint_rule.proofs.Alikes.{arrived_is, visited_is}
 use Rattle.std.proofs.Common.{◌≡◌, ◌+◌, ◌∷◌, ◌∙◌, ℕ, zero, suc, Bool, true, false, List, [], Option, Some, None, slice_get, slice_set, refl, sym, ap, subst, arith}
 use Rattle.call_history.specs.Parts.{done_sum, left_by, piece_gives}
 use Rattle.call_history.specs.declared.part.Part.{Part}
@@ -20,7 +22,7 @@ use Rattle.joint_rule.specs.Stages.{FailBy, IsFault}
 use Rattle.joint_rule.specs.Weights.{compactions, freed_at, freed_by, none}
 use Rattle.lock_row.specs.Totals.{held_sum, locals_sum, mass}
 use Rattle.lock_row.specs.declared.names.At.{At}
-use Rattle.lock_row.specs.declared.names.At.TheVariants.{Both, Counting, Fetching, Freeing, Giving, Leaving, Made, Missed, Moving, Pinning, Ready, Refusing, Releasing, Shrinking, Shrunk, Start, Sweeping, Unpinning, Marking}
+use Rattle.lock_row.specs.declared.names.At.TheVariants.{Both, Counting, Fetching, Freeing, Giving, Leaving, Made, Missed, Moving, Pinning, Ready, Refusing, Releasing, Shrinking, Shrunk, Start, Sweeping, Unpinning, Marking, Visiting}
 use Rattle.lock_row.specs.declared.names.Compaction.{Compaction}
 use Rattle.lock_row.specs.declared.names.LockNo.{LockNo}
 use Rattle.lock_row.specs.declared.names.Object.{Object}
@@ -32,7 +34,7 @@ use Rattle.mem_account.specs.declared.weight.Weight.{Weight}
 use Rattle.page_steps.specs.Compactions.{compaction_at, moved_at, with_frames, with_move}
 use Rattle.page_steps.specs.Givings.{fails_by, old_weight}
 use Rattle.page_steps.specs.Pages.{next_form}
-use Rattle.page_steps.specs.Steps.{DiskHeld, Here, after_take, begun_at, entry_in, entry_or, lock_of, on, piece_over, plan, spot, taken_at, took, first_at}
+use Rattle.page_steps.specs.Steps.{DiskHeld, Here, after_take, begun_at, entry_in, entry_or, lock_of, on, piece_over, plan, spot, taken_at, took, first_at, first_trip}
 use Rattle.plain_disk.specs.Ends.{compacted}
 use Rattle.slot_entry.specs.Forms.{PageForm, form_weight}
 use Rattle.slot_entry.specs.declared.kept.Kept.{Kept}
@@ -40,6 +42,7 @@ use Rattle.zr_base.specs.Plain.{is_beyond, is_maintenance}
 use Rattle.zr_base.specs.declared.op.Op.{Op}
 use Rattle.zr_base.specs.declared.op.Op.TheVariants.{Compact, Discard, Idle, Read, Write, Writeback}
 use Rattle.joint_rule.proofs.Events as event
+use Rattle.joint_rule.proofs.Courses as course
 use Rattle.zr_base.specs.declared.op.OpEnd.TheVariants as ends
 
 -- ---- stages
@@ -60,29 +63,33 @@ freed_moved : (m : ℕ) (x : Compaction) → freed (moved_at m x) ≡ x.frames
 freed_moved zero x = refl
 freed_moved (suc m) x = refl
 
-freed_first : (op : Op) → freed (first_at op) ≡ 0
-freed_first (Idle age) = refl
-freed_first (Writeback mode) = refl
-freed_first (Write start count stuff) = refl
-freed_first (Read start count) = refl
-freed_first (Discard start count) = refl
-freed_first Compact = refl
+freed_first : (op : Op) (e : EntryState) → freed (first_at op e) ≡ 0
+freed_first (Idle age) e = refl
+freed_first (Writeback mode) e = ap freed (arrived_is (is_eligible mode e) first_trip).2
+freed_first (Write start count stuff) e = refl
+freed_first (Read start count) e = refl
+freed_first (Discard start count) e = refl
+freed_first Compact e = refl
 
-freed_begun : (a b : Bool) (p : Part) (f : PageForm) (k : Kept) → freed (begun_at a b p f k) ≡ 0
-freed_begun true b p f k = freed_first p.op
-freed_begun false true p f k = refl
-freed_begun false false p f k = freed_none _ (plain_entered p.op p.page f k).0
+freed_begun : (a b : Bool) (p : Part) (f : PageForm) (e : EntryState)
+    → freed (begun_at a b p f e) ≡ 0
+freed_begun true b p f e = freed_first p.op e
+freed_begun false true p f e = refl
+freed_begun false false p f e = freed_none _ (plain_entered p.op p.page f e.kept).0
 
 -- a taking frees nothing
-freed_after : (size : ℕ) (at : At) (p : Part) (f : PageForm) (k : Kept)
-    → freed (after_take size at p f k) ≡ freed at
-freed_after size Start p f k = freed_begun (is_maintenance p.op) (is_beyond size p.op) p f k
-freed_after size at p f k = refl
+freed_after : (size : ℕ) (at : At) (p : Part) (f : PageForm) (e : EntryState)
+    (fail : Option PartEnd) → freed (after_take size at p f e fail) ≡ freed at
+freed_after size Start p f e fail =
+    freed_begun (is_maintenance p.op) (is_beyond size p.op) p f e
+freed_after size (Visiting s x) p f e fail = ap freed (visited_is s x p.op e fail).2
+freed_after size at p f e fail = refl
 
-freed_taken : (size : ℕ) (ps : List Part) (at : At) (page : Option (List ℕ)) (k : Kept)
-    → freed_at ps (taken_at size ps at page k) ≡ freed_at ps at
-freed_taken size [] at page k = refl
-freed_taken size (p ∷ ps) at page k = freed_after size at p (next_form p page k) k
+freed_taken : (size : ℕ) (ps : List Part) (at : At) (page : Option (List ℕ)) (e : EntryState)
+    (fail : Option PartEnd) → freed_at ps (taken_at size ps at page e fail) ≡ freed_at ps at
+freed_taken size [] at page e fail = refl
+freed_taken size (p ∷ ps) at page e fail =
+    freed_after size at p (next_form p page e.kept) e fail
 
 freed_same : (ps : List Part) (x y : At) → freed x ≡ freed y → freed_at ps x ≡ freed_at ps y
 freed_same [] x y e = refl
@@ -293,6 +300,6 @@ module _ (g : Begin) (ok : Known g) (w : State DiskHeld) (j : Joint g w) (a : �
       (ap (λ p. (lock_of p, v) ∷ l.held) what) refl ∙ t
       ∙ ap (λ (i : ℕ). at_most_end (g.was.compacted + i)) (
       let r = ok.facts.moves freed_by w.locals a l m who in
-      let s = freed_taken g.given.size l.todo l.at l.page (entry_or v (entry_in l.held)).kept in
+      let s = freed_taken g.given.size l.todo l.at l.page (entry_or v (entry_in l.held)) l.fail in
       let z : locals_sum freed_by w.locals ≡ locals_sum freed_by (slice_set w.locals a m) =
       omega arith in z)

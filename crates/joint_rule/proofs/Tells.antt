@@ -39,6 +39,7 @@ use mathlib.Core.Logic.{dite}
 use mathlib.Core.Path.{fun_ext}
 use native.Mathlib.Decide.{ℕ_discrete}
 use Rattle.joint_rule.proofs.Events as event
+use Rattle.joint_rule.proofs.Courses as course
 use Rattle.lock_row.specs.declared.names.Held.TheVariants as holds
 use Rattle.zr_base.specs.declared.op.OpEnd.TheVariants as ends
 

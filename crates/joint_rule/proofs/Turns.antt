@@ -46,6 +46,7 @@ use Rattle.plain_disk.specs.Ends.{Bounds}
 use Rattle.slot_entry.specs.Entries.{EntryState}
 use Rattle.zr_base.specs.Plain.{Finds}
 use Rattle.joint_rule.proofs.Events as event
+use Rattle.joint_rule.proofs.Courses as course
 use Rattle.lock_row.specs.declared.names.LockNo.TheVariants as lock
 use Rattle.lock_row.specs.declared.names.Held.TheVariants as holds
 use Rattle.zr_base.specs.declared.op.OpEnd.TheVariants as ends
