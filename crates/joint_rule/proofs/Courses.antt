@@ -1,4 +1,6 @@
 -- What each giving of a writeback tells, and what it leaves of orders and of the account's counters.
+use Rattle.page_steps.specs.Nexts.{emptied}
+use Rattle.joint_rule.specs.Rule.{OfOrder}
 use Rattle.slot_entry.specs.declared.kept.Stored.{Stored}
 use Rattle.slot_entry.specs.declared.kept.Kept.{Kept}
 use Rattle.lock_row.specs.declared.names.Plan.TheVariants.{Give}
@@ -17,7 +19,7 @@ use Rattle.joint_rule.proofs.Visits.{Onward, VisitEvent}
 use Rattle.joint_rule.specs.Begins.{Begin, terms}
 use Rattle.joint_rule.specs.Joint.{Joint}
 use Rattle.joint_rule.specs.Stages.{IsQuit, MayQuit, NoneOf, StopsSo}
-use Rattle.joint_rule.specs.Weights.{device_faults, device_reads, none, on_account, on_entry}
+use Rattle.joint_rule.specs.Weights.{device_faults, device_reads, none, on_account, on_entry, HeldAll}
 use Rattle.lock_row.specs.Totals.{held_sum, mass}
 use Rattle.lock_row.specs.declared.names.At.TheVariants.{Visiting}
 use Rattle.lock_row.specs.declared.names.LockNo.{LockNo}
@@ -31,7 +33,7 @@ use Rattle.mem_account.specs.declared.weight.Weight.TheVariants.{Back}
 use Rattle.mem_account.specs.declared.weight.Delta.TheVariants as delta
 use Rattle.page_steps.specs.Compactions.{repaid}
 use Rattle.page_steps.specs.Steps.{DiskHeld, Here, piece_over, slot, spot, class_by, entry_in, plan, visit_plan}
-use Rattle.page_steps.specs.Visits.{refused_end}
+use Rattle.page_steps.specs.Visits.{refused_end, put_back, unmarked}
 use Rattle.slot_entry.specs.Entries.{EntryState}
 use Rattle.zr_base.specs.Plain.{is_writeback}
 use Rattle.zr_base.specs.declared.op.OpEnd.{OpEnd}
@@ -355,3 +357,86 @@ module _ (g : Begin) (ok : Known g) (w : State DiskHeld) (j : Joint g w) (a : �
     weighs_of (visit.stops p rest x b y end todo at held block bad v_is m_is) =
         weigh_by lock.Blocks _ _ [] [] (lock_is p rest step.Releasing x _ _ todo held at refl) v_is
         held (after_is _ m_is) (λ h i. omega arith) (λ f. omega arith) (omega arith) (omega arith)
+
+    -- what all orders in hand have, they have after it
+    module _ (P : ℕ → List Tag → ℕ → Type 0) where
+      abbrev Carries : Type 0
+      Carries = HeldAll g.given.size (OfOrder P) l.held
+          → OfOrder P (spot g.given.size k) v × HeldAll g.given.size (OfOrder P) m.held
+
+      -- the slot of an entry goes back, with its order
+      slot_carries : (x : Trip) (e f : EntryState) → f.order ≡ e.order → f.room ≡ e.room
+          → l.held ≡ (slot x.page, holds.Slot e) ∷ [] → slot x.page ≡ k → v ≡ holds.Slot f
+          → m.held ≡ [] → Carries
+      slot_carries x e f order room held k_is v_is after h = (
+        subst (λ (y : LockNo × DiskHeld). OfOrder P (spot g.given.size y.0) y.1)
+            (λ i. (k_is i, sym v_is i))
+            (subst (λ (y : List Tag × ℕ). P x.page y.0 y.1) (λ i. (sym order i, sym room i))
+            (subst (HeldAll g.given.size (OfOrder P)) held h).0),
+        subst (HeldAll g.given.size (OfOrder P)) (sym after) tt,
+      )
+
+      -- another value goes back, and the entry in hand stays
+      beside_carries : (k₀ : LockNo) (u : DiskHeld) (x : Trip) (e f : EntryState)
+          → f.order ≡ e.order → f.room ≡ e.room
+          → l.held ≡ (k₀, u) ∷ (slot x.page, holds.Slot e) ∷ []
+          → m.held ≡ (slot x.page, holds.Slot f) ∷ [] → OfOrder P (spot g.given.size k) v
+          → Carries
+      beside_carries k₀ u x e f order room held after here h = (
+        here,
+        subst (HeldAll g.given.size (OfOrder P)) (sym after)
+            (subst (λ (y : List Tag × ℕ). P x.page y.0 y.1) (λ i. (sym order i, sym room i))
+            (subst (HeldAll g.given.size (OfOrder P)) held h).1.0, tt),
+      )
+
+      plain_value : (v₀ : DiskHeld) → v ≡ v₀ → OfOrder P (spot g.given.size k) v₀
+          → OfOrder P (spot g.given.size k) v
+      plain_value v₀ is h = subst (OfOrder P (spot g.given.size k)) (sym is) h
+
+      nothing_left : m.held ≡ [] → HeldAll g.given.size (OfOrder P) m.held
+      nothing_left after = subst (HeldAll g.given.size (OfOrder P)) (sym after) tt
+
+      pub carries_of : VisitEvent g l v m → Carries
+      carries_of (visit.passes p rest x e todo at held v_is on) = slot_carries x e e refl refl held
+          (lock_is p rest step.Passing x _ _ todo held at refl) v_is (onward_held p rest _ on)
+      carries_of (visit.reserves p rest x e y b todo at held answer v_is m_is) =
+          beside_carries lock.Blocks _ x e e refl refl held (after_is _ m_is) (plain_value _ v_is tt)
+      carries_of (visit.refrains p rest x e y r end todo at held is v_is m_is) =
+          beside_carries lock.Blocks _ x e e refl refl held (after_is _ m_is) (plain_value _ v_is tt)
+      carries_of (visit.quits p rest x e end todo at held bad v_is m_is) =
+          slot_carries x e e refl refl held
+          (lock_is p rest step.Quitting x _ _ todo held at refl) v_is (after_is _ m_is)
+      carries_of (visit.pins p rest x e o q q' u u' cell todo at held is sw named_u free taken
+          is_cell in_cell v_is m_is) =
+          beside_carries (lock.Class o.class) _ x e e refl refl held (after_is _ m_is)
+          (plain_value _ v_is tt)
+      carries_of (visit.unpins p rest x e o q q' u u' todo at held is sw named_u taken free v_is
+          m_is) =
+          beside_carries (lock.Class o.class) _ x e e refl refl held (after_is _ m_is)
+          (plain_value _ v_is tt)
+      carries_of (visit.marks p rest x e b todo at held block v_is m_is) =
+          slot_carries x e (record e { under = Some b }) refl refl held
+          (lock_is p rest step.Marking x _ _ todo held at refl) v_is (after_is _ m_is)
+      carries_of (visit.stores p rest x b page d d' todo at held block is write v_is m_is) =
+          λ h. (plain_value _ v_is tt, nothing_left (after_is _ m_is))
+      carries_of (visit.spoils p rest x b d d' fault todo at held block failed v_is m_is) =
+          λ h. (plain_value _ v_is tt, nothing_left (after_is _ m_is))
+      carries_of (visit.frees p rest x e o q q' u frames todo at held is gone named_u home v_is
+          m_is) =
+          beside_carries (lock.Class o.class) _ x e (emptied e) refl refl held (after_is _ m_is)
+          (plain_value _ v_is tt)
+      carries_of (visit.commits p rest x e b y todo at held block v_is m_is) =
+          beside_carries lock.Blocks _ x e e refl refl held (after_is _ m_is) (plain_value _ v_is tt)
+      carries_of (visit.pays p rest x e c was todo at held is v_is m_is) =
+          beside_carries lock.Account _ x e e refl refl held (after_is _ m_is)
+          (plain_value _ v_is tt)
+      carries_of (visit.puts p rest x e b todo at held block v_is on) =
+          slot_carries x e (put_back b e) refl refl held
+          (lock_is p rest step.Putting x _ _ todo held at refl) v_is (onward_held p rest _ on)
+      carries_of (visit.loses p rest x e todo at held v_is m_is) =
+          slot_carries x e (unmarked x.block e) refl refl held
+          (lock_is p rest step.Losing x _ _ todo held at refl) v_is (after_is _ m_is)
+      carries_of (visit.releases p rest x b y todo at held block well v_is on) =
+          λ h. (plain_value _ v_is tt, nothing_left (onward_held p rest _ on))
+      carries_of (visit.stops p rest x b y end todo at held block bad v_is m_is) =
+          λ h. (plain_value _ v_is tt, nothing_left (after_is _ m_is))

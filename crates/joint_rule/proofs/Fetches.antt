@@ -254,8 +254,6 @@ module _ (g : Begin) (ok : Known g) (w : State DiskHeld) (j : Joint g w) (a : �
     pub reads_of : Event g l v m → Reads v m
     reads_of (event.visits t) = visit_reads (course_of g ok w j a l who v m t)
         (weighs_of g ok w j a l who v m k what t)
-    reads_of (event.visits t) = visit_reads (course_of g ok w j a l who v m t)
-        (weighs_of g ok w j a l who v m k what t)
     reads_of (event.pins p rest e o x x' u u' cell todo at held is sw named_u free outside is_cell
         in_cell lk v_is m_is) =
         same_reads _ _ v_is m_is (goes_so p rest todo Pinning _ at
@@ -380,38 +378,6 @@ module _ (g : Begin) (ok : Known g) (w : State DiskHeld) (j : Joint g w) (a : �
         (notes_so p rest e f x [] todo Missed at held
         (slot_is p (event_is g ok w j a l who k v m what p rest _ Missed todo held at)) notes.order
         (omega arith)))
-
-    -- the stages of a writeback haven't read the device
-    now_none : (s : Step) (x : Trip) (ps : List Part) → fetched_now ps (Visiting s x) ≡ 0
-    now_none s x [] = refl
-    now_none s x (p ∷ ps) = refl
-
-    -- a giving of a writeback reads nothing, and notes nothing
-    visit_reads : IsCourse g l v m → Weighs g ok w j a l who v m k → Reads v m
-    visit_reads c x = record {
-      few = (let r = x.reads in
-          let s = x.orders (λ i o. calls_sum may_fetch (calls_on g.given i) (found g i) o) in
-          let t = told_less c.course in omega arith);
-    } where
-      was : fetches_told l ≡ done_sum starved l.done
-      was = let z = ap (fetched_now l.todo) c.at in let y = now_none c.s c.x l.todo in omega arith
-
-      goes_on : (s : Step) (y : Trip) → m.done ≡ l.done → m.at ≡ Visiting s y
-          → fetches_told l ≤ fetches_told m
-      goes_on s y done at = let d = ap (done_sum starved) done in let z = was in omega arith
-
-      ends_it : (end : PartEnd) → m ≡ piece_over l c.p end [] c.rest
-          → fetches_told l ≤ fetches_told m
-      ends_it end m_is = let q = ap fetches_told m_is in
-          let r = over_told c.p end [] c.rest in let z = was in omega arith
-
-      told_less : Course l v c.p c.rest m → fetches_told l ≤ fetches_told m
-      told_less (course.goes s y done todo at fail) = goes_on s y done at
-      told_less (course.halts s y end done todo at well fail i) = goes_on s y done at
-      told_less (course.errs s y d d' b fault wrote lost done todo at well fail held v_is failed) =
-          goes_on s y done at
-      told_less (course.tells wrote lost well m_is) = ends_it _ m_is
-      told_less (course.closes end i fail m_is) = ends_it _ m_is
 
   pub fetches_give : slice_get w.row (spot n k) ≡ Some None → Reads v m → FewFetches g w
       → FewFetches g (gone n w a l who k (Some v) m)

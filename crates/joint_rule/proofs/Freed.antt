@@ -1,5 +1,10 @@
 -- The account's counter of the frames that compactions freed: each giving raises it by what its actor
 -- tells then.
+use Rattle.zr_base.specs.declared.op.OpEnd.{OpEnd}
+use Rattle.mem_account.specs.declared.weight.Weight.TheVariants.{Back}
+use Rattle.lock_row.specs.declared.names.Trip.{Trip}
+use Rattle.lock_row.specs.declared.names.Step.{Step}
+use Rattle.joint_rule.proofs.Courses.{Course, IsCourse, IsTripEnd, Weighs, course_of, weighs_of}
 use Rattle.slot_entry.specs.Entries.{EntryState, is_eligible}
 use Rattle.joint_rule.proofs.Alikes.{arrived_is, visited_is}
 use Rattle.std.proofs.Common.{◌≡◌, ◌+◌, ◌∷◌, ◌∙◌, ℕ, zero, suc, Bool, true, false, List, [], Option, Some, None, slice_get, slice_set, refl, sym, ap, subst, arith}
@@ -27,7 +32,7 @@ use Rattle.lock_row.specs.declared.names.Compaction.{Compaction}
 use Rattle.lock_row.specs.declared.names.LockNo.{LockNo}
 use Rattle.lock_row.specs.declared.names.Object.{Object}
 use Rattle.lock_row.specs.declared.names.Pin.{Pin}
-use Rattle.lock_row.specs.declared.names.Plan.TheVariants.{Take}
+use Rattle.lock_row.specs.declared.names.Plan.TheVariants.{Take, Give}
 use Rattle.lock_row.specs.declared.names.State.{State}
 use Rattle.mem_account.specs.Counters.{Counters, at_most_end}
 use Rattle.mem_account.specs.declared.weight.Weight.{Weight}
@@ -183,94 +188,131 @@ module _ (g : Begin) (ok : Known g) (w : State DiskHeld) (j : Joint g w) (a : �
       ∙ ap (λ (i : ℕ). done_sum compacted l.done + i)
       (z ∙ sym (at_work p rest todo x at ∙ e))) same
 
-  pub frees_of : Event g l v m → Frees v m
-  frees_of (event.pins p rest e o x x' u u' cell todo at held is sw named_u free outside is_cell
+  -- a giving of a writeback frees nothing for a compaction
+  trip_frees : (op : Op) (end : OpEnd) → IsTripEnd end → piece_gives compacted op (Whole end) ≡ 0
+  trip_frees op (ends.Written wrote lost) i = refl
+  trip_frees op (ends.Budget wrote lost) i = refl
+  trip_frees op (ends.NoBlock wrote lost) i = refl
+  trip_frees op (ends.WriteEio fault wrote lost) i = refl
+  trip_frees op end i = absurd i
+
+  visit_frees : (c : IsCourse g l v m) → Weighs g ok w j a l who v m k → Frees v m
+  visit_frees c x = still_so v m (told c.course)
+      (x.account (λ y. y.compacted) (λ y owed was. settled_compacted Compact owed was Back y)) where
+        was_none : freed_at l.todo l.at ≡ 0
+        was_none = at_work c.p c.rest c.todo (Visiting c.s c.x) c.at
+
+        goes_on : (s : Step) (y : Trip) → m.done ≡ l.done → m.todo ≡ l.todo
+            → m.at ≡ Visiting s y → freed_by m ≡ freed_by l
+        goes_on s y done todo at =
+            let d = ap (done_sum compacted) done in
+            let r : freed_at m.todo m.at ≡ 0 =
+            (λ i. freed_at ((todo ∙ c.todo) i) (at i)) in
+            let z = was_none in omega arith
+
+        over_so : (end : OpEnd) → IsTripEnd end → m ≡ piece_over l c.p (Whole end) [] c.rest
+            → freed_by m ≡ freed_by l
+        over_so end i m_is = ap freed_by m_is ∙ (let s = over_told c.p (Whole end) [] c.rest in
+            let z = trip_frees c.p.op end i in let y = was_none in omega arith)
+
+        told : Course l v c.p c.rest m → freed_by m ≡ freed_by l
+        told (course.goes s y done todo at fail) = goes_on s y done todo at
+        told (course.halts s y end done todo at well fail i) = goes_on s y done todo at
+        told (course.errs s y d d' b fault wrote lost done todo at well fail held v_is failed) =
+            goes_on s y done todo at
+        told (course.tells wrote lost well m_is) = over_so (ends.Written wrote lost) tt m_is
+        told (course.closes end i fail m_is) = over_so end i m_is
+
+  pub frees_of : plan (terms g) l ≡ Give k → Event g l v m → Frees v m
+  frees_of what (event.visits t) = visit_frees (course_of g ok w j a l who v m t)
+      (weighs_of g ok w j a l who v m k what t)
+  frees_of what (event.pins p rest e o x x' u u' cell todo at held is sw named_u free outside is_cell
       in_cell lk v_is m_is) =
       same_frees _ _ v_is m_is (stays_so Pinning _ at (freed_none _ (plain_pinned p.op _ e.kept).0)
       (let r = ap (held_sum (spot n) compactions) held in omega arith))
-  frees_of (event.unpins p rest e o x x' u u' todo at held is sw named_u outside free lk v_is m_is) =
+  frees_of what (event.unpins p rest e o x x' u u' todo at held is sw named_u outside free lk v_is m_is) =
       same_frees _ _ v_is m_is (stays_so Unpinning _ at refl
       (let r = ap (held_sum (spot n) compactions) held in omega arith))
-  frees_of (event.charges p rest e c x x' cl h need bytes huge todo at held is_form is_class within al
+  frees_of what (event.charges p rest e c x x' cl h need bytes huge todo at held is_form is_class within al
       v_is m_is) =
       same_frees _ _ v_is m_is (stays_so Both _ at refl
       (let r = ap (held_sum (spot n) compactions) held in omega arith))
-  frees_of (event.limits p rest e c x cl need todo at held is_need past v_is m_is) =
+  frees_of what (event.limits p rest e c x cl need todo at held is_need past v_is m_is) =
       same_frees _ _ v_is m_is (stays_so Both _ at refl
       (let r = ap (held_sum (spot n) compactions) held in omega arith))
-  frees_of (event.starves p rest e c x cl todo at held v_is m_is) =
+  frees_of what (event.starves p rest e c x cl todo at held v_is m_is) =
       same_frees _ _ v_is m_is (stays_so Both _ at refl
       (let r = ap (held_sum (spot n) compactions) held in omega arith))
-  frees_of (event.stows p rest e x cl todo at held well v_is m_is) =
+  frees_of what (event.stows p rest e x cl todo at held well v_is m_is) =
       same_frees _ _ v_is m_is (stays_so Made _ at (freed_none _ (plain_settle e.kept).0)
       (let r = ap (held_sum (spot n) compactions) held in omega arith))
-  frees_of (event.quits p rest e x cl y todo at held bad v_is m_is) =
+  frees_of what (event.quits p rest e x cl y todo at held bad v_is m_is) =
       same_frees _ _ v_is m_is (stays_so Made _ at (freed_none _ (plain_quit l.pin).0)
       (let r = ap (held_sum (spot n) compactions) held in omega arith))
-  frees_of (event.frees p rest e o x x' frames todo at held is fp v_is m_is) =
+  frees_of what (event.frees p rest e o x x' frames todo at held is fp v_is m_is) =
       same_frees _ _ v_is m_is (stays_so Freeing _ at refl
       (let r = ap (held_sum (spot n) compactions) held in omega arith))
-  frees_of (event.repays p rest e c todo at held v_is m_is) =
+  frees_of what (event.repays p rest e c todo at held v_is m_is) =
       same_frees _ _ v_is m_is (stays_so Giving _ at refl
       (let r = ap (held_sum (spot n) compactions) held in
       let s = settled_compacted p.op l.owed (old_weight l.ahead e.kept)
       (form_weight (next_form p l.page e.kept)) c in omega arith))
-  frees_of (event.refuses p rest c todo at held v_is m_is) =
+  frees_of what (event.refuses p rest c todo at held v_is m_is) =
       same_frees _ _ v_is m_is (ends_so p rest (Whole ends.Range) [] todo Refusing at refl refl
       (let r = ap (held_sum (spot n) compactions) held in omega arith))
-  frees_of (event.puts p rest e f todo at held notes v_is m_is) =
+  frees_of what (event.puts p rest e f todo at held notes v_is m_is) =
       same_frees _ _ v_is m_is (ends_so p rest Carried [] todo Ready at refl refl
       (let r = ap (held_sum (spot n) compactions) held in omega arith))
-  frees_of (event.reads p rest e f todo at held well notes v_is m_is) =
+  frees_of what (event.reads p rest e f todo at held well notes v_is m_is) =
       same_frees _ _ v_is m_is (ends_so p rest Carried _ todo Leaving at refl refl
       (let r = ap (held_sum (spot n) compactions) held in omega arith))
-  frees_of (event.fails p rest e x todo at held bad v_is m_is) =
+  frees_of what (event.fails p rest e x todo at held bad v_is m_is) =
       let st = stage g ok w j a l who p rest todo _ Leaving held at in
       same_frees _ _ v_is m_is (ends_so p rest x [] todo Leaving at refl
       (refusal_frees g p p.op x (subst (FailBy g p p.op) bad st.fails))
       (let r = ap (held_sum (spot n) compactions) held in omega arith))
-  frees_of (event.fetches p rest e b d d' page todo at held is read is_page v_is m_is) =
+  frees_of what (event.fetches p rest e b d d' page todo at held is read is_page v_is m_is) =
       same_frees _ _ v_is m_is (stays_so Fetching _ at
       (freed_none _ (plain_fetched p.op _ e.kept).0)
       (let r = ap (held_sum (spot n) compactions) held in omega arith))
-  frees_of (event.misses p rest e b d d' fault todo at held is failed v_is m_is) =
+  frees_of what (event.misses p rest e b d d' fault todo at held is failed v_is m_is) =
       same_frees _ _ v_is m_is (stays_so Fetching _ at refl
       (let r = ap (held_sum (spot n) compactions) held in omega arith))
-  frees_of (event.counts p rest e c todo at held v_is m_is) =
+  frees_of what (event.counts p rest e c todo at held v_is m_is) =
       same_frees _ _ v_is m_is (stays_so Counting _ at refl
       (let r = ap (held_sum (spot n) compactions) held in let s = fault_compacted p.op c in
       omega arith))
-  frees_of (event.errs p rest e f x todo at held bad read notes v_is m_is) =
+  frees_of what (event.errs p rest e f x todo at held bad read notes v_is m_is) =
       let st = stage g ok w j a l who p rest todo _ Missed held at in
       same_frees _ _ v_is m_is (ends_so p rest x [] todo Missed at refl
       (fault_frees g p p.op x (subst (IsFault g p) bad st.fails))
       (let r = ap (held_sum (spot n) compactions) held in omega arith))
-  frees_of (event.leaves p rest e x todo at held bad other v_is m_is) =
+  frees_of what (event.leaves p rest e x todo at held bad other v_is m_is) =
       let st = stage g ok w j a l who p rest todo _ Missed held at in
       same_frees _ _ v_is m_is (ends_so p rest x [] todo Missed at refl
       (fault_frees g p p.op x (subst (IsFault g p) bad st.fails))
       (let r = ap (held_sum (spot n) compactions) held in omega arith))
-  frees_of (event.releases p rest e b x todo at held is v_is m_is) =
+  frees_of what (event.releases p rest e b x todo at held is v_is m_is) =
       same_frees _ _ v_is m_is (stays_so Releasing _ at refl
       (let r = ap (held_sum (spot n) compactions) held in omega arith))
-  frees_of (event.scans p rest age x e todo op at held other v_is m_is) =
+  frees_of what (event.scans p rest age x e todo op at held other v_is m_is) =
       same_frees _ _ v_is m_is (stays_so (Marking x) _ at refl
       (let r = ap (held_sum (spot n) compactions) held in omega arith))
-  frees_of (event.stops p rest age x e todo op at held last v_is m_is) =
+  frees_of what (event.stops p rest age x e todo op at held last v_is m_is) =
       same_frees _ _ v_is m_is (ends_so p rest (Whole (ends.Marked _)) [] todo (Marking x) at refl
       refl (let r = ap (held_sum (spot n) compactions) held in omega arith))
-  frees_of (event.moves p rest x y y' u u' budget frames todo at held sh some one v_is m_is) =
+  frees_of what (event.moves p rest x y y' u u' budget frames todo at held sh some one v_is m_is) =
       same_frees _ _ v_is m_is (stays_so (Moving x) _ at (freed_moved frames (with_move x budget))
       (let r = ap (held_sum (spot n) compactions) held in omega arith))
-  frees_of (event.sweeps p rest x y todo at held stuck other v_is m_is) =
+  frees_of what (event.sweeps p rest x y todo at held stuck other v_is m_is) =
       same_frees _ _ v_is m_is (stays_so (Moving x) _ at refl
       (let r = ap (held_sum (spot n) compactions) held in omega arith))
-  frees_of (event.closes p rest x y todo at held stuck last v_is m_is) =
+  frees_of what (event.closes p rest x y todo at held stuck last v_is m_is) =
       same_frees _ _ v_is m_is (still_so _ _
       (over_told p (Whole (ends.Compacted x.moves x.frames)) [] rest
       ∙ ap (λ (i : ℕ). done_sum compacted l.done + i) (sym (at_work p rest todo (Moving x) at)))
       (let r = ap (held_sum (spot n) compactions) held in omega arith))
-  frees_of (event.shrinks p rest x c todo at held v_is m_is) =
+  frees_of what (event.shrinks p rest x c todo at held v_is m_is) =
       same_frees _ _ v_is m_is (record {
         more = l.owed;
         told = (let r = at_work p rest todo (Shrinking x) at in
