@@ -29,6 +29,7 @@ pub mod Scans
 pub mod Givings
 pub mod Rounds
 pub mod Blockings
+pub mod VisitGifts
 pub mod Keeps
 pub mod Courses
 pub mod Backings
