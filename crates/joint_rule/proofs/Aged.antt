@@ -268,7 +268,7 @@ module _ (g : Begin) where
         none (Read start count) = tt
         none (Discard start count) = tt
         none (Idle age) = refl
-        none (Writeback mode) = refl
+        none (Writeback mode) = tt
         none Compact = tt
 
 -- ---- pages that a scan has passed

@@ -75,9 +75,9 @@ pub is_refused : (r : Reserve) (x : Trip) (end : OpEnd) → refused_end r x ≡ 
     → IsRefused end × StopsSo x end
 is_refused (Got b) x end e = absurd (cc)
 is_refused BudgetSpent x end e = let q : ends.Budget x.wrote x.lost ≡ end = cc in
-    subst (λ (z : OpEnd). IsRefused z × StopsSo x z) q (tt, refl, refl)
+    subst (λ (z : OpEnd). IsRefused z × StopsSo x z) q (tt, (refl, refl))
 is_refused NoBlock x end e = let q : ends.NoBlock x.wrote x.lost ≡ end = cc in
-    subst (λ (z : OpEnd). IsRefused z × StopsSo x z) q (tt, refl, refl)
+    subst (λ (z : OpEnd). IsRefused z × StopsSo x z) q (tt, (refl, refl))
 
 -- ---- what a giving tells
 

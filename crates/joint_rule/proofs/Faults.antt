@@ -5,7 +5,7 @@ use Rattle.lock_row.specs.declared.names.Trip.{Trip}
 use Rattle.lock_row.specs.declared.names.Step.{Step}
 use Rattle.lock_row.specs.declared.names.Step.TheVariants as step
 use Rattle.joint_rule.proofs.Courses.{Course, IsCourse, IsRefused, Weighs, course_of, weighs_of}
-use Rattle.std.proofs.Common.{◌≡◌, ◌+◌, ◌≤◌, ◌<◌, ◌∷◌, ℕ, zero, suc, Bool, cond, eqb, List, [], Option, Some, None, slice_get, refl, sym, ap, subst, arith, inl, inr}
+use Rattle.std.proofs.Common.{◌≡◌, ◌+◌, ◌≤◌, ◌<◌, ◌∷◌, ℕ, zero, suc, Bool, cond, eqb, List, [], Option, Some, None, slice_get, refl, sym, ap, subst, arith, inl, inr, ◌∙◌}
 use Rattle.backing_dev.specs.Dev.{DeviceState}
 use Rattle.call_history.specs.Parts.{EndsSo, Follows, KeepsTo, done_sum, left_by, piece_gives, program}
 use Rattle.call_history.specs.declared.part.Done.{Done}

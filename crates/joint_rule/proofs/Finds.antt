@@ -493,15 +493,15 @@ module _ (g : Begin) (finds : ℕ → Finds) where
 
   visit_slots : (s : Step) (x : Trip) (c : ℕ) → AllByRecursion (SlotIs x.page) (visit_locks s x c)
   visit_slots step.Arriving x c = tt
-  visit_slots step.Reserving x c = (tt, refl, tt)
-  visit_slots step.Pinning x c = (tt, refl, tt)
-  visit_slots step.Unpinning x c = (tt, refl, tt)
+  visit_slots step.Reserving x c = (tt, (refl, tt))
+  visit_slots step.Pinning x c = (tt, (refl, tt))
+  visit_slots step.Unpinning x c = (tt, (refl, tt))
   visit_slots step.Flying x c = tt
   visit_slots step.Storing x c = (tt, tt)
   visit_slots step.Landing x c = tt
-  visit_slots step.Freeing x c = (tt, refl, tt)
-  visit_slots step.Committing x c = (tt, refl, tt)
-  visit_slots step.Paying x c = (tt, refl, tt)
+  visit_slots step.Freeing x c = (tt, (refl, tt))
+  visit_slots step.Committing x c = (tt, (refl, tt))
+  visit_slots step.Paying x c = (tt, (refl, tt))
   visit_slots step.Undoing x c = tt
   visit_slots step.Releasing x c = (tt, tt)
   visit_slots s x c = (refl, tt)

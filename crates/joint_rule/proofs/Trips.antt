@@ -421,7 +421,8 @@ module _ (m b : ℕ) where
 
 -- ---- what an actor carries
 
-some_block : (o : Option ℕ) (page s b : ℕ) → option_map (λ c. (page, c)) o ≡ Some (s, b)
+some_block : (o : Option ℕ) (page s b : ℕ)
+    → option_map {U = ℕ × ℕ} (λ (c : ℕ). (page, c)) o ≡ Some (s, b)
     → (page ≡ s) × (o ≡ Some b)
 some_block None page s b e = absurd (cc)
 some_block (Some c) page s b e = (
@@ -440,12 +441,12 @@ pub record Carrier (at : At) (s b : ℕ) : Type 0 where
 
 carrier_by : (at : At) (s b : ℕ) → carries_at at ≡ Some (s, b) → Carrier at s b
 carrier_by (Visiting st x) s b e = elim (cases_Bool (is_carrying st)) [
-  | inl on ↦ (let q : option_map (λ c. (x.page, c)) x.block ≡ Some (s, b) =
-      sym (ap (λ (i : Bool). cond i (option_map (λ c. (x.page, c)) x.block) None) on) ∙ e in
+  | inl on ↦ (let q : option_map {U = ℕ × ℕ} (λ (c : ℕ). (x.page, c)) x.block ≡ Some (s, b) =
+      sym (ap (λ (i : Bool). cond i (option_map {U = ℕ × ℕ} (λ (c : ℕ). (x.page, c)) x.block) None) on) ∙ e in
       let r = some_block x.block x.page s b q in
       record { step = st; trip = x; is = refl; carries = on; page = r.0; block = r.1 })
   | inr off ↦ absurd (let q : None ≡ Some (s, b) =
-      sym (ap (λ (i : Bool). cond i (option_map (λ c. (x.page, c)) x.block) None) off) ∙ e in cc)
+      sym (ap (λ (i : Bool). cond i (option_map {U = ℕ × ℕ} (λ (c : ℕ). (x.page, c)) x.block) None) off) ∙ e in cc)
 ]
 carrier_by at s b e = absurd (cc)
 
@@ -479,8 +480,8 @@ bytes_of b bytes None page lt = absurd (omega arith)
 bytes_of b bytes (Some c) None lt = absurd (omega arith)
 bytes_of b bytes (Some c) (Some y) lt = elim (cases_Bool (eqb b c)) [
   | inl on ↦ elim (cases_Bool (same_list bytes y)) [
-      | inl yes ↦ (ap Some (sym (eqb-true b c on)), ap Some (sym (same_lists bytes y yes)))
-      | inr no ↦ absurd (let z : pair b bytes (Some c) (Some y) ≡ 0 = rw (on, no) refl in
+      | inl same_one ↦ (ap Some (sym (eqb-true b c on)), ap Some (sym (same_lists bytes y same_one)))
+      | inr other ↦ absurd (let z : pair b bytes (Some c) (Some y) ≡ 0 = rw (on, other) refl in
           let none : ⊥ = omega arith in none)
     ]
   | inr off ↦ absurd (let z : pair b bytes (Some c) (Some y) ≡ 0 = rw off refl in

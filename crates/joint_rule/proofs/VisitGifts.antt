@@ -669,11 +669,11 @@ module _ (g : Begin) (ok : Known g) (w : State DiskHeld) (j : Joint g w) (a : �
       ends_so BudgetSpent end is = let q : ends.Budget x.wrote x.lost ≡ end = cc in
           subst (λ (z : OpEnd). MayBeSingle (ground_of g) p.op z × StopsSo x z) q
           ((sr.begun, (let t = sr.visits.trip.few in let u = sr.visits.trip.page in omega arith)),
-          refl, refl)
+          (refl, refl))
       ends_so NoBlock end is = let q : ends.NoBlock x.wrote x.lost ≡ end = cc in
           subst (λ (z : OpEnd). MayBeSingle (ground_of g) p.op z × StopsSo x z) q
           ((sr.begun, (let t = sr.visits.trip.few in let u = sr.visits.trip.page in omega arith)),
-          refl, refl)
+          (refl, refl))
 
       pub give_refrains : (r : Reserve) (end : OpEnd) → refused_end r x ≡ Some end
           → Gift g w a l lock.Blocks (holds.Blocks y)
@@ -922,11 +922,12 @@ module _ (g : Begin) (ok : Known g) (w : State DiskHeld) (j : Joint g w) (a : �
       spoil_quits = (
         (
           writeback_single n p.op ss.begun,
-          (ss.begun, (let t = ss.visits.trip.few in let u = ss.visits.trip.page in omega arith)),
-          (let y = r.count in let z = r.rose in let u = was_kept.faults in omega arith),
+          (
+            (ss.begun, (let t = ss.visits.trip.few in let u = ss.visits.trip.page in omega arith)),
+            (let y = r.count in let z = r.rose in let u = was_kept.faults in omega arith),
+          ),
         ),
-        refl,
-        refl,
+        (refl, refl),
       )
 
       pub give_spoils : Gift g w a l lock.Device (holds.Device d') (landing (Some spoiled))
