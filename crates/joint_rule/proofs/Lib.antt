@@ -26,10 +26,11 @@ pub mod Accounts
 pub mod Compactions
 pub mod Device
 pub mod Scans
-pub mod Givings
 pub mod Rounds
 pub mod Blockings
 pub mod VisitGifts
+pub mod Evictions
+pub mod Givings
 pub mod Keeps
 pub mod Courses
 pub mod Backings
@@ -41,6 +42,7 @@ pub mod News
 pub mod Sweeps
 pub mod Alone
 pub mod Faults
+pub mod Written
 pub mod Fetches
 pub mod Aged
 pub mod Ages

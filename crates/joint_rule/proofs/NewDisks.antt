@@ -98,7 +98,7 @@ module _ (g : Begin) where
   new_home j (holds.Account c) h = record { sound = h.0; stands = tt; backs = tt; marks = tt }
   new_home j (holds.Blocks x) h = record { sound = h.0; stands = tt; backs = tt; marks = tt }
   new_home j (holds.Device d) h = record {
-    sound = (h.0, subst (λ (x : DeviceState). KeepsDevice x d) h.1 (keeps_self d h.2));
+    sound = (h.0, subst (λ (x : DeviceState). KeepsDevice x d) h.1 (keeps_self d h.2 h.3));
     stands = tt;
     backs = tt;
     marks = tt;

@@ -421,13 +421,22 @@ module _ (m b : ℕ) where
 
 -- ---- what an actor carries
 
+-- a pair, or none
+abbrev first_of : Option (ℕ × ℕ) → ℕ
+first_of None = 0
+first_of (Some x) = x.0
+
+abbrev second_of : Option (ℕ × ℕ) → ℕ
+second_of None = 0
+second_of (Some x) = x.1
+
 some_block : (o : Option ℕ) (page s b : ℕ)
     → option_map {U = ℕ × ℕ} (λ (c : ℕ). (page, c)) o ≡ Some (s, b)
     → (page ≡ s) × (o ≡ Some b)
 some_block None page s b e = absurd (cc)
 some_block (Some c) page s b e = (
-  (let q : page ≡ s = cc in q),
-  (let q : c ≡ b = cc in ap Some q),
+  ap first_of e,
+  ap Some (ap second_of e),
 )
 
 -- The actor carries page s to block b.

@@ -53,7 +53,7 @@ use Rattle.lock_row.specs.declared.names.Held.TheVariants as holds
 use Rattle.lock_row.specs.declared.names.LockNo.TheVariants as lock
 use Rattle.slot_entry.specs.declared.kept.Kept.TheVariants as kept
 
-some_block : (o : Option ℕ) → HasSome o → (b : ℕ) × (o ≡ Some b)
+pub some_block : (o : Option ℕ) → HasSome o → (b : ℕ) × (o ≡ Some b)
 some_block None i = absurd i
 some_block (Some b) i = (b, refl)
 
