@@ -42,17 +42,17 @@ mark_is (Some c) None b e on = absurd (cc)
 mark_is (Some c) (Some d) b e on =
     let q : c ≡ b = cc in ap Some (sym (eqb-true c d on) ∙ q)
 
-other_block : (b c : ℕ) (bytes : List ℕ) (page : Option (List ℕ)) → c ≢ b
+pub other_block : (b c : ℕ) (bytes : List ℕ) (page : Option (List ℕ)) → c ≢ b
     → pair c bytes (Some b) page ≡ 0
 other_block b c bytes None ne = refl
 other_block b c bytes (Some y) ne = ap (λ (i : Bool). cond i (same_bytes bytes y) 0) (ne_eqb c b ne)
 
 -- without the mark of its block, an entry has the other marks
-pub unmark : Option ℕ → Option ℕ → Option ℕ
+abbrev pub unmark : Option ℕ → Option ℕ → Option ℕ
 unmark block under = if is_mark_of block under then None else under
 
 module _ (block under : Option ℕ) (b : ℕ) (is : block ≡ Some b) where
-  other_pair : (c : ℕ) (bytes : List ℕ) (page : Option (List ℕ)) → c ≢ b
+  pub other_pair : (c : ℕ) (bytes : List ℕ) (page : Option (List ℕ)) → c ≢ b
       → pair c bytes (unmark block under) page ≡ pair c bytes under page
   other_pair c bytes page ne = elim (cases_Bool (is_mark_of block under)) [
     | inl on ↦ rw on (sym (ap (λ (u : Option ℕ). pair c bytes u page)
@@ -60,19 +60,19 @@ module _ (block under : Option ℕ) (b : ℕ) (is : block ≡ Some b) where
     | inr off ↦ rw off refl
   ]
 
-  other_mark : (c : ℕ) → c ≢ b → marks_of c (unmark block under) ≡ marks_of c under
+  pub other_mark : (c : ℕ) → c ≢ b → marks_of c (unmark block under) ≡ marks_of c under
   other_mark c ne = elim (cases_Bool (is_mark_of block under)) [
     | inl on ↦ rw on (sym (ap (marks_of c) (mark_is block under b is on)
         ∙ ⊎_elim (λ z. z) (λ o. absurd (ne o.1)) (same_is c b)))
     | inr off ↦ rw off refl
   ]
 
-  not_self : (d : ℕ) → is_mark_of block (Some d) ≡ false → d ≡ b → ⊥
+  pub not_self : (d : ℕ) → is_mark_of block (Some d) ≡ false → d ≡ b → ⊥
   not_self d off e = let q : is_mark_of (Some b) (Some d) ≡ false =
       ap (λ (x : Option ℕ). is_mark_of x (Some d)) (sym is) ∙ off in
       let on : eqb b d ≡ true = eq-eqb b d (sym e) in cc
 
-  no_pair : (c : ℕ) (bytes : List ℕ) (page : List ℕ) → c ≡ b
+  pub no_pair : (c : ℕ) (bytes : List ℕ) (page : List ℕ) → c ≡ b
       → pair c bytes (unmark block under) (Some page) ≡ 0
   no_pair c bytes page e = by_under under refl where
     by_under : (u : Option ℕ) → under ≡ u → pair c bytes (unmark block under) (Some page) ≡ 0
@@ -204,7 +204,7 @@ module _ (g : Begin) (w : State DiskHeld) (j : Joint g w) (a : ℕ) (l : Here)
       pub nothing_else : (bytes : List ℕ)
           → mass (spot n) (lies_at g b bytes) (written_at b bytes) l ≡ 0
           → total (spot n) (lies_at g b bytes) (written_at b bytes) w ≡ 0
-      nothing_else bytes zero =
+      nothing_else bytes mine =
           let u = one_user g w j b in
           let t = total_up_over n (Sound g) (lies_at g b bytes) (block_claims (using b))
           (written_at b bytes) (block_uses (using b)) (lies_low g b bytes) w

@@ -1,7 +1,7 @@
 -- What each giving does: the law of its event.
 use Rattle.joint_rule.proofs.Visits.{VisitEvent}
 use Rattle.joint_rule.proofs.Evictions.{visit_frees, visit_pays, visit_pins, visit_unpins}
-use Rattle.std.proofs.Common.{◌≡◌, ◌∷◌, ◌∙◌, ℕ, List, Some, slice_get, sym, ap, subst}
+use Rattle.std.proofs.Common.{◌≡◌, ◌∷◌, ◌∙◌, ℕ, List, Some, slice_get, sym, ap, subst, refl}
 use Rattle.joint_rule.proofs.Scans.{give_scans, give_stops}
 use Rattle.call_history.specs.declared.part.Part.{Part}
 use Rattle.call_history.specs.declared.part.PartEnd.TheVariants.{AtLimit, NoMemory}

@@ -1,5 +1,5 @@
 -- The rest that a phase leaves is the one with which the next begins.
-use Rattle.std.proofs.Common.{◌≡◌, ◌+◌, ◌*◌, ◌<◌, ◌≤◌, ◌∷◌, ◌∙◌, ◌&&◌, ℕ, zero, suc, Bool, true, false, List, [], length, Option, Some, None, slice_get, refl, sym, ap, subst, arith}
+use Rattle.std.proofs.Common.{◌≡◌, ◌+◌, ◌*◌, ◌<◌, ◌≤◌, ◌∷◌, ◌∙◌, ◌&&◌, ℕ, zero, suc, Bool, true, false, List, [], length, Option, Some, None, slice_get, refl, sym, ap, subst, arith, is_some}
 use Rattle.backing_dev.specs.Dev.{DeviceState}
 use Rattle.block_map.specs.BlockMap.{BlockMap}
 use Rattle.class_pool.specs.Pool.{PoolState}
@@ -168,7 +168,7 @@ module _ (g h : Begin) where
     device_home j d e x = record {
       sound = (
         (let q = x.sound.0 in let s = on_it.size in omega arith),
-        subst (λ (y : DeviceState). KeepsDevice y d) (sym e) (keeps_self d x.sound.1.end),
+        subst (λ (y : DeviceState). KeepsDevice y d) (sym e) (keeps_self d x.sound.1.end x.sound.1.writes),
       );
       stands = tt;
       backs = tt;
@@ -183,19 +183,24 @@ module _ (g h : Begin) where
         calls = subst (AreCarried h j) (sym r.order) tt;
         touched = r.touched ∙ sym r.time ∙ sym (ap (λ (ts : List Tag).
             touched_by ts h.clock (h.touched j)) r.order);
-        mark = record {
-          under = r.under ∙ x.sound.mark.under;
-          stays = λ none was. r.idle ∙ sym r.mark ∙ was;
-          only = λ none idle. (r.order, r.mark ∙ sym r.idle ∙ idle);
-        };
+        mark = λ none idle. (r.order, r.mark ∙ sym r.idle ∙ idle);
         small = subst (λ (k : Kept). IsSmall (weight_of k)) (sym r.kept) x.sound.small;
       };
       stands = subst (λ (y : ℕ × PageForm × Kept). IsForm y.0 y.1 y.2)
           (λ i. (sym on_it.chain i, sym (same_form j e d r) i, sym r.kept i)) x.stands;
-      backs = ap is_wb r.kept ∙ x.backs ∙ sym (ap (back_at h j) r.order ∙ and_true (h.back j)
-          ∙ r.back);
-      marks = λ idle. ap is_obj r.kept ∙ x.marks (sym r.idle ∙ idle);
-    }
+      backs = record {
+        there = λ on. back_now ∙ on;
+        only = λ none. back_now;
+      };
+      marks = record {
+        idle_one = λ idle. ap is_obj r.kept ∙ x.marks.idle_one (sym r.idle ∙ idle);
+        under_one = λ some. ap is_obj r.kept ∙ x.marks.under_one (sym (ap is_some r.under) ∙ some);
+        stays = λ none was off. r.idle ∙ sym r.mark ∙ was;
+      };
+    } where
+      -- it is on the device where it was before the phase
+      back_now : is_wb d.kept ≡ back_at h j d.order
+      back_now = ap is_wb r.kept ∙ sym (ap (back_at h j) r.order ∙ and_true (h.back j) ∙ r.back)
 
     home_same : (j : ℕ) (v u : DiskHeld) → Renewed g h j v u → AtHome g j v → AtHome h j u
     home_same j v u (renewed.slots e d is_v is_u r) x =

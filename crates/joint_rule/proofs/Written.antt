@@ -60,11 +60,11 @@ use Rattle.zr_base.specs.declared.op.OpEnd.TheVariants as ends
 -- ---- stages
 
 -- a stage of no writeback tells nothing
-plain_writes : (at : At) (fail : Option PartEnd) → NoTrip at → writes_in at fail ≡ 0
+pub plain_writes : (at : At) (fail : Option PartEnd) → NoTrip at → writes_in at fail ≡ 0
 plain_writes (Visiting s x) fail i = absurd i
 plain_writes at fail i = refl
 
-plain_wrote : (at : At) → NoTrip at → wrote_in at ≡ 0
+pub plain_wrote : (at : At) → NoTrip at → wrote_in at ≡ 0
 plain_wrote (Visiting s x) i = absurd i
 plain_wrote at i = refl
 
