@@ -7,11 +7,11 @@ use Rattle.block_map.specs.BlockMap.{BlockMap}
 use Rattle.block_map.specs.declared.state.BlockState.{BlockState}
 use Rattle.block_map.specs.declared.state.BlockState.TheVariants.{Free, Held, Owned}
 use Rattle.call_history.specs.declared.part.PartEnd.{PartEnd}
-use Rattle.joint_rule.proofs.Blocks.{Same, under_blocks, used_put}
+use Rattle.joint_rule.proofs.Blocks.{Same, under_blocks, used_put, under_device}
 use Rattle.joint_rule.proofs.Lookups.{lone, pick_self}
 use Rattle.joint_rule.proofs.Pools.{bit, list_self, pick, same_is, same_self}
-use Rattle.joint_rule.proofs.Sums.{Under, locals_le, total_up_over}
-use Rattle.joint_rule.proofs.Trips.{IsKept, SaysNone, Storage, hold_find, holding, idle_carries, mark_carried, no_mark, not_both, one_user, steady_storage, using, Carrier, carrier_of, carrier_uses}
+use Rattle.joint_rule.proofs.Sums.{Under, locals_le, total_up_over, total_mono}
+use Rattle.joint_rule.proofs.Trips.{IsKept, SaysNone, Storage, hold_find, holding, idle_carries, mark_carried, no_mark, not_both, one_user, steady_storage, using, Carrier, carrier_of, carrier_uses, hold_few}
 use Rattle.joint_rule.specs.Begins.{Begin, content}
 use Rattle.joint_rule.specs.Joint.{Joint, Sound}
 use Rattle.joint_rule.specs.Weights.{BlockWeigh, at_place, block_by, block_claims, block_uses, carried_at, carried_by, carries, carries_at, device_size, foreign, has_block, is_carrying, is_written, lies_at, lies_by, map_size, mark_at, mark_by, marks_of, none, nothing, pair, same, same_bytes, shows_at, stored_at, use_at, use_in, used_blocks, used_from, written_at, written_by, HeldAll}
@@ -162,6 +162,14 @@ module _ (g : Begin) (b : ℕ) (bytes : List ℕ) where
       ≤ mass (spot g.given.size) (block_claims (using b)) (block_uses (using b)) y
   says_low y all = let r = held_low y.held all in let s = written_low b bytes y in omega arith
 
+held_in_map : (g : Begin) (b i : ℕ) (v : DiskHeld) → Sound g i v
+    → used_blocks (holding (b + 1) b) i v ≤ map_size i v
+held_in_map g b i (holds.Slot e) s = omega arith
+held_in_map g b i (holds.Class p) s = omega arith
+held_in_map g b i (holds.Account c) s = omega arith
+held_in_map g b i (holds.Blocks x) s = let r = hold_few b 0 x.states in omega arith
+held_in_map g b i (holds.Device d) s = omega arith
+
 module _ (g : Begin) (w : State DiskHeld) (j : Joint g w) (a : ℕ) (l : Here)
     (who : slice_get w.locals a ≡ Some l) where
   abbrev n : ℕ
@@ -190,6 +198,25 @@ module _ (g : Begin) (w : State DiskHeld) (j : Joint g w) (a : ℕ) (l : Here)
         (under_blocks g (λ i. used_from (holding 1 b) 0 i.states)) here in
         let r = ap (held_sum (spot n) (used_blocks (holding 1 b))) held in
         hold_find 1 b 0 y.states b (omega arith) (omega arith)
+
+    -- the device in hand has it
+    pub held_there : ((f : BlockWeigh) → use_at f s x ≡ by_option (f 0) x.block) → (d : DeviceState)
+        (hs : List (LockNo × DiskHeld)) → l.held ≡ (lock.Device, holds.Device d) ∷ hs
+        → held_sum (spot n) device_size hs ≡ 0 → b < d.blocks
+    held_there uses d hs held none_else =
+        let mine : block_uses (holding (b + 1) b) l ≡ b + 1 = ap (use_in (holding (b + 1) b)) at
+        ∙ uses (holding (b + 1) b) ∙ block_weigh (holding (b + 1) b) 0 x.block b block
+        ∙ pick_self b b (b + 1) refl in
+        let e = j.blocks (holding (b + 1) b) in
+        let y = locals_le n (mass (spot n) (block_claims (holding (b + 1) b))
+        (block_uses (holding (b + 1) b))) w.locals a l who in
+        let u = total_mono n (Sound g) (used_blocks (holding (b + 1) b)) map_size (held_in_map g b) w
+        (λ i v z. (j.each.in_row i v z).sound) (λ i z q. (j.each.in_local i z q).sound) in
+        let here : 1 ≤ held_sum (spot n) (at_place (spot n lock.Device)) l.held =
+        (let r = ap (held_sum (spot n) (at_place (spot n lock.Device))) held in
+        let q = same_self (n + 257) in omega arith) in
+        let t = lone g w j a l who lock.Device device_size (under_device g (λ i. i.blocks)) here in
+        let r = ap (held_sum (spot n) device_size) held in let f = j.size in omega arith
 
     -- nobody else has it
     module _ (has : 1 ≤ block_uses (using b) l) where

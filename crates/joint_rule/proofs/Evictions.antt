@@ -49,7 +49,7 @@ form_pooled chain Blank o i = absurd i
 form_pooled chain (Word w) o i = absurd i
 form_pooled chain (Pooled bytes huge) o i = tt
 
-gone_by : (x : Option Weight) (k : Kept) → IsGone x k → GoneBy x k
+pub gone_by : (x : Option Weight) (k : Kept) → IsGone x k → GoneBy x k
 gone_by None k i = absurd i
 gone_by (Some w) k i = i
 

@@ -419,6 +419,17 @@ module _ (m b : ℕ) where
       let h = hold_low k s in let z = not_held k (λ y. let no : ⊥ = omega arith in no) in
       hold_find (suc k) xs i (omega arith) (omega arith)
 
+-- the blocks that writebacks have reserved are below the map's
+pub hold_few : (b k : ℕ) (xs : List BlockState) → used_from (holding (b + 1) b) k xs ≤ k + length xs
+hold_few b k [] = omega arith
+hold_few b k (s ∷ xs) =
+    let h = hold_low (b + 1) b k s in ⊎_elim
+    (λ z. let r = hold_few b (suc k) xs in
+    let y : pick (same b k) (b + 1) 0 ≡ 0 = rw z refl in omega arith)
+    (λ o. let e = o.1 in let u = o.0 in let r = hold_after (b + 1) b (suc k) xs (omega arith) in
+    let y : pick (same b k) (b + 1) 0 ≡ b + 1 = rw u refl in omega arith)
+    (same_is b k)
+
 -- ---- what an actor carries
 
 -- a pair, or none

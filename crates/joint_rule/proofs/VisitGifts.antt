@@ -832,8 +832,10 @@ module _ (g : Begin) (ok : Known g) (w : State DiskHeld) (j : Joint g w) (a : �
       maps = let r = ap (held_sum (spot n) map_size) held in omega arith;
       devices = let r = ap (held_sum (spot n) device_size) held in omega arith;
       disk = λ c bytes lt. elim (cases_eq c b) [
-        | inl is ↦ subst (λ (k : ℕ). has_block k bytes d.contents + 0
-            < total (spot n) (stored_at k bytes) none w + 0 + has_block k bytes d'.contents) (sym is)
+        | inl is ↦ subst (λ (k : ℕ). mass (spot n) (stored_at k bytes) none l
+            < total (spot n) (stored_at k bytes) none w
+            + mass (spot n) (stored_at k bytes) none (landing fail)
+            + stored_at k bytes (n + 257) (holds.Device d')) (sym is)
             (let r = ap (held_sum (spot n) (lies_at g b bytes)) held in
             let q = nobody bytes in let z = not_yet b bytes in
             let lt' : mass (spot n) (lies_at g b bytes) (written_at b bytes) l
