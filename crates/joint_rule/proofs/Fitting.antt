@@ -676,7 +676,8 @@ module _ (g : Begin) (ok : Known g) (w : State DiskHeld) (r : Ruled g w) (a : �
     pay_fits in_disk at_is k_is =
         let s = st Owing at_is p.page in_disk (λ c d. refl) in
         pay_any Owing at_is p.page in_disk (λ c d. refl) k_is _
-        (next_small g ok w r.joint a l who p rest todo _ s.kind.0 s.right) s.counts.0 s.counts.1
+        (next_small g ok w r.joint a l who p rest todo (e Owing at_is p.page in_disk (λ c d. refl))
+        s.kind.0 s.right) s.counts.0 s.counts.1
 
     -- the account is taken beside a pool
     inside_fits : k ≡ lock.Account → AsAccount (CanCharge g.chain) v

@@ -59,3 +59,4 @@ pub mod Renewals
 pub mod NewDisks
 pub mod Propers
 pub mod Free
+pub mod Marked

@@ -1,7 +1,7 @@
 -- What a giving does to blocks, to the marks of writebacks and to the device, and what the joint rule
 -- tells of who has a block.
 use Rattle.zr_base.specs.Plain.{has_whole}
-use Rattle.std.proofs.Common.{◌≡◌, ◌≢◌, ◌+◌, ◌≤◌, ◌<◌, ◌∷◌, ◌++◌, ◌∙◌, ◌==◌, ◌&&◌, ℕ, zero, suc, Bool, true, false, cond, eqb, is_none, option_map, List, [], Option, Some, None, slice_get, refl, sym, ap, subst, arith, inl, inr, ⊎_elim}
+use Rattle.std.proofs.Common.{◌≡◌, ◌≢◌, ◌+◌, ◌≤◌, ◌<◌, ◌∷◌, ◌++◌, ◌∙◌, ◌==◌, ◌&&◌, ℕ, zero, suc, Bool, true, false, cond, eqb, is_none, option_map, List, [], Option, Some, None, slice_get, refl, sym, ap, subst, arith, inl, inr, ⊎_elim, length}
 use Rattle.std.specs.Prelude.{⊤}
 use Rattle.block_map.specs.declared.state.BlockState.{BlockState}
 use Rattle.block_map.specs.declared.state.BlockState.TheVariants.{Free, Held, Left, Owned}
