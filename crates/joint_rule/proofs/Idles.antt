@@ -1,5 +1,5 @@
 -- Which pages a phase's only actor leaves idle.
-use Rattle.std.proofs.Common.{◌≡◌, ◌<◌, ◌∷◌, ◌∙◌, ℕ, List, [], Some, None, slice_get, ap, arith}
+use Rattle.std.proofs.Common.{◌≡◌, ◌<◌, ◌∷◌, ◌∙◌, ℕ, List, [], Some, None, slice_get, ap, arith, false}
 use Rattle.call_history.specs.declared.part.Part.{Part}
 use Rattle.joint_rule.proofs.Places.{IsEntry, entry_kind}
 use Rattle.joint_rule.proofs.Rests.{at_rest, over}

@@ -8,7 +8,7 @@ use Rattle.class_pool.specs.Zspages.{Cells, use_at}
 use Rattle.joint_rule.proofs.Lookups.{nothing_shown}
 use Rattle.joint_rule.proofs.Starts.{device_at, device_sum, keeps_self, map_at, map_sum}
 use Rattle.joint_rule.proofs.Sums.{row_none}
-use Rattle.joint_rule.specs.Begins.{AreCarried, Begin, content, form_at, form_by, found_after, image}
+use Rattle.joint_rule.specs.Begins.{AreCarried, Begin, content, form_at, form_by, found_after, image, back_at}
 use Rattle.joint_rule.specs.Joint.{AtHome, KeepsDevice}
 use Rattle.joint_rule.specs.Stages.{IsForm, IsSmall}
 use Rattle.joint_rule.specs.Starts.{AreFree, AtRest, IsNew}

@@ -151,6 +151,16 @@ module _ (g h : Begin) where
   most_keeps j v c d (renewed.maps x y is_v is_u e) is le = absurd (cc)
   most_keeps j v c d (renewed.devices x is_v is_u e) is le = absurd (cc)
 
+  -- an entry without a mark stays one
+  under_keeps : (j : ℕ) (v : DiskHeld) (d : EntryState) → Renewed g h j v (holds.Slot d)
+      → ((c : EntryState) → v ≡ holds.Slot c → c.under ≡ None) → d.under ≡ None
+  under_keeps j v d (renewed.slots c b is_v is_u r) was =
+      let now : d ≡ b = cc in ap (λ (x : EntryState). x.under) now ∙ r.under ∙ was c is_v
+  under_keeps j v d (renewed.accounts c b is_v is_u e keeps) was = absurd (cc)
+  under_keeps j v d (renewed.pools p is_v is_u) was = absurd (cc)
+  under_keeps j v d (renewed.maps x y is_v is_u e) was = absurd (cc)
+  under_keeps j v d (renewed.devices x is_v is_u e) was = absurd (cc)
+
   module _ (on_it : IsNextDisk g h) where
     pool_home : (j : ℕ) (p : PoolState) → AtHome g j (holds.Class p) → AtHome h j (holds.Class p)
     pool_home j p x = record {
@@ -286,6 +296,9 @@ module _ (g h : Begin) where
               (λ j x y e. refl) in let z = a.disk b bytes (omega arith) in omega arith;
           pins = λ f. let x = same (outs f) (λ j e d r. refl) (λ j c n t. refl) (λ j x y e. refl) in
               let z = a.pins f in omega arith;
+          unmarked = λ k d e. let r = match_at (Renewed g h) xs ys m k (holds.Slot d) e in
+              under_keeps k r.0 d r.2 (λ c is. a.unmarked k c
+              (r.1 ∙ ap (λ (v : DiskHeld). Some (Some v)) is));
           frames = let x = same pages (λ j e d r. refl) (λ j c n t. refl) (λ j x y e. refl) in
               let y = same chains (λ j e d r. refl) (λ j c n t. refl) (λ j x y e. refl) in
               let z = a.frames in omega arith;
