@@ -30,9 +30,6 @@ use Rattle.lock_row.specs.declared.names.Held.TheVariants as holds
 -- ---- the entry in hand
 
 module _ (g : Begin) (s : ℕ) (low : s < g.given.size) where
-  abbrev n : ℕ
-  n = g.given.size
-
   to_entry : (v : DiskHeld) → IsEntry v → (e : EntryState) × (v ≡ holds.Slot e)
   to_entry (holds.Slot e) i = (e, refl)
   to_entry (holds.Class p) i = absurd i
@@ -42,18 +39,18 @@ module _ (g : Begin) (s : ℕ) (low : s < g.given.size) where
 
   -- the slot of the page is held alone
   one_held : (xs : List (LockNo × DiskHeld)) → map (λ (x : LockNo × DiskHeld). x.0) xs ≡ slot s ∷ []
-      → HeldAll n (Sound g) xs → (e : EntryState) × (xs ≡ (slot s, holds.Slot e) ∷ [])
+      → HeldAll g.given.size (Sound g) xs → (e : EntryState) × (xs ≡ (slot s, holds.Slot e) ∷ [])
   one_held [] e all = absurd (cc)
   one_held (x ∷ y ∷ ys) e all = absurd (cc)
   one_held (x ∷ []) e all =
       let x_is : x.0 ≡ slot s = cc in
       let d = to_entry x.1 (entry_kind g s low x.1
-      (subst (λ (i : LockNo). Sound g (spot n i) x.1) x_is all.0)) in
+      (subst (λ (i : LockNo). Sound g (spot g.given.size i) x.1) x_is all.0)) in
       (d.0, λ i. (x_is i, d.1 i) ∷ [])
 
   -- or behind another lock
-  two_held : (k : LockNo) → n ≤ spot n k → (xs : List (LockNo × DiskHeld))
-      → map (λ (x : LockNo × DiskHeld). x.0) xs ≡ k ∷ slot s ∷ [] → HeldAll n (Sound g) xs
+  two_held : (k : LockNo) → g.given.size ≤ spot g.given.size k → (xs : List (LockNo × DiskHeld))
+      → map (λ (x : LockNo × DiskHeld). x.0) xs ≡ k ∷ slot s ∷ [] → HeldAll g.given.size (Sound g) xs
       → (v : DiskHeld) × (e : EntryState) × (xs ≡ (k, v) ∷ (slot s, holds.Slot e) ∷ [])
   two_held k far [] e all = absurd (cc)
   two_held k far (x ∷ []) e all = absurd (cc)
@@ -61,12 +58,12 @@ module _ (g : Begin) (s : ℕ) (low : s < g.given.size) where
   two_held k far (x ∷ y ∷ []) e all =
       let x_is : x.0 ≡ k = cc in let y_is : y.0 ≡ slot s = cc in
       let d = to_entry y.1 (entry_kind g s low y.1
-      (subst (λ (i : LockNo). Sound g (spot n i) y.1) y_is all.1.0)) in
+      (subst (λ (i : LockNo). Sound g (spot g.given.size i) y.1) y_is all.1.0)) in
       (x.1, d.0, λ i. (x_is i, x.1) ∷ (y_is i, d.1 i) ∷ [])
 
   -- the other one is no entry
-  no_entry : (k : LockNo) → n ≤ spot n k → (v : DiskHeld) (e : EntryState) (rest : List (LockNo × DiskHeld))
-      → Sound g (spot n k) v → entry_in ((k, v) ∷ (slot s, holds.Slot e) ∷ rest) ≡ e
+  no_entry : (k : LockNo) → g.given.size ≤ spot g.given.size k → (v : DiskHeld) (e : EntryState) (rest : List (LockNo × DiskHeld))
+      → Sound g (spot g.given.size k) v → entry_in ((k, v) ∷ (slot s, holds.Slot e) ∷ rest) ≡ e
   no_entry k far (holds.Slot d) e rest so = absurd (let z = so.page in let no : ⊥ = omega arith in no)
   no_entry k far (holds.Class q) e rest so = refl
   no_entry k far (holds.Account c) e rest so = refl
@@ -75,21 +72,21 @@ module _ (g : Begin) (s : ℕ) (low : s < g.given.size) where
 
   -- so the slot's entry weighs at least so much
   one_weighs : (f : ℕ → DiskHeld → ℕ) (xs : List (LockNo × DiskHeld))
-      → map (λ (x : LockNo × DiskHeld). x.0) xs ≡ slot s ∷ [] → HeldAll n (Sound g) xs
-      → f s (holds.Slot (entry_in xs)) ≤ held_sum (spot n) f xs
+      → map (λ (x : LockNo × DiskHeld). x.0) xs ≡ slot s ∷ [] → HeldAll g.given.size (Sound g) xs
+      → f s (holds.Slot (entry_in xs)) ≤ held_sum (spot g.given.size) f xs
   one_weighs f xs names all =
       let x = one_held xs names all in
-      let r = ap (held_sum (spot n) f) x.1 in
+      let r = ap (held_sum (spot g.given.size) f) x.1 in
       let q = ap (λ (ys : List (LockNo × DiskHeld)). f s (holds.Slot (entry_in ys))) x.1 in omega arith
 
-  two_weighs : (f : ℕ → DiskHeld → ℕ) (k : LockNo) → n ≤ spot n k → (xs : List (LockNo × DiskHeld))
-      → map (λ (x : LockNo × DiskHeld). x.0) xs ≡ k ∷ slot s ∷ [] → HeldAll n (Sound g) xs
-      → f s (holds.Slot (entry_in xs)) ≤ held_sum (spot n) f xs
+  two_weighs : (f : ℕ → DiskHeld → ℕ) (k : LockNo) → g.given.size ≤ spot g.given.size k → (xs : List (LockNo × DiskHeld))
+      → map (λ (x : LockNo × DiskHeld). x.0) xs ≡ k ∷ slot s ∷ [] → HeldAll g.given.size (Sound g) xs
+      → f s (holds.Slot (entry_in xs)) ≤ held_sum (spot g.given.size) f xs
   two_weighs f k far xs names all =
       let x = two_held k far xs names all in
-      let so : Sound g (spot n k) x.0 = (subst (HeldAll n (Sound g)) x.2 all).0 in
+      let so : Sound g (spot g.given.size k) x.0 = (subst (HeldAll g.given.size (Sound g)) x.2 all).0 in
       let e = no_entry k far x.0 x.1 [] so in
-      let r = ap (held_sum (spot n) f) x.2 in
+      let r = ap (held_sum (spot g.given.size) f) x.2 in
       let q = ap (λ (ys : List (LockNo × DiskHeld)). f s (holds.Slot (entry_in ys))) x.2 in
       let t = ap (λ (y : EntryState). f s (holds.Slot y)) e in omega arith
 
@@ -150,9 +147,6 @@ none_well (Some x) i = absurd i
 
 module _ (g : Begin) (w : State DiskHeld) (j : Joint g w) (a : ℕ) (l : Here)
     (who : slice_get w.locals a ≡ Some l) (s : Step) (x : Trip) (at : l.at ≡ Visiting s x) where
-  abbrev n : ℕ
-  n = g.given.size
-
   -- what it is at
   here : (p : Part) × (rest : List Part) × (l.todo ≡ p ∷ rest)
       × Stage g p (entry_in l.held) (Visiting s x) l.fresh l.pin l.owed l.ahead l.behind l.page l.fail
@@ -172,7 +166,7 @@ module _ (g : Begin) (w : State DiskHeld) (j : Joint g w) (a : ℕ) (l : Here)
       l.fail
   st = here.3
 
-  low : x.page < n
+  low : x.page < g.given.size
   low = st.visits.trip.page
 
   -- its locks
@@ -191,9 +185,9 @@ module _ (g : Begin) (w : State DiskHeld) (j : Joint g w) (a : ℕ) (l : Here)
   Weighs t = (f : ℕ → DiskHeld → ℕ) → map (λ (y : LockNo × DiskHeld). y.0) l.held
       ≡ locks_at (Visiting t x) here.0 (class_by e.kept)
       (new_class g.chain (here.0 ∷ here.1) l.page e.kept)
-      → f x.page (holds.Slot e) ≤ held_sum (spot n) f l.held
+      → f x.page (holds.Slot e) ≤ held_sum (spot g.given.size) f l.held
 
-  sound : HeldAll n (Sound g) l.held
+  sound : HeldAll g.given.size (Sound g) l.held
   sound = (j.each.in_local a l who).sound
 
   won_weighs : (t : Step) → has_won t ≡ true → Weighs t
@@ -224,7 +218,7 @@ module _ (g : Begin) (w : State DiskHeld) (j : Joint g w) (a : ℕ) (l : Here)
         won_page g w j a l who s x at b.0 b.1 (won_carries s won) bytes page copied (omega arith)
 
     -- and its block has it
-    pub has_page : (b : ℕ) → x.block ≡ Some b → 0 < total (spot n) (stored_at b page) none w
+    pub has_page : (b : ℕ) → x.block ≡ Some b → 0 < total (spot g.given.size) (stored_at b page) none w
     has_page b block =
         let well = none_well l.fail (won_well g here.0 s x l.fail st.fails won) in
         let z : written_at b page l ≡ 1 =
@@ -232,20 +226,17 @@ module _ (g : Begin) (w : State DiskHeld) (j : Joint g w) (a : ℕ) (l : Here)
         ∙ ap (λ (k : Bool). cond k (pair b page x.block (Some page)) 0) (won_writes s won)
         ∙ ap (λ (k : Option ℕ). pair b page k (Some page)) block
         ∙ rw (eq-eqb b b refl, list_self page) refl in
-        let y = locals_le n (mass (spot n) (lies_at g b page) (written_at b page)) w.locals a l who in
+        let y = locals_le g.given.size (mass (spot g.given.size) (lies_at g b page) (written_at b page)) w.locals a l who in
         j.disk b page (omega arith)
 
 -- where its mark is gone, another actor's tag is in the page's order
 module _ (g : Begin) (w : State DiskHeld) (j : Joint g w) (a : ℕ) (l : Here)
     (who : slice_get w.locals a ≡ Some l) (x : Trip) (at : l.at ≡ Visiting step.Losing x)
     (well : l.fail ≡ None) where
-  abbrev n : ℕ
-  n = g.given.size
+  abbrev mine : EntryState
+  mine = entry_in l.held
 
-  abbrev e : EntryState
-  e = entry_in l.held
-
-  under_shows : (b : ℕ) → Under n (Sound g) (at_place (spot n (slot x.page))) (shows_at a x.page b)
+  under_shows : (b : ℕ) → Under g.given.size (Sound g) (at_place (spot g.given.size (slot x.page))) (shows_at a x.page b)
   under_shows b i (holds.Slot d) so z =
       ap (λ (k : Bool). cond k (marks_of b d.under + foreign a d.order) 0)
       (ne_eqb x.page i (λ q. let r : same x.page i ≡ 1 = ap (same x.page) (sym q)
@@ -262,25 +253,25 @@ module _ (g : Begin) (w : State DiskHeld) (j : Joint g w) (a : ℕ) (l : Here)
       let q : eqb b c ≡ false = ap (λ (o : Option ℕ). is_mark_of o (Some c)) (sym is) ∙ off in
       ⊎_elim (λ z. z) (λ o. absurd (eqb-false b c q o.1)) (same_is b c)
 
-  pub has_other : 1 ≤ foreign a e.order
+  pub has_other : 1 ≤ foreign a mine.order
   has_other =
       let s = st g w j a l who step.Losing x at in
       let p = low g w j a l who step.Losing x at in
       let b = is_some_block x.block s.visits.step.1 in
       let d = one_held g x.page p l.held (names g w j a l who step.Losing x at)
       (sound g w j a l who step.Losing x at) in
-      let entry : e ≡ d.0 = ap entry_in d.1 in
+      let entry : mine ≡ d.0 = ap entry_in d.1 in
       let carries_it : carries l ≡ Some (x.page, b.0) =
       ap carries_at at ∙ ap (λ (o : Option ℕ). carries_at (Visiting step.Losing (record x { block = o })))
       b.1 in
       let t = j.carriers a l x.page b.0 who carries_it in
       let q = lone g w j a l who (slot x.page) (shows_at a x.page b.0) (under_shows b.0)
-      (let r = ap (held_sum (spot n) (at_place x.page)) d.1 in let q = same_self x.page in omega arith)
+      (let r = ap (held_sum (spot g.given.size) (at_place x.page)) d.1 in let q = same_self x.page in omega arith)
       in
-      let r = ap (held_sum (spot n) (shows_at a x.page b.0)) d.1 in
-      let gone = subst (λ (y : Option PartEnd). IsUnmarked y x.block e.under) well
+      let r = ap (held_sum (spot g.given.size) (shows_at a x.page b.0)) d.1 in
+      let gone = subst (λ (y : Option PartEnd). IsUnmarked y x.block mine.under) well
       s.visits.step.0.gone in
-      let z = no_marks x.block e.under b.0 b.1 gone in
+      let z = no_marks x.block mine.under b.0 b.1 gone in
       let u : shows_at a x.page b.0 x.page (holds.Slot d.0)
       ≡ marks_of b.0 d.0.under + foreign a d.0.order =
       ap (λ (k : Bool). cond k (marks_of b.0 d.0.under + foreign a d.0.order) 0)
