@@ -1,20 +1,18 @@
 -- What the joint rule tells of a writeback's block, of its mark and of its page, and what its givings do
 -- to them.
-use Rattle.std.proofs.Common.{◌≡◌, ◌≢◌, ◌+◌, ◌≤◌, ◌<◌, ◌∷◌, ◌∙◌, ◌==◌, ◌&&◌, ℕ, zero, suc, Bool, true, false, cond, is_none, if◌then◌else◌, List, [], length, Option, Some, None, slice_get, slice_set, refl, sym, ap, subst, arith, inl, inr, ⊎_elim, length-set, eqb}
+use Rattle.std.proofs.Common.{◌≡◌, ◌≢◌, ◌+◌, ◌≤◌, ◌<◌, ◌∷◌, ◌∙◌, ◌==◌, ◌&&◌, ℕ, Bool, true, false, cond, is_none, if◌then◌else◌, List, [], Option, Some, None, slice_get, refl, sym, ap, arith, inl, inr, ⊎_elim, eqb}
 use Rattle.backing_dev.specs.Contents.{ChangesOnly, HasBlock}
-use Rattle.backing_dev.specs.Dev.{DeviceState, IsCalled}
+use Rattle.backing_dev.specs.Dev.{DeviceState}
 use Rattle.block_map.specs.BlockMap.{BlockMap}
-use Rattle.block_map.specs.declared.state.BlockState.{BlockState}
-use Rattle.block_map.specs.declared.state.BlockState.TheVariants.{Free, Held, Owned}
-use Rattle.call_history.specs.declared.part.PartEnd.{PartEnd}
-use Rattle.joint_rule.proofs.Blocks.{Same, under_blocks, used_put, under_device}
+use Rattle.block_map.specs.declared.state.BlockState.TheVariants.{Held}
+use Rattle.joint_rule.proofs.Blocks.{under_blocks, under_device}
 use Rattle.joint_rule.proofs.Lookups.{lone, pick_self}
-use Rattle.joint_rule.proofs.Pools.{bit, list_self, pick, same_is, same_self}
-use Rattle.joint_rule.proofs.Sums.{Under, locals_le, total_up_over, total_mono}
-use Rattle.joint_rule.proofs.Trips.{IsKept, SaysNone, Storage, hold_find, holding, idle_carries, mark_carried, no_mark, not_both, one_user, steady_storage, using, Carrier, carrier_of, carrier_uses, hold_few}
+use Rattle.joint_rule.proofs.Pools.{bit, list_self, same_is, same_self}
+use Rattle.joint_rule.proofs.Sums.{locals_le, total_up_over, total_mono}
+use Rattle.joint_rule.proofs.Trips.{hold_find, holding, mark_carried, not_both, one_user, using, Carrier, carrier_of, carrier_uses, hold_few}
 use Rattle.joint_rule.specs.Begins.{Begin, content}
 use Rattle.joint_rule.specs.Joint.{Joint, Sound}
-use Rattle.joint_rule.specs.Weights.{BlockWeigh, at_place, block_by, block_claims, block_uses, carried_at, carried_by, carries, carries_at, device_size, foreign, has_block, is_carrying, is_written, lies_at, lies_by, map_size, mark_at, mark_by, marks_of, none, nothing, pair, same, same_bytes, shows_at, stored_at, use_at, use_in, used_blocks, used_from, written_at, written_by, HeldAll}
+use Rattle.joint_rule.specs.Weights.{BlockWeigh, at_place, block_by, block_claims, block_uses, carries, device_size, has_block, is_carrying, is_written, lies_at, lies_by, map_size, mark_at, marks_of, none, pair, same, same_bytes, use_at, use_in, used_blocks, used_from, written_at, written_by, HeldAll}
 use Rattle.lock_row.specs.Totals.{by_option, held_sum, mass, total}
 use Rattle.lock_row.specs.declared.names.At.{At}
 use Rattle.lock_row.specs.declared.names.At.TheVariants.{Visiting}
@@ -23,8 +21,7 @@ use Rattle.lock_row.specs.declared.names.State.{State}
 use Rattle.lock_row.specs.declared.names.Step.{Step}
 use Rattle.lock_row.specs.declared.names.Step.TheVariants as step
 use Rattle.lock_row.specs.declared.names.Trip.{Trip}
-use Rattle.page_steps.specs.Steps.{DiskHeld, Here, is_mark_of, slot, spot}
-use Rattle.slot_entry.specs.Entries.{EntryState}
+use Rattle.page_steps.specs.Steps.{DiskHeld, Here, is_mark_of, spot}
 use Rattle.slot_entry.specs.Forms.{same_list}
 use Rattle.slot_entry.specs.declared.kept.Kept.{Kept}
 use Rattle.std.proofs.lemmas.Bool.{cases_Bool, eq-eqb, eqb-true, ne_eqb, cases_eq}

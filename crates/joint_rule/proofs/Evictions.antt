@@ -1,5 +1,5 @@
 -- What each giving of a writeback does that has to do with pools and the account.
-use Rattle.std.proofs.Common.{cond, is_none, ◌≡◌, ◌+◌, ◌≤◌, ◌∷◌, ◌∙◌, ℕ, Bool, true, false, List, [], length, sum_by, Option, Some, None, slice_get, refl, sym, ap, subst, arith, inl, inr}
+use Rattle.std.proofs.Common.{cond, is_none, ◌≡◌, ◌+◌, ◌≤◌, ◌∷◌, ◌∙◌, ℕ, true, false, List, [], length, sum_by, Option, Some, None, slice_get, refl, sym, ap, subst, arith, inl}
 use Rattle.call_history.specs.declared.part.Part.{Part}
 use Rattle.class_pool.specs.Pool.{PoolState, used_cells}
 use Rattle.joint_rule.proofs.Arrivals.{visit_stage}
@@ -13,12 +13,11 @@ use Rattle.joint_rule.proofs.Pools.{GivesUp, Swaps, chain_low, fits_less, fits_s
 use Rattle.joint_rule.proofs.Trips.{IsKept, alike_storage, idle_carried, idle_carries, idle_written}
 use Rattle.joint_rule.specs.Begins.{Begin, content, form_at, image}
 use Rattle.joint_rule.specs.Joint.{AtHome, EntryFits, Joint, PoolFits, Sound}
-use Rattle.joint_rule.specs.Stages.{GoneBy, IsForm, IsGone, IsPinned, IsPooled, IsSmall, MayPin, Names, Stage}
-use Rattle.joint_rule.specs.Weights.{Count, PinWeigh, at_place, block_by, block_claims, carried_by, carries, carries_at, cell_weight, chains, claim_by, claims, counter, counters, device_size, each_one, ever_at, fixed, is_carrying, lies_at, map_size, mark_at, measure, mosts, nothing, object_weight, outs, pages, pin_in, shown, shows_at, some_of, stored, stored_at, use_in, used_blocks, written_by}
+use Rattle.joint_rule.specs.Stages.{GoneBy, IsForm, IsGone, IsPinned, IsPooled, IsSmall, Names, Stage}
+use Rattle.joint_rule.specs.Weights.{Count, PinWeigh, at_place, block_by, block_claims, carried_by, carries_at, cell_weight, chains, claim_by, claims, counter, counters, device_size, each_one, ever_at, fixed, is_carrying, lies_at, map_size, mark_at, measure, mosts, nothing, object_weight, outs, pages, pin_in, shown, shows_at, some_of, stored, stored_at, use_in, used_blocks, written_by}
 use Rattle.lock_row.specs.Totals.{by_option, held_sum}
 use Rattle.lock_row.specs.declared.names.At.{At}
 use Rattle.lock_row.specs.declared.names.At.TheVariants.{Visiting}
-use Rattle.lock_row.specs.declared.names.LockNo.{LockNo}
 use Rattle.lock_row.specs.declared.names.Pin.{Pin}
 use Rattle.lock_row.specs.declared.names.State.{State}
 use Rattle.lock_row.specs.declared.names.Step.{Step}
@@ -198,51 +197,51 @@ module _ (g : Begin) (ok : Known g) (w : State DiskHeld) (j : Joint g w) (a : �
 
       module _ (at : l.at ≡ Visiting step.Unpinning x) (taken : u.out ≡ true) (free : u'.out ≡ false)
         where
-        su : Stage g p e (Visiting step.Unpinning x) l.fresh l.pin l.owed l.ahead l.behind l.page
-            l.fail
-        su = stage g ok w j a l who p rest todo _ (Visiting step.Unpinning x) held at
+          su : Stage g p e (Visiting step.Unpinning x) l.fresh l.pin l.owed l.ahead l.behind l.page
+              l.fail
+          su = stage g ok w j a l who p rest todo _ (Visiting step.Unpinning x) held at
 
-        unpinned : (f : PinWeigh) (y : Option Pin) → l.pin ≡ y → IsPinned e.kept y
-            → f (pin_in q.class u) ≡ by_option f y
-        unpinned f None e_pin i = absurd i
-        unpinned f (Some y) e_pin i = ap f (pin_is g w j a l who x.page o q e held is y e_pin i u
-            sw.there (named_u ∙ sym (subst (λ (k : Kept). Names k y) is i).1))
+          unpinned : (f : PinWeigh) (y : Option Pin) → l.pin ≡ y → IsPinned e.kept y
+              → f (pin_in q.class u) ≡ by_option f y
+          unpinned f None e_pin i = absurd i
+          unpinned f (Some y) e_pin i = ap f (pin_is g w j a l who x.page o q e held is y e_pin i u
+              sw.there (named_u ∙ sym (subst (λ (k : Kept). Names k y) is i).1))
 
-        pub visit_unpins : Gift g w a l (lock.Class o.class) (holds.Class q')
-            (on l (Visiting step.Marking x) ((slot x.page, holds.Slot e) ∷ []) l.fresh None l.owed
-            l.ahead l.behind l.page l.fail)
-        visit_unpins = record {
-          home = pool_home q' sw.alike.class (fits_swap g.chain q sound.1 q' u u' sw);
-          fits = goes_on g ok w j a l who p rest todo (Visiting step.Marking x)
-              ((slot x.page, holds.Slot e) ∷ []) l.fresh None l.owed l.ahead l.behind l.page l.fail
-              refl (all g ok w j a l who p rest todo _ (Visiting step.Unpinning x) held at).1
-              (visit_stage g p l.fresh None l.owed l.ahead l.behind l.page l.fail e step.Marking x
-              su.made tt su.owes su.counts su.fails su.begun
-              (record { trip = su.visits.trip; step = su.visits.step })) held_lean;
-          alone = λ i. let r = ap (held_sum (spot n) (at_place i)) held in omega arith;
-          owners = λ f. let r = ap (held_sum (spot n) (claims g f)) held in
-              let x = ap (held_sum (spot n) (stored f)) held in
-              let s = swap_stored q q' u u' sw f in omega arith;
-          storage = alike_storage g w a l _ _ _ j who
-              (apart g a l _ _ _ (λ f z y. let r = ap (held_sum (spot n) f) held in
-              let s = z (n + o.class) q in let t = z (n + o.class) q' in omega arith))
-              (λ f. sym (ap (use_in f) at))
-              (idle_kept step.Unpinning step.Marking None l.page _ at refl refl);
-          pins = λ f. let r = ap (held_sum (spot n) (outs f)) held in
-              let x = ap (held_sum (spot n) nothing) held in
-              let s = swap_home q q' u u' sw taken free f in
-              let z = unpinned f l.pin refl su.pins in omega arith;
-          frames = let r = ap (held_sum (spot n) pages) held in
-              let x = ap (held_sum (spot n) chains) held in let s = sw.frames in omega arith;
-          counts = λ i. let r = ap (held_sum (spot n) (counters i)) held in
-              let x = ap (held_sum (spot n) (shown i)) held in omega arith;
-          stays = λ y. let r = ap (held_sum (spot n) (fixed y)) held in omega arith;
-          rises = let r = ap (held_sum (spot n) (ever_at g)) held in omega arith;
-          most = inl (
-            (let r = ap (held_sum (spot n) mosts) held in omega arith),
-            (let r = ap (held_sum (spot n) pages) held in omega arith),
-          );
-        }
+          pub visit_unpins : Gift g w a l (lock.Class o.class) (holds.Class q')
+              (on l (Visiting step.Marking x) ((slot x.page, holds.Slot e) ∷ []) l.fresh None l.owed
+              l.ahead l.behind l.page l.fail)
+          visit_unpins = record {
+            home = pool_home q' sw.alike.class (fits_swap g.chain q sound.1 q' u u' sw);
+            fits = goes_on g ok w j a l who p rest todo (Visiting step.Marking x)
+                ((slot x.page, holds.Slot e) ∷ []) l.fresh None l.owed l.ahead l.behind l.page l.fail
+                refl (all g ok w j a l who p rest todo _ (Visiting step.Unpinning x) held at).1
+                (visit_stage g p l.fresh None l.owed l.ahead l.behind l.page l.fail e step.Marking x
+                su.made tt su.owes su.counts su.fails su.begun
+                (record { trip = su.visits.trip; step = su.visits.step })) held_lean;
+            alone = λ i. let r = ap (held_sum (spot n) (at_place i)) held in omega arith;
+            owners = λ f. let r = ap (held_sum (spot n) (claims g f)) held in
+                let x = ap (held_sum (spot n) (stored f)) held in
+                let s = swap_stored q q' u u' sw f in omega arith;
+            storage = alike_storage g w a l _ _ _ j who
+                (apart g a l _ _ _ (λ f z y. let r = ap (held_sum (spot n) f) held in
+                let s = z (n + o.class) q in let t = z (n + o.class) q' in omega arith))
+                (λ f. sym (ap (use_in f) at))
+                (idle_kept step.Unpinning step.Marking None l.page _ at refl refl);
+            pins = λ f. let r = ap (held_sum (spot n) (outs f)) held in
+                let x = ap (held_sum (spot n) nothing) held in
+                let s = swap_home q q' u u' sw taken free f in
+                let z = unpinned f l.pin refl su.pins in omega arith;
+            frames = let r = ap (held_sum (spot n) pages) held in
+                let x = ap (held_sum (spot n) chains) held in let s = sw.frames in omega arith;
+            counts = λ i. let r = ap (held_sum (spot n) (counters i)) held in
+                let x = ap (held_sum (spot n) (shown i)) held in omega arith;
+            stays = λ y. let r = ap (held_sum (spot n) (fixed y)) held in omega arith;
+            rises = let r = ap (held_sum (spot n) (ever_at g)) held in omega arith;
+            most = inl (
+              (let r = ap (held_sum (spot n) mosts) held in omega arith),
+              (let r = ap (held_sum (spot n) pages) held in omega arith),
+            );
+          }
 
     -- the page's object is given up
     module _ (q' : PoolState) (u : UsedCell) (frames : ℕ) (up : GivesUp q q' u frames)
@@ -279,9 +278,10 @@ module _ (g : Begin) (ok : Known g) (w : State DiskHeld) (j : Joint g w) (a : �
         home = pool_home q' up.alike.class (fits_less g.chain q sound.1 q' u frames up);
         fits = goes_on g ok w j a l who p rest todo (Visiting step.Backing x)
             ((slot x.page, holds.Slot (emptied e)) ∷ []) l.fresh l.pin frames
-            (Some (weight_of e.kept)) l.behind l.page l.fail refl
-            (emptied_fits (all g ok w j a l who p rest todo _ (Visiting step.Freeing x) held at).1.0,
-            tt)
+            (Some (weight_of e.kept)) l.behind l.page l.fail refl (
+              emptied_fits (all g ok w j a l who p rest todo _ (Visiting step.Freeing x) held at).1.0,
+              tt,
+            )
             (visit_stage g p l.fresh l.pin frames (Some (weight_of e.kept)) l.behind l.page l.fail
             (emptied e) step.Backing x sf.made sf.pins few_frames ((tt, freed_small), sf.counts.1)
             sf.fails sf.begun (record {

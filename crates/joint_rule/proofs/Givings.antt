@@ -27,6 +27,7 @@ use Rattle.slot_entry.specs.declared.kept.Kept.{Kept}
 use Rattle.slot_entry.specs.declared.kept.Stored.{Stored}
 use Rattle.joint_rule.proofs.Events as event
 use Rattle.joint_rule.proofs.VisitGifts as gifts
+use Rattle.joint_rule.proofs.Reservations as blocks
 use Rattle.joint_rule.proofs.Visits as visit
 use Rattle.lock_row.specs.declared.names.Step.TheVariants as step
 use Rattle.lock_row.specs.declared.names.LockNo.TheVariants as lock
@@ -71,11 +72,11 @@ module _ (g : Begin) (ok : Known g) (w : State DiskHeld) (j : Joint g w) (a : â„
   visit_gift (visit.reserves p rest x e y b todo at held answer v_is m_is) =
       at_lock _ lock.Blocks _ (given_lock lock.Blocks
       (event_is p rest _ (Visiting step.Reserving x) todo held at)) v_is m_is
-      (gifts.give_reserves g ok w j a l who p rest todo x e y held at b answer)
+      (blocks.give_reserves g ok w j a l who p rest todo x e y held at b answer)
   visit_gift (visit.refrains p rest x e y r end todo at held is v_is m_is) =
       at_lock _ lock.Blocks _ (given_lock lock.Blocks
       (event_is p rest _ (Visiting step.Reserving x) todo held at)) v_is m_is
-      (gifts.give_refrains g ok w j a l who p rest todo x e y held at r end is)
+      (blocks.give_refrains g ok w j a l who p rest todo x e y held at r end is)
   visit_gift (visit.quits p rest x e end todo at held bad v_is m_is) =
       at_lock _ (slot x.page) _ (given_lock (slot x.page)
       (event_is p rest _ (Visiting step.Quitting x) todo held at)) v_is refl
@@ -97,11 +98,11 @@ module _ (g : Begin) (ok : Known g) (w : State DiskHeld) (j : Joint g w) (a : â„
   visit_gift (visit.stores p rest x b page d d' todo at held block is write v_is m_is) =
       at_lock _ lock.Device _ (given_lock lock.Device
       (event_is p rest _ (Visiting step.Storing x) todo held at)) v_is m_is
-      (gifts.give_stores g ok w j a l who p rest todo x d d' held b block at page is write)
+      (blocks.give_stores g ok w j a l who p rest todo x d d' held b block at page is write)
   visit_gift (visit.spoils p rest x b d d' fault todo at held block failed v_is m_is) =
       at_lock _ lock.Device _ (given_lock lock.Device
       (event_is p rest _ (Visiting step.Storing x) todo held at)) v_is m_is
-      (gifts.give_spoils g ok w j a l who p rest todo x d d' held b block at fault failed)
+      (blocks.give_spoils g ok w j a l who p rest todo x d d' held b block at fault failed)
   visit_gift (visit.frees p rest x e o q q' u frames todo at held is up named_u home v_is m_is) =
       at_lock _ (lock.Class o.class) _ (old_lock e.kept o is
       (event_is p rest _ (Visiting step.Freeing x) todo held at)) v_is m_is
@@ -109,7 +110,7 @@ module _ (g : Begin) (ok : Known g) (w : State DiskHeld) (j : Joint g w) (a : â„
   visit_gift (visit.commits p rest x e b y todo at held block v_is m_is) =
       at_lock _ lock.Blocks _ (given_lock lock.Blocks
       (event_is p rest _ (Visiting step.Committing x) todo held at)) v_is m_is
-      (gifts.give_commits g ok w j a l who p rest todo x e y held at b block)
+      (blocks.give_commits g ok w j a l who p rest todo x e y held at b block)
   visit_gift (visit.pays p rest x e c was todo at held is v_is m_is) =
       at_lock _ lock.Account _ (given_lock lock.Account
       (event_is p rest _ (Visiting step.Paying x) todo held at)) v_is m_is
@@ -127,11 +128,11 @@ module _ (g : Begin) (ok : Known g) (w : State DiskHeld) (j : Joint g w) (a : â„
   visit_gift (visit.releases p rest x b y todo at held block well v_is on) =
       at_lock _ lock.Blocks _ (given_lock lock.Blocks
       (event_is p rest _ (Visiting step.Releasing x) todo held at)) v_is refl
-      (gifts.give_releases g ok w j a l who p rest todo x y held b block at m on)
+      (blocks.give_releases g ok w j a l who p rest todo x y held b block at m on)
   visit_gift (visit.stops p rest x b y end todo at held block bad v_is m_is) =
       at_lock _ lock.Blocks _ (given_lock lock.Blocks
       (event_is p rest _ (Visiting step.Releasing x) todo held at)) v_is refl
-      (gifts.give_stops g ok w j a l who p rest todo x y held b block at m end bad m_is)
+      (blocks.give_stops g ok w j a l who p rest todo x y held b block at m end bad m_is)
 
   pub gift : (ev : Event g l v m) â†’ Chosen g l v m ev â†’ Gift g w a l k v m
   gift (event.visits t) chosen = visit_gift t

@@ -1,5 +1,6 @@
 pub mod Facts
 pub mod Finds
+pub mod Tagged
 pub mod Sums
 pub mod Pages
 pub mod Pools
@@ -29,6 +30,7 @@ pub mod Scans
 pub mod Rounds
 pub mod Blockings
 pub mod VisitGifts
+pub mod Reservations
 pub mod Evictions
 pub mod Givings
 pub mod Keeps
@@ -50,6 +52,7 @@ pub mod Choices
 pub mod Turns
 pub mod Starts
 pub mod Gets
+pub mod Few
 pub mod Fitting
 pub mod Rests
 pub mod Ranges

@@ -1,5 +1,5 @@
 -- What a writeback that has found its mark, or lost it, knows of its page.
-use Rattle.std.proofs.Common.{◌≡◌, ◌+◌, ◌≤◌, ◌<◌, ◌∷◌, ◌∙◌, ◌&&◌, ◌==◌, ℕ, Bool, true, false, cond, is_none, List, [], map, Option, Some, None, slice_get, refl, sym, ap, subst, arith, inl, inr, ⊎_elim, eqb}
+use Rattle.std.proofs.Common.{◌≡◌, ◌+◌, ◌≤◌, ◌<◌, ◌∷◌, ◌∙◌, ◌&&◌, ℕ, Bool, true, false, cond, is_none, List, [], map, Option, Some, None, slice_get, refl, sym, ap, subst, arith, ⊎_elim, eqb}
 use Rattle.call_history.specs.declared.part.Part.{Part}
 use Rattle.call_history.specs.declared.part.PartEnd.{PartEnd}
 use Rattle.joint_rule.proofs.Blockings.{mark_is, won_page}
@@ -48,7 +48,7 @@ module _ (g : Begin) (s : ℕ) (low : s < g.given.size) where
       (subst (λ (i : LockNo). Sound g (spot g.given.size i) x.1) x_is all.0)) in
       (d.0, λ i. (x_is i, d.1 i) ∷ [])
 
-  -- or behind another lock
+  -- or under another lock
   two_held : (k : LockNo) → g.given.size ≤ spot g.given.size k → (xs : List (LockNo × DiskHeld))
       → map (λ (x : LockNo × DiskHeld). x.0) xs ≡ k ∷ slot s ∷ [] → HeldAll g.given.size (Sound g) xs
       → (v : DiskHeld) × (e : EntryState) × (xs ≡ (k, v) ∷ (slot s, holds.Slot e) ∷ [])
@@ -158,9 +158,14 @@ module _ (g : Begin) (w : State DiskHeld) (j : Joint g w) (a : ℕ) (l : Here)
         let q = subst (λ (ts : List Part). StageBy g ts (entry_in l.held) l.at l.fresh l.pin l.owed
         l.ahead l.behind l.page l.fail) todo (j.each.in_local a l who).stage in
         let z : Start ≡ Visiting s x = sym q.begun ∙ at in cc)
-    by_todo (p ∷ rest) todo = (p, rest, todo, subst (λ (y : List Part × At). StageBy g y.0
-        (entry_in l.held) y.1 l.fresh l.pin l.owed l.ahead l.behind l.page l.fail)
-        (λ i. (todo i, at i)) (j.each.in_local a l who).stage)
+    by_todo (p ∷ rest) todo = (
+      p,
+      rest,
+      todo,
+      subst (λ (y : List Part × At). StageBy g y.0
+          (entry_in l.held) y.1 l.fresh l.pin l.owed l.ahead l.behind l.page l.fail)
+          (λ i. (todo i, at i)) (j.each.in_local a l who).stage,
+    )
 
   st : Stage g here.0 (entry_in l.held) (Visiting s x) l.fresh l.pin l.owed l.ahead l.behind l.page
       l.fail

@@ -1,5 +1,5 @@
 -- A disk on which nothing was ever written is at rest.
-use Rattle.std.proofs.Common.{◌≡◌, ◌+◌, ◌*◌, ◌<◌, ◌≤◌, ◌&&◌, ◌∷◌, ◌∙◌, ℕ, suc, Bool, true, List, [], length, sum_by, Option, Some, slice_get, refl, sym, ap, subst, arith, is_some}
+use Rattle.std.proofs.Common.{◌≡◌, ◌+◌, ◌*◌, ◌<◌, ◌≤◌, ◌&&◌, ◌∷◌, ◌∙◌, ℕ, suc, Bool, true, List, [], length, sum_by, Option, Some, slice_get, refl, sym, ap, subst, arith, is_some, false}
 use Rattle.joint_rule.proofs.Gifts.{unmarked}
 use Rattle.backing_dev.specs.Dev.{DeviceState}
 use Rattle.block_map.specs.declared.state.BlockState.{BlockState}

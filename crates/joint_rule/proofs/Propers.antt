@@ -7,7 +7,7 @@ use Rattle.joint_rule.proofs.Facts.{Known}
 use Rattle.joint_rule.proofs.Pages.{all_sectors, blank_zero, holds_after}
 use Rattle.joint_rule.proofs.Ranges.{range_by, range_map, range_none}
 use Rattle.joint_rule.proofs.Rests.{at_rest}
-use Rattle.joint_rule.specs.Begins.{finding, AreCarried, AreRequests, Begin, FindsRight, IsRoomy, Proper, back_at, found_after}
+use Rattle.joint_rule.specs.Begins.{finding, AreCarried, AreRequests, Begin, FindsRight, IsRoomy, Proper, found_after}
 use Rattle.joint_rule.specs.Ends.{AllFinished, begin_at, new_rest, order_in, orders_of, rest_after, value_at, idle_in, back_in}
 use Rattle.joint_rule.specs.Rule.{Ruled}
 use Rattle.joint_rule.specs.Starts.{IsRenewed}

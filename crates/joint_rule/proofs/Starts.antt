@@ -1,5 +1,4 @@
 -- A prepared start has the rule.
-use Rattle.slot_entry.specs.Entries.{is_wb}
 use Rattle.joint_rule.proofs.Trips.{NoTrip, no_mark, written_none}
 use Rattle.std.proofs.Common.{◌≡◌, ◌≢◌, ◌+◌, ◌≤◌, ◌<◌, ◌∷◌, ◌∙◌, ◌^◌, ℕ, zero, suc, List, [], map, length, Option, Some, None, slice_get, refl, sym, ap, subst, arith, Bool, true, false, cond, not, ◌&&◌}
 use Rattle.joint_rule.proofs.Ages.{ages_start}

@@ -6,12 +6,12 @@ use Rattle.std.specs.Prelude.{⊤}
 use Rattle.block_map.specs.declared.state.BlockState.{BlockState}
 use Rattle.block_map.specs.declared.state.BlockState.TheVariants.{Free, Held, Left, Owned}
 use Rattle.joint_rule.proofs.Blocks.{Balanced, MarksLess, Same, Still}
-use Rattle.joint_rule.proofs.Pools.{bit, pick, same_is, same_lists, same_self}
-use Rattle.joint_rule.proofs.Sums.{held_nothing, locals_le, locals_two, row_nothing, some_local, total_mono}
+use Rattle.joint_rule.proofs.Pools.{pick, same_is, same_lists, same_self}
+use Rattle.joint_rule.proofs.Sums.{held_nothing, locals_two, row_nothing, some_local, total_mono}
 use Rattle.joint_rule.specs.Begins.{Begin, content}
 use Rattle.joint_rule.specs.Joint.{Joint, Sound}
-use Rattle.joint_rule.specs.Weights.{BlockWeigh, at_place, block_claims, block_uses, carried_at, carried_by, carries, carries_at, device_size, foreign, is_carrying, lies_at, map_size, mark_at, mark_by, marks_of, none, nothing, pair, same, same_bytes, shows_at, stored_at, use_at, use_by, use_in, used_blocks, used_from, written_at, written_by, is_written}
-use Rattle.lock_row.specs.Totals.{by_option, held_sum, locals_sum, mass, total}
+use Rattle.joint_rule.specs.Weights.{BlockWeigh, at_place, block_claims, block_uses, carried_at, carried_by, carries, carries_at, device_size, foreign, is_carrying, lies_at, map_size, mark_at, mark_by, marks_of, none, nothing, pair, same, shows_at, stored_at, use_at, use_by, use_in, used_blocks, used_from, written_at, written_by, is_written}
+use Rattle.lock_row.specs.Totals.{by_option, mass, total}
 use Rattle.lock_row.specs.declared.names.At.{At}
 use Rattle.lock_row.specs.declared.names.At.TheVariants.{Visiting}
 use Rattle.lock_row.specs.declared.names.LockNo.{LockNo}
@@ -20,7 +20,7 @@ use Rattle.lock_row.specs.declared.names.State.{State}
 use Rattle.lock_row.specs.declared.names.Step.{Step}
 use Rattle.lock_row.specs.declared.names.Step.TheVariants as step
 use Rattle.lock_row.specs.declared.names.Trip.{Trip}
-use Rattle.page_steps.specs.Steps.{DiskHeld, Here, fetched_at, made_at, pinned_at, quit_at, settle_at, slot, spot, discard_at, entered_at, part_at, seen_at, write_at}
+use Rattle.page_steps.specs.Steps.{DiskHeld, Here, fetched_at, made_at, pinned_at, quit_at, settle_at, spot, discard_at, entered_at, part_at, seen_at, write_at}
 use Rattle.slot_entry.specs.Entries.{EntryState}
 use Rattle.slot_entry.specs.Forms.{Blank, PageForm, Pooled, Word, same_list}
 use Rattle.slot_entry.specs.declared.kept.Kept.{Kept}
@@ -29,7 +29,6 @@ use Rattle.zr_base.specs.declared.op.Op.{Op}
 use Rattle.zr_base.specs.declared.op.Op.TheVariants.{Compact, Discard, Idle, Read, Write, Writeback}
 use Rattle.zr_base.specs.declared.op.Tag.{Tag}
 use Rattle.lock_row.specs.declared.names.Held.TheVariants as holds
-use Rattle.lock_row.specs.declared.names.LockNo.TheVariants as lock
 use Rattle.slot_entry.specs.declared.kept.Kept.TheVariants as kept
 
 -- ---- stages of no writeback
@@ -500,10 +499,10 @@ bytes_of b bytes None page lt = absurd (omega arith)
 bytes_of b bytes (Some c) None lt = absurd (omega arith)
 bytes_of b bytes (Some c) (Some y) lt = elim (cases_Bool (eqb b c)) [
   | inl on ↦ elim (cases_Bool (same_list bytes y)) [
-      | inl same_one ↦ (ap Some (sym (eqb-true b c on)), ap Some (sym (same_lists bytes y same_one)))
-      | inr other ↦ absurd (let z : pair b bytes (Some c) (Some y) ≡ 0 = rw (on, other) refl in
-          let none : ⊥ = omega arith in none)
-    ]
+    | inl same_one ↦ (ap Some (sym (eqb-true b c on)), ap Some (sym (same_lists bytes y same_one)))
+    | inr other ↦ absurd (let z : pair b bytes (Some c) (Some y) ≡ 0 = rw (on, other) refl in
+        let none : ⊥ = omega arith in none)
+  ]
   | inr off ↦ absurd (let z : pair b bytes (Some c) (Some y) ≡ 0 = rw off refl in
       let none : ⊥ = omega arith in none)
 ]
@@ -517,15 +516,17 @@ carried_by_is : (s b : ℕ) (bytes : List ℕ) (at : At) (page : Option (List �
 carried_by_is s b bytes (Visiting st x) page lt =
     let c = above_zero (is_carrying st && (s == x.page)) (pair b bytes x.block page) lt in
     let p = and_parts (is_carrying st) (eqb s x.page) c.0 in
-    let q = bytes_of b bytes x.block page c.1 in
-    (record {
-      step = st;
-      trip = x;
-      is = refl;
-      carries = p.0;
-      page = sym (eqb-true s x.page p.1);
-      block = q.0;
-    }, q.1)
+    let q = bytes_of b bytes x.block page c.1 in (
+      record {
+        step = st;
+        trip = x;
+        is = refl;
+        carries = p.0;
+        page = sym (eqb-true s x.page p.1);
+        block = q.0;
+      },
+      q.1,
+    )
 carried_by_is s b bytes at page lt = absurd (omega arith)
 
 module _ (g : Begin) where

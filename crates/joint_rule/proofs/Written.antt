@@ -1,15 +1,14 @@
 -- The writes of the device, and the pages that are new on it: a giving raises what its actor tells as
 -- it does the device's count, and by each page that it puts there.
-use Rattle.std.proofs.Common.{◌≡◌, ◌+◌, ◌*◌, ◌≤◌, ◌<◌, ◌∷◌, ◌++◌, ◌∙◌, ◌&&◌, not, ℕ, zero, suc, Bool, true, false, cond, List, [], Option, Some, None, slice_get, slice_set, refl, sym, ap, subst, arith}
+use Rattle.std.proofs.Common.{◌≡◌, ◌+◌, ◌≤◌, ◌∷◌, ◌∙◌, ◌&&◌, not, ℕ, Bool, true, false, cond, List, [], Option, Some, None, slice_get, slice_set, refl, sym, ap, subst, arith}
 use Rattle.backing_dev.specs.Dev.{DeviceState}
 use Rattle.block_map.specs.BlockMap.{BlockMap}
-use Rattle.call_history.specs.Parts.{done_sum, piece_gives, left_by, is_read}
+use Rattle.call_history.specs.Parts.{done_sum, piece_gives, is_read}
 use Rattle.call_history.specs.Shows.{tag_by}
 use Rattle.call_history.specs.declared.part.Part.{Part}
 use Rattle.call_history.specs.declared.part.PartEnd.{PartEnd}
 use Rattle.call_history.specs.declared.part.PartEnd.TheVariants.{AtLimit, Carried, Eio, NoMemory, Whole}
 use Rattle.joint_rule.proofs.Alikes.{take_alike}
-use Rattle.joint_rule.proofs.Blocks.{under_device}
 use Rattle.joint_rule.proofs.Compactions.{plain_moved}
 use Rattle.joint_rule.proofs.Events.{Event}
 use Rattle.joint_rule.proofs.Facts.{Known}
@@ -27,7 +26,7 @@ use Rattle.joint_rule.specs.Stages.{FailBy, IsFault, IsQuit, MayQuit, NoneOf, St
 use Rattle.joint_rule.specs.Weights.{device_writes, new_back_at, none, writes_in, writes_told, wrote_in, wrote_told}
 use Rattle.lock_row.specs.Totals.{held_sum, locals_sum, mass, total}
 use Rattle.lock_row.specs.declared.names.At.{At}
-use Rattle.lock_row.specs.declared.names.At.TheVariants.{Both, Counting, Failing, Fetching, Freeing, Giving, Leaving, Made, Marking, Missed, Moving, Owing, Pinning, Ready, Refusing, Releasing, Scanning, Shrinking, Sweeping, Unpinning, Visiting}
+use Rattle.lock_row.specs.declared.names.At.TheVariants.{Both, Counting, Fetching, Freeing, Giving, Leaving, Made, Marking, Missed, Moving, Pinning, Ready, Refusing, Releasing, Shrinking, Unpinning, Visiting}
 use Rattle.lock_row.specs.declared.names.LockNo.{LockNo}
 use Rattle.lock_row.specs.declared.names.Plan.TheVariants.{Give, Take}
 use Rattle.lock_row.specs.declared.names.State.{State}
@@ -39,22 +38,19 @@ use Rattle.page_steps.specs.Compactions.{with_move}
 use Rattle.page_steps.specs.Givings.{Notes, kept_by}
 use Rattle.page_steps.specs.Nexts.{emptied}
 use Rattle.page_steps.specs.Pages.{next_form, page_in_cell}
-use Rattle.page_steps.specs.Steps.{DiskHeld, Here, class_by, entry_in, lock_of, piece_over, plan, plan_at, slot, spot, took}
+use Rattle.page_steps.specs.Steps.{DiskHeld, Here, class_by, lock_of, piece_over, plan, plan_at, slot, spot, took}
 use Rattle.page_steps.specs.Visits.{lost_page, passed_page, put_back, unmarked, with_block, wrote_page}
 use Rattle.plain_disk.specs.Ends.{left_back, written}
 use Rattle.slot_entry.specs.Entries.{EntryState, is_wb, marked}
 use Rattle.slot_entry.specs.Forms.{Blank, PageForm, Pooled, Word, class_in}
-use Rattle.slot_entry.specs.declared.kept.Kept.{Kept}
 use Rattle.zr_base.specs.declared.op.Op.{Op}
 use Rattle.zr_base.specs.declared.op.Op.TheVariants.{Compact, Discard, Idle, Read, Write, Writeback}
 use Rattle.zr_base.specs.declared.op.OpEnd.{OpEnd}
-use Rattle.zr_base.specs.declared.op.Tag.{Tag}
 use Rattle.lock_row.specs.declared.names.Object.{Object}
 use Rattle.joint_rule.proofs.Events as event
 use Rattle.joint_rule.proofs.Visits as visit
 use Rattle.lock_row.specs.declared.names.LockNo.TheVariants as lock
 use Rattle.lock_row.specs.declared.names.Held.TheVariants as holds
-use Rattle.slot_entry.specs.declared.kept.Kept.TheVariants as kept
 use Rattle.zr_base.specs.declared.op.OpEnd.TheVariants as ends
 
 -- ---- stages
