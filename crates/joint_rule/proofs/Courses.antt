@@ -1,12 +1,11 @@
 -- What each giving of a writeback tells, and what it leaves of orders and of the account's counters.
-use Rattle.joint_rule.proofs.Rounds.{no_one}
 use Rattle.page_steps.specs.Nexts.{emptied}
 use Rattle.joint_rule.specs.Rule.{OfOrder}
 use Rattle.slot_entry.specs.declared.kept.Stored.{Stored}
 use Rattle.slot_entry.specs.declared.kept.Kept.{Kept}
 use Rattle.lock_row.specs.declared.names.Plan.TheVariants.{Give}
 use Rattle.joint_rule.proofs.Givings.{event_is, given_lock}
-use Rattle.std.proofs.Common.{◌≡◌, ◌+◌, ◌≤◌, ◌∷◌, ◌∙◌, ℕ, true, List, [], Some, None, slice_get, refl, sym, ap, subst, arith}
+use Rattle.std.proofs.Common.{◌≡◌, ◌+◌, ◌≤◌, ◌∷◌, ◌∙◌, ℕ, true, List, [], Option, Some, None, slice_get, refl, sym, ap, subst, arith}
 use Rattle.std.specs.Prelude.{⊤}
 use Rattle.backing_dev.specs.Dev.{DeviceState, FailsToWrite}
 use Rattle.block_map.specs.declared.blocks.Reserve.{Reserve}
@@ -127,6 +126,10 @@ module _ (g : Begin) (ok : Known g) (w : State DiskHeld) (j : Joint g w) (a : �
       (ap (λ (i : Here). i.at) m_is) (ap (λ (i : Here). i.fail) m_is ∙ sym none)
   onward_course p rest y well (visit.last on m_is) none = tells y.wrote y.lost well m_is
 
+  no_fail : (x : Option PartEnd) → NoneOf x → x ≡ None
+  no_fail None i = refl
+  no_fail (Some x) i = absurd i
+
   over_by : (p : Part) (rest : List Part) (y : Trip) (end : PartEnd) → IsQuit g p y (Some end)
       → l.fail ≡ Some end → m ≡ piece_over l p end [] rest → Course l v p rest m
   over_by p rest y end is bad m_is = let q = quit_end g p y end is in
@@ -150,7 +153,7 @@ module _ (g : Begin) (ok : Known g) (w : State DiskHeld) (j : Joint g w) (a : �
         s = step.Passing;
         x = x;
         at = at;
-        course = onward_course p rest _ st.fails on (no_one l.fail st.fails);
+        course = onward_course p rest _ st.fails on (no_fail l.fail st.fails);
       }
   course_of (visit.reserves p rest x e y b todo at held answer v_is m_is) =
       let st = stage g ok w j a l who p rest todo _ (Visiting step.Reserving x) held at in record {
@@ -287,7 +290,7 @@ module _ (g : Begin) (ok : Known g) (w : State DiskHeld) (j : Joint g w) (a : �
         s = step.Putting;
         x = x;
         at = at;
-        course = onward_course p rest _ st.fails on (no_one l.fail st.fails);
+        course = onward_course p rest _ st.fails on (no_fail l.fail st.fails);
       }
   course_of (visit.loses p rest x e todo at held v_is m_is) =
       let st = stage g ok w j a l who p rest todo _ (Visiting step.Losing x) held at in record {

@@ -1,5 +1,4 @@
 -- What an actor takes fits it.
-use Rattle.joint_rule.proofs.Rounds.{no_one}
 use Rattle.joint_rule.proofs.Few.{counts_few, is_counted, measure_small, pages_few}
 use Rattle.lock_row.specs.declared.names.Trip.{Trip}
 use Rattle.lock_row.specs.declared.names.Step.{Step}
@@ -570,6 +569,10 @@ module _ (g : Begin) (ok : Known g) (w : State DiskHeld) (r : Ruled g w) (a : �
     abbrev VisitsSo : Step → Trip → EntryState → Type 0
     VisitsSo s x y = VisitFits s x y l.pin l.owed l.ahead v
 
+    none_pinned : (x : Option Pin) → NoneOf x → x ≡ None
+    none_pinned None i = refl
+    none_pinned (Some x) i = absurd i
+
     -- the locks that a step has
     step_locks : (s : Step) (x : Trip) (ks : List LockNo) → l.at ≡ Visiting s x
         → ((c d : ℕ) → locks_at (Visiting s x) p c d ≡ ks)
@@ -650,7 +653,7 @@ module _ (g : Begin) (ok : Known g) (w : State DiskHeld) (r : Ruled g w) (a : �
         (sym (held (Visiting step.Won x) i x.page low (λ c d. refl)))
         (free_fits (Visiting step.Won x) i x.page low (λ c d. refl) s.visits.step.0.page.stands
         (taken_lock _ (next_plan (Visiting step.Won x) i x.page low (λ c d. refl))) None
-        (no_one l.pin s.pins) tt _ refl)
+        (none_pinned l.pin s.pins) tt _ refl)
     visit_fits x step.Backing i =
         let low = (here (Visiting step.Backing x) i).visits.trip.page in
         map_fits step.Backing step.Committing x i (next_at step.Backing x i) (λ f. refl)

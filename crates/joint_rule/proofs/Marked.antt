@@ -1,5 +1,4 @@
 -- What a writeback that has found its mark, or lost it, knows of its page.
-use Rattle.joint_rule.proofs.VisitGifts.{some_block}
 use Rattle.std.proofs.Common.{◌≡◌, ◌+◌, ◌≤◌, ◌<◌, ◌∷◌, ◌∙◌, ◌&&◌, ℕ, Bool, true, false, cond, is_none, List, [], map, Option, Some, None, slice_get, refl, sym, ap, subst, arith, ⊎_elim, eqb}
 use Rattle.call_history.specs.declared.part.Part.{Part}
 use Rattle.call_history.specs.declared.part.PartEnd.{PartEnd}
@@ -136,6 +135,10 @@ won_well g p step.Paying x fail q i = q
 won_well g p step.Putting x fail q i = q
 won_well g p s x fail q i = absurd (cc)
 
+is_some_block : (o : Option ℕ) → HasSome o → (b : ℕ) × (o ≡ Some b)
+is_some_block None i = absurd i
+is_some_block (Some b) i = (b, refl)
+
 none_well : (x : Option PartEnd) → NoneOf x → is_none x ≡ true
 none_well None i = refl
 none_well (Some x) i = absurd i
@@ -210,7 +213,7 @@ module _ (g : Begin) (w : State DiskHeld) (j : Joint g w) (a : ℕ) (l : Here)
     pub keeps_page : page ≡ content g x.page e.order
     keeps_page =
         let v = won_mark g s x e l.page l.fail st.visits won in
-        let b = some_block x.block v.0 in
+        let b = is_some_block x.block v.0 in
         let there = mark_is x.block e.under b.0 b.1 v.1 in
         let bytes = content g x.page e.order in
         let one : mark_by x.page b.0 bytes x.page e.under bytes ≡ 1 =
@@ -259,7 +262,7 @@ module _ (g : Begin) (w : State DiskHeld) (j : Joint g w) (a : ℕ) (l : Here)
   has_other =
       let s = st g w j a l who step.Losing x at in
       let p = low g w j a l who step.Losing x at in
-      let b = some_block x.block s.visits.step.1 in
+      let b = is_some_block x.block s.visits.step.1 in
       let d = one_held g x.page p l.held (names g w j a l who step.Losing x at)
       (sound g w j a l who step.Losing x at) in
       let entry : mine ≡ d.0 = ap entry_in d.1 in

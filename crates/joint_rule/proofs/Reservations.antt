@@ -1,6 +1,6 @@
 -- What each giving of the map of blocks or of the device by a writeback does.
 use Rattle.joint_rule.proofs.Rounds.{lean_none, quit_ends}
-use Rattle.std.proofs.Common.{◌≡◌, ◌≢◌, ◌+◌, ◌≤◌, ◌<◌, ◌∷◌, ◌∙◌, ℕ, false, cond, is_none, List, [], length, Option, Some, None, slice_get, refl, sym, ap, subst, arith, inl, inr, length-set}
+use Rattle.std.proofs.Common.{◌≡◌, ◌≢◌, ◌+◌, ◌≤◌, ◌<◌, ◌∷◌, ◌∙◌, ℕ, Bool, true, false, cond, is_none, List, [], length, Option, Some, None, slice_get, refl, sym, ap, subst, arith, inl, inr, length-set}
 use Rattle.backing_dev.specs.Dev.{DeviceState, FailsToWrite, WritesBlock}
 use Rattle.block_map.specs.BlockMap.{AnswersReserve, BlockMap, reserved, with_state}
 use Rattle.block_map.specs.declared.blocks.Reserve.{Reserve}
@@ -16,7 +16,7 @@ use Rattle.joint_rule.proofs.Facts.{Known}
 use Rattle.joint_rule.proofs.Gifts.{Gift, all, fit, goes_on, stage}
 use Rattle.joint_rule.proofs.Rounds.{IsFree, SameHands, Went, ends_over, free_hands, give_device, give_map, no_one, went, writeback_single}
 use Rattle.joint_rule.proofs.Sums.{locals_le}
-use Rattle.joint_rule.proofs.Trips.{IsKept, SaysNone, Storage, idle_carried, idle_carries, idle_written, steady_storage, using, above_zero, bytes_of, cond_none}
+use Rattle.joint_rule.proofs.Trips.{IsKept, SaysNone, Storage, idle_carried, idle_carries, idle_written, steady_storage, using, above_zero, bytes_of}
 use Rattle.joint_rule.proofs.Visits.{Onward}
 use Rattle.joint_rule.specs.Begins.{Begin, ground_of}
 use Rattle.joint_rule.specs.Joint.{IsActor, Joint, KeepsDevice}
@@ -284,7 +284,10 @@ module _ (g : Begin) (ok : Known g) (w : State DiskHeld) (j : Joint g w) (a : �
 
     not_yet : (c : ℕ) (bytes : List ℕ) → written_at c bytes l ≡ 0
     not_yet c bytes =
-        ap (λ (i : At). cond (is_none l.fail) (written_by c bytes i l.page) 0) at ∙ cond_none (is_none l.fail) 0 refl
+        ap (λ (i : At). cond (is_none l.fail) (written_by c bytes i l.page) 0) at ∙ none_of (is_none l.fail) where
+          none_of : (k : Bool) → cond {A = ℕ} k 0 0 ≡ 0
+          none_of true = refl
+          none_of false = refl
 
     nobody : (bytes : List ℕ) → total (spot n) (lies_at g b bytes) (written_at b bytes) w ≡ 0
     nobody bytes = nothing_else g w j a l who step.Storing x at b block
@@ -327,7 +330,7 @@ module _ (g : Begin) (ok : Known g) (w : State DiskHeld) (j : Joint g w) (a : �
             let z : written_at c bytes (landing fail) ≡ 0 =
             ap (λ (k : ℕ). cond (is_none fail) k 0)
             (ap (λ (k : Option ℕ). pair c bytes k l.page) block
-            ∙ other_block b c bytes l.page other) ∙ cond_none (is_none fail) 0 refl in
+            ∙ other_block b c bytes l.page other) ∙ none_of (is_none fail) in
             let y = not_yet c bytes in
             let q = j.disk c bytes (omega arith) in
             let t = ap (held_sum (spot n) (stored_at c bytes)) held in
@@ -341,7 +344,10 @@ module _ (g : Begin) (ok : Known g) (w : State DiskHeld) (j : Joint g w) (a : �
           omega arith;
       mine = λ s c is. let r = ap (held_sum (spot n) (shows_at a s c)) held in
           let q = j.carriers a l s c who (ap carries_at at ∙ is) in omega arith;
-    }
+    } where
+      none_of : (k : Bool) → cond {A = ℕ} k 0 0 ≡ 0
+      none_of true = refl
+      none_of false = refl
 
     landed : (fail : Option PartEnd) → MayQuit g p x fail → IsActor g a (landing fail)
     landed fail quit = goes_on g ok w j a l who p rest todo (Visiting step.Landing x) [] l.fresh l.pin

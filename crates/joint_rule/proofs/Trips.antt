@@ -43,7 +43,7 @@ uses_none f l i = by_at l.at i where
   by_at (Visiting s x) i = absurd i
   by_at at i = refl
 
-pub cond_none : (c : Bool) (n : ℕ) → n ≡ 0 → cond c n 0 ≡ 0
+cond_none : (c : Bool) (n : ℕ) → n ≡ 0 → cond c n 0 ≡ 0
 cond_none true n e = e
 cond_none false n e = refl
 

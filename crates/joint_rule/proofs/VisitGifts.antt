@@ -15,7 +15,7 @@ use Rattle.joint_rule.proofs.Pages.{content_page}
 use Rattle.joint_rule.proofs.Pools.{same_is, same_self, list_self}
 use Rattle.joint_rule.proofs.Rounds.{IsFree, ends_over, free_hands, give_slot, no_one, went}
 use Rattle.joint_rule.proofs.Sums.{Under, locals_le}
-use Rattle.joint_rule.proofs.Trips.{SaysNone, Storage, bare_says, carrier_of, idle_carried, idle_carries, idle_written, no_mark, none_storage, same_marks, using, cond_none}
+use Rattle.joint_rule.proofs.Trips.{SaysNone, Storage, bare_says, carrier_of, idle_carried, idle_carries, idle_written, no_mark, none_storage, same_marks, using}
 use Rattle.joint_rule.proofs.Visits.{Onward}
 use Rattle.joint_rule.specs.Begins.{Begin, content, form_at, image}
 use Rattle.joint_rule.specs.Joint.{AtHome, EntryFits, Joint, Sound}
@@ -218,7 +218,10 @@ module _ (g : Begin) (ok : Known g) (w : State DiskHeld) (j : Joint g w) (a : �
             let y = locals_le n (mass (spot n) (shows_at a s c) none) w.locals a l who in omega arith;
       } where
         idle_flown : (c : ℕ) (bytes : List ℕ) → written_at c bytes flown ≡ 0
-        idle_flown c bytes = cond_none (is_none l.fail) 0 refl
+        idle_flown c bytes = none_of (is_none l.fail) where
+          none_of : (k : Bool) → cond {A = ℕ} k 0 0 ≡ 0
+          none_of true = refl
+          none_of false = refl
 
         shown_self : (s c : ℕ) → x.page ≡ s → b ≡ c → 1 ≤ shows_at a s c x.page (holds.Slot f)
         shown_self s c page_is one =
@@ -469,7 +472,7 @@ module _ (g : Begin) (ok : Known g) (w : State DiskHeld) (j : Joint g w) (a : �
               let z : mark_at g x.page c bytes x.page (holds.Slot cleared) ≡ 0 =
               ap (λ (k : ℕ). cond (x.page == x.page) k 0)
               (no_pair x.block e.under b block c bytes (content g x.page e.order) same_block)
-              ∙ cond_none (x.page == x.page) 0 refl in
+              ∙ none_of (x.page == x.page) in
               let y = locals_le n (mass (spot n) nothing (carried_at x.page c bytes)) w.locals a l
               who in
               subst (λ (k : ℕ). total (spot n) (mark_at g k c bytes) none w
@@ -485,7 +488,7 @@ module _ (g : Begin) (ok : Known g) (w : State DiskHeld) (j : Joint g w) (a : �
               let y : carried_at i c bytes l ≡ 0 = carried_here i c bytes
               ∙ ap (λ (k : ℕ). cond (i == x.page) k 0)
               (ap (λ (k : Option ℕ). pair c bytes k l.page) block ∙ other_block b c bytes l.page other)
-              ∙ cond_none (i == x.page) 0 refl in omega arith)
+              ∙ none_of (i == x.page) in omega arith)
         ]
         | inr other ↦ (
             let q = j.marks i c bytes in let off = ne_eqb i x.page other in
@@ -494,7 +497,10 @@ module _ (g : Begin) (ok : Known g) (w : State DiskHeld) (j : Joint g w) (a : �
             (Some (content g x.page e.order))) 0) off in
             let y : carried_at i c bytes l ≡ 0 = carried_here i c bytes
             ∙ ap (λ (k : Bool). cond k (pair c bytes x.block l.page) 0) off in omega arith)
-      ]
+      ] where
+        none_of : (k : Bool) → cond {A = ℕ} k 0 0 ≡ 0
+        none_of true = refl
+        none_of false = refl
 
       lose_storage : Storage g w a l (slot x.page) (holds.Slot cleared) undone
       lose_storage = record {

@@ -1,6 +1,5 @@
 -- The writes of the device, and the pages that are new on it: a giving raises what its actor tells as
 -- it does the device's count, and by each page that it puts there.
-use Rattle.joint_rule.proofs.Rounds.{no_one}
 use Rattle.std.proofs.Common.{◌≡◌, ◌+◌, ◌≤◌, ◌∷◌, ◌∙◌, ◌&&◌, not, ℕ, Bool, true, false, cond, List, [], Option, Some, None, slice_get, slice_set, refl, sym, ap, subst, arith}
 use Rattle.backing_dev.specs.Dev.{DeviceState}
 use Rattle.block_map.specs.BlockMap.{BlockMap}
@@ -23,8 +22,8 @@ use Rattle.joint_rule.proofs.Visits.{Onward, VisitEvent}
 use Rattle.joint_rule.specs.Begins.{Begin, back_at, terms}
 use Rattle.joint_rule.specs.Joint.{Joint}
 use Rattle.joint_rule.specs.Rule.{CountsWrites, FewBack}
-use Rattle.joint_rule.specs.Stages.{FailBy, IsFault, IsQuit, MayQuit, StopsSo}
-use Rattle.joint_rule.specs.Weights.{device_writes, new_back_at, none, writes_in, writes_told, wrote_in, wrote_told, is_written}
+use Rattle.joint_rule.specs.Stages.{FailBy, IsFault, IsQuit, MayQuit, NoneOf, StopsSo}
+use Rattle.joint_rule.specs.Weights.{device_writes, new_back_at, none, writes_in, writes_told, wrote_in, wrote_told}
 use Rattle.lock_row.specs.Totals.{held_sum, locals_sum, mass, total}
 use Rattle.lock_row.specs.declared.names.At.{At}
 use Rattle.lock_row.specs.declared.names.At.TheVariants.{Both, Counting, Fetching, Freeing, Giving, Leaving, Made, Marking, Missed, Moving, Pinning, Ready, Refusing, Releasing, Shrinking, Unpinning, Visiting}
@@ -113,12 +112,10 @@ quit_tells g p y op NoMemory i = absurd i
 quit_tells g p y op (Eio fault) i = absurd i
 quit_tells g p y op (Whole end) i = stop_tells y op end i.1
 
--- a step tells as much as another one
-steps_tell : (s t : Step) (x y : Trip) → is_written t ≡ is_written s → y.wrote ≡ x.wrote
-    → y.lost ≡ x.lost → (fail : Option PartEnd)
-    → writes_in (Visiting t y) fail ≡ writes_in (Visiting s x) fail
-steps_tell s t x y on wrote lost None = λ i. wrote i + lost i + cond {A = ℕ} (on i) 1 0
-steps_tell s t x y on wrote lost (Some end) = λ i. wrote i + lost i
+-- what a writeback tells where nothing is refused, and where something is
+none_fails : (x : Option PartEnd) → NoneOf x → x ≡ None
+none_fails None i = refl
+none_fails (Some x) i = absurd i
 
 -- ---- forms
 
@@ -319,14 +316,14 @@ module _ (g : Begin) (ok : Known g) (w : State DiskHeld) (j : Joint g w) (a : �
 
     -- it goes on with the same refusal
     trip_same : (s t : Step) (x y : Trip) → l.at ≡ Visiting s x → m.at ≡ Visiting t y
-        → m.fail ≡ l.fail → m.done ≡ l.done → is_written t ≡ is_written s → y.wrote ≡ x.wrote
-        → y.lost ≡ x.lost → Stays v m
+        → m.fail ≡ l.fail → m.done ≡ l.done
+        → ((fail : Option PartEnd) → writes_in (Visiting t y) fail ≡ writes_in (Visiting s x) fail)
+        → y.wrote ≡ x.wrote → Stays v m
         → mass (spot n) (new_back_at g) none m + new_back_at g (spot n k) v
         ≤ mass (spot n) (new_back_at g) none l
         → Writes v m
-    trip_same s t x y at now fail done on wrote lost stays back =
-        trip_on s t x y l.fail l.fail at now refl fail done
-        (steps_tell s t x y on wrote lost l.fail) wrote stays back
+    trip_same s t x y at now fail done told wrote stays back =
+        trip_on s t x y l.fail l.fail at now refl fail done (told l.fail) wrote stays back
 
     -- it is over
     trip_over : (p : Part) (rest : List Part) (s : Step) (x : Trip) (end : PartEnd)
@@ -418,19 +415,23 @@ module _ (g : Begin) (ok : Known g) (w : State DiskHeld) (j : Joint g w) (a : �
         let after = onward_held p rest (passed_page x) on in
         let back = back_again x.page e held after (lock_slot p rest step.Passing x e todo held at refl)
         v_is in
-        trip_onward p rest step.Passing x (passed_page x) at (no_one l.fail st.fails) on
+        trip_onward p rest step.Passing x (passed_page x) at (none_fails l.fail st.fails) on
         (omega arith) (slot_stays x.page e e held after v_is) (omega arith)
     visit_writes (visit.reserves p rest x e y b todo at held answer v_is m_is) =
         let r = beside lock.Blocks _ _ x e e held (ap (λ (i : Here). i.held) m_is) v_is
         (λ i. refl) (λ i. refl) (λ i. refl) (λ i. refl) (omega arith) in
         trip_same step.Reserving step.Seen x (with_block x b) at (ap (λ (i : Here). i.at) m_is)
-        (ap (λ (i : Here). i.fail) m_is) (ap (λ (i : Here). i.done) m_is) refl refl refl r.0 r.1
+        (ap (λ (i : Here). i.fail) m_is) (ap (λ (i : Here). i.done) m_is) told refl r.0 r.1 where
+          told : (fail : Option PartEnd) → writes_in (Visiting step.Seen (with_block x b)) fail
+              ≡ writes_in (Visiting step.Reserving x) fail
+          told None = refl
+          told (Some end) = refl
     visit_writes (visit.refrains p rest x e y r end todo at held is v_is m_is) =
         let st = stage g ok w j a l who p rest todo _ (Visiting step.Reserving x) held at in
         let r = beside lock.Blocks _ _ x e e held (ap (λ (i : Here). i.held) m_is) v_is
         (λ i. refl) (λ i. refl) (λ i. refl) (λ i. refl) (omega arith) in
         trip_on step.Reserving step.Quitting x x None (Some (Whole end)) at
-        (ap (λ (i : Here). i.at) m_is) (no_one l.fail st.fails) (ap (λ (i : Here). i.fail) m_is)
+        (ap (λ (i : Here). i.at) m_is) (none_fails l.fail st.fails) (ap (λ (i : Here). i.fail) m_is)
         (ap (λ (i : Here). i.done) m_is) (omega arith) refl r.0 r.1
     visit_writes (visit.quits p rest x e end todo at held bad v_is m_is) =
         let st = stage g ok w j a l who p rest todo _ (Visiting step.Quitting x) held at in
@@ -444,26 +445,38 @@ module _ (g : Begin) (ok : Known g) (w : State DiskHeld) (j : Joint g w) (a : �
         let r = beside (lock.Class o.class) _ _ x e e held (ap (λ (i : Here). i.held) m_is) v_is
         (λ i. refl) (λ i. refl) (λ i. refl) (λ i. refl) (omega arith) in
         trip_same step.Pinning step.Pinned x x at (ap (λ (i : Here). i.at) m_is)
-        (ap (λ (i : Here). i.fail) m_is) (ap (λ (i : Here). i.done) m_is) refl refl refl r.0 r.1
+        (ap (λ (i : Here). i.fail) m_is) (ap (λ (i : Here). i.done) m_is) (unwritten_told x) refl r.0 r.1 where
+          unwritten_told : (x : Trip) (fail : Option PartEnd)
+              → writes_in (Visiting step.Pinned x) fail ≡ writes_in (Visiting step.Pinning x) fail
+          unwritten_told x None = refl
+          unwritten_told x (Some end) = refl
     visit_writes (visit.unpins p rest x e o q q' u u' todo at held is sw named_u taken free v_is m_is) =
         let r = beside (lock.Class o.class) _ _ x e e held (ap (λ (i : Here). i.held) m_is) v_is
         (λ i. refl) (λ i. refl) (λ i. refl) (λ i. refl) (omega arith) in
         trip_same step.Unpinning step.Marking x x at (ap (λ (i : Here). i.at) m_is)
-        (ap (λ (i : Here). i.fail) m_is) (ap (λ (i : Here). i.done) m_is) refl refl refl r.0 r.1
+        (ap (λ (i : Here). i.fail) m_is) (ap (λ (i : Here). i.done) m_is) told refl r.0 r.1 where
+          told : (fail : Option PartEnd)
+              → writes_in (Visiting step.Marking x) fail ≡ writes_in (Visiting step.Unpinning x) fail
+          told None = refl
+          told (Some end) = refl
     visit_writes (visit.marks p rest x e b todo at held block v_is m_is) =
         let after = ap (λ (i : Here). i.held) m_is in
         trip_same step.Marking step.Flying x x at (ap (λ (i : Here). i.at) m_is)
-        (ap (λ (i : Here). i.fail) m_is) (ap (λ (i : Here). i.done) m_is) refl refl refl
+        (ap (λ (i : Here). i.fail) m_is) (ap (λ (i : Here). i.done) m_is) told refl
         (slot_stays x.page e (record e { under = Some b }) held after v_is)
         (slot_same x.page e (record e { under = Some b }) held after
-        (lock_slot p rest step.Marking x e todo held at refl) v_is refl refl)
+        (lock_slot p rest step.Marking x e todo held at refl) v_is refl refl) where
+          told : (fail : Option PartEnd)
+              → writes_in (Visiting step.Flying x) fail ≡ writes_in (Visiting step.Marking x) fail
+          told None = refl
+          told (Some end) = refl
     visit_writes (visit.stores p rest x b page d d' todo at held block is write v_is m_is) =
         let st = stage g ok w j a l who p rest todo _ (Visiting step.Storing x) held at in
         let after = ap (λ (i : Here). i.held) m_is in
         let t = told_now m (Visiting step.Landing x) None (ap (λ (i : Here). i.done) m_is)
         (ap (λ (i : Here). i.at) m_is)
-        (ap (λ (i : Here). i.fail) m_is ∙ no_one l.fail st.fails) in
-        let q = told_now l (Visiting step.Storing x) None refl at (no_one l.fail st.fails) in
+        (ap (λ (i : Here). i.fail) m_is ∙ none_fails l.fail st.fails) in
+        let q = told_now l (Visiting step.Storing x) None refl at (none_fails l.fail st.fails) in
         let r0 = t.0 in let r1 = t.1 in let q0 = q.0 in let q1 = q.1 in
         let h = ap (held_sum (spot n) (new_back_at g)) held in
         let f = ap (held_sum (spot n) (new_back_at g)) after in
@@ -481,24 +494,36 @@ module _ (g : Begin) (ok : Known g) (w : State DiskHeld) (j : Joint g w) (a : �
         let u = ap (new_back_at g (spot n k)) v_is in
         trip_on step.Storing step.Landing x x None
         (Some (Whole (ends.WriteEio fault x.wrote x.lost))) at (ap (λ (i : Here). i.at) m_is)
-        (no_one l.fail st.fails) (ap (λ (i : Here). i.fail) m_is)
+        (none_fails l.fail st.fails) (ap (λ (i : Here). i.fail) m_is)
         (ap (λ (i : Here). i.done) m_is) (omega arith) refl (omega arith) (omega arith)
     visit_writes (visit.frees p rest x e o q q' u frames todo at held is gone named_u home v_is m_is) =
         let r = beside (lock.Class o.class) _ _ x e (emptied e) held (ap (λ (i : Here). i.held) m_is)
         v_is (λ i. refl) (λ i. refl) (λ i. refl) (λ i. refl)
         (let z = new_none g x.page (emptied e) refl in omega arith) in
         trip_same step.Freeing step.Backing x x at (ap (λ (i : Here). i.at) m_is)
-        (ap (λ (i : Here). i.fail) m_is) (ap (λ (i : Here). i.done) m_is) refl refl refl r.0 r.1
+        (ap (λ (i : Here). i.fail) m_is) (ap (λ (i : Here). i.done) m_is) told refl r.0 r.1 where
+          told : (fail : Option PartEnd)
+              → writes_in (Visiting step.Backing x) fail ≡ writes_in (Visiting step.Freeing x) fail
+          told None = refl
+          told (Some end) = refl
     visit_writes (visit.commits p rest x e b y todo at held block v_is m_is) =
         let r = beside lock.Blocks _ _ x e e held (ap (λ (i : Here). i.held) m_is) v_is
         (λ i. refl) (λ i. refl) (λ i. refl) (λ i. refl) (omega arith) in
         trip_same step.Committing step.Owing x x at (ap (λ (i : Here). i.at) m_is)
-        (ap (λ (i : Here). i.fail) m_is) (ap (λ (i : Here). i.done) m_is) refl refl refl r.0 r.1
+        (ap (λ (i : Here). i.fail) m_is) (ap (λ (i : Here). i.done) m_is) told refl r.0 r.1 where
+          told : (fail : Option PartEnd)
+              → writes_in (Visiting step.Owing x) fail ≡ writes_in (Visiting step.Committing x) fail
+          told None = refl
+          told (Some end) = refl
     visit_writes (visit.pays p rest x e c was todo at held is v_is m_is) =
         let r = beside lock.Account _ _ x e e held (ap (λ (i : Here). i.held) m_is) v_is
         (λ i. refl) (λ i. refl) (λ i. refl) (λ i. refl) (omega arith) in
         trip_same step.Paying step.Putting x x at (ap (λ (i : Here). i.at) m_is)
-        (ap (λ (i : Here). i.fail) m_is) (ap (λ (i : Here). i.done) m_is) refl refl refl r.0 r.1
+        (ap (λ (i : Here). i.fail) m_is) (ap (λ (i : Here). i.done) m_is) told refl r.0 r.1 where
+          told : (fail : Option PartEnd)
+              → writes_in (Visiting step.Putting x) fail ≡ writes_in (Visiting step.Paying x) fail
+          told None = refl
+          told (Some end) = refl
     visit_writes (visit.puts p rest x e b todo at held block v_is on) =
         let st = stage g ok w j a l who p rest todo _ (Visiting step.Putting x) held at in
         let after = onward_held p rest (wrote_page x) on in
@@ -506,15 +531,19 @@ module _ (g : Begin) (ok : Known g) (w : State DiskHeld) (j : Joint g w) (a : �
         let f = ap (held_sum (spot n) (new_back_at g)) after in
         let u = ap (new_back_at g (spot n k)) v_is in
         let low = new_low g (spot n k) (put_back b e) in
-        trip_onward p rest step.Putting x (wrote_page x) at (no_one l.fail st.fails) on
+        trip_onward p rest step.Putting x (wrote_page x) at (none_fails l.fail st.fails) on
         (omega arith) (slot_stays x.page e (put_back b e) held after v_is) (omega arith)
     visit_writes (visit.loses p rest x e todo at held v_is m_is) =
         let after = ap (λ (i : Here). i.held) m_is in
         trip_same step.Losing step.Undoing x x at (ap (λ (i : Here). i.at) m_is)
-        (ap (λ (i : Here). i.fail) m_is) (ap (λ (i : Here). i.done) m_is) refl refl refl
+        (ap (λ (i : Here). i.fail) m_is) (ap (λ (i : Here). i.done) m_is) told refl
         (slot_stays x.page e (unmarked x.block e) held after v_is)
         (slot_same x.page e (unmarked x.block e) held after
-        (lock_slot p rest step.Losing x e todo held at refl) v_is refl refl)
+        (lock_slot p rest step.Losing x e todo held at refl) v_is refl refl) where
+          told : (fail : Option PartEnd)
+              → writes_in (Visiting step.Undoing x) fail ≡ writes_in (Visiting step.Losing x) fail
+          told None = refl
+          told (Some end) = refl
     visit_writes (visit.releases p rest x b y todo at held block well v_is on) =
         let r = map_alone y _ held (onward_held p rest (lost_page x) on) v_is in let r1 = r.1 in
         trip_onward p rest step.Releasing x (lost_page x) at well on (omega arith) r.0 (omega arith)
