@@ -38,7 +38,7 @@ loop-actor-preserved g c =
     let p = c.in_ok-push_worker.ensures in record {
       len = (let q = p.len in let r = i.len in omega arith);
       room = (let q = p.capacity in let r = i.room in omega arith);
-      workers = worker_more c.args.size c.args.chain c.args.ops.now c.loop-actor.actor-index _
+      workers = worker_more c.args.size c.args.backed c.args.chain c.args.ops.now c.loop-actor.actor-index _
           c.as_slice.result.now c.loop-actor.workers.items c.push_worker.new.workers.items p.added.0
           i.len (ops_at g a) (let t = c.loop-actor-test.true in omega arith) p.added.2 i.workers
           p.added.1;
