@@ -1,6 +1,6 @@
 -- The calls of a session, by what comes of them.
 use Rattle.std.specs.Prelude.{⊤}
-use Rattle.std.proofs.Common.{◌≡◌, ℕ, ◌+◌, ◌≤◌, Bool, true, false, List, [], ◌∷◌, ◌++◌, length, take, Option, Some, None, Result, Ok, Err, IfErr, refl, sym, ap, ◌∙◌, subst, arith}
+use Rattle.std.proofs.Common.{◌≡◌, ℕ, ◌≤◌, Bool, true, false, List, [], ◌∷◌, ◌++◌, length, take, Option, Some, None, Result, Ok, Err, IfErr, refl, sym, ap, ◌∙◌, subst, arith}
 use Rattle.std.proofs.lemmas.List.{take_all}
 use Rattle.std.specs.Io.KnownBytes.{Appends}
 use Rattle.zr_base.specs.declared.op.Op.{Op}
@@ -32,7 +32,7 @@ use Rattle.job_session.specs.Stands.{Stands}
 use Rattle.job_session.specs.Stepped.{Disk, without_pages, disk_of, Stepped, IsBySchedule}
 use Rattle.job_session.specs.Runs.{BeginsWith}
 use Rattle.job_session.specs.Telling.{StopCause, stop_status}
-use Rattle.job_session.specs.Sessions.{Place, done_at, place, disk_at, session_disk, GoesOn, GivesUp, IsAt, IsStarted, IsOver, IsOut, ComesBack, IsHome, NextIs, IsEnded, IsStopped, EndsBy, IsCutPhase, CutBy}
+use Rattle.job_session.specs.Sessions.{Place, done_at, place, disk_at, session_disk, GoesOn, GivesUp, IsStarted, IsOver, IsOut, ComesBack, IsHome, NextIs, IsEnded, IsStopped, EndsBy, IsCutPhase, CutBy}
 use Rattle.job_session.specs.Advances.{ended_status, outcome_of, Advances, IsSoFar, IsCutSoFar, SessionRan}
 use Rattle.job_session.proofs.Devices.{is_run_on}
 use Rattle.job_session.proofs.Jobs.{phase_steps}
@@ -165,19 +165,19 @@ module _ {D : Type 0} {b : Ghosts D} (p : Place) (t : Session D b) (u w : Option
       (cut_with stop cut
       (subst (λ (x : Result Bool Stop). IfErr x (StopCause before now stopped)) went cause))
 
-  pub cut_ran : (first : Rest) (job : List Item) (v : Option (List ℕ)) → p.job ≡ job
-      → IsSoFar first (done_at p) d (Appends v u) p.refused
+  pub cut_ran : (origin : Rest) (job : List Item) (v : Option (List ℕ)) → p.job ≡ job
+      → IsSoFar origin (done_at p) d (Appends v u) p.refused
       → IsBySchedule text.actors text.schedule turns → (status : Status) → By status
-      → SessionRan first job (session_disk t) v w (outcome_of status)
-  cut_ran first job v same so_far own statuses.Done e = absurd e
-  cut_ran first job v same so_far own statuses.Refused e = absurd e
-  cut_ran first job v same so_far own statuses.Words e = absurd e
-  cut_ran first job v same so_far own statuses.Job e = absurd e
-  cut_ran first job v same so_far own statuses.ReadFault e = absurd e
-  cut_ran first job v same so_far own statuses.WriteFault e =
-      gave_up first p d (session_disk t) (turns ∷ []) _ v u w so_far own job same e.0.1
-  cut_ran first job v same so_far own statuses.NoMemory e =
-      gave_up first p d (session_disk t) (turns ∷ []) _ v u w so_far own job same e.1
+      → SessionRan origin job (session_disk t) v w (outcome_of status)
+  cut_ran origin job v same so_far own statuses.Done e = absurd e
+  cut_ran origin job v same so_far own statuses.Refused e = absurd e
+  cut_ran origin job v same so_far own statuses.Words e = absurd e
+  cut_ran origin job v same so_far own statuses.Job e = absurd e
+  cut_ran origin job v same so_far own statuses.ReadFault e = absurd e
+  cut_ran origin job v same so_far own statuses.WriteFault e =
+      gave_up origin p d (session_disk t) (turns ∷ []) _ v u w so_far own job same e.0.1
+  cut_ran origin job v same so_far own statuses.NoMemory e =
+      gave_up origin p d (session_disk t) (turns ∷ []) _ v u w so_far own job same e.1
 
   pub cut_home : (status : Status) → By status → IsHome t
   cut_home statuses.Done e = absurd e

@@ -5,7 +5,7 @@ use Rattle.job_session.proofs.session.Session.next.Goals as goal
 pub returns-in-Ok-Some-clause-goes : goal.returns-in-Ok-Some-clause-goes
 returns-in-Ok-Some-clause-goes g c =
     phase_next c.args.self.now _ _ _ (g.K.Sink.fault_count c.args.out.now)
-    (g.K.Sink.fault_count c.advance-went.new.out) (g.K.Sink.has_stopped c.advance-went.new.out)
+    (g.K.Sink.fault_count c.advance-went.new.sink) (g.K.Sink.has_stopped c.advance-went.new.sink)
     c.in-Here.world
     (sym c.replace.ensures.value ∙ c.in-Here.is)
     (record { world = c.advance-went.new.world; phase = c.in-Ok-Some.phase })
