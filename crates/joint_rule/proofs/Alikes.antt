@@ -1,5 +1,5 @@
 -- A taking leaves what a writeback carries, has and has counted as it was.
-use Rattle.std.proofs.Common.{◌≡◌, ◌+◌, ◌∷◌, ◌∙◌, ℕ, Bool, true, false, cond, is_none, List, [], Option, Some, None, refl, sym, ap, inl, inr}
+use Rattle.std.proofs.Common.{◌≡◌, ◌+◌, ◌∷◌, ◌∙◌, ℕ, Bool, true, false, cond, is_none, List, [], Option, Some, None, refl, sym, ap, inl, inr, if◌then◌else◌}
 use Rattle.call_history.specs.Parts.{done_sum}
 use Rattle.call_history.specs.declared.part.Part.{Part}
 use Rattle.call_history.specs.declared.part.PartEnd.{PartEnd}
@@ -10,7 +10,7 @@ use Rattle.lock_row.specs.declared.names.At.TheVariants.{Start, Visiting}
 use Rattle.lock_row.specs.declared.names.Step.{Step}
 use Rattle.lock_row.specs.declared.names.Step.TheVariants as step
 use Rattle.lock_row.specs.declared.names.Trip.{Trip}
-use Rattle.page_steps.specs.Steps.{DiskHeld, Here, Terms, after_take, arrived_at, begun_at, entry_in, entry_or, first_at, first_trip, is_mark_of, landed_at, taken_at, took, visited_at}
+use Rattle.page_steps.specs.Steps.{DiskHeld, Here, Terms, after_take, arrived_at, begun_at, entry_in, entry_or, first_at, first_trip, is_mark_of, landed_at, taken_at, took, visited_at, mode_of}
 use Rattle.plain_disk.specs.Ends.{left_back, written}
 use Rattle.page_steps.specs.Pages.{next_form}
 use Rattle.slot_entry.specs.Entries.{EntryState, is_eligible}
@@ -148,6 +148,35 @@ first_trip_alike false = record {
       → writes_in (arrived_at false first_trip) fail ≡ writes_in Start fail
   no_writes None = refl
   no_writes (Some end) = refl
+
+-- ---- a writeback stays one
+
+pub arrived_is : (b : Bool) (x : Trip) → (s : Step) × (y : Trip) × (arrived_at b x ≡ Visiting s y)
+arrived_is true x = (step.Asking, x, refl)
+arrived_is false x = (step.Passing, x, refl)
+
+landed_is : (fail : Option PartEnd) (x : Trip) (e : EntryState)
+    → (s : Step) × (y : Trip) × (landed_at fail x e ≡ Visiting s y)
+landed_is None x e = by_mark (is_mark_of x.block e.under) where
+  by_mark : (b : Bool) → (s : Step) × (y : Trip)
+      × ((if b then Visiting step.Won x else Visiting step.Losing x) ≡ Visiting s y)
+  by_mark true = (step.Won, x, refl)
+  by_mark false = (step.Losing, x, refl)
+landed_is (Some end) x e = (step.Losing, x, refl)
+
+pub visited_is : (s : Step) (x : Trip) (op : Op) (e : EntryState) (fail : Option PartEnd)
+    → (t : Step) × (y : Trip) × (visited_at s x op e fail ≡ Visiting t y)
+visited_is step.Arriving x op e fail = arrived_is (is_eligible (mode_of op) e) x
+visited_is step.Asking x op e fail = (step.Reserving, x, refl)
+visited_is step.Seen x op e fail = (step.Pinning, x, refl)
+visited_is step.Pinned x op e fail = (step.Unpinning, x, refl)
+visited_is step.Flying x op e fail = (step.Storing, x, refl)
+visited_is step.Landing x op e fail = landed_is fail x e
+visited_is step.Won x op e fail = (step.Freeing, x, refl)
+visited_is step.Backing x op e fail = (step.Committing, x, refl)
+visited_is step.Owing x op e fail = (step.Paying, x, refl)
+visited_is step.Undoing x op e fail = (step.Releasing, x, refl)
+visited_is s x op e fail = (s, x, refl)
 
 first_alike : (op : Op) (e : EntryState) → AlikeAt Start (first_at op e)
 first_alike (Writeback mode) e = first_trip_alike (is_eligible mode e)

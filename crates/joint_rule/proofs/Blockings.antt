@@ -14,7 +14,7 @@ use Rattle.joint_rule.proofs.Sums.{Under, locals_le, total_up_over}
 use Rattle.joint_rule.proofs.Trips.{IsKept, SaysNone, Storage, hold_find, holding, idle_carries, mark_carried, no_mark, not_both, one_user, steady_storage, using, Carrier, carrier_of, carrier_uses}
 use Rattle.joint_rule.specs.Begins.{Begin, content}
 use Rattle.joint_rule.specs.Joint.{Joint, Sound}
-use Rattle.joint_rule.specs.Weights.{BlockWeigh, at_place, block_by, block_claims, block_uses, carried_at, carried_by, carries, carries_at, device_size, foreign, has_block, is_carrying, is_written, lies_at, lies_by, map_size, mark_at, mark_by, marks_of, none, nothing, pair, same, same_bytes, shows_at, stored_at, use_at, use_in, used_blocks, used_from, written_at, written_by}
+use Rattle.joint_rule.specs.Weights.{BlockWeigh, at_place, block_by, block_claims, block_uses, carried_at, carried_by, carries, carries_at, device_size, foreign, has_block, is_carrying, is_written, lies_at, lies_by, map_size, mark_at, mark_by, marks_of, none, nothing, pair, same, same_bytes, shows_at, stored_at, use_at, use_in, used_blocks, used_from, written_at, written_by, HeldAll}
 use Rattle.lock_row.specs.Totals.{by_option, held_sum, mass, total}
 use Rattle.lock_row.specs.declared.names.At.{At}
 use Rattle.lock_row.specs.declared.names.At.TheVariants.{Visiting}
@@ -27,7 +27,7 @@ use Rattle.page_steps.specs.Steps.{DiskHeld, Here, is_mark_of, slot, spot}
 use Rattle.slot_entry.specs.Entries.{EntryState}
 use Rattle.slot_entry.specs.Forms.{same_list}
 use Rattle.slot_entry.specs.declared.kept.Kept.{Kept}
-use Rattle.std.proofs.lemmas.Bool.{cases_Bool, eq-eqb, eqb-true, ne_eqb}
+use Rattle.std.proofs.lemmas.Bool.{cases_Bool, eq-eqb, eqb-true, ne_eqb, cases_eq}
 use Rattle.lock_row.specs.declared.names.LockNo.TheVariants as lock
 use Rattle.lock_row.specs.declared.names.Held.TheVariants as holds
 use Rattle.slot_entry.specs.declared.kept.Kept.TheVariants as kept
@@ -93,6 +93,75 @@ block_weigh : (f : BlockWeigh) (k : ℕ) (block : Option ℕ) (b : ℕ) → bloc
     → by_option (f k) block ≡ f k b
 block_weigh f k block b e = ap (by_option (f k)) e
 
+-- ---- who says what a block has, has it
+
+bit_low : (c : Bool) → bit c ≤ 1
+bit_low true = omega arith
+bit_low false = omega arith
+
+module _ (b : ℕ) (bytes : List ℕ) where
+  one_low : (c : ℕ) (page : List ℕ) → cond (b == c) (same_bytes bytes page) 0 ≤ same b c
+  one_low c page = elim (cases_Bool (eqb b c)) [
+    | inl on ↦ rw on (let z : same b c ≡ 1 = ap (same b) (sym (eqb-true b c on)) ∙ same_self b in
+        let y = bit_low (same_list bytes page) in omega arith)
+    | inr off ↦ rw off (omega arith)
+  ]
+
+  lies_by_low : (k : Kept) (page : List ℕ) → lies_by b bytes k page ≤ block_by (using b) k
+  lies_by_low kept.Empty page = omega arith
+  lies_by_low (kept.Same v) page = omega arith
+  lies_by_low (kept.Obj o) page = omega arith
+  lies_by_low (kept.Wb c) page = one_low c page
+
+  pair_low : (o : Option ℕ) (page : Option (List ℕ)) → pair b bytes o page ≤ by_option (same b) o
+  pair_low None page = omega arith
+  pair_low (Some c) None = omega arith
+  pair_low (Some c) (Some y) = one_low c y
+
+  step_low : (s : Step) (x : Trip) (page : Option (List ℕ))
+      → cond (is_written s && is_carrying s) (pair b bytes x.block page) 0 ≤ use_at (using b) s x
+  step_low step.Landing x page = pair_low x.block page
+  step_low step.Won x page = pair_low x.block page
+  step_low step.Freeing x page = pair_low x.block page
+  step_low step.Backing x page = pair_low x.block page
+  step_low step.Committing x page = pair_low x.block page
+  step_low step.Owing x page = pair_low x.block page
+  step_low step.Paying x page = pair_low x.block page
+  step_low step.Putting x page = pair_low x.block page
+  step_low step.Losing x page = pair_low x.block page
+  step_low s x page = omega arith
+
+  by_low : (at : At) (page : Option (List ℕ)) → written_by b bytes at page ≤ use_in (using b) at
+  by_low (Visiting s x) page = step_low s x page
+  by_low at page = omega arith
+
+  written_low : (y : Here) → written_at b bytes y ≤ block_uses (using b) y
+  written_low y = let z = by_low y.at y.page in by_fail (is_none y.fail) where
+    by_fail : (c : Bool) → cond c (written_by b bytes y.at y.page) 0 ≤ use_in (using b) y.at
+    by_fail true = by_low y.at y.page
+    by_fail false = omega arith
+
+module _ (g : Begin) (b : ℕ) (bytes : List ℕ) where
+  lies_low : (i : ℕ) (u : DiskHeld) → Sound g i u
+      → lies_at g b bytes i u ≤ block_claims (using b) i u
+  lies_low i (holds.Slot e) so = lies_by_low b bytes e.kept (content g i e.order)
+  lies_low i (holds.Class q) so = omega arith
+  lies_low i (holds.Account q) so = omega arith
+  lies_low i (holds.Blocks q) so = omega arith
+  lies_low i (holds.Device q) so = omega arith
+
+  held_low : (xs : List (LockNo × DiskHeld)) → HeldAll g.given.size (Sound g) xs
+      → held_sum (spot g.given.size) (lies_at g b bytes) xs
+      ≤ held_sum (spot g.given.size) (block_claims (using b)) xs
+  held_low [] all = omega arith
+  held_low (x ∷ xs) all = let r = held_low xs all.1 in
+      let s = lies_low (spot g.given.size x.0) x.1 all.0 in omega arith
+
+  pub says_low : (y : Here) → HeldAll g.given.size (Sound g) y.held
+      → mass (spot g.given.size) (lies_at g b bytes) (written_at b bytes) y
+      ≤ mass (spot g.given.size) (block_claims (using b)) (block_uses (using b)) y
+  says_low y all = let r = held_low y.held all in let s = written_low b bytes y in omega arith
+
 module _ (g : Begin) (w : State DiskHeld) (j : Joint g w) (a : ℕ) (l : Here)
     (who : slice_get w.locals a ≡ Some l) where
   abbrev n : ℕ
@@ -131,36 +200,64 @@ module _ (g : Begin) (w : State DiskHeld) (j : Joint g w) (a : ℕ) (l : Here)
           let v : block_uses (using b) y ≡ 1 = ap (λ k. block_uses (using k) y) (sym same_one) ∙ u in
           not_both g w j a i l y b who there ne has (omega arith)
 
-      lies_low : (bytes : List ℕ) (i : ℕ) (u : DiskHeld) → Sound g i u
-          → lies_at g b bytes i u ≤ block_claims (using b) i u
-      lies_low bytes i (holds.Slot e) so = by_kept e.kept (content g i e.order) where
-        low : (c : Bool) → bit c ≤ 1
-        low true = omega arith
-        low false = omega arith
-
-        by_kept : (k : Kept) (page : List ℕ) → lies_by b bytes k page ≤ block_by (using b) k
-        by_kept kept.Empty page = omega arith
-        by_kept (kept.Same v) page = omega arith
-        by_kept (kept.Obj o) page = omega arith
-        by_kept (kept.Wb c) page = elim (cases_Bool (eqb b c)) [
-          | inl on ↦ rw on (let z : same b c ≡ 1 = ap (same b) (sym (eqb-true b c on))
-              ∙ same_self b in let y = low (same_list bytes page) in omega arith)
-          | inr off ↦ rw off (omega arith)
-        ]
-      lies_low bytes i (holds.Class q) so = omega arith
-      lies_low bytes i (holds.Account q) so = omega arith
-      lies_low bytes i (holds.Blocks q) so = omega arith
-      lies_low bytes i (holds.Device q) so = omega arith
-
       -- what nobody but this actor can have written there
       pub nothing_else : (bytes : List ℕ)
-          → ((i : ℕ) (y : Here) → slice_get w.locals i ≡ Some y
-          → mass (spot n) (lies_at g b bytes) (written_at b bytes) y
-          ≤ mass (spot n) (block_claims (using b)) (block_uses (using b)) y)
           → mass (spot n) (lies_at g b bytes) (written_at b bytes) l ≡ 0
           → total (spot n) (lies_at g b bytes) (written_at b bytes) w ≡ 0
-      nothing_else bytes each zero =
+      nothing_else bytes zero =
           let u = one_user g w j b in
           let t = total_up_over n (Sound g) (lies_at g b bytes) (block_claims (using b))
-          (written_at b bytes) (block_uses (using b)) (lies_low bytes) w
-          (λ i v e. (j.each.in_row i v e).sound) each a l who in omega arith
+          (written_at b bytes) (block_uses (using b)) (lies_low g b bytes) w
+          (λ i v e. (j.each.in_row i v e).sound)
+          (λ i y e. says_low g b bytes y (j.each.in_local i y e).sound) a l who in omega arith
+
+  -- ---- what its mark says
+
+  -- it is the only one that carries a page to its block
+  module _ (s : Step) (x : Trip) (at : l.at ≡ Visiting s x) (b : ℕ) (block : x.block ≡ Some b)
+      (on : is_carrying s ≡ true) where
+    own_carrier : Carrier l.at x.page b
+    own_carrier =
+        record { step = s; trip = x; is = at; carries = on; page = refl; block = block }
+
+    pub has_block_in : block_uses (using b) l ≡ 1
+    has_block_in = carrier_uses l x.page b own_carrier
+
+    -- where its mark stands, it carries what the page has to have
+    pub won_page : (bytes page : List ℕ) → l.page ≡ Some page
+        → 1 ≤ held_sum (spot n) (mark_at g x.page b bytes) l.held → page ≡ bytes
+    won_page bytes page is mark =
+        let z = locals_le n (mass (spot n) (mark_at g x.page b bytes) none) w.locals a l who in
+        let c = mark_carried g w j x.page b bytes (omega arith) in
+        elim (cases_eq c.0 a) [
+          | inl same ↦ (let q : Some c.1 ≡ Some l =
+              sym c.2 ∙ ap (slice_get w.locals) same ∙ who in
+              let y : c.1 ≡ l = cc in
+              let r : Some page ≡ Some bytes =
+              sym is ∙ sym (ap (λ (i : Here). i.page) y) ∙ c.4 in cc)
+          | inr ne ↦ absurd (let u = has_block_in in
+              let v = carrier_uses c.1 x.page b c.3 in
+              not_both g w j a c.0 l c.1 b who c.2 ne (omega arith) (omega arith))
+        ]
+
+-- ---- the device
+
+block_at : (b : ℕ) (bytes : List ℕ) (pages new : List (List ℕ)) → slice_get new b ≡ slice_get pages b
+    → by_option (same_bytes bytes) (slice_get new b) ≡ by_option (same_bytes bytes) (slice_get pages b)
+block_at b bytes pages new e = ap (by_option (same_bytes bytes)) e
+
+-- a block that isn't written stays
+pub other_stays : (old new : Option (List (List ℕ))) (b c : ℕ) (bytes : List ℕ)
+    → ChangesOnly old new b → c ≢ b → has_block c bytes new ≡ has_block c bytes old
+other_stays None None b c bytes h ne = refl
+other_stays None (Some new) b c bytes h ne = absurd h
+other_stays (Some old) None b c bytes h ne = absurd h
+other_stays (Some old) (Some new) b c bytes h ne = block_at c bytes old new (h.1 c ne)
+
+-- a block that was written has its bytes
+pub now_stored : (new : Option (List (List ℕ))) (b : ℕ) (page : List ℕ) → HasBlock new b page
+    → 1 ≤ has_block b page new
+now_stored None b page h = omega arith
+now_stored (Some new) b page h =
+    let z : by_option (same_bytes page) (slice_get new b) ≡ bit (same_list page page) =
+    ap (by_option (same_bytes page)) h in let y = ap bit (list_self page) in omega arith

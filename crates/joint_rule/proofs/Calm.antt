@@ -446,7 +446,7 @@ module _ (g : Begin) (ok : Known g) (w : State DiskHeld) (a : ℕ) (l : Here)
     -- ---- givings of a writeback
 
     module _ (p : Part) (rest : List Part) (wb : is_writeback p.op ≡ true) where
-      never_read : is_read p.op ≡ true → ⊥
+      pub never_read : is_read p.op ≡ true → ⊥
       never_read = by_op p.op wb where
         by_op : (op : Op) → is_writeback op ≡ true → is_read op ≡ true → ⊥
         by_op (Write start count stuff) i e = cc

@@ -27,7 +27,12 @@ pub mod Compactions
 pub mod Device
 pub mod Scans
 pub mod Givings
+pub mod Rounds
+pub mod Blockings
+pub mod VisitGifts
 pub mod Keeps
+pub mod Courses
+pub mod Backings
 pub mod Bounds
 pub mod Tells
 pub mod Counts

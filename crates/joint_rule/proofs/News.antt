@@ -1,6 +1,11 @@
 -- The account's counters of calls: each giving raises them by what its piece gives, and a piece
 -- that
 -- is noted gives that to its order.
+use Rattle.mem_account.specs.declared.weight.Weight.TheVariants.{Back}
+use Rattle.lock_row.specs.declared.names.Trip.{Trip}
+use Rattle.lock_row.specs.declared.names.Step.{Step}
+use Rattle.joint_rule.proofs.Alikes.{visited_is}
+use Rattle.joint_rule.proofs.Courses.{Course, IsCourse, Weighs, course_of, weighs_of}
 use Rattle.std.proofs.Common.{◌≡◌, ◌+◌, ◌≤◌, ◌∷◌, ◌++◌, ◌∙◌, ℕ, zero, suc, Bool, true, cond, List, [], Option, Some, None, slice_get, refl, sym, ap, subst, arith}
 use Rattle.lock_row.specs.declared.names.Scan.{Scan}
 use Rattle.page_steps.specs.Scans.{with_page}
@@ -25,7 +30,7 @@ use Rattle.joint_rule.specs.Stages.{BlankBy, Changes, FailBy, Looks, NoneOf, Sta
 use Rattle.joint_rule.specs.Weights.{FreedPages, HugeWrites, Huges, News, news_count, news_counter, news_of, none, noted, order_news, same, told_ahead, told_at, told_by}
 use Rattle.lock_row.specs.Totals.{by_option, held_sum, mass, total}
 use Rattle.lock_row.specs.declared.names.At.{At}
-use Rattle.lock_row.specs.declared.names.At.TheVariants.{Both, Counting, Fetching, Freeing, Giving, Leaving, Made, Missed, Pinning, Ready, Refusing, Releasing, Start, Unpinning, Moving, Shrinking, Marking}
+use Rattle.lock_row.specs.declared.names.At.TheVariants.{Both, Counting, Fetching, Freeing, Giving, Leaving, Made, Missed, Pinning, Ready, Refusing, Releasing, Start, Unpinning, Moving, Shrinking, Marking, Visiting}
 use Rattle.lock_row.specs.declared.names.Compaction.{Compaction}
 use Rattle.lock_row.specs.declared.names.LockNo.{LockNo}
 use Rattle.lock_row.specs.declared.names.Object.{Object}
@@ -50,6 +55,7 @@ use Rattle.zr_base.specs.declared.op.Op.{Op}
 use Rattle.zr_base.specs.declared.op.Op.TheVariants.{Compact, Discard, Idle, Read, Write, Writeback}
 use Rattle.zr_base.specs.declared.op.Tag.{Tag}
 use Rattle.joint_rule.proofs.Events as event
+use Rattle.joint_rule.proofs.Courses as course
 use Rattle.lock_row.specs.declared.names.Held.TheVariants as holds
 use Rattle.slot_entry.specs.declared.kept.Kept.TheVariants as kept
 use Rattle.mem_account.specs.declared.weight.Weight.TheVariants as weight
@@ -165,17 +171,20 @@ told_moved q (suc frames) y ps x = refl
 -- a taking tells nothing
 told_after : (g : Begin) (q : News) (at : At) (p : Part) (ps : List Part) (e e' : EntryState)
     (fresh : Option Object) (pin : Option Pin) (owed : ℕ) (x y : Option Weight)
-    (page : Option (List ℕ)) (fail : Option PartEnd) (f : PageForm) (k : Kept)
-    → Stage g p e at fresh pin owed x y page fail → told_at q (after_take g.given.size at p f k)
+    (page : Option (List ℕ)) (fail : Option PartEnd) (f : PageForm) (k : EntryState)
+    → Stage g p e at fresh pin owed x y page fail
+    → told_at q (after_take g.given.size at p f k fail)
     (p ∷ ps) x ≡ told_at q at (p ∷ ps) x
 told_after g q Start p ps e e' fresh pin owed x y page fail f k s =
     told_free q (begun_at (is_maintenance p.op) (is_beyond g.given.size p.op) p f k) (p ∷ ps) x
     s.counts.0
+told_after g q (Visiting t z) p ps e e' fresh pin owed x y page fail f k s =
+    ap (λ (at : At). told_at q at (p ∷ ps) x) (visited_is t z p.op k fail).2
 told_after g q at p ps e e' fresh pin owed x y page fail f k s = refl
 
 told_taken : (g : Begin) (q : News) (l : Here) (v : DiskHeld) (ps : List Part)
     → StageBy g ps (entry_in l.held) l.at l.fresh l.pin l.owed l.ahead l.behind l.page l.fail
-    → told_at q (taken_at g.given.size ps l.at l.page (entry_or v (entry_in l.held)).kept) ps
+    → told_at q (taken_at g.given.size ps l.at l.page (entry_or v (entry_in l.held)) l.fail) ps
     l.ahead ≡ told_at q l.at ps l.ahead
 told_taken g q l v [] s = refl
 told_taken g q l v (p ∷ ps) s = told_after g q l.at p ps (entry_in l.held)
@@ -417,7 +426,42 @@ module _ (g : Begin) (ok : Known g) (w : State DiskHeld) (j : Joint g w) (a : �
         (sym (given_lock g ok w j a l who k v m what (slot x.page)
         (event_is g ok w j a l who k v m what p rest _ (Marking x) todo held at)))
 
+    visit_news : (q : News) (c : IsCourse g l v m) → Weighs g ok w j a l who v m k → Announces q v m
+    visit_news q c x = quietly q v m
+        (let r = x.orders (λ i o. order_news g q i o) in
+        let y = silent q (Visiting c.s c.x) c.at refl in let z = now_silent c.course in omega arith)
+        (x.account (news_count q) (λ y owed was. kept_news q y owed was)) where
+          kept_news : (r : News) (y : Counters) (owed : ℕ) (was : Weight)
+              → news_count r (counted (repaid y owed) (delta.Kept was Back)) ≡ news_count r y
+          kept_news HugeWrites y owed weight.Empty = refl
+          kept_news HugeWrites y owed weight.Same = refl
+          kept_news HugeWrites y owed (weight.Packed n) = refl
+          kept_news HugeWrites y owed weight.Huge = refl
+          kept_news HugeWrites y owed weight.Back = refl
+          kept_news FreedPages y owed weight.Empty = refl
+          kept_news FreedPages y owed weight.Same = refl
+          kept_news FreedPages y owed (weight.Packed n) = refl
+          kept_news FreedPages y owed weight.Huge = refl
+          kept_news FreedPages y owed weight.Back = refl
+
+          goes_on : (s : Step) (y : Trip) → m.at ≡ Visiting s y → told_ahead q m ≡ 0
+          goes_on s y at = ap (λ (i : At). told_at q i m.todo m.ahead) at
+
+          over_so : (end : PartEnd) → m ≡ piece_over l c.p end [] c.rest → told_ahead q m ≡ 0
+          over_so end m_is = ap (told_ahead q) m_is
+              ∙ told_quiet q Start (left_by end c.p.nr c.rest)
+
+          now_silent : Course l v c.p c.rest m → told_ahead q m ≡ 0
+          now_silent (course.goes s y done todo at fail) = goes_on s y at
+          now_silent (course.halts s y end done todo at well fail i) = goes_on s y at
+          now_silent (course.errs s y d d' b fault wrote lost done todo at well fail held v_is
+              failed) = goes_on s y at
+          now_silent (course.tells wrote lost well m_is) = over_so _ m_is
+          now_silent (course.closes end i fail m_is) = over_so _ m_is
+
     pub news_gives : (q : News) (ev : Event g l v m) → Chosen g l v m ev → Announces q v m
+    news_gives q (event.visits t) chosen = visit_news q (course_of g ok w j a l who v m t)
+        (weighs_of g ok w j a l who v m k what t)
     news_gives q (event.refuses p rest c todo at held v_is m_is) chosen =
         same_news q _ _ v_is m_is (quietly q _ _ (let x = ap (held_sum (spot n) (noted g q)) held in
         let y = silent q Refusing at refl in let z = told_quiet q Start

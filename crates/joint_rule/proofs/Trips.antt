@@ -473,7 +473,7 @@ carrier_uses y s b c = ap (use_in (using b)) c.is
     ∙ step_uses (using b) b c.step c.trip (λ i. same_self b) c.carries c.block
 
 -- what is carried with these bytes
-bytes_of : (b : ℕ) (bytes : List ℕ) (o : Option ℕ) (page : Option (List ℕ)) → 0 < pair b bytes o page
+pub bytes_of : (b : ℕ) (bytes : List ℕ) (o : Option ℕ) (page : Option (List ℕ)) → 0 < pair b bytes o page
     → (o ≡ Some b) × (page ≡ Some bytes)
 bytes_of b bytes None page lt = absurd (omega arith)
 bytes_of b bytes (Some c) None lt = absurd (omega arith)
@@ -487,7 +487,7 @@ bytes_of b bytes (Some c) (Some y) lt = elim (cases_Bool (eqb b c)) [
       let none : ⊥ = omega arith in none)
 ]
 
-above_zero : (c : Bool) (n : ℕ) → 0 < cond c n 0 → (c ≡ true) × (0 < n)
+pub above_zero : (c : Bool) (n : ℕ) → 0 < cond c n 0 → (c ≡ true) × (0 < n)
 above_zero true n lt = (refl, lt)
 above_zero false n lt = absurd (omega arith)
 
