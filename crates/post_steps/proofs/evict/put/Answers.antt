@@ -1,5 +1,6 @@
 use Rattle.std.proofs.Common.{refl, sym, ap, arith}
 use Rattle.lock_row.specs.declared.names.Held.TheVariants as holds
+use Rattle.lock_row.specs.declared.names.Trip.{Trip}
 use Rattle.page_steps.specs.Visits.{putting_back, onward}
 use Rattle.post_steps.specs.Writeback.{here}
 use Rattle.post_steps.specs.declared.writeback.WritebackStage.TheVariants as stage
@@ -29,8 +30,8 @@ returns g c =
     goes_onward (putting_back a.head.pages) c.wrote.result c.requires tt refl
     (can_put a.head a.scratch.now a.x a.entry c.kept_back.result c.block_of.result c.block_of.ensures
     c.kept_back.ensures) c.give_by.ensures refl
-    (omega (arith, ap (λ n. n.page) is, room.page))
-    (omega (arith, ap (λ n. n.page) is, ap (λ n. n.wrote) is, ap (λ n. n.lost) is, room.few))
+    (omega (arith, ap (λ (n : Trip). n.page) is, room.page))
+    (omega (arith, ap (λ (n : Trip). n.page) is, ap (λ (n : Trip). n.wrote) is, ap (λ (n : Trip). n.lost) is, room.few))
     (λ x. ap (λ n. onward a.head.pages n
     (here {D = AnyDevice} x a.scratch.now (stage.Putting a.x a.entry)) (holds.Slot c.kept_back.result))
     (sym is))

@@ -1,5 +1,6 @@
 use Rattle.std.proofs.Common.{refl, sym, ap, ◌∙◌, subst, inl, arith}
 use Rattle.lock_row.specs.declared.names.Held.TheVariants as holds
+use Rattle.lock_row.specs.declared.names.Trip.{Trip}
 use Rattle.page_steps.specs.Visits.{undoing, undoing_by, onward}
 use Rattle.page_steps.specs.Calls.{ends_of}
 use Rattle.post_steps.specs.Writeback.{here, AreStops}
@@ -35,8 +36,8 @@ returns-in-None g c =
     goes_onward (undoing a.head.pages) c.lost.result c.requires tt refl
     (can_release a.head a.scratch.now a.x a.end a.blocks c.release.new.self c.block_of.result
     c.block_of.ensures c.release.ensures.free) c.give_by.ensures refl
-    (omega (arith, ap (λ n. n.page) is, room.page))
-    (omega (arith, ap (λ n. n.page) is, ap (λ n. n.wrote) is, ap (λ n. n.lost) is, room.few))
+    (omega (arith, ap (λ (n : Trip). n.page) is, room.page))
+    (omega (arith, ap (λ (n : Trip). n.page) is, ap (λ (n : Trip). n.wrote) is, ap (λ (n : Trip). n.lost) is, room.few))
     (λ x.
     ap (λ end. undoing_by a.head.pages (ends_of end)
     (here {D = AnyDevice} x a.scratch.now (stage.Releasing a.x a.end a.blocks))

@@ -1,5 +1,6 @@
 use Rattle.std.proofs.Common.{refl, sym, ap, ◌∙◌, arith}
 use Rattle.lock_row.specs.declared.names.Held.TheVariants as holds
+use Rattle.lock_row.specs.declared.names.Trip.{Trip}
 use Rattle.page_steps.specs.Visits.{passing, onward}
 use Rattle.post_steps.specs.Writeback.{here}
 use Rattle.post_steps.specs.declared.writeback.WritebackStage.TheVariants as stage
@@ -22,8 +23,8 @@ returns g c =
     let is = c.passed.ensures in
     goes_onward (passing a.head.pages) z c.requires tt refl
     (can_pass a.head a.scratch.now a.x a.entry) c.give_by.ensures refl
-    (omega (arith, ap (λ n. n.page) is, c.requires.fit.page))
-    (omega (arith, ap (λ n. n.page) is, ap (λ n. n.wrote) is, ap (λ n. n.lost) is, c.requires.fit.few))
+    (omega (arith, ap (λ (n : Trip). n.page) is, c.requires.fit.page))
+    (omega (arith, ap (λ (n : Trip). n.page) is, ap (λ (n : Trip). n.wrote) is, ap (λ (n : Trip). n.lost) is, c.requires.fit.few))
     (λ x. ap (λ n. onward a.head.pages n
     (here {D = AnyDevice} x a.scratch.now (stage.Passing a.x a.entry)) (holds.Slot a.entry)) (sym is))
     c.onward.ensures.over c.onward.ensures.next
