@@ -4,7 +4,7 @@ use Rattle.std.specs.Prelude.{nat_lt}
 use Rattle.std.proofs.lemmas.Option.{get_or_from_slice_get}
 use Rattle.zr_base.specs.declared.limits.TheConstants.{MOST_PAGES, MOST_ACTORS}
 use Rattle.zr_base.specs.declared.op.Op.{Op}
-use Rattle.zr_base.specs.declared.op.Op.TheVariants.{Write, Read, Discard, Idle, Compact}
+use Rattle.zr_base.specs.declared.op.Op.TheVariants.{Write, Read, Discard, Idle, Writeback, Compact}
 use Rattle.zr_base.specs.Plain.{IsRequest}
 use Rattle.mem_account.specs.Counters.{Counters, no_counts}
 use Rattle.mem_account.specs.Stat.{mm_stat_of, io_stat_of}
@@ -49,6 +49,7 @@ some_of (Write start count stuff) is = λ request. is.0.1
 some_of (Read start count) is = λ request. is.1
 some_of (Discard start count) is = λ request. is.1
 some_of (Idle age) is = λ request. absurd (cc)
+some_of (Writeback mode) is = λ request. absurd (cc)
 some_of Compact is = λ request. absurd (cc)
 
 some_each : (u : Used) (ops : List Op) → MayOperate u ops → SomeEach ops
