@@ -1,6 +1,6 @@
 -- A row that stands for a rest, and what may follow: a phase, another limit, a later time, or a
 -- lower maximum.
-use Rattle.std.proofs.Common.{◌≡◌, ◌≢◌, ℕ, ◌+◌, ◌<◌, ◌≤◌, List, [], length, Some, None, slice_get, slice_set, get_or-set_same, get_or-set_other, length-set, refl, sym, ap, ◌∙◌, subst, arith, inl, inr}
+use Rattle.std.proofs.Common.{◌≡◌, ◌≢◌, ℕ, ◌+◌, ◌<◌, ◌≤◌, Bool, List, [], length, Some, None, slice_get, slice_set, get_or-set_same, get_or-set_other, length-set, refl, sym, ap, ◌∙◌, subst, arith, inl, inr}
 use Rattle.std.proofs.lemmas.Bool.{cases_eq}
 use Rattle.std.proofs.lemmas.Option.{slice_get_within}
 use Rattle.zr_base.specs.declared.op.Op.{Op}
@@ -71,15 +71,15 @@ kept_still (holds.Blocks x) u is = ap without_calls is
 kept_still (holds.Device x) u is = ap without_calls is
 
 -- an entry that is kept was one, with its mark
-slot_kept : (v : DiskHeld) (e : EntryState) → IsKept v (holds.Slot e)
-    → (x : EntryState) × (v ≡ holds.Slot x) × (e.idle ≡ x.idle)
-slot_kept (holds.Slot x) e is =
+mark_kept : (v : DiskHeld) (e : EntryState) (mark : Bool) → IsKept v (holds.Slot e)
+    → ((x : EntryState) → v ≡ holds.Slot x → x.idle ≡ mark) → e.idle ≡ mark
+mark_kept (holds.Slot x) e mark is was =
     let same : e ≡ is.0 = (let q = is.1 in cc) in
-    (x, refl, ap (λ (y : EntryState). y.idle) (same ∙ is.2))
-slot_kept (holds.Class x) e is = absurd (cc)
-slot_kept (holds.Account x) e is = absurd (cc)
-slot_kept (holds.Blocks x) e is = absurd (cc)
-slot_kept (holds.Device x) e is = absurd (cc)
+    ap (λ (y : EntryState). y.idle) (same ∙ is.2) ∙ was x refl
+mark_kept (holds.Class x) e mark is was = absurd (cc)
+mark_kept (holds.Account x) e mark is was = absurd (cc)
+mark_kept (holds.Blocks x) e mark is was = absurd (cc)
+mark_kept (holds.Device x) e mark is was = absurd (cc)
 
 -- the value's order, if it has one, is empty
 abbrev NoCalls : DiskHeld → Type 0
@@ -256,8 +256,8 @@ module _ (r : Rest) (row ys : Row) (next : RestGoesOn) (st : StandsFor r row)
       let o = was_at row p old.0 old.1 in
       let u = keeps.each p o.value o.at in
       let same : u.0 ≡ holds.Slot e = (let q = u.1 in cc) in
-      let x = slot_kept o.value e (subst (IsKept o.value) same u.2) in
-      x.2 ∙ st.marks p x.0 (o.at ∙ ap (λ (v : DiskHeld). Some (Some v)) x.1)
+      mark_kept o.value e (r.idle p) (subst (IsKept o.value) same u.2)
+      (λ x is. st.marks p x (o.at ∙ ap (λ (v : DiskHeld). Some (Some v)) is))
 
   later_stands : (time : ℕ) → r.set.clock ≤ time
       → StandsFor (sets r (record r.set { clock = time })) ys
