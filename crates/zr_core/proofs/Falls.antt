@@ -423,7 +423,7 @@ module _ (t : Terms) (n : ℕ) where
   visit_falls l v m (stores p rest x b page d d' todo stage held block copied writes v_is m_is) =
       subst (Less l) (sym m_is) (trip_on l p rest step.Storing x
       (at.Visiting step.Landing (trip_at l.at)) todo stage (λ same. omega arith))
-  visit_falls l v m (spoils p rest x b d d' fault todo stage held block fails v_is m_is) =
+  visit_falls l v m (spoils p rest x b d d' fault todo stage held block bad v_is m_is) =
       subst (Less l) (sym m_is) (trip_on l p rest step.Storing x
       (at.Visiting step.Landing (trip_at l.at)) todo stage (λ same. omega arith))
   visit_falls l v m (visit.frees p rest x e o q q' frames todo stage held kept drops v_is m_is) =
