@@ -184,7 +184,9 @@ fn writes_pages_back(rt: HostRuntime) -> Result<(), Fail> {
     let back = "run\nbd_stat\nstates\n";
     let table = [
         (
-            format!(in rt.alloc(); "backing 2\ndisksize 4K\n{huge}writeback huge\nwriteback huge\n{back}")?,
+            format!(in rt.alloc();
+                "backing 2\ndisksize 4K\n{huge}writeback huge\nwriteback huge\n{back}"
+            )?,
             Status::Done,
             "op 0 0 ok\nop 0 1 wrote 1 lost 0\nop 0 2 wrote 0 lost 0\norder 0 0:0\nbd_stat 1 0 1\nstate 0 .w.. 0\n",
         ),
@@ -199,7 +201,9 @@ fn writes_pages_back(rt: HostRuntime) -> Result<(), Fail> {
             "op 0 0 ok\nop 0 1 noblock wrote 1 lost 0\norder 0 0:0\norder 1 0:0\nbd_stat 1 0 1\nstate 0 .w.. 0\nstate 1 ..h. 0\n",
         ),
         (
-            format!(in rt.alloc(); "backing 1\ndisksize 4K\n{huge}run\nactor\nwriteback huge\nactor\nwrite 0 8 fill 1\nschedule 0*8 1*6\n{back}")?,
+            format!(in rt.alloc();
+                "backing 1\ndisksize 4K\n{huge}run\nactor\nwriteback huge\nactor\nwrite 0 8 fill 1\nschedule 0*8 1*6\n{back}"
+            )?,
             Status::Done,
             "op 0 0 ok\norder 0 0:0\nop 0 0 wrote 0 lost 1\nop 1 0 ok\norder 0 1:0\nbd_stat 0 0 1\nstate 0 s... 0\n",
         ),
