@@ -68,7 +68,7 @@ no_more : (n : ℕ) → n ≤ n + 0
 no_more n = omega arith
 
 at_end : (n : ℕ) → n < 2 ^ 64 → n ≡ at_most_end (n + 0)
-at_end n short = grind arith
+at_end n short = omega arith
 
 -- the device is left as it is
 device_still : (d : DeviceState) → d.writes < 2 ^ 64 → LeavesDevice d d 0 0
@@ -114,7 +114,7 @@ module _ (r : Rest) (none : r.size ≡ 0) (unused : IsUnused r)
     held = record {
       sectors = λ p t s old ok. ok;
       honest = λ yes p t s old. refl;
-      pooled = λ p at t lt there gone s old. refl;
+      pooled = λ unwritten p at t lt there gone s old. refl;
     };
     may = tt;
     faults_differ = λ f. least_one;
