@@ -90,7 +90,7 @@ module _ (g : Begin) (ok : Known g) (w : State DiskHeld) (j : Joint g w) (a : 鈩
       owners = 位 f. let r = ap (held_sum (spot n) (claims g f)) held in
           let x = ap (held_sum (spot n) (stored f)) held in omega arith;
       storage = quiet_storage g w a l _ _ _ j who Giving at tt tt
-            (apart g a l _ _ _ (位 f z y. let r = ap (held_sum (spot n) f) held in
+          (apart g a l _ _ _ (位 f z y. let r = ap (held_sum (spot n) f) held in
           let s = y (n + 255) c in let t = y (n + 255) now in omega arith));
       pins = 位 f. let r = ap (held_sum (spot n) (outs f)) held in
           let x = ap (held_sum (spot n) nothing) held in omega arith;
@@ -156,7 +156,7 @@ module _ (g : Begin) (ok : Known g) (w : State DiskHeld) (j : Joint g w) (a : 鈩
       owners = 位 f. let r = ap (held_sum (spot n) (claims g f)) held in
           let x = ap (held_sum (spot n) (stored f)) held in omega arith;
       storage = quiet_storage g w a l _ _ _ j who Counting at tt tt
-            (apart g a l _ _ _ (位 f z y. let r = ap (held_sum (spot n) f) held in
+          (apart g a l _ _ _ (位 f z y. let r = ap (held_sum (spot n) f) held in
           let s = y (n + 255) c in let t = y (n + 255) (fails_by p.op c) in omega arith));
       pins = 位 f. let r = ap (held_sum (spot n) (outs f)) held in
           let x = ap (held_sum (spot n) nothing) held in omega arith;

@@ -70,7 +70,7 @@ module _ (form : List ℕ → Weight) (clock : ℕ) where
   other_passes (Read start count) e p s = refl
   other_passes (Discard start count) e p s = refl
   other_passes (Idle age) e p s = absurd (cc)
-  other_passes (Writeback mode) e p s = absurd (cc)
+  other_passes (Writeback mode) e p s = refl
   other_passes Compact e p s = refl
 
   other_marks : (size : ℕ) (pages : ℕ → Aged) (op : Op) (end : OpEnd) → is_marking op ≡ false
@@ -79,7 +79,7 @@ module _ (form : List ℕ → Weight) (clock : ℕ) where
   other_marks size pages (Read start count) end e = tt
   other_marks size pages (Discard start count) end e = tt
   other_marks size pages (Idle age) end e = absurd (cc)
-  other_marks size pages (Writeback mode) end e = absurd (cc)
+  other_marks size pages (Writeback mode) end e = tt
   other_marks size pages Compact end e = tt
 
   -- a piece that is on no page, and doesn't mark, leaves each page
@@ -268,7 +268,7 @@ module _ (g : Begin) where
         none (Read start count) = tt
         none (Discard start count) = tt
         none (Idle age) = refl
-        none (Writeback mode) = refl
+        none (Writeback mode) = tt
         none Compact = tt
 
 -- ---- pages that a scan has passed

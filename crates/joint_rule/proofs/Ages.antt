@@ -14,7 +14,7 @@ use Rattle.joint_rule.proofs.Alone.{beyond_other, on_page}
 use Rattle.joint_rule.proofs.Calm.{one_left}
 use Rattle.joint_rule.proofs.Events.{Event}
 use Rattle.joint_rule.proofs.Facts.{Known}
-use Rattle.joint_rule.proofs.Gifts.{all, is_named, stage}
+use Rattle.joint_rule.proofs.Gifts.{is_named, stage}
 use Rattle.joint_rule.proofs.Givings.{event_is, given_lock}
 use Rattle.joint_rule.proofs.Keeps.{OneTurn, event_at}
 use Rattle.joint_rule.proofs.Sums.{gone}

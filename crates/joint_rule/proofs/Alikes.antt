@@ -84,21 +84,21 @@ landed_alike : (fail : Option PartEnd) (x : Trip) (e : EntryState)
     → AlikeAt (Visiting step.Landing x) (landed_at fail x e)
 landed_alike None x e = elim (cases_Bool (is_mark_of x.block e.under)) [
   | inl on ↦ rw on (record {
-      uses = λ f. refl;
-      written = λ b bytes page. refl;
-      carries = refl;
-      carried = λ s b bytes page. refl;
-      wrote = refl;
-      writes = λ fail. refl;
-    })
+    uses = λ f. refl;
+    written = λ b bytes page. refl;
+    carries = refl;
+    carried = λ s b bytes page. refl;
+    wrote = refl;
+    writes = λ fail. refl;
+  })
   | inr off ↦ rw off (record {
-      uses = λ f. refl;
-      written = λ b bytes page. refl;
-      carries = refl;
-      carried = λ s b bytes page. refl;
-      wrote = refl;
-      writes = λ fail. refl;
-    })
+    uses = λ f. refl;
+    written = λ b bytes page. refl;
+    carries = refl;
+    carried = λ s b bytes page. refl;
+    wrote = refl;
+    writes = λ fail. refl;
+  })
 ]
 landed_alike (Some end) x e = record {
   uses = λ f. refl;

@@ -4,7 +4,7 @@ use Rattle.call_history.specs.Parts.{Follows, is_carried, is_on, left_by, noted_
 use Rattle.call_history.specs.declared.part.Done.{Done}
 use Rattle.call_history.specs.declared.part.Part.{Part}
 use Rattle.call_history.specs.declared.part.PartEnd.{PartEnd}
-use Rattle.joint_rule.proofs.Finds.{Lacks}
+use Rattle.joint_rule.proofs.Tagged.{Lacks}
 use Rattle.joint_rule.proofs.Stages.{Every, every_append, every_left, every_todo, every_without}
 use Rattle.plain_disk.specs.Ends.{is_single}
 use Rattle.std.proofs.lemmas.Bool.{and_parts, cases_Bool, eqb-true}

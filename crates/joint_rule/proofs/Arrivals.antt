@@ -1,5 +1,5 @@
 -- Each taking of a writeback keeps what its step says.
-use Rattle.std.proofs.Common.{◌≡◌, ◌+◌, ◌<◌, ◌∷◌, ℕ, Bool, true, false, is_none, is_some, if◌then◌else◌, List, [], Option, Some, None, refl, sym, ap, subst}
+use Rattle.std.proofs.Common.{◌≡◌, ◌∷◌, ℕ, Bool, true, false, is_none, is_some, if◌then◌else◌, List, [], Option, Some, None, refl, sym, ap, subst}
 use Rattle.call_history.specs.declared.part.Part.{Part}
 use Rattle.call_history.specs.declared.part.PartEnd.{PartEnd}
 use Rattle.joint_rule.proofs.Places.{IsEntry, entry_kind}
@@ -118,54 +118,62 @@ module _ (g : Begin) (p : Part) (fresh : Option Object) (pin : Option Pin) (owed
                 → Moved (slot x.page) y (arrived_at b x)
             by_meant y here true on =
                 let a = and_parts (is_obj y.kept) _ on in
-                let b = and_parts (is_none y.under) (is_meant mode y.kept y.idle) a.1 in
-                (slot_locks, visit_stage y step.Asking x made pins owes counts well begun (record {
-                  trip = trip;
-                  step = (
-                    record {
-                      page = here;
-                      object = obj_is y.kept a.0;
-                      clear = none_is y.under b.0;
-                    },
-                    none,
-                    free,
-                  );
-                }))
-            by_meant y here false off =
-                (slot_locks, visit_stage y step.Passing x made pins owes counts well begun (record {
-                  trip = trip;
-                  step = (here, none, free);
-                }))
+                let b = and_parts (is_none y.under) (is_meant mode y.kept y.idle) a.1 in (
+                  slot_locks,
+                  visit_stage y step.Asking x made pins owes counts well begun (record {
+                    trip = trip;
+                    step = (
+                      record {
+                        page = here;
+                        object = obj_is y.kept a.0;
+                        clear = none_is y.under b.0;
+                      },
+                      none,
+                      free,
+                    );
+                  }),
+                )
+            by_meant y here false off = (
+              slot_locks,
+              visit_stage y step.Passing x made pins owes counts well begun (record {
+                trip = trip;
+                step = (here, none, free);
+              }),
+            )
 
       pub lands : IsVisiting g step.Landing x e page fail → QuitAt g p step.Landing x fail
           → Taken (slot x.page) (landed_at fail x (entry_or v e))
       lands is fails = by_fail fail refl where
         lost : (y : EntryState) → VisitsPage g x y → IsUnmarked fail x.block y.under
             → Moved (slot x.page) y (Visiting step.Losing x)
-        lost y here gone =
-            (slot_locks, visit_stage y step.Losing x made pins owes counts fails begun (record {
-              trip = trip;
-              step = (record { page = here; gone = gone }, is.step.0, is.step.1);
-            }))
+        lost y here gone = (
+          slot_locks,
+          visit_stage y step.Losing x made pins owes counts fails begun (record {
+            trip = trip;
+            step = (record { page = here; gone = gone }, is.step.0, is.step.1);
+          }),
+        )
 
         by_mark : (y : EntryState) → fail ≡ None → VisitsPage g x y → (b : Bool)
             → is_mark_of x.block y.under ≡ b
             → Moved (slot x.page) y (if b then Visiting step.Won x else Visiting step.Losing x)
-        by_mark y well here true on =
-            (slot_locks, visit_stage y step.Won x made pins owes counts
-            (subst NoneOf (sym well) tt) begun (record {
-              trip = trip;
-              step = (
-                record {
-                  page = here;
-                  object = obj_is y.kept
-                      (here.marks.under_one (some_mark x.block y.under on));
-                  mark = on;
-                },
-                is.step.0,
-                is.step.1,
-              );
-            }))
+        by_mark y well here true on = (
+          slot_locks,
+          visit_stage y step.Won x made pins owes counts
+              (subst NoneOf (sym well) tt) begun (record {
+                trip = trip;
+                step = (
+                  record {
+                    page = here;
+                    object = obj_is y.kept
+                        (here.marks.under_one (some_mark x.block y.under on));
+                    mark = on;
+                  },
+                  is.step.0,
+                  is.step.1,
+                );
+              }),
+        )
         by_mark y well here false off = lost y here
             (subst (λ (f : Option PartEnd). IsUnmarked f x.block y.under) (sym well) off)
 

@@ -1,5 +1,5 @@
 -- Where nothing is written back in a phase, no actor is at a writeback, and no page is marked for one.
-use Rattle.std.proofs.Common.{◌≡◌, ◌+◌, ◌≤◌, ◌<◌, ◌∷◌, ◌∙◌, ◌&&◌, ◌||◌, ℕ, zero, suc, Bool, true, false, List, [], Option, Some, None, slice_get, refl, sym, ap, subst, arith}
+use Rattle.std.proofs.Common.{◌≡◌, ◌∷◌, ◌∙◌, ℕ, zero, suc, true, false, List, [], Option, Some, None, slice_get, refl, sym, ap, subst, arith}
 use Rattle.call_history.specs.Parts.{EndsSo}
 use Rattle.call_history.specs.declared.part.Part.{Part}
 use Rattle.joint_rule.proofs.Facts.{Known}
@@ -11,11 +11,9 @@ use Rattle.joint_rule.proofs.Trips.{Carrier, mark_carried}
 use Rattle.joint_rule.specs.Begins.{Begin, content, ground_of}
 use Rattle.joint_rule.specs.Joint.{Joint}
 use Rattle.joint_rule.specs.Stages.{StageBy}
-use Rattle.joint_rule.specs.Weights.{mark_at, mark_by, none, same_bytes}
-use Rattle.lock_row.specs.Totals.{held_sum, mass, total}
-use Rattle.lock_row.specs.declared.names.At.{At}
+use Rattle.joint_rule.specs.Weights.{mark_at, mark_by, none}
+use Rattle.lock_row.specs.Totals.{held_sum, mass}
 use Rattle.lock_row.specs.declared.names.At.TheVariants.{Start, Visiting}
-use Rattle.lock_row.specs.declared.names.LockNo.{LockNo}
 use Rattle.lock_row.specs.declared.names.State.{State}
 use Rattle.page_steps.specs.Steps.{DiskHeld, Here, entry_in, slot, spot}
 use Rattle.plain_disk.specs.Idles.{is_written_in, may_write, writes_some}

@@ -1,20 +1,18 @@
 -- What the joint rule tells of a writeback's block, of its mark and of its page, and what its givings do
 -- to them.
-use Rattle.std.proofs.Common.{◌≡◌, ◌≢◌, ◌+◌, ◌≤◌, ◌<◌, ◌∷◌, ◌∙◌, ◌==◌, ◌&&◌, ℕ, zero, suc, Bool, true, false, cond, is_none, if◌then◌else◌, List, [], length, Option, Some, None, slice_get, slice_set, refl, sym, ap, subst, arith, inl, inr, ⊎_elim, length-set, eqb}
+use Rattle.std.proofs.Common.{◌≡◌, ◌≢◌, ◌+◌, ◌≤◌, ◌<◌, ◌∷◌, ◌∙◌, ◌==◌, ◌&&◌, ℕ, Bool, true, false, cond, is_none, if◌then◌else◌, List, [], Option, Some, None, slice_get, refl, sym, ap, arith, inl, inr, ⊎_elim, eqb}
 use Rattle.backing_dev.specs.Contents.{ChangesOnly, HasBlock}
-use Rattle.backing_dev.specs.Dev.{DeviceState, IsCalled}
+use Rattle.backing_dev.specs.Dev.{DeviceState}
 use Rattle.block_map.specs.BlockMap.{BlockMap}
-use Rattle.block_map.specs.declared.state.BlockState.{BlockState}
-use Rattle.block_map.specs.declared.state.BlockState.TheVariants.{Free, Held, Owned}
-use Rattle.call_history.specs.declared.part.PartEnd.{PartEnd}
-use Rattle.joint_rule.proofs.Blocks.{Same, under_blocks, used_put}
+use Rattle.block_map.specs.declared.state.BlockState.TheVariants.{Held}
+use Rattle.joint_rule.proofs.Blocks.{under_blocks, under_device}
 use Rattle.joint_rule.proofs.Lookups.{lone, pick_self}
-use Rattle.joint_rule.proofs.Pools.{bit, list_self, pick, same_is, same_self}
-use Rattle.joint_rule.proofs.Sums.{Under, locals_le, total_up_over}
-use Rattle.joint_rule.proofs.Trips.{IsKept, SaysNone, Storage, hold_find, holding, idle_carries, mark_carried, no_mark, not_both, one_user, steady_storage, using, Carrier, carrier_of, carrier_uses}
+use Rattle.joint_rule.proofs.Pools.{bit, list_self, same_is, same_self}
+use Rattle.joint_rule.proofs.Sums.{locals_le, total_up_over, total_mono}
+use Rattle.joint_rule.proofs.Trips.{hold_find, holding, mark_carried, not_both, one_user, using, Carrier, carrier_of, carrier_uses, hold_few}
 use Rattle.joint_rule.specs.Begins.{Begin, content}
 use Rattle.joint_rule.specs.Joint.{Joint, Sound}
-use Rattle.joint_rule.specs.Weights.{BlockWeigh, at_place, block_by, block_claims, block_uses, carried_at, carried_by, carries, carries_at, device_size, foreign, has_block, is_carrying, is_written, lies_at, lies_by, map_size, mark_at, mark_by, marks_of, none, nothing, pair, same, same_bytes, shows_at, stored_at, use_at, use_in, used_blocks, used_from, written_at, written_by, HeldAll}
+use Rattle.joint_rule.specs.Weights.{BlockWeigh, at_place, block_by, block_claims, block_uses, carries, device_size, has_block, is_carrying, is_written, lies_at, lies_by, map_size, mark_at, marks_of, none, pair, same, same_bytes, use_at, use_in, used_blocks, used_from, written_at, written_by, HeldAll}
 use Rattle.lock_row.specs.Totals.{by_option, held_sum, mass, total}
 use Rattle.lock_row.specs.declared.names.At.{At}
 use Rattle.lock_row.specs.declared.names.At.TheVariants.{Visiting}
@@ -23,8 +21,7 @@ use Rattle.lock_row.specs.declared.names.State.{State}
 use Rattle.lock_row.specs.declared.names.Step.{Step}
 use Rattle.lock_row.specs.declared.names.Step.TheVariants as step
 use Rattle.lock_row.specs.declared.names.Trip.{Trip}
-use Rattle.page_steps.specs.Steps.{DiskHeld, Here, is_mark_of, slot, spot}
-use Rattle.slot_entry.specs.Entries.{EntryState}
+use Rattle.page_steps.specs.Steps.{DiskHeld, Here, is_mark_of, spot}
 use Rattle.slot_entry.specs.Forms.{same_list}
 use Rattle.slot_entry.specs.declared.kept.Kept.{Kept}
 use Rattle.std.proofs.lemmas.Bool.{cases_Bool, eq-eqb, eqb-true, ne_eqb, cases_eq}
@@ -42,17 +39,17 @@ mark_is (Some c) None b e on = absurd (cc)
 mark_is (Some c) (Some d) b e on =
     let q : c ≡ b = cc in ap Some (sym (eqb-true c d on) ∙ q)
 
-other_block : (b c : ℕ) (bytes : List ℕ) (page : Option (List ℕ)) → c ≢ b
+pub other_block : (b c : ℕ) (bytes : List ℕ) (page : Option (List ℕ)) → c ≢ b
     → pair c bytes (Some b) page ≡ 0
 other_block b c bytes None ne = refl
 other_block b c bytes (Some y) ne = ap (λ (i : Bool). cond i (same_bytes bytes y) 0) (ne_eqb c b ne)
 
 -- without the mark of its block, an entry has the other marks
-pub unmark : Option ℕ → Option ℕ → Option ℕ
+abbrev pub unmark : Option ℕ → Option ℕ → Option ℕ
 unmark block under = if is_mark_of block under then None else under
 
 module _ (block under : Option ℕ) (b : ℕ) (is : block ≡ Some b) where
-  other_pair : (c : ℕ) (bytes : List ℕ) (page : Option (List ℕ)) → c ≢ b
+  pub other_pair : (c : ℕ) (bytes : List ℕ) (page : Option (List ℕ)) → c ≢ b
       → pair c bytes (unmark block under) page ≡ pair c bytes under page
   other_pair c bytes page ne = elim (cases_Bool (is_mark_of block under)) [
     | inl on ↦ rw on (sym (ap (λ (u : Option ℕ). pair c bytes u page)
@@ -60,19 +57,19 @@ module _ (block under : Option ℕ) (b : ℕ) (is : block ≡ Some b) where
     | inr off ↦ rw off refl
   ]
 
-  other_mark : (c : ℕ) → c ≢ b → marks_of c (unmark block under) ≡ marks_of c under
+  pub other_mark : (c : ℕ) → c ≢ b → marks_of c (unmark block under) ≡ marks_of c under
   other_mark c ne = elim (cases_Bool (is_mark_of block under)) [
     | inl on ↦ rw on (sym (ap (marks_of c) (mark_is block under b is on)
         ∙ ⊎_elim (λ z. z) (λ o. absurd (ne o.1)) (same_is c b)))
     | inr off ↦ rw off refl
   ]
 
-  not_self : (d : ℕ) → is_mark_of block (Some d) ≡ false → d ≡ b → ⊥
+  pub not_self : (d : ℕ) → is_mark_of block (Some d) ≡ false → d ≡ b → ⊥
   not_self d off e = let q : is_mark_of (Some b) (Some d) ≡ false =
       ap (λ (x : Option ℕ). is_mark_of x (Some d)) (sym is) ∙ off in
       let on : eqb b d ≡ true = eq-eqb b d (sym e) in cc
 
-  no_pair : (c : ℕ) (bytes : List ℕ) (page : List ℕ) → c ≡ b
+  pub no_pair : (c : ℕ) (bytes : List ℕ) (page : List ℕ) → c ≡ b
       → pair c bytes (unmark block under) (Some page) ≡ 0
   no_pair c bytes page e = by_under under refl where
     by_under : (u : Option ℕ) → under ≡ u → pair c bytes (unmark block under) (Some page) ≡ 0
@@ -162,6 +159,14 @@ module _ (g : Begin) (b : ℕ) (bytes : List ℕ) where
       ≤ mass (spot g.given.size) (block_claims (using b)) (block_uses (using b)) y
   says_low y all = let r = held_low y.held all in let s = written_low b bytes y in omega arith
 
+held_in_map : (g : Begin) (b i : ℕ) (v : DiskHeld) → Sound g i v
+    → used_blocks (holding (b + 1) b) i v ≤ map_size i v
+held_in_map g b i (holds.Slot e) s = omega arith
+held_in_map g b i (holds.Class p) s = omega arith
+held_in_map g b i (holds.Account c) s = omega arith
+held_in_map g b i (holds.Blocks x) s = let r = hold_few b 0 x.states in omega arith
+held_in_map g b i (holds.Device d) s = omega arith
+
 module _ (g : Begin) (w : State DiskHeld) (j : Joint g w) (a : ℕ) (l : Here)
     (who : slice_get w.locals a ≡ Some l) where
   abbrev n : ℕ
@@ -191,6 +196,25 @@ module _ (g : Begin) (w : State DiskHeld) (j : Joint g w) (a : ℕ) (l : Here)
         let r = ap (held_sum (spot n) (used_blocks (holding 1 b))) held in
         hold_find 1 b 0 y.states b (omega arith) (omega arith)
 
+    -- the device in hand has it
+    pub held_there : ((f : BlockWeigh) → use_at f s x ≡ by_option (f 0) x.block) → (d : DeviceState)
+        (hs : List (LockNo × DiskHeld)) → l.held ≡ (lock.Device, holds.Device d) ∷ hs
+        → held_sum (spot n) device_size hs ≡ 0 → b < d.blocks
+    held_there uses d hs held none_else =
+        let mine : block_uses (holding (b + 1) b) l ≡ b + 1 = ap (use_in (holding (b + 1) b)) at
+        ∙ uses (holding (b + 1) b) ∙ block_weigh (holding (b + 1) b) 0 x.block b block
+        ∙ pick_self b b (b + 1) refl in
+        let e = j.blocks (holding (b + 1) b) in
+        let y = locals_le n (mass (spot n) (block_claims (holding (b + 1) b))
+        (block_uses (holding (b + 1) b))) w.locals a l who in
+        let u = total_mono n (Sound g) (used_blocks (holding (b + 1) b)) map_size (held_in_map g b) w
+        (λ i v z. (j.each.in_row i v z).sound) (λ i z q. (j.each.in_local i z q).sound) in
+        let here : 1 ≤ held_sum (spot n) (at_place (spot n lock.Device)) l.held =
+        (let r = ap (held_sum (spot n) (at_place (spot n lock.Device))) held in
+        let q = same_self (n + 257) in omega arith) in
+        let t = lone g w j a l who lock.Device device_size (under_device g (λ i. i.blocks)) here in
+        let r = ap (held_sum (spot n) device_size) held in let f = j.size in omega arith
+
     -- nobody else has it
     module _ (has : 1 ≤ block_uses (using b) l) where
       pub no_other : (i : ℕ) (y : Here) (c d : ℕ) → slice_get w.locals i ≡ Some y → i ≢ a
@@ -204,7 +228,7 @@ module _ (g : Begin) (w : State DiskHeld) (j : Joint g w) (a : ℕ) (l : Here)
       pub nothing_else : (bytes : List ℕ)
           → mass (spot n) (lies_at g b bytes) (written_at b bytes) l ≡ 0
           → total (spot n) (lies_at g b bytes) (written_at b bytes) w ≡ 0
-      nothing_else bytes zero =
+      nothing_else bytes mine =
           let u = one_user g w j b in
           let t = total_up_over n (Sound g) (lies_at g b bytes) (block_claims (using b))
           (written_at b bytes) (block_uses (using b)) (lies_low g b bytes) w

@@ -462,7 +462,7 @@ module _ (g : Begin) (ok : Known g) (w : State DiskHeld) (a : ℕ) (l : Here)
           let d : Done = record { part = p; end = Whole end; got = [] } in
           let calm : IsCalm g given (l.done ++ d ∷ []) = record {
             tight = λ t. absurd (let q : tight_by p.op (tight_over g.tight l.done) ≡ true =
-                sym (tight_push g.tight l.done d) ∙ t in loosens p.op wb q);
+                sym (tight_push g.tight l.done d) ∙ t in loosens p.op wb (tight_over g.tight l.done) q);
             few = let e = moves_push 0 l.done d in
                 let f = moves_gone p.op wb end (moves_over 0 l.done) in omega arith;
           } in
@@ -475,13 +475,13 @@ module _ (g : Begin) (ok : Known g) (w : State DiskHeld) (a : ℕ) (l : Here)
                 ap (λ (y : Here). compacting y.todo y.at) m_is
                 ∙ no_compaction (left_by (Whole end) p.nr rest) in cc);
           } where
-            loosens : (op : Op) → is_writeback op ≡ true → {t : Bool} → tight_by op t ≡ true → ⊥
-            loosens (Write start count stuff) i e = cc
-            loosens (Read start count) i e = cc
-            loosens (Discard start count) i e = cc
-            loosens (Idle age) i e = cc
-            loosens (Writeback mode) i e = cc
-            loosens Compact i e = cc
+            loosens : (op : Op) → is_writeback op ≡ true → (t : Bool) → tight_by op t ≡ true → ⊥
+            loosens (Write start count stuff) i t e = cc
+            loosens (Read start count) i t e = cc
+            loosens (Discard start count) i t e = cc
+            loosens (Idle age) i t e = cc
+            loosens (Writeback mode) i t e = cc
+            loosens Compact i t e = cc
 
             moves_gone : (op : Op) → is_writeback op ≡ true → (x : OpEnd) (n : ℕ)
                 → moves_by op x n ≡ 0

@@ -11,7 +11,8 @@ use Rattle.joint_rule.proofs.Apart.{piece_lacks}
 use Rattle.joint_rule.proofs.Chosen.{Chosen, FindsSo}
 use Rattle.joint_rule.proofs.Events.{Event}
 use Rattle.joint_rule.proofs.Facts.{Known, known_finding}
-use Rattle.joint_rule.proofs.Finds.{Alike, Lacks, changed, changed_here, content_alike, held_alike, ruled_changed, shown_lacks}
+use Rattle.joint_rule.proofs.Finds.{Alike, content_alike, held_alike}
+use Rattle.joint_rule.proofs.Tagged.{Lacks, changed, changed_here, ruled_changed, shown_lacks}
 use Rattle.joint_rule.proofs.Gifts.{fit, is_named, stage}
 use Rattle.joint_rule.proofs.Pages.{LeavesSo, content_on, content_sector, sector_of, whole_same}
 use Rattle.joint_rule.specs.Begins.{Begin, back_at, content, finding, ground_of}

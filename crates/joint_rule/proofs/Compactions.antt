@@ -187,7 +187,7 @@ module _ (g : Begin) (ok : Known g) (w : State DiskHeld) (j : Joint g w) (a : 鈩
       owners = 位 f. let r = ap (held_sum (spot n) (claims g f)) held in
           let t = ap (held_sum (spot n) (stored f)) held in omega arith;
       storage = quiet_storage g w a l _ _ _ j who (Moving x) at tt tt
-            (apart g a l _ _ _ (位 f z y. let r = ap (held_sum (spot n) f) held in
+          (apart g a l _ _ _ (位 f z y. let r = ap (held_sum (spot n) f) held in
           let s = z (n + x.class) q in omega arith));
       pins = 位 f. let r = ap (held_sum (spot n) (outs f)) held in
           let t = ap (held_sum (spot n) nothing) held in omega arith;
@@ -218,7 +218,7 @@ module _ (g : Begin) (ok : Known g) (w : State DiskHeld) (j : Joint g w) (a : 鈩
           let t = ap (held_sum (spot n) (stored f)) held in
           let y = none_fresh f l.fresh st.made in omega arith;
       storage = quiet_storage g w a l _ _ _ j who (Moving x) at tt tt
-            (apart g a l _ _ _ (位 f z y. let r = ap (held_sum (spot n) f) held in
+          (apart g a l _ _ _ (位 f z y. let r = ap (held_sum (spot n) f) held in
           let s = z (n + x.class) q in omega arith));
       pins = 位 f. let r = ap (held_sum (spot n) (outs f)) held in
           let t = ap (held_sum (spot n) nothing) held in let y = none_pin f l.pin st.pins in
@@ -279,7 +279,7 @@ module _ (g : Begin) (ok : Known g) (w : State DiskHeld) (j : Joint g w) (a : 鈩
       owners = 位 f. let r = ap (held_sum (spot n) (claims g f)) held in
           let t = ap (held_sum (spot n) (stored f)) held in omega arith;
       storage = quiet_storage g w a l _ _ _ j who (Shrinking x) at tt tt
-            (apart g a l _ _ _ (位 f z y. let r = ap (held_sum (spot n) f) held in
+          (apart g a l _ _ _ (位 f z y. let r = ap (held_sum (spot n) f) held in
           let s = y (n + 255) c in let t = y (n + 255) (shrunk l.owed c) in omega arith));
       pins = 位 f. let r = ap (held_sum (spot n) (outs f)) held in
           let t = ap (held_sum (spot n) nothing) held in omega arith;

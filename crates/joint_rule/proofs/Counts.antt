@@ -5,7 +5,7 @@ use Rattle.lock_row.specs.declared.names.Step.{Step}
 use Rattle.joint_rule.proofs.Rounds.{no_one}
 use Rattle.joint_rule.proofs.Courses.{Course, IsCourse, IsTripEnd, Weighs, course_of, refused_trip, weighs_of}
 use Rattle.joint_rule.proofs.Alikes.{visited_is}
-use Rattle.std.proofs.Common.{◌≡◌, ◌+◌, ◌≤◌, ◌∷◌, ◌∙◌, ℕ, zero, suc, List, [], Option, Some, None, slice_get, slice_set, refl, sym, ap, subst, arith}
+use Rattle.std.proofs.Common.{◌≡◌, ◌+◌, ◌≤◌, ◌∷◌, ◌∙◌, ℕ, zero, suc, List, [], Option, Some, None, slice_get, slice_set, refl, sym, ap, subst, arith, true}
 use Rattle.slot_entry.specs.Entries.{is_new_mark, EntryState}
 use Rattle.page_steps.specs.Scans.{with_page}
 use Rattle.call_history.specs.Parts.{done_sum, left_by, piece_gives}

@@ -1,11 +1,12 @@
 -- What each giving of a writeback tells, and what it leaves of orders and of the account's counters.
+use Rattle.joint_rule.proofs.Rounds.{no_one}
 use Rattle.page_steps.specs.Nexts.{emptied}
 use Rattle.joint_rule.specs.Rule.{OfOrder}
 use Rattle.slot_entry.specs.declared.kept.Stored.{Stored}
 use Rattle.slot_entry.specs.declared.kept.Kept.{Kept}
 use Rattle.lock_row.specs.declared.names.Plan.TheVariants.{Give}
 use Rattle.joint_rule.proofs.Givings.{event_is, given_lock}
-use Rattle.std.proofs.Common.{◌≡◌, ◌+◌, ◌≤◌, ◌<◌, ◌∷◌, ◌∙◌, ◌⊎◌, ℕ, true, List, [], Option, Some, None, slice_get, refl, sym, ap, subst, arith, inl, inr}
+use Rattle.std.proofs.Common.{◌≡◌, ◌+◌, ◌≤◌, ◌∷◌, ◌∙◌, ℕ, true, List, [], Some, None, slice_get, refl, sym, ap, subst, arith}
 use Rattle.std.specs.Prelude.{⊤}
 use Rattle.backing_dev.specs.Dev.{DeviceState, FailsToWrite}
 use Rattle.block_map.specs.declared.blocks.Reserve.{Reserve}
@@ -75,9 +76,9 @@ pub is_refused : (r : Reserve) (x : Trip) (end : OpEnd) → refused_end r x ≡ 
     → IsRefused end × StopsSo x end
 is_refused (Got b) x end e = absurd (cc)
 is_refused BudgetSpent x end e = let q : ends.Budget x.wrote x.lost ≡ end = cc in
-    subst (λ (z : OpEnd). IsRefused z × StopsSo x z) q (tt, refl, refl)
+    subst (λ (z : OpEnd). IsRefused z × StopsSo x z) q (tt, (refl, refl))
 is_refused NoBlock x end e = let q : ends.NoBlock x.wrote x.lost ≡ end = cc in
-    subst (λ (z : OpEnd). IsRefused z × StopsSo x z) q (tt, refl, refl)
+    subst (λ (z : OpEnd). IsRefused z × StopsSo x z) q (tt, (refl, refl))
 
 -- ---- what a giving tells
 
@@ -126,10 +127,6 @@ module _ (g : Begin) (ok : Known g) (w : State DiskHeld) (j : Joint g w) (a : �
       (ap (λ (i : Here). i.at) m_is) (ap (λ (i : Here). i.fail) m_is ∙ sym none)
   onward_course p rest y well (visit.last on m_is) none = tells y.wrote y.lost well m_is
 
-  no_fail : (x : Option PartEnd) → NoneOf x → x ≡ None
-  no_fail None i = refl
-  no_fail (Some x) i = absurd i
-
   over_by : (p : Part) (rest : List Part) (y : Trip) (end : PartEnd) → IsQuit g p y (Some end)
       → l.fail ≡ Some end → m ≡ piece_over l p end [] rest → Course l v p rest m
   over_by p rest y end is bad m_is = let q = quit_end g p y end is in
@@ -146,87 +143,183 @@ module _ (g : Begin) (ok : Known g) (w : State DiskHeld) (j : Joint g w) (a : �
   pub course_of : VisitEvent g l v m → IsCourse g l v m
   course_of (visit.passes p rest x e todo at held v_is on) =
       let st = stage g ok w j a l who p rest todo _ (Visiting step.Passing x) held at in record {
-        p = p; rest = rest; todo = todo; wb = st.begun; s = step.Passing; x = x; at = at;
-        course = onward_course p rest _ st.fails on (no_fail l.fail st.fails);
+        p = p;
+        rest = rest;
+        todo = todo;
+        wb = st.begun;
+        s = step.Passing;
+        x = x;
+        at = at;
+        course = onward_course p rest _ st.fails on (no_one l.fail st.fails);
       }
   course_of (visit.reserves p rest x e y b todo at held answer v_is m_is) =
       let st = stage g ok w j a l who p rest todo _ (Visiting step.Reserving x) held at in record {
-        p = p; rest = rest; todo = todo; wb = st.begun; s = step.Reserving; x = x; at = at;
+        p = p;
+        rest = rest;
+        todo = todo;
+        wb = st.begun;
+        s = step.Reserving;
+        x = x;
+        at = at;
         course = on_so p rest step.Seen _ _ m_is refl refl refl refl;
       }
   course_of (visit.refrains p rest x e y r end todo at held is v_is m_is) =
       let st = stage g ok w j a l who p rest todo _ (Visiting step.Reserving x) held at in record {
-        p = p; rest = rest; todo = todo; wb = st.begun; s = step.Reserving; x = x; at = at;
+        p = p;
+        rest = rest;
+        todo = todo;
+        wb = st.begun;
+        s = step.Reserving;
+        x = x;
+        at = at;
         course = halts step.Quitting x end (ap (λ (i : Here). i.done) m_is)
             (ap (λ (i : Here). i.todo) m_is) (ap (λ (i : Here). i.at) m_is) st.fails
             (ap (λ (i : Here). i.fail) m_is) (is_refused r x end is).0;
       }
   course_of (visit.quits p rest x e end todo at held bad v_is m_is) =
       let st = stage g ok w j a l who p rest todo _ (Visiting step.Quitting x) held at in record {
-        p = p; rest = rest; todo = todo; wb = st.begun; s = step.Quitting; x = x; at = at;
+        p = p;
+        rest = rest;
+        todo = todo;
+        wb = st.begun;
+        s = step.Quitting;
+        x = x;
+        at = at;
         course = over_by p rest x end (subst (IsQuit g p x) bad st.fails) bad m_is;
       }
   course_of (visit.pins p rest x e o q q' u u' cell todo at held is sw named_u free taken is_cell
       in_cell v_is m_is) =
       let st = stage g ok w j a l who p rest todo _ (Visiting step.Pinning x) held at in record {
-        p = p; rest = rest; todo = todo; wb = st.begun; s = step.Pinning; x = x; at = at;
+        p = p;
+        rest = rest;
+        todo = todo;
+        wb = st.begun;
+        s = step.Pinning;
+        x = x;
+        at = at;
         course = on_so p rest step.Pinned x _ m_is refl refl refl refl;
       }
   course_of (visit.unpins p rest x e o q q' u u' todo at held is sw named_u taken free v_is m_is) =
       let st = stage g ok w j a l who p rest todo _ (Visiting step.Unpinning x) held at in record {
-        p = p; rest = rest; todo = todo; wb = st.begun; s = step.Unpinning; x = x; at = at;
+        p = p;
+        rest = rest;
+        todo = todo;
+        wb = st.begun;
+        s = step.Unpinning;
+        x = x;
+        at = at;
         course = on_so p rest step.Marking x _ m_is refl refl refl refl;
       }
   course_of (visit.marks p rest x e b todo at held block v_is m_is) =
       let st = stage g ok w j a l who p rest todo _ (Visiting step.Marking x) held at in record {
-        p = p; rest = rest; todo = todo; wb = st.begun; s = step.Marking; x = x; at = at;
+        p = p;
+        rest = rest;
+        todo = todo;
+        wb = st.begun;
+        s = step.Marking;
+        x = x;
+        at = at;
         course = on_so p rest step.Flying x _ m_is refl refl refl refl;
       }
   course_of (visit.stores p rest x b page d d' todo at held block is write v_is m_is) =
       let st = stage g ok w j a l who p rest todo _ (Visiting step.Storing x) held at in record {
-        p = p; rest = rest; todo = todo; wb = st.begun; s = step.Storing; x = x; at = at;
+        p = p;
+        rest = rest;
+        todo = todo;
+        wb = st.begun;
+        s = step.Storing;
+        x = x;
+        at = at;
         course = on_so p rest step.Landing x _ m_is refl refl refl refl;
       }
   course_of (visit.spoils p rest x b d d' fault todo at held block failed v_is m_is) =
       let st = stage g ok w j a l who p rest todo _ (Visiting step.Storing x) held at in record {
-        p = p; rest = rest; todo = todo; wb = st.begun; s = step.Storing; x = x; at = at;
+        p = p;
+        rest = rest;
+        todo = todo;
+        wb = st.begun;
+        s = step.Storing;
+        x = x;
+        at = at;
         course = errs step.Landing x d d' b fault x.wrote x.lost (ap (λ (i : Here). i.done) m_is)
             (ap (λ (i : Here). i.todo) m_is) (ap (λ (i : Here). i.at) m_is) st.fails
             (ap (λ (i : Here). i.fail) m_is) held v_is failed;
       }
   course_of (visit.frees p rest x e o q q' u frames todo at held is gone named_u home v_is m_is) =
       let st = stage g ok w j a l who p rest todo _ (Visiting step.Freeing x) held at in record {
-        p = p; rest = rest; todo = todo; wb = st.begun; s = step.Freeing; x = x; at = at;
+        p = p;
+        rest = rest;
+        todo = todo;
+        wb = st.begun;
+        s = step.Freeing;
+        x = x;
+        at = at;
         course = on_so p rest step.Backing x _ m_is refl refl refl refl;
       }
   course_of (visit.commits p rest x e b y todo at held block v_is m_is) =
       let st = stage g ok w j a l who p rest todo _ (Visiting step.Committing x) held at in record {
-        p = p; rest = rest; todo = todo; wb = st.begun; s = step.Committing; x = x; at = at;
+        p = p;
+        rest = rest;
+        todo = todo;
+        wb = st.begun;
+        s = step.Committing;
+        x = x;
+        at = at;
         course = on_so p rest step.Owing x _ m_is refl refl refl refl;
       }
   course_of (visit.pays p rest x e c was todo at held is v_is m_is) =
       let st = stage g ok w j a l who p rest todo _ (Visiting step.Paying x) held at in record {
-        p = p; rest = rest; todo = todo; wb = st.begun; s = step.Paying; x = x; at = at;
+        p = p;
+        rest = rest;
+        todo = todo;
+        wb = st.begun;
+        s = step.Paying;
+        x = x;
+        at = at;
         course = on_so p rest step.Putting x _ m_is refl refl refl refl;
       }
   course_of (visit.puts p rest x e b todo at held block v_is on) =
       let st = stage g ok w j a l who p rest todo _ (Visiting step.Putting x) held at in record {
-        p = p; rest = rest; todo = todo; wb = st.begun; s = step.Putting; x = x; at = at;
-        course = onward_course p rest _ st.fails on (no_fail l.fail st.fails);
+        p = p;
+        rest = rest;
+        todo = todo;
+        wb = st.begun;
+        s = step.Putting;
+        x = x;
+        at = at;
+        course = onward_course p rest _ st.fails on (no_one l.fail st.fails);
       }
   course_of (visit.loses p rest x e todo at held v_is m_is) =
       let st = stage g ok w j a l who p rest todo _ (Visiting step.Losing x) held at in record {
-        p = p; rest = rest; todo = todo; wb = st.begun; s = step.Losing; x = x; at = at;
+        p = p;
+        rest = rest;
+        todo = todo;
+        wb = st.begun;
+        s = step.Losing;
+        x = x;
+        at = at;
         course = on_so p rest step.Undoing x _ m_is refl refl refl refl;
       }
   course_of (visit.releases p rest x b y todo at held block well v_is on) =
       let st = stage g ok w j a l who p rest todo _ (Visiting step.Releasing x) held at in record {
-        p = p; rest = rest; todo = todo; wb = st.begun; s = step.Releasing; x = x; at = at;
+        p = p;
+        rest = rest;
+        todo = todo;
+        wb = st.begun;
+        s = step.Releasing;
+        x = x;
+        at = at;
         course = onward_course p rest _ (subst NoneOf (sym well) tt) on well;
       }
   course_of (visit.stops p rest x b y end todo at held block bad v_is m_is) =
       let st = stage g ok w j a l who p rest todo _ (Visiting step.Releasing x) held at in record {
-        p = p; rest = rest; todo = todo; wb = st.begun; s = step.Releasing; x = x; at = at;
+        p = p;
+        rest = rest;
+        todo = todo;
+        wb = st.begun;
+        s = step.Releasing;
+        x = x;
+        at = at;
         course = over_by p rest x end (subst (MayQuit g p x) bad st.fails) bad m_is;
       }
 
@@ -384,9 +477,11 @@ module _ (g : Begin) (ok : Known g) (w : State DiskHeld) (j : Joint g w) (a : �
           → Carries
       beside_carries k₀ u x e f order room held after here h = (
         here,
-        subst (HeldAll g.given.size (OfOrder P)) (sym after)
-            (subst (λ (y : List Tag × ℕ). P x.page y.0 y.1) (λ i. (sym order i, sym room i))
-            (subst (HeldAll g.given.size (OfOrder P)) held h).1.0, tt),
+        subst (HeldAll g.given.size (OfOrder P)) (sym after) (
+          subst (λ (y : List Tag × ℕ). P x.page y.0 y.1) (λ i. (sym order i, sym room i))
+              (subst (HeldAll g.given.size (OfOrder P)) held h).1.0,
+          tt,
+        ),
       )
 
       plain_value : (v₀ : DiskHeld) → v ≡ v₀ → OfOrder P (spot g.given.size k) v₀

@@ -52,7 +52,7 @@ module _ (c d e : DeviceState) (k : KeepsDevice c d) where
     faults = let x = r.faults in let y = k.faults in omega arith;
     reads = let x = r.reads in let y = k.reads in let z = k.end in omega arith;
     end = let x = r.reads in let z = k.end in omega arith;
-    writes = r.writes ∙ k.writes;
+    writes = let x = r.writes in let z = k.writes in omega arith;
   }
 
   -- one that failed
@@ -64,7 +64,7 @@ module _ (c d e : DeviceState) (k : KeepsDevice c d) where
     faults = let x = r.rose in let y = k.faults in omega arith;
     reads = let x = r.reads in let y = k.reads in omega arith;
     end = let x = r.reads in let z = k.end in omega arith;
-    writes = r.writes ∙ k.writes;
+    writes = let x = r.writes in let z = k.writes in omega arith;
   }
 
 -- ---- an entry in hand

@@ -1,11 +1,12 @@
 -- The device's counts of faults: a failure's is above all that were told before, so each is told
 -- once.
+use Rattle.joint_rule.proofs.Rounds.{quit_ends}
 use Rattle.lock_row.specs.declared.names.Plan.TheVariants.{Give}
 use Rattle.lock_row.specs.declared.names.Trip.{Trip}
 use Rattle.lock_row.specs.declared.names.Step.{Step}
 use Rattle.lock_row.specs.declared.names.Step.TheVariants as step
 use Rattle.joint_rule.proofs.Courses.{Course, IsCourse, IsRefused, Weighs, course_of, weighs_of}
-use Rattle.std.proofs.Common.{◌≡◌, ◌+◌, ◌≤◌, ◌<◌, ◌∷◌, ℕ, zero, suc, Bool, cond, eqb, List, [], Option, Some, None, slice_get, refl, sym, ap, subst, arith, inl, inr}
+use Rattle.std.proofs.Common.{◌≡◌, ◌+◌, ◌≤◌, ◌<◌, ◌∷◌, ℕ, zero, suc, Bool, cond, eqb, List, [], Option, Some, None, slice_get, refl, sym, ap, subst, arith, inl, inr, ◌∙◌}
 use Rattle.backing_dev.specs.Dev.{DeviceState}
 use Rattle.call_history.specs.Parts.{EndsSo, Follows, KeepsTo, done_sum, left_by, piece_gives, program}
 use Rattle.call_history.specs.declared.part.Done.{Done}
@@ -23,7 +24,7 @@ use Rattle.joint_rule.proofs.Sums.{gone}
 use Rattle.joint_rule.specs.Begins.{Begin, ground_of, terms}
 use Rattle.joint_rule.specs.Joint.{Joint}
 use Rattle.joint_rule.specs.Rule.{FailKeeps, FaultsDiffer, KeepsLimits, Limits, reach_at}
-use Rattle.joint_rule.specs.Stages.{FailAt, FailBy, IsFault, IsRefusal, NoneOf, StageBy, IsQuit, QuitAt}
+use Rattle.joint_rule.specs.Stages.{FailAt, FailBy, IsFault, IsRefusal, NoneOf, StageBy, QuitAt}
 use Rattle.joint_rule.specs.Weights.{at_place, device_faults, fails_so, faults_told, none, on_device}
 use Rattle.lock_row.specs.Totals.{held_sum, locals_sum, mass, total}
 use Rattle.lock_row.specs.declared.names.At.{At}
@@ -93,21 +94,14 @@ module _ (g : Begin) (p : Part) where
   write_ends (Writeback mode) x i = absurd i
   write_ends Compact x i = absurd i
 
-  is_quit_ends : (y : Trip) (x : PartEnd) → IsQuit g p y (Some x) → EndsSo (ground_of g) p x
-  is_quit_ends y Carried i = absurd i
-  is_quit_ends y (AtLimit c n l) i = absurd i
-  is_quit_ends y NoMemory i = absurd i
-  is_quit_ends y (Eio fault) i = absurd i
-  is_quit_ends y (Whole end) i = i.0
-
-  quit_ends : (s : Step) (y : Trip) (x : PartEnd) → QuitAt g p s y (Some x)
+  step_ends : (s : Step) (y : Trip) (x : PartEnd) → QuitAt g p s y (Some x)
       → EndsSo (ground_of g) p x
-  quit_ends step.Quitting y x i = is_quit_ends y x i
-  quit_ends step.Landing y x i = is_quit_ends y x i
-  quit_ends step.Losing y x i = is_quit_ends y x i
-  quit_ends step.Undoing y x i = is_quit_ends y x i
-  quit_ends step.Releasing y x i = is_quit_ends y x i
-  quit_ends s y x i = absurd i
+  step_ends step.Quitting y x i = quit_ends g p y x i
+  step_ends step.Landing y x i = quit_ends g p y x i
+  step_ends step.Losing y x i = quit_ends g p y x i
+  step_ends step.Undoing y x i = quit_ends g p y x i
+  step_ends step.Releasing y x i = quit_ends g p y x i
+  step_ends s y x i = absurd i
 
   -- so did the piece in work, where it is refused
   fail_ends : (at : At) (op : Op) (x : PartEnd) → FailAt g p at op (Some x)
@@ -119,7 +113,7 @@ module _ (g : Begin) (p : Part) where
   fail_ends Counting op x i = fault_ends x i
   fail_ends Missed op x i = fault_ends x i
   fail_ends Made op x i = refusal_ends x i
-  fail_ends (Visiting s y) op x i = quit_ends s y x i
+  fail_ends (Visiting s y) op x i = step_ends s y x i
   fail_ends at op x i = absurd i
 
 -- a count above all bounds was told by no end

@@ -42,7 +42,6 @@ use Rattle.page_steps.specs.Pages.{next_form}
 use Rattle.page_steps.specs.Steps.{DiskHeld, Here, after_take, begun_at, entry_in, entry_or, lock_of, on, piece_over, plan, spot, taken_at, took, first_at, first_trip}
 use Rattle.plain_disk.specs.Ends.{compacted}
 use Rattle.slot_entry.specs.Forms.{PageForm, form_weight}
-use Rattle.slot_entry.specs.declared.kept.Kept.{Kept}
 use Rattle.zr_base.specs.Plain.{is_beyond, is_maintenance}
 use Rattle.zr_base.specs.declared.op.Op.{Op}
 use Rattle.zr_base.specs.declared.op.Op.TheVariants.{Compact, Discard, Idle, Read, Write, Writeback}

@@ -1,5 +1,6 @@
 pub mod Facts
 pub mod Finds
+pub mod Tagged
 pub mod Sums
 pub mod Pages
 pub mod Pools
@@ -26,10 +27,12 @@ pub mod Accounts
 pub mod Compactions
 pub mod Device
 pub mod Scans
-pub mod Givings
 pub mod Rounds
 pub mod Blockings
 pub mod VisitGifts
+pub mod Reservations
+pub mod Evictions
+pub mod Givings
 pub mod Keeps
 pub mod Courses
 pub mod Backings
@@ -41,6 +44,7 @@ pub mod News
 pub mod Sweeps
 pub mod Alone
 pub mod Faults
+pub mod Written
 pub mod Fetches
 pub mod Aged
 pub mod Ages
@@ -48,6 +52,7 @@ pub mod Choices
 pub mod Turns
 pub mod Starts
 pub mod Gets
+pub mod Few
 pub mod Fitting
 pub mod Rests
 pub mod Ranges
@@ -57,3 +62,4 @@ pub mod Renewals
 pub mod NewDisks
 pub mod Propers
 pub mod Free
+pub mod Marked

@@ -188,7 +188,7 @@ module _ (g : Begin) (ok : Known g) (w : State DiskHeld) (j : Joint g w) (a : 鈩
               let x = ap (held_sum (spot n) (stored f)) held in
               let s = swap_stored q q' u u' sw f in omega arith;
           storage = quiet_storage g w a l _ _ _ j who Pinning at tt (plain_pinned p.op (next_form p (Some page) e.kept) e.kept)
-            (apart g a l _ _ _ (位 f z y. let r = ap (held_sum (spot n) f) held in
+              (apart g a l _ _ _ (位 f z y. let r = ap (held_sum (spot n) f) held in
               let s = z (n + o.class) q in let t = z (n + o.class) q' in omega arith));
           pins = 位 f. let r = ap (held_sum (spot n) (outs f)) held in
               let x = ap (held_sum (spot n) nothing) held in
@@ -252,7 +252,7 @@ module _ (g : Begin) (ok : Known g) (w : State DiskHeld) (j : Joint g w) (a : 鈩
               let x = ap (held_sum (spot n) (stored f)) held in
               let s = swap_stored q q' u u' sw f in omega arith;
           storage = quiet_storage g w a l _ _ _ j who Unpinning at tt tt
-            (apart g a l _ _ _ (位 f z y. let r = ap (held_sum (spot n) f) held in
+              (apart g a l _ _ _ (位 f z y. let r = ap (held_sum (spot n) f) held in
               let s = z (n + o.class) q in let t = z (n + o.class) q' in omega arith));
           pins = 位 f. let r = ap (held_sum (spot n) (outs f)) held in
               let x = ap (held_sum (spot n) nothing) held in
@@ -610,7 +610,7 @@ module _ (g : Begin) (ok : Known g) (w : State DiskHeld) (j : Joint g w) (a : 鈩
       owners = 位 f. let r = ap (held_sum (spot n) (claims g f)) held in
           let x = ap (held_sum (spot n) (stored f)) held in omega arith;
       storage = quiet_storage g w a l _ _ _ j who Both at tt tt
-            (apart g a l _ _ _ (位 f z y. let r = ap (held_sum (spot n) f) held in
+          (apart g a l _ _ _ (位 f z y. let r = ap (held_sum (spot n) f) held in
           let s = y (n + 255) c in let t = y (n + 255) (counted c delta.FailedWrite) in omega arith));
       pins = 位 f. let r = ap (held_sum (spot n) (outs f)) held in
           let x = ap (held_sum (spot n) nothing) held in omega arith;
@@ -664,7 +664,7 @@ module _ (g : Begin) (ok : Known g) (w : State DiskHeld) (j : Joint g w) (a : 鈩
       owners = 位 f. let r = ap (held_sum (spot n) (claims g f)) held in
           let x = ap (held_sum (spot n) (stored f)) held in omega arith;
       storage = quiet_storage g w a l _ _ _ j who Made at tt (plain_settle e.kept)
-            (apart g a l _ _ _ (位 f z y. let r = ap (held_sum (spot n) f) held in
+          (apart g a l _ _ _ (位 f z y. let r = ap (held_sum (spot n) f) held in
           let s = z (n + cl) q in omega arith));
       pins = 位 f. let r = ap (held_sum (spot n) (outs f)) held in
           let x = ap (held_sum (spot n) nothing) held in omega arith;

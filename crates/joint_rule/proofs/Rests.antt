@@ -1,4 +1,5 @@
 -- What a finished phase leaves is at rest.
+use Rattle.lock_row.specs.declared.names.Step.TheVariants as step
 use Rattle.std.proofs.lemmas.Bool.{eq-eqb}
 use Rattle.joint_rule.proofs.Pools.{list_self}
 use Rattle.slot_entry.specs.Entries.{EntryState}
@@ -39,6 +40,7 @@ no_held [] e = refl
 no_held (x ∷ xs) e = absurd (cc)
 
 never_visit : (s : Step) (x : Trip) (c : ℕ) → visit_plan s x c ≡ Finished → ⊥
+never_visit step.Arriving x c e = cc
 never_visit s x c e = cc
 
 never_finished : (size : ℕ) (at : At) (p : Part) (c d : ℕ) → plan_at size at p c d ≡ Finished → ⊥

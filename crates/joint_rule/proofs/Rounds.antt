@@ -1,12 +1,13 @@
 -- What a giving of a writeback does, by the lock that it gives: the slot of its page, the map of blocks
 -- or the device.
-use Rattle.std.proofs.Common.{◌≡◌, ◌+◌, ◌≤◌, ◌<◌, ◌∷◌, ◌∙◌, ◌==◌, ℕ, zero, suc, Bool, true, false, List, [], Option, Some, None, slice_get, refl, sym, ap, subst, arith, inl, inr}
+use Rattle.joint_rule.proofs.Balances.{none_fresh}
+use Rattle.std.proofs.Common.{◌≡◌, ◌+◌, ◌≤◌, ◌<◌, ◌∷◌, ◌∙◌, ◌==◌, ℕ, true, false, List, [], Option, Some, None, slice_get, refl, sym, ap, subst, arith, inl, inr}
 use Rattle.block_map.specs.BlockMap.{BlockMap}
 use Rattle.backing_dev.specs.Dev.{DeviceState}
 use Rattle.call_history.specs.Parts.{EndsSo}
 use Rattle.call_history.specs.declared.part.Part.{Part}
 use Rattle.call_history.specs.declared.part.PartEnd.{PartEnd}
-use Rattle.call_history.specs.declared.part.PartEnd.TheVariants.{Whole}
+use Rattle.call_history.specs.declared.part.PartEnd.TheVariants.{Whole, AtLimit, Carried, Eio, NoMemory}
 use Rattle.joint_rule.proofs.Arrivals.{visit_stage}
 use Rattle.joint_rule.proofs.Facts.{Known}
 use Rattle.joint_rule.proofs.Gifts.{Gift, goes_on, is_over}
@@ -14,8 +15,8 @@ use Rattle.joint_rule.proofs.Trips.{SaysNone, Storage, bare_says, plain_says}
 use Rattle.joint_rule.proofs.Visits.{Onward}
 use Rattle.joint_rule.specs.Begins.{Begin, ever, ground_of, image}
 use Rattle.joint_rule.specs.Joint.{AtHome, IsActor, Joint}
-use Rattle.joint_rule.specs.Stages.{IsTrip, NoneOf}
-use Rattle.joint_rule.specs.Weights.{Count, Weigh, PinWeigh, at_place, chains, claim_by, claims, counters, ever_at, fixed, measure, mosts, nothing, object_weight, outs, pages, shown, stored}
+use Rattle.joint_rule.specs.Stages.{NoneOf, IsQuit}
+use Rattle.joint_rule.specs.Weights.{Count, Weigh, at_place, chains, claim_by, claims, counters, ever_at, fixed, measure, mosts, nothing, object_weight, outs, pages, shown, stored, each_one, some_of}
 use Rattle.lock_row.specs.Totals.{by_option, held_sum}
 use Rattle.lock_row.specs.declared.names.At.TheVariants.{Visiting}
 use Rattle.lock_row.specs.declared.names.LockNo.{LockNo}
@@ -23,7 +24,7 @@ use Rattle.lock_row.specs.declared.names.State.{State}
 use Rattle.lock_row.specs.declared.names.Step.TheVariants as step
 use Rattle.lock_row.specs.declared.names.Trip.{Trip}
 use Rattle.page_steps.specs.Steps.{DiskHeld, Here, slot, spot, on, piece_over}
-use Rattle.plain_disk.specs.Ends.{MayBeSingle, is_single}
+use Rattle.plain_disk.specs.Ends.{is_single}
 use Rattle.slot_entry.specs.Entries.{EntryState, weight_of}
 use Rattle.std.proofs.lemmas.Bool.{cases_eq, eqb-false}
 use Rattle.zr_base.specs.Plain.{is_writeback}
@@ -69,6 +70,20 @@ free_hands l m made pins owes free = record {
   pin = free.pin ∙ sym (no_one l.pin pins);
   owed = free.owed ∙ sym owes;
 }
+
+-- an actor that makes and owes nothing has no more than was in the pool
+pub lean_none : (l : Here) → NoneOf l.fresh → l.owed ≡ 0
+    → by_option (object_weight each_one) l.fresh + some_of l.owed ≤ 1
+lean_none l made owes = let y = none_fresh each_one l.fresh made in let z = ap some_of owes in
+    omega arith
+
+pub quit_ends : (g : Begin) (p : Part) (y : Trip) (x : PartEnd) → IsQuit g p y (Some x)
+    → EndsSo (ground_of g) p x
+quit_ends g p y Carried i = absurd i
+quit_ends g p y (AtLimit c n l) i = absurd i
+quit_ends g p y NoMemory i = absurd i
+quit_ends g p y (Eio fault) i = absurd i
+quit_ends g p y (Whole end) i = i.0
 
 module _ (g : Begin) (w : State DiskHeld) (a : ℕ) (l m : Here) (fits : IsActor g a m)
     (hands : SameHands l m) where

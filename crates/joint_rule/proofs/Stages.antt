@@ -276,10 +276,10 @@ IsBacked backed p = is_writeback p.op ≡ true → backed ≡ true
 module _ (backed : Bool) where
   from_backed : (nr : ℕ) (op : Op) → (is_writeback op ≡ true → backed ≡ true) → (page n : ℕ)
       → Every (IsBacked backed) (parts_from nr op page n)
-  from_backed nr op on page zero = tt
-  from_backed nr op on page (suc n) = elim (cases_Bool (has_event op page)) [
-    | inl yes ↦ rw yes (on, from_backed nr op on (page + 1) n)
-    | inr no ↦ rw no (from_backed nr op on (page + 1) n)
+  from_backed nr op wb page zero = tt
+  from_backed nr op wb page (suc n) = elim (cases_Bool (has_event op page)) [
+    | inl there ↦ rw there (wb, from_backed nr op wb (page + 1) n)
+    | inr none ↦ rw none (from_backed nr op wb (page + 1) n)
   ]
 
   of_backed : (size nr : ℕ) (op : Op) → (is_writeback op ≡ true → backed ≡ true)

@@ -1,6 +1,6 @@
 -- A prepared start has the rule.
 use Rattle.joint_rule.proofs.Trips.{NoTrip, no_mark, written_none}
-use Rattle.std.proofs.Common.{◌≡◌, ◌≢◌, ◌+◌, ◌≤◌, ◌<◌, ◌∷◌, ◌∙◌, ◌^◌, ℕ, zero, suc, List, [], map, length, Option, Some, None, slice_get, refl, sym, ap, subst, arith}
+use Rattle.std.proofs.Common.{◌≡◌, ◌≢◌, ◌+◌, ◌≤◌, ◌<◌, ◌∷◌, ◌∙◌, ◌^◌, ℕ, zero, suc, List, [], map, length, Option, Some, None, slice_get, refl, sym, ap, subst, arith, Bool, true, false, cond, not, ◌&&◌}
 use Rattle.joint_rule.proofs.Ages.{ages_start}
 use Rattle.backing_dev.specs.Dev.{DeviceState}
 use Rattle.block_map.specs.BlockMap.{BlockMap}
@@ -19,12 +19,12 @@ use Rattle.joint_rule.proofs.Pages.{content_sector}
 use Rattle.joint_rule.proofs.Sums.{row_none, row_nothing}
 use Rattle.joint_rule.proofs.Places.{IsAccount, IsDevice, IsMap, account_kind, device_kind, map_kind}
 use Rattle.joint_rule.specs.Alone.{IsCalm, compacting}
-use Rattle.joint_rule.specs.Begins.{Begin, ground_of, pieces_each, pieces_on, content}
+use Rattle.joint_rule.specs.Begins.{Begin, ground_of, pieces_each, pieces_on, content, back_at}
 use Rattle.joint_rule.specs.Joint.{AtHome, IsActor, Joint, KeepsDevice, Sound}
 use Rattle.joint_rule.specs.Rule.{FailKeeps, OfOrder, Rule, Ruled, ShowsOrder, done_by, dones, owed, owed_by, reach_at}
 use Rattle.joint_rule.specs.Stages.{StageBy, locks_by}
 use Rattle.joint_rule.specs.Starts.{IsStart}
-use Rattle.joint_rule.specs.Weights.{HeldAll, News, ahead, at_place, behind, block_claims, chains, claims, compactions, counters, device_reads, device_size, each_one, ever_at, fails_so, faults_told, fixed, fixed_count, freed_at, freed_by, fresh_claim, lies_at, loose_pools, map_size, measure, mosts, news_count, news_counter, none, noted, nothing, object_weight, on_account, on_blocks, on_device, order_news, outs, owing, pages, pinned, refusal_count, refusal_counter, refusal_of, refusals, refused_by, same, shown, some_of, stored, stored_at, told_ahead, told_at, used_blocks, block_uses, use_in, written_at, mark_at, carries_at}
+use Rattle.joint_rule.specs.Weights.{HeldAll, News, ahead, at_place, behind, block_claims, chains, claims, compactions, counters, device_reads, device_size, each_one, ever_at, fails_so, faults_told, fixed, fixed_count, freed_at, freed_by, fresh_claim, lies_at, loose_pools, map_size, measure, mosts, news_count, news_counter, none, noted, nothing, object_weight, on_account, on_blocks, on_device, order_news, outs, owing, pages, pinned, refusal_count, refusal_counter, refusal_of, refusals, refused_by, same, shown, some_of, stored, stored_at, told_ahead, told_at, used_blocks, block_uses, use_in, written_at, mark_at, carries_at, device_writes, new_back_at, writes_in, writes_told}
 use Rattle.lock_row.specs.Totals.{by_option, held_sum, locals_sum, mass, row_sum, total}
 use Rattle.lock_row.specs.declared.names.At.{At}
 use Rattle.lock_row.specs.declared.names.At.TheVariants.{Start}
@@ -36,7 +36,7 @@ use Rattle.mem_account.specs.Counters.{Counters, at_most_end}
 use Rattle.mem_account.specs.declared.weight.Weight.{Weight}
 use Rattle.page_steps.specs.Pages.{new_class}
 use Rattle.page_steps.specs.Steps.{DiskHeld, Here, class_by, entry_in, spot}
-use Rattle.plain_disk.specs.Ends.{compacted, tells_fault}
+use Rattle.plain_disk.specs.Ends.{compacted, tells_fault, written}
 use Rattle.zr_base.specs.declared.op.Op.{Op}
 use Rattle.zr_base.specs.declared.op.Tag.{Tag}
 use Rattle.lock_row.specs.declared.names.Held.TheVariants as holds
@@ -162,15 +162,15 @@ module _ (g : Begin) (row : List (Option DiskHeld)) (size : length row ≡ g.giv
       (λ i u at ne. no_device f i u (home i u at).sound ne)
 
 -- a device is as it was
-pub keeps_self : (d : DeviceState) → d.reads < 2 ^ 64 → KeepsDevice d d
-keeps_self d low = record {
+pub keeps_self : (d : DeviceState) → d.reads < 2 ^ 64 → d.writes < 2 ^ 64 → KeepsDevice d d
+keeps_self d low few = record {
   same = refl;
   blocks = refl;
   honest = λ h. h;
   faults = omega arith;
   reads = omega arith;
   end = low;
-  writes = refl;
+  writes = few;
 }
 
 module _ (size : ℕ) where
@@ -319,7 +319,7 @@ module _ (g : Begin) (ok : Known g) (w : State DiskHeld) (s : IsStart g w) where
       reads = λ a i d at on. absurd (let q : slice_get (let ds : List Done = [] in ds) i ≡ Some d =
           subst (λ (ds : List Done). slice_get ds i ≡ Some d) (nothing_done a) at in cc);
     };
-    finds = λ at t is_at. absurd (let q : slice_get (let ts : List Tag = [] in ts) at ≡ Some t =
+    finds = λ off at t is_at. absurd (let q : slice_get (let ts : List Tag = [] in ts) at ≡ Some t =
         subst (λ (ts : List Tag). slice_get ts at ≡ Some t) is is_at in cc);
     spare = le;
     few = let z = ap length is in let r = owed_each k w.locals g.given.actors
@@ -349,6 +349,20 @@ module _ (g : Begin) (ok : Known g) (w : State DiskHeld) (s : IsStart g w) where
 
   within_end : (a : ℕ) → a < 2 ^ 64 → a ≡ at_most_end (a + 0)
   within_end a lt = omega arith
+
+  -- no page is new on the device
+  both_no : (b : Bool) → cond {A = ℕ} (b && not (b && true)) 1 0 ≡ 0
+  both_no true = refl
+  both_no false = refl
+
+  not_new : (k : ℕ) (v : DiskHeld) → slice_get w.row k ≡ Some (Some v) → new_back_at g k v ≡ 0
+  not_new k (holds.Slot e) at =
+      (λ i. cond {A = ℕ} (s.backs k e at i && not (back_at g k ((s.orders k e at).0 i))) 1 0)
+      ∙ both_no (g.back k)
+  not_new k (holds.Class p) at = refl
+  not_new k (holds.Account p) at = refl
+  not_new k (holds.Blocks p) at = refl
+  not_new k (holds.Device p) at = refl
 
   pub start_ruled : Ruled g w
   start_ruled = record {
@@ -409,6 +423,18 @@ module _ (g : Begin) (ok : Known g) (w : State DiskHeld) (s : IsStart g w) where
         let y = fails_none (tells_fault f) l.todo in omega arith) in omega arith;
     fetches = let x = only device_reads none (λ a l e. refl) in
         let y = device_of (λ d. d.reads) in omega arith;
+    writes = let d = device_at g w.row s.rest.size s.rest.whole s.rest.home in
+        let low : g.device.writes < 2 ^ 64 = subst (λ (y : DeviceState). y.writes < 2 ^ 64)
+        (s.device (n + 257) d.0 d.1) (s.rest.home (n + 257) (holds.Device d.0) d.1).sound.1.writes in
+        let z = locals_none writes_told w.locals (λ a l e. let h = s.actors a l e in
+        let ds : List Done = [] in
+        let x : writes_told l ≡ done_sum written ds + writes_in Start l.fail =
+        (λ i. done_sum written (h.done i) + writes_in (h.at i) l.fail) in omega arith) in
+        only device_writes none (λ a l e. refl) ∙ device_of (λ d. d.writes)
+        ∙ within_end g.device.writes low
+        ∙ ap (λ (i : ℕ). at_most_end (g.device.writes + i)) (sym z);
+    back = let x = only (new_back_at g) none (λ a l e. refl) in
+        let y = row_none (new_back_at g) w.row not_new in omega arith;
     alone = λ l e.
         let h = s.actors 0 l (ap (λ (ls : List Here). slice_get ls 0) e) in record {
           still = subst (MoveNoneOver g.tight) (sym h.done) tt;
@@ -416,7 +442,7 @@ module _ (g : Begin) (ok : Known g) (w : State DiskHeld) (s : IsStart g w) where
             tight = λ t. only loose_pools none (λ a l e. refl) ∙ s.tight t;
             few = omega arith;
           });
-          ages = ages_start g w l s e;
+          ages = λ off. ages_start g w l s e;
           sweeps = λ x at. absurd (let q : compacting l.todo l.at ≡ None =
               ap (compacting l.todo) h.at ∙ no_compaction l.todo in cc);
         };

@@ -1,7 +1,7 @@
 -- Each taking keeps what the stage says of the actor.
 use Rattle.joint_rule.proofs.Arrivals.{arrives, visits}
 use Rattle.joint_rule.proofs.Takings.{take_account, take_device, take_map, take_pool}
-use Rattle.std.proofs.Common.{◌≡◌, ◌+◌, ◌<◌, ◌∷◌, ◌∙◌, ℕ, Bool, true, false, List, [], map, Option, Some, None, refl, sym, ap, subst, arith, inl, inr, length, slice_get}
+use Rattle.std.proofs.Common.{◌≡◌, ◌<◌, ◌∷◌, ◌∙◌, ℕ, Bool, true, false, List, [], map, Option, Some, None, refl, sym, ap, subst, arith, inl, inr, length, slice_get}
 use Rattle.lock_row.specs.declared.names.Scan.{Scan}
 use Rattle.call_history.specs.Parts.{EndsSo, Follows, program}
 use Rattle.call_history.specs.declared.part.Part.{Part}

@@ -1,17 +1,17 @@
 -- What a giving does to blocks, to the marks of writebacks and to the device, and what the joint rule
 -- tells of who has a block.
 use Rattle.zr_base.specs.Plain.{has_whole}
-use Rattle.std.proofs.Common.{◌≡◌, ◌≢◌, ◌+◌, ◌≤◌, ◌<◌, ◌∷◌, ◌++◌, ◌∙◌, ◌==◌, ◌&&◌, ℕ, zero, suc, Bool, true, false, cond, eqb, is_none, option_map, List, [], Option, Some, None, slice_get, refl, sym, ap, subst, arith, inl, inr, ⊎_elim}
+use Rattle.std.proofs.Common.{◌≡◌, ◌≢◌, ◌+◌, ◌≤◌, ◌<◌, ◌∷◌, ◌++◌, ◌∙◌, ◌==◌, ◌&&◌, ℕ, zero, suc, Bool, true, false, cond, eqb, is_none, option_map, List, [], Option, Some, None, slice_get, refl, sym, ap, subst, arith, inl, inr, ⊎_elim, length}
 use Rattle.std.specs.Prelude.{⊤}
 use Rattle.block_map.specs.declared.state.BlockState.{BlockState}
 use Rattle.block_map.specs.declared.state.BlockState.TheVariants.{Free, Held, Left, Owned}
 use Rattle.joint_rule.proofs.Blocks.{Balanced, MarksLess, Same, Still}
-use Rattle.joint_rule.proofs.Pools.{bit, pick, same_is, same_lists, same_self}
-use Rattle.joint_rule.proofs.Sums.{held_nothing, locals_le, locals_two, row_nothing, some_local, total_mono}
+use Rattle.joint_rule.proofs.Pools.{pick, same_is, same_lists, same_self}
+use Rattle.joint_rule.proofs.Sums.{held_nothing, locals_two, row_nothing, some_local, total_mono}
 use Rattle.joint_rule.specs.Begins.{Begin, content}
 use Rattle.joint_rule.specs.Joint.{Joint, Sound}
-use Rattle.joint_rule.specs.Weights.{BlockWeigh, at_place, block_claims, block_uses, carried_at, carried_by, carries, carries_at, device_size, foreign, is_carrying, lies_at, map_size, mark_at, mark_by, marks_of, none, nothing, pair, same, same_bytes, shows_at, stored_at, use_at, use_by, use_in, used_blocks, used_from, written_at, written_by, is_written}
-use Rattle.lock_row.specs.Totals.{by_option, held_sum, locals_sum, mass, total}
+use Rattle.joint_rule.specs.Weights.{BlockWeigh, at_place, block_claims, block_uses, carried_at, carried_by, carries, carries_at, device_size, foreign, is_carrying, lies_at, map_size, mark_at, mark_by, marks_of, none, nothing, pair, same, shows_at, stored_at, use_at, use_by, use_in, used_blocks, used_from, written_at, written_by, is_written}
+use Rattle.lock_row.specs.Totals.{by_option, mass, total}
 use Rattle.lock_row.specs.declared.names.At.{At}
 use Rattle.lock_row.specs.declared.names.At.TheVariants.{Visiting}
 use Rattle.lock_row.specs.declared.names.LockNo.{LockNo}
@@ -20,7 +20,7 @@ use Rattle.lock_row.specs.declared.names.State.{State}
 use Rattle.lock_row.specs.declared.names.Step.{Step}
 use Rattle.lock_row.specs.declared.names.Step.TheVariants as step
 use Rattle.lock_row.specs.declared.names.Trip.{Trip}
-use Rattle.page_steps.specs.Steps.{DiskHeld, Here, fetched_at, made_at, pinned_at, quit_at, settle_at, slot, spot, discard_at, entered_at, part_at, seen_at, write_at}
+use Rattle.page_steps.specs.Steps.{DiskHeld, Here, fetched_at, made_at, pinned_at, quit_at, settle_at, spot, discard_at, entered_at, part_at, seen_at, write_at}
 use Rattle.slot_entry.specs.Entries.{EntryState}
 use Rattle.slot_entry.specs.Forms.{Blank, PageForm, Pooled, Word, same_list}
 use Rattle.slot_entry.specs.declared.kept.Kept.{Kept}
@@ -29,7 +29,6 @@ use Rattle.zr_base.specs.declared.op.Op.{Op}
 use Rattle.zr_base.specs.declared.op.Op.TheVariants.{Compact, Discard, Idle, Read, Write, Writeback}
 use Rattle.zr_base.specs.declared.op.Tag.{Tag}
 use Rattle.lock_row.specs.declared.names.Held.TheVariants as holds
-use Rattle.lock_row.specs.declared.names.LockNo.TheVariants as lock
 use Rattle.slot_entry.specs.declared.kept.Kept.TheVariants as kept
 
 -- ---- stages of no writeback
@@ -44,7 +43,7 @@ uses_none f l i = by_at l.at i where
   by_at (Visiting s x) i = absurd i
   by_at at i = refl
 
-cond_none : (c : Bool) (n : ℕ) → n ≡ 0 → cond c n 0 ≡ 0
+pub cond_none : (c : Bool) (n : ℕ) → n ≡ 0 → cond c n 0 ≡ 0
 cond_none true n e = e
 cond_none false n e = refl
 
@@ -419,14 +418,35 @@ module _ (m b : ℕ) where
       let h = hold_low k s in let z = not_held k (λ y. let no : ⊥ = omega arith in no) in
       hold_find (suc k) xs i (omega arith) (omega arith)
 
+-- the blocks that writebacks have reserved are below the map's
+pub hold_few : (b k : ℕ) (xs : List BlockState) → used_from (holding (b + 1) b) k xs ≤ k + length xs
+hold_few b k [] = omega arith
+hold_few b k (s ∷ xs) =
+    let h = hold_low (b + 1) b k s in ⊎_elim
+    (λ z. let r = hold_few b (suc k) xs in
+    let y : pick (same b k) (b + 1) 0 ≡ 0 = rw z refl in omega arith)
+    (λ o. let e = o.1 in let u = o.0 in let r = hold_after (b + 1) b (suc k) xs (omega arith) in
+    let y : pick (same b k) (b + 1) 0 ≡ b + 1 = rw u refl in omega arith)
+    (same_is b k)
+
 -- ---- what an actor carries
 
-some_block : (o : Option ℕ) (page s b : ℕ) → option_map (λ c. (page, c)) o ≡ Some (s, b)
+-- a pair, or none
+abbrev first_of : Option (ℕ × ℕ) → ℕ
+first_of None = 0
+first_of (Some x) = x.0
+
+abbrev second_of : Option (ℕ × ℕ) → ℕ
+second_of None = 0
+second_of (Some x) = x.1
+
+some_block : (o : Option ℕ) (page s b : ℕ)
+    → option_map {U = ℕ × ℕ} (λ (c : ℕ). (page, c)) o ≡ Some (s, b)
     → (page ≡ s) × (o ≡ Some b)
 some_block None page s b e = absurd (cc)
 some_block (Some c) page s b e = (
-  (let q : page ≡ s = cc in q),
-  (let q : c ≡ b = cc in ap Some q),
+  ap first_of e,
+  ap Some (ap second_of e),
 )
 
 -- The actor carries page s to block b.
@@ -440,12 +460,12 @@ pub record Carrier (at : At) (s b : ℕ) : Type 0 where
 
 carrier_by : (at : At) (s b : ℕ) → carries_at at ≡ Some (s, b) → Carrier at s b
 carrier_by (Visiting st x) s b e = elim (cases_Bool (is_carrying st)) [
-  | inl on ↦ (let q : option_map (λ c. (x.page, c)) x.block ≡ Some (s, b) =
-      sym (ap (λ (i : Bool). cond i (option_map (λ c. (x.page, c)) x.block) None) on) ∙ e in
+  | inl on ↦ (let q : option_map {U = ℕ × ℕ} (λ (c : ℕ). (x.page, c)) x.block ≡ Some (s, b) =
+      sym (ap (λ (i : Bool). cond i (option_map {U = ℕ × ℕ} (λ (c : ℕ). (x.page, c)) x.block) None) on) ∙ e in
       let r = some_block x.block x.page s b q in
       record { step = st; trip = x; is = refl; carries = on; page = r.0; block = r.1 })
   | inr off ↦ absurd (let q : None ≡ Some (s, b) =
-      sym (ap (λ (i : Bool). cond i (option_map (λ c. (x.page, c)) x.block) None) off) ∙ e in cc)
+      sym (ap (λ (i : Bool). cond i (option_map {U = ℕ × ℕ} (λ (c : ℕ). (x.page, c)) x.block) None) off) ∙ e in cc)
 ]
 carrier_by at s b e = absurd (cc)
 
@@ -479,10 +499,10 @@ bytes_of b bytes None page lt = absurd (omega arith)
 bytes_of b bytes (Some c) None lt = absurd (omega arith)
 bytes_of b bytes (Some c) (Some y) lt = elim (cases_Bool (eqb b c)) [
   | inl on ↦ elim (cases_Bool (same_list bytes y)) [
-      | inl yes ↦ (ap Some (sym (eqb-true b c on)), ap Some (sym (same_lists bytes y yes)))
-      | inr no ↦ absurd (let z : pair b bytes (Some c) (Some y) ≡ 0 = rw (on, no) refl in
-          let none : ⊥ = omega arith in none)
-    ]
+    | inl same_one ↦ (ap Some (sym (eqb-true b c on)), ap Some (sym (same_lists bytes y same_one)))
+    | inr other ↦ absurd (let z : pair b bytes (Some c) (Some y) ≡ 0 = rw (on, other) refl in
+        let none : ⊥ = omega arith in none)
+  ]
   | inr off ↦ absurd (let z : pair b bytes (Some c) (Some y) ≡ 0 = rw off refl in
       let none : ⊥ = omega arith in none)
 ]
@@ -496,15 +516,17 @@ carried_by_is : (s b : ℕ) (bytes : List ℕ) (at : At) (page : Option (List �
 carried_by_is s b bytes (Visiting st x) page lt =
     let c = above_zero (is_carrying st && (s == x.page)) (pair b bytes x.block page) lt in
     let p = and_parts (is_carrying st) (eqb s x.page) c.0 in
-    let q = bytes_of b bytes x.block page c.1 in
-    (record {
-      step = st;
-      trip = x;
-      is = refl;
-      carries = p.0;
-      page = sym (eqb-true s x.page p.1);
-      block = q.0;
-    }, q.1)
+    let q = bytes_of b bytes x.block page c.1 in (
+      record {
+        step = st;
+        trip = x;
+        is = refl;
+        carries = p.0;
+        page = sym (eqb-true s x.page p.1);
+        block = q.0;
+      },
+      q.1,
+    )
 carried_by_is s b bytes at page lt = absurd (omega arith)
 
 module _ (g : Begin) where

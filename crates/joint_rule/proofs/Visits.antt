@@ -1,5 +1,5 @@
 -- The givings of a writeback, by what they do to sums over pools.
-use Rattle.std.proofs.Common.{◌≡◌, ◌+◌, ◌∷◌, ◌∙◌, ◌==◌, ℕ, Bool, true, false, if◌then◌else◌, List, [], Option, Some, None, refl, ap}
+use Rattle.std.proofs.Common.{◌≡◌, ◌∷◌, ◌∙◌, ◌==◌, ℕ, Bool, true, false, List, [], Option, Some, None, refl, ap}
 use Rattle.backing_dev.specs.Dev.{DeviceState, FailsToWrite, WritesBlock}
 use Rattle.block_map.specs.BlockMap.{AnswersReserve, BlockMap, reserved, with_state}
 use Rattle.block_map.specs.declared.blocks.Reserve.{Reserve}

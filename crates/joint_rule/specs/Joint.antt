@@ -1,6 +1,6 @@
 -- The joint rule of pages, pools and the account: what each value and each actor is, and the sums
 -- over them all.
-use Rattle.std.specs.Prelude.{◌≡◌, ℕ, ◌+◌, ◌^◌, ◌<◌, ◌≤◌, true, false, List, [], map, length, sum_by, None, Some, slice_get, ⊤}
+use Rattle.std.specs.Prelude.{◌≡◌, ℕ, ◌+◌, ◌^◌, ◌<◌, ◌≤◌, true, false, List, [], map, length, sum_by, Some, slice_get, ⊤}
 use Rattle.zr_base.specs.declared.op.Op.{Op}
 use Rattle.size_class.specs.Classes.{class_size, chain_of, per_of}
 use Rattle.backing_dev.specs.Dev.{DeviceState, IsHonestDevice}
