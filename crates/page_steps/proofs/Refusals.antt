@@ -353,8 +353,11 @@ whole_end op end whole refused = whole
 end_step : (end : PartEnd) (l : Here) (p : Part) (rest : List Part) → l.todo ≡ p ∷ rest
     → IsWholeEnd (Some end) → Goes l (ending_by l end (λ p. []) l.todo)
 end_step end l p rest todo whole =
-    inr (record { part = p; end = end; got = [] }, over_is l end (λ p. []) p rest l.todo todo,
-    whole_end p.op end whole)
+    inr (
+      record { part = p; end = end; got = [] },
+      over_is l end (λ p. []) p rest l.todo todo,
+      whole_end p.op end whole,
+    )
 
 undo_step : (size : ℕ) (f : Option PartEnd) (l : Here) (v : DiskHeld) (p : Part) (rest : List Part)
     → l.todo ≡ p ∷ rest → IsWholeEnd f → Goes l (undoing_by size f l v)
