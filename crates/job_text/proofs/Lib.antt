@@ -1,6 +1,7 @@
 pub mod Digits
 pub mod Joins
 pub mod Lawful
+pub mod Rooms
 pub mod Scans
 pub mod Spelling
 pub mod Splits

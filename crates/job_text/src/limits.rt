@@ -25,3 +25,6 @@ pub const MOST_SCANNED: u32 = 16_777_216;
 
 /// The most turns in all schedules of a job.
 pub const MOST_TURNS: u32 = 16_777_216;
+
+/// The most pages of the disk of a generated job.
+pub const MOST_GENERATED: u32 = 16_384;
