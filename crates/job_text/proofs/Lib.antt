@@ -1,4 +1,5 @@
 pub mod Digits
+pub mod Generated
 pub mod Joins
 pub mod Lawful
 pub mod Rooms

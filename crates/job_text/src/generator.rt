@@ -62,12 +62,7 @@ fn op_of(seed: Option<u64>, page: u32) -> Op
 }
 
 // The operations of an actor on its pages, in rising order.
-fn ops_of(
-    alloc: Global,
-    seed: Option<u64>,
-    actor: u32,
-    pages: u32,
-) -> Result<ActorOps, AllocError>
+fn ops_of(alloc: Global, seed: Option<u64>, actor: u32, pages: u32) -> Result<ActorOps, AllocError>
     requires { pages ≤ MOST_GENERATED }
     ensures { IfOk result (λ ops. ops ≡ ops_of seed actor pages) }
 {
@@ -107,13 +102,10 @@ fn upkeep_phase(alloc: Global) -> Result<Item, AllocError>
     Ok(Item::Phase(PhaseText { actors, schedule }))
 }
 
-/// The job of a disk of 1 to 16,384 pages of four kinds that are written, written back, compacted
-/// and read, and of its statistics.
-pub fn gen_job(alloc: Global, pages: u32, seed: u64) -> Result<Job, AllocError>
-    requires some { 1 ≤ pages }
-    requires most { pages ≤ MOST_GENERATED }
-    ensures job { IfOk result (λ job. job ≡ generated pages seed) }
-    ensures lawful { IfOk result (MayFollow nothing_used) }
+// The items of the job.
+fn items_of(alloc: Global, pages: u32, seed: u64) -> Result<Job, AllocError>
+    requires { pages ≤ MOST_GENERATED }
+    ensures { IfOk result (λ job. job ≡ generated pages seed) }
 {
     let mut job = Job::new(alloc);
     push(&mut job, Item::Attr(Attr::Backing(4096)))?;
@@ -125,4 +117,15 @@ pub fn gen_job(alloc: Global, pages: u32, seed: u64) -> Result<Job, AllocError>
     push(&mut job, Item::Report(Report::IoStat))?;
     push(&mut job, Item::Report(Report::BdStat))?;
     Ok(job)
+}
+
+/// The job of a disk of 1 to 16,384 pages of four kinds that are written, written back, compacted
+/// and read, and of its statistics.
+pub fn gen_job(alloc: Global, pages: u32, seed: u64) -> Result<Job, AllocError>
+    requires some { 1 ≤ pages }
+    requires most { pages ≤ MOST_GENERATED }
+    ensures job { IfOk result (λ job. job ≡ generated pages seed) }
+    ensures lawful { IfOk result (MayFollow nothing_used) }
+{
+    items_of(alloc, pages, seed)
 }

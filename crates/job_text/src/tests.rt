@@ -216,8 +216,16 @@ fn tells_faults_of_writebacks(rt: HostRuntime) -> Result<(), Fail> {
         ("disksize 4K\nactor\nwriteback huge_idl", 3, Cause::Word),
         ("writeback idle", 1, Cause::Order),
         ("backing 1\ndisksize 4K\nwriteback huge", 3, Cause::Order),
-        ("disksize 4K\nactor\nrun\nwriteback huge_idle", 4, Cause::Order),
-        ("disksize 4K\nactor\nschedule 0\nwriteback idle", 4, Cause::Order),
+        (
+            "disksize 4K\nactor\nrun\nwriteback huge_idle",
+            4,
+            Cause::Order,
+        ),
+        (
+            "disksize 4K\nactor\nschedule 0\nwriteback idle",
+            4,
+            Cause::Order,
+        ),
         ("backing 1\nactor\nwriteback idle\nrun", 2, Cause::NoDisk),
     ];
     for (text, line, cause) in table {
