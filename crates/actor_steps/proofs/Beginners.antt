@@ -4,7 +4,7 @@ use Rattle.std.proofs.Math.Seq.{take-suc}
 use Rattle.std.proofs.lemmas.List.{length_push, length-take-le}
 use Rattle.std.proofs.lemmas.Option.{slice_get_within, get_or_from_slice_get}
 use Rattle.zr_base.specs.declared.op.Op.{Op}
-use Rattle.zr_base.specs.declared.op.Op.TheVariants.{Write, Read, Discard, Idle, Compact}
+use Rattle.zr_base.specs.declared.op.Op.TheVariants.{Write, Read, Discard, Idle, Writeback, Compact}
 use Rattle.call_history.specs.Parts.{program}
 use Rattle.page_steps.specs.Steps.{Terms}
 use Rattle.actor_steps.specs.declared.place.Place.{Place}
@@ -45,12 +45,12 @@ each_more P (z ∷ zs) (w ∷ ws) x y e all last (suc k) a b f g =
 
 -- ---- replies
 
-pub reply_more : (size : ℕ) (ops : List Op) (i : ℕ) (op : Op) (rs rs' : List Reply) (r : Reply)
-    → slice_get ops i ≡ Some op → rs' ≡ rs ++ r ∷ [] → AreNewReplies size (take i ops) rs
-    → IsNewReply size op r
-    → AreNewReplies size (take (i + 1) ops) rs'
-reply_more size ops i op rs rs' r at more old new =
-    subst (λ (c : List Op × List Reply). AreNewReplies size c.0 c.1)
+pub reply_more : (size : ℕ) (backed : Bool) (ops : List Op) (i : ℕ) (op : Op) (rs rs' : List Reply) (r : Reply)
+    → slice_get ops i ≡ Some op → rs' ≡ rs ++ r ∷ [] → AreNewReplies size backed (take i ops) rs
+    → IsNewReply size backed op r
+    → AreNewReplies size backed (take (i + 1) ops) rs'
+reply_more size backed ops i op rs rs' r at more old new =
+    subst (λ (c : List Op × List Reply). AreNewReplies size backed c.0 c.1)
     (λ j. (
       (sym
           (ap (λ (n : ℕ). take n ops) (let q : i + 1 ≡ suc i = omega arith in q)
@@ -59,18 +59,20 @@ reply_more size ops i op rs rs' r at more old new =
     )) record {
       count = length_push rs r ∙ ap (λ (n : ℕ). n + 1) old.count
           ∙ sym (length_push (take i ops) op);
-      each = each_more (λ k o s. IsNewReply size o s) (take i ops) rs op r old.count old.each new;
+      each = each_more (λ k o s. IsNewReply size backed o s) (take i ops) rs op r old.count old.each new;
     }
 
 -- ---- workers
 
-new_fits : (size : ℕ) (pl : Place) (k : ℕ) (op : Op) (r : Reply) → IsNewReply size op r
+new_fits : (size : ℕ) (backed : Bool) (pl : Place) (k : ℕ) (op : Op) (r : Reply)
+    → IsNewReply size backed op r
     → ReplyFits size pl k op r
-new_fits size pl k (Write start count stuff) r n = n.none
-new_fits size pl k (Discard start count) r n = n.none
-new_fits size pl k (Idle age) r n = n.none
-new_fits size pl k Compact r n = n.none
-new_fits size pl k (Read start count) r n = (
+new_fits size backed pl k (Write start count stuff) r n = n.none
+new_fits size backed pl k (Discard start count) r n = n.none
+new_fits size backed pl k (Idle age) r n = n.none
+new_fits size backed pl k (Writeback mode) r n = n.none
+new_fits size backed pl k Compact r n = n.none
+new_fits size backed pl k (Read start count) r n = (
   record {
     later = λ lt inside. let q = n.room in let l = n.len in
         let s = ap (λ (b : Bool). cond b 0 count) inside in
@@ -82,13 +84,13 @@ new_fits size pl k (Read start count) r n = (
   λ beyond. n.none,
 )
 
-pub is_new_worker : {D : Type 0} (size chain actor : ℕ) (ops : List Op) (w : Worker D) → 0 < size
+pub is_new_worker : {D : Type 0} (size : ℕ) (backed : Bool) (chain actor : ℕ) (ops : List Op) (w : Worker D) → 0 < size
     → AreRequests ops
     → length ops < 2 ^ 32 → w.actor ≡ actor → w.call ≡ None → w.carried ≡ 0
-    → w.scratch.table ≡ chain → chain ≤ 16 → IsPlace ops w.place → IsSettled size ops w.place
-    → todo_at size ops w.place ≡ program size 0 ops
-    → AreNewReplies size ops w.replies.items → IsNewWorker size chain actor ops w
-is_new_worker size chain actor ops w some requests few who at carried table most place settled todo new =
+    → w.scratch.table ≡ chain → chain ≤ 16 → IsPlace ops w.place → IsSettled size backed ops w.place
+    → todo_at size backed ops w.place ≡ program size backed 0 ops
+    → AreNewReplies size backed ops w.replies.items → IsNewWorker size backed chain actor ops w
+is_new_worker size backed chain actor ops w some requests few who at carried table most place settled todo new =
     record {
       who = who;
       at = at;
@@ -104,10 +106,10 @@ is_new_worker size chain actor ops w some requests few who at carried table most
         carried = omega arith;
         call = subst (HasCall t ops w) (sym at) tt;
         replies = new.count;
-        reads = λ k op r e f. new_fits size w.place k op r (new.each k op r e f);
+        reads = λ k op r e f. new_fits size backed w.place k op r (new.each k op r e f);
       };
       keeps = record {
-        ends = λ k r f. (reply k r f).1.end;
+        ends = λ k op r at f. (new.each k op r at f).end;
         sectors = λ k r f. (reply k r f).1.none;
         count = sym carried;
         carried = tt;
@@ -115,18 +117,18 @@ is_new_worker size chain actor ops w some requests few who at carried table most
       };
     } where
       reply : (k : ℕ) (r : Reply) → slice_get w.replies.items k ≡ Some r
-          → (op : Op) × IsNewReply size op r
+          → (op : Op) × IsNewReply size backed op r
       reply k r f =
           let op = there_is ops k (let q = slice_get_within w.replies.items k r f in
           let n = new.count in omega arith) in (op.0, new.each k op.0 r op.1 f)
 
-pub worker_more : {D : Type 0} (size chain : ℕ) (actors : List (List Op)) (i actor : ℕ) (ops : List Op)
+pub worker_more : {D : Type 0} (size : ℕ) (backed : Bool) (chain : ℕ) (actors : List (List Op)) (i actor : ℕ) (ops : List Op)
     (ws ws' : List (Worker D)) (w : Worker D) → actor ≡ i → slice_get actors i ≡ Some ops
-    → i ≤ length actors → ws' ≡ ws ++ w ∷ [] → AreNewWorkers size chain (take i actors) ws
-    → IsNewWorker size chain actor ops w
-    → AreNewWorkers size chain (take (i + 1) actors) ws'
-worker_more {D} size chain actors i actor ops ws ws' w same at le more old new =
-    subst (λ (c : List (List Op) × List (Worker D)). AreNewWorkers size chain c.0 c.1)
+    → i ≤ length actors → ws' ≡ ws ++ w ∷ [] → AreNewWorkers size backed chain (take i actors) ws
+    → IsNewWorker size backed chain actor ops w
+    → AreNewWorkers size backed chain (take (i + 1) actors) ws'
+worker_more {D} size backed chain actors i actor ops ws ws' w same at le more old new =
+    subst (λ (c : List (List Op) × List (Worker D)). AreNewWorkers size backed chain c.0 c.1)
     (λ j. (
       (sym
           (ap (λ (n : ℕ). take n actors) (let q : i + 1 ≡ suc i = omega arith in q)
@@ -135,8 +137,8 @@ worker_more {D} size chain actors i actor ops ws ws' w same at le more old new =
     )) record {
       count = length_push ws w ∙ ap (λ (n : ℕ). n + 1) old.count
           ∙ sym (length_push (take i actors) ops);
-      each = each_more (IsNewWorker size chain) (take i actors) ws ops w old.count old.each
-          (subst (λ (a : ℕ). IsNewWorker size chain a ops w)
+      each = each_more (IsNewWorker size backed chain) (take i actors) ws ops w old.count old.each
+          (subst (λ (a : ℕ). IsNewWorker size backed chain a ops w)
           (same ∙ sym (length-take-le i actors le)) new);
     }
 

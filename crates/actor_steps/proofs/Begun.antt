@@ -1,7 +1,8 @@
 -- The call of a piece before its first event.
 use Rattle.std.proofs.Common.{◌≡◌, ℕ, ◌+◌, ◌<◌, ◌≤◌, true, false, List, Option, Some, slice_get, refl, sym, ap, ◌∙◌, subst}
 use Rattle.zr_base.specs.declared.op.Op.{Op}
-use Rattle.zr_base.specs.declared.op.Op.TheVariants.{Idle, Compact}
+use Rattle.zr_base.specs.declared.op.Mode.{Mode}
+use Rattle.zr_base.specs.declared.op.Op.TheVariants.{Idle, Writeback, Compact}
 use Rattle.zr_base.specs.declared.op.Tag.{Tag}
 use Rattle.zr_base.specs.declared.op.Piece.{Piece}
 use Rattle.zr_base.specs.Plain.{is_beyond, is_maintenance}
@@ -12,6 +13,8 @@ use Rattle.post_steps.specs.declared.compact.CompactStage.{CompactStage}
 use Rattle.post_steps.specs.declared.compact.CompactStage.TheVariants as stage
 use Rattle.post_steps.specs.declared.idle.IdleCall.{IdleCall}
 use Rattle.post_steps.specs.declared.idle.IdleStage.TheVariants as scan
+use Rattle.post_steps.specs.declared.writeback.WritebackCall.{WritebackCall}
+use Rattle.post_steps.specs.declared.writeback.WritebackStage.TheVariants as visit
 use Rattle.actor_steps.specs.declared.call.Call.{Call}
 use Rattle.actor_steps.specs.declared.call.Call.TheVariants as call
 use Rattle.actor_steps.specs.Workers.{IsBegun}
@@ -63,6 +66,20 @@ module _ {D : Type 0} (size now : ℕ) (tag : Tag) (op : Op) (page : ℕ) (fresh
         fit = λ r few. some;
         start = λ x r. refl;
         work = λ x r s n c o p t f. record { pages = sym s; clock = sym n; op = o ∙ on };
+      })
+
+  pub begun_writeback : (c : WritebackCall D) (mode : Mode) → 0 < size → c ≡ record {
+    head = record { pages = size; mode = mode };
+    stage = visit.Start;
+  } → op ≡ Writeback mode → IsBegun {D = D} size now tag op page fresh (call.Writeback c)
+  begun_writeback c mode some start on =
+      subst (λ (d : WritebackCall D). IsBegun {D = D} size now tag op page fresh (call.Writeback d))
+      (sym start)
+      (record {
+        going = tt;
+        fit = λ r few. some;
+        start = λ x r. refl;
+        work = λ x r s n c o p t f. record { pages = sym s; op = o ∙ on };
       })
 
   pub begun_compact : (c : CompactCall) → c.stage ≡ stage.Start → op ≡ Compact

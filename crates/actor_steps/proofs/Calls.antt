@@ -22,6 +22,10 @@ use Rattle.post_steps.specs.declared.idle.IdleCall.{IdleCall}
 use Rattle.post_steps.specs.declared.idle.IdleHead.{IdleHead}
 use Rattle.post_steps.specs.declared.idle.IdleStage.{IdleStage}
 use Rattle.post_steps.specs.Idle.{here as idle_here, next_event as idle_event, IsWork as IsIdleWork, IsGoing as IsIdleGoing}
+use Rattle.post_steps.specs.declared.writeback.WritebackCall.{WritebackCall}
+use Rattle.post_steps.specs.declared.writeback.WritebackHead.{WritebackHead}
+use Rattle.post_steps.specs.declared.writeback.WritebackStage.{WritebackStage}
+use Rattle.post_steps.specs.Writeback.{here as writeback_here, next_event as writeback_event, IsWork as IsWritebackWork, IsFit as IsWritebackFit, IsGoing as IsWritebackGoing}
 use Rattle.post_steps.specs.Turns.{Allows, after as after_alone, Advanced as AloneAdvanced}
 use Rattle.actor_steps.specs.declared.call.Call.{Call}
 use Rattle.actor_steps.specs.declared.call.Call.TheVariants as call
@@ -44,18 +48,28 @@ abbrev pub ScanPlans : Type 0
 ScanPlans = (c : IdleHead) (s : IdleStage) (x : Frame) → IsIdleGoing s → IsIdleWork c x
     → plan x.terms (idle_here x s) ≡ idle_event s
 
-pub plan_is : {D : Type 0} → PagePlans D → CompactPlans → ScanPlans → (c : Call D) (r : Scratch) (x : Frame)
-    → IsFit c r → IsGoing c → Does c r x → plan x.terms (local c r x) ≡ next_event c
-plan_is pages compacts scans (call.Page c) r x fit on does = pages c.head r c.stage x fit on does
-plan_is pages compacts scans (call.Idle c) r x fit on does = scans c.head c.stage x on does
-plan_is pages compacts scans (call.Compact c) r x fit on does = compacts r.table c.stage x on does
+-- and for a writeback
+abbrev pub VisitPlans : Type 0 → Type 0
+VisitPlans D = (c : WritebackHead) (r : Scratch) (s : WritebackStage D) (x : Frame)
+    → IsWritebackFit c s → IsWritebackGoing s → IsWritebackWork c x
+    → plan x.terms (writeback_here x r s) ≡ writeback_event s
 
--- an operation is over in one piece exactly where its call counts it, marks pages, or compacts
+pub plan_is : {D : Type 0} → PagePlans D → CompactPlans → ScanPlans → VisitPlans D → (c : Call D)
+    (r : Scratch) (x : Frame) → IsFit c r → IsGoing c → Does c r x → plan x.terms (local c r x) ≡ next_event c
+plan_is pages compacts scans visits (call.Page c) r x fit on does = pages c.head r c.stage x fit on does
+plan_is pages compacts scans visits (call.Idle c) r x fit on does = scans c.head c.stage x on does
+plan_is pages compacts scans visits (call.Writeback c) r x fit on does =
+    visits c.head r c.stage x fit on does
+plan_is pages compacts scans visits (call.Compact c) r x fit on does = compacts r.table c.stage x on does
+
+-- an operation is over in one piece exactly where its call counts it, marks pages, writes pages back,
+-- or compacts
 pub alone_is : {D : Type 0} (c : Call D) (r : Scratch) (x : Frame) → Does c r x
     → is_single x.terms.size x.part.op ≡ is_alone c
 alone_is (call.Page c) r x does =
     ap (λ b. b || is_beyond x.terms.size x.part.op) does.request ∙ does.beyond
 alone_is (call.Idle c) r x does = ap (is_single x.terms.size) does.op
+alone_is (call.Writeback c) r x does = ap (is_single x.terms.size) does.op
 alone_is (call.Compact c) r x does = ap (is_single x.terms.size) does.op
 
 -- ---- turns
@@ -97,6 +111,14 @@ module _ {X : Type 0} {takes : X → LockNo → Next → DiskHeld → X → Type
   idle_turn D c d turns x does =
       subst (λ (m : Here). Turned takes misses gives x.terms (idle_here x c.stage) h m g p)
       (after_alone_is (idle_here x c.stage) (idle_here x d.stage) p) (turns x does)
+
+  pub writeback_turn : {D : Type 0} (c d : WritebackCall D)
+      → AloneAdvanced takes misses gives (IsWritebackWork c.head)
+      (λ x. writeback_here x r c.stage) h (λ x. writeback_here x s d.stage) g p
+      → Advanced takes misses gives (call.Writeback c) r h (call.Writeback d) s g p
+  writeback_turn c d turns x does =
+      subst (λ (m : Here). Turned takes misses gives x.terms (writeback_here x r c.stage) h m g p)
+      (after_alone_is (writeback_here x r c.stage) (writeback_here x s d.stage) p) (turns x does)
 
   pub compact_turn : (D : Type 0) (c d : CompactCall)
       → AloneAdvanced takes misses gives (IsCompactWork r.table) (λ x. compact_here x c.stage) h

@@ -5,15 +5,15 @@ use Rattle.std.specs.BTreeMap.{BTreeMap, Updates}
 use Rattle.std.specs.Ordering.{nat_cmp}
 use Rattle.zr_base.specs.declared.op.Op.{Op}
 use Rattle.zr_base.specs.declared.op.Piece.{Piece}
-use Rattle.zr_base.specs.Plain.{start_of, count_of, has_event, IsRequest}
+use Rattle.zr_base.specs.Plain.{start_of, count_of, is_void, has_event, IsRequest}
 use Rattle.plain_disk.specs.Ends.{is_single}
 use Rattle.call_history.specs.declared.part.Part.{Part}
 use Rattle.zr_base.specs.Pieces.{first_page, pages_of, pieces_from, pieces_of}
 use Rattle.std.specs.List.{AllByRecursion}
-use Rattle.call_history.specs.Parts.{parts_from, parts, program}
+use Rattle.call_history.specs.Parts.{parts_from, parts_of, parts, program}
 use Rattle.actor_steps.specs.Counts.{piece_on, pieces_on, pieces_each, count_at, HasOnlyCounts}
 use Rattle.actor_steps.specs.Places.{AreRequests, IsWork, operations}
-use Rattle.actor_steps.proofs.Places.{drop_cons, few_pages, pages_some, in_bounds, request_on}
+use Rattle.actor_steps.proofs.Places.{drop_cons, few_pages, pages_some, in_bounds, request_on, not_void}
 
 -- the piece of one page
 abbrev one : ℕ → Op → ℕ → ℕ → ℕ
@@ -64,49 +64,60 @@ nr_from size nr m p op page (suc n) = pieces_next size nr p op page n
     ∙ ap (λ (k : ℕ). one size op page p + k) (nr_from size nr m p op (page + 1) n)
     ∙ sym (pieces_next size m p op page n)
 
-nr_parts : (size nr m p : ℕ) (op : Op)
-    → pieces_on size p (parts size nr op) ≡ pieces_on size p (parts size m op)
-nr_parts size nr m p op = elim (cases_Bool (is_single size op)) [
+nr_parts_of : (size nr m p : ℕ) (op : Op)
+    → pieces_on size p (parts_of size nr op) ≡ pieces_on size p (parts_of size m op)
+nr_parts_of size nr m p op = elim (cases_Bool (is_single size op)) [
   | inl on ↦ rw on refl
   | inr off ↦ rw off (nr_from size nr m p op (first_page op) (pages_of op))
 ]
 
-nr_program : (size nr m p : ℕ) (ops : List Op)
-    → pieces_on size p (program size nr ops) ≡ pieces_on size p (program size m ops)
-nr_program size nr m p [] = refl
-nr_program size nr m p (op ∷ ops) =
-    pieces_append size p (parts size nr op) (program size (nr + 1) ops)
-    ∙ (λ i. nr_parts size nr m p op i + nr_program size (nr + 1) (m + 1) p ops i)
-    ∙ sym (pieces_append size p (parts size m op) (program size (m + 1) ops))
+nr_parts : (size : ℕ) (backed : Bool) (nr m p : ℕ) (op : Op)
+    → pieces_on size p (parts size backed nr op) ≡ pieces_on size p (parts size backed m op)
+nr_parts size backed nr m p op = elim (cases_Bool (is_void backed op)) [
+  | inl void ↦ rw void refl
+  | inr does ↦ rw does (nr_parts_of size nr m p op)
+]
+
+nr_program : (size : ℕ) (backed : Bool) (nr m p : ℕ) (ops : List Op)
+    → pieces_on size p (program size backed nr ops) ≡ pieces_on size p (program size backed m ops)
+nr_program size backed nr m p [] = refl
+nr_program size backed nr m p (op ∷ ops) =
+    pieces_append size p (parts size backed nr op) (program size backed (nr + 1) ops)
+    ∙ (λ i. nr_parts size backed nr m p op i + nr_program size backed (nr + 1) (m + 1) p ops i)
+    ∙ sym (pieces_append size p (parts size backed m op) (program size backed (m + 1) ops))
 
 -- the first operation, and then the later ones
-pub program_next : (size p i : ℕ) (ops : List Op) (op : Op) → slice_get ops i ≡ Some op
-    → pieces_on size p (program size 0 (drop i ops))
-    ≡ pieces_on size p (parts size 0 op) + pieces_on size p (program size 0 (drop (i + 1) ops))
-program_next size p i ops op at =
-    ap (λ (os : List Op). pieces_on size p (program size 0 os)) (drop_cons ops i op at
+pub program_next : (size : ℕ) (backed : Bool) (p i : ℕ) (ops : List Op) (op : Op)
+    → slice_get ops i ≡ Some op
+    → pieces_on size p (program size backed 0 (drop i ops))
+    ≡ pieces_on size p (parts size backed 0 op)
+    + pieces_on size p (program size backed 0 (drop (i + 1) ops))
+program_next size backed p i ops op at =
+    ap (λ (os : List Op). pieces_on size p (program size backed 0 os)) (drop_cons ops i op at
     ∙ ap (λ (j : ℕ). op ∷ drop j ops) (let q : suc i ≡ i + 1 = omega arith in q))
-    ∙ pieces_append size p (parts size 0 op) (program size 1 (drop (i + 1) ops))
-    ∙ ap (λ (k : ℕ). pieces_on size p (parts size 0 op) + k) (nr_program size 1 0 p (drop (i + 1) ops))
+    ∙ pieces_append size p (parts size backed 0 op) (program size backed 1 (drop (i + 1) ops))
+    ∙ ap (λ (k : ℕ). pieces_on size p (parts size backed 0 op) + k)
+    (nr_program size backed 1 0 p (drop (i + 1) ops))
 
-pub each_next : (size p i : ℕ) (actors : List (List Op)) (ops : List Op)
+pub each_next : (size : ℕ) (backed : Bool) (p i : ℕ) (actors : List (List Op)) (ops : List Op)
     → slice_get actors i ≡ Some ops
-    → pieces_each size (drop i actors) p
-    ≡ pieces_on size p (program size 0 ops) + pieces_each size (drop (i + 1) actors) p
-each_next size p i actors ops at =
-    ap (λ (os : List (List Op)). pieces_each size os p)
+    → pieces_each size backed (drop i actors) p
+    ≡ pieces_on size p (program size backed 0 ops) + pieces_each size backed (drop (i + 1) actors) p
+each_next size backed p i actors ops at =
+    ap (λ (os : List (List Op)). pieces_each size backed os p)
     (drop_cons actors i ops at
     ∙ ap (λ (j : ℕ). ops ∷ drop j actors) (let q : suc i ≡ i + 1 = omega arith in q))
 
 -- the walk over an operation on the disk: its pieces are on pages of the disk, and are all counted
 module _ (size : ℕ) (op : Op) (inside : is_single size op ≡ false) where
-  pub carried_of : (p : ℕ)
-      → carried_on size op p (pieces_of (start_of op) (count_of op)) ≡ pieces_on size p (parts size 0 op)
-  carried_of p =
+  pub carried_of : (backed : Bool) (p : ℕ)
+      → carried_on size op p (pieces_of (start_of op) (count_of op))
+      ≡ pieces_on size p (parts size backed 0 op)
+  carried_of backed p =
       carried_from size p op (first_page op) (pages_of op)
-      ∙ sym (ap (λ (b : Bool). pieces_on size p
-      (cond b (record { nr = 0; op = op; page = first_page op } ∷ [])
-      (parts_from 0 op (first_page op) (pages_of op)))) inside)
+      ∙ sym (λ i. pieces_on size p (cond (not_void size backed op inside i) []
+      (cond (inside i) (record { nr = 0; op = op; page = first_page op } ∷ [])
+      (parts_from 0 op (first_page op) (pages_of op)))))
 
   pub pages_below : IsRequest op
       → AllByRecursion (λ (piece : Piece). piece.page.0 < size)
@@ -157,30 +168,38 @@ few_from size nr p op page (suc n) = let q = pieces_next size nr p op page n in
         | inr off ↦ rw off (omega arith)
       ]
 
-few_parts : (size nr p : ℕ) (op : Op) → IsRequest op → pieces_on size p (parts size nr op) ≤ 1000
-few_parts size nr p op r = elim (cases_Bool (is_single size op)) [
+few_parts_of : (size nr p : ℕ) (op : Op) → IsRequest op
+    → pieces_on size p (parts_of size nr op) ≤ 1000
+few_parts_of size nr p op r = elim (cases_Bool (is_single size op)) [
   | inl on ↦ rw on (rw on (omega arith))
   | inr off ↦ rw off
       (let q = few_from size nr p op (first_page op) (pages_of op) in let f = few_pages op r in
       omega arith)
 ]
 
-pub few_program : (size nr p : ℕ) (ops : List Op) → AreRequests ops
-    → pieces_on size p (program size nr ops) ≤ 1000 * length ops
-few_program size nr p [] r = omega arith
-few_program size nr p (op ∷ ops) r =
-    let q = pieces_append size p (parts size nr op) (program size (nr + 1) ops) in
-    let f = few_parts size nr p op (r 0 op refl) in
-    let g = few_program size (nr + 1) p ops (λ k o e. r (suc k) o e) in omega arith
+few_parts : (size : ℕ) (backed : Bool) (nr p : ℕ) (op : Op) → IsRequest op
+    → pieces_on size p (parts size backed nr op) ≤ 1000
+few_parts size backed nr p op r = elim (cases_Bool (is_void backed op)) [
+  | inl void ↦ rw void (omega arith)
+  | inr does ↦ rw does (few_parts_of size nr p op r)
+]
 
-few_each : (size p : ℕ) (actors : List (List Op))
+pub few_program : (size : ℕ) (backed : Bool) (nr p : ℕ) (ops : List Op) → AreRequests ops
+    → pieces_on size p (program size backed nr ops) ≤ 1000 * length ops
+few_program size backed nr p [] r = omega arith
+few_program size backed nr p (op ∷ ops) r =
+    let q = pieces_append size p (parts size backed nr op) (program size backed (nr + 1) ops) in
+    let f = few_parts size backed nr p op (r 0 op refl) in
+    let g = few_program size backed (nr + 1) p ops (λ k o e. r (suc k) o e) in omega arith
+
+few_each : (size : ℕ) (backed : Bool) (p : ℕ) (actors : List (List Op))
     → ((a : ℕ) (ops : List Op) → slice_get actors a ≡ Some ops
-    → AreRequests ops) → pieces_each size actors p ≤ 1000 * operations actors
-few_each size p [] r = omega arith
-few_each size p (ops ∷ more) r = let f = few_program size 0 p ops (r 0 ops refl) in
-    let g = few_each size p more (λ a os e. r (suc a) os e) in omega arith
+    → AreRequests ops) → pieces_each size backed actors p ≤ 1000 * operations actors
+few_each size backed p [] r = omega arith
+few_each size backed p (ops ∷ more) r = let f = few_program size backed 0 p ops (r 0 ops refl) in
+    let g = few_each size backed p more (λ a os e. r (suc a) os e) in omega arith
 
-pub few_pieces : (size p : ℕ) (actors : List (List Op)) → IsWork actors
-    → pieces_each size actors p ≤ 1000000000
-few_pieces size p actors w = let f = few_each size p actors w.requests in let m = w.most in
-    omega arith
+pub few_pieces : (size : ℕ) (backed : Bool) (p : ℕ) (actors : List (List Op)) → IsWork actors
+    → pieces_each size backed actors p ≤ 1000000000
+few_pieces size backed p actors w = let f = few_each size backed p actors w.requests in
+    let m = w.most in omega arith

@@ -1,15 +1,18 @@
 -- A worker whose piece is over.
-use Rattle.std.proofs.Common.{◌≡◌, ◌≢◌, ◌⊎◌, ℕ, ◌+◌, ◌<◌, ◌≤◌, Bool, true, false, cond, List, [], ◌∷◌, ◌++◌, length, Option, Some, None, slice_get, refl, sym, ap, ◌∙◌, subst, arith, inl, inr, ⊎_elim, vec_len, vec_capacity}
+use Rattle.std.proofs.Common.{◌≡◌, ◌≢◌, ◌⊎◌, ℕ, ◌+◌, ◌<◌, ◌≤◌, Bool, true, false, not, ◌||◌, cond, List, [], ◌∷◌, ◌++◌, length, Option, Some, None, slice_get, refl, sym, ap, ◌∙◌, subst, arith, inl, inr, ⊎_elim, vec_len, vec_capacity}
 use mathlib.Core.Logic.{dite}
 use native.Mathlib.Decide.{ℕ_discrete}
-use Rattle.std.proofs.lemmas.Bool.{cases_Bool, eq-eqb, ne_eqb}
+use Rattle.std.proofs.lemmas.Bool.{cases_Bool, eq-eqb, ne_eqb, and_parts, not-true}
 use Rattle.std.proofs.lemmas.List.{append-nil}
 use Rattle.zr_base.specs.declared.op.Op.{Op}
-use Rattle.zr_base.specs.declared.op.Op.TheVariants.{Write, Read, Discard, Idle, Compact}
+use Rattle.zr_base.specs.declared.op.Op.TheVariants.{Write, Read, Discard, Idle, Writeback, Compact}
+use Rattle.zr_base.specs.declared.op.OpEnd.{OpEnd}
+use Rattle.zr_base.specs.declared.op.OpEnd.TheVariants as ends
+use Rattle.zr_base.specs.Plain.{is_void, has_event}
 use Rattle.plain_disk.specs.Ends.{is_single}
 use Rattle.call_history.specs.declared.part.Part.{Part}
 use Rattle.call_history.specs.declared.part.Done.{Done}
-use Rattle.call_history.specs.Parts.{is_carried, got_by, got_of, op_end, end_of}
+use Rattle.call_history.specs.Parts.{is_carried, got_by, got_of, op_end, end_of, end_as}
 use Rattle.call_history.specs.Laws.{GotGrows}
 use Rattle.lock_row.specs.declared.names.LockNo.{LockNo}
 use Rattle.page_steps.specs.declared.stage.Scratch.{Scratch}
@@ -18,7 +21,7 @@ use Rattle.page_steps.specs.declared.stage.PieceEnd.TheVariants as piece
 use Rattle.page_steps.specs.declared.stage.Progress.TheVariants as progress
 use Rattle.page_steps.specs.Steps.{Terms, DiskHeld, Here, piece_over}
 use Rattle.page_steps.specs.Nexts.{Next, ending_by}
-use Rattle.page_steps.specs.Calls.{Frame, fresh_of, cell_in, ahead_of, behind_of, page_of, fail_of}
+use Rattle.page_steps.specs.Calls.{Frame, fresh_of}
 use Rattle.page_steps.specs.Calls.{end_of as ending, got_of as got_of_piece}
 use Rattle.page_steps.specs.Turns.{Turned as CallTurned}
 use Rattle.actor_steps.specs.declared.call.Call.{Call}
@@ -31,7 +34,8 @@ use Rattle.actor_steps.specs.Places.{todo_at, part_at, behind, IsOnward}
 use Rattle.actor_steps.specs.Work.{reads}
 use Rattle.actor_steps.specs.Replies.{HasRoomFor, HasMore}
 use Rattle.actor_steps.specs.Calls.{Does, local, is_alone, got_by as got_in}
-use Rattle.actor_steps.specs.Workers.{at_by, held_by, owed_by, stage_of, here, with_call, frame, over_of, AllCarried, Keeps, ReplyFits, HasCall, IsFit, CanFinish, Finishes, turned, Advanced}
+use Rattle.actor_steps.specs.Workers.{at_by, held_by, owed_by, stage_of, pin_by, ahead_by, behind_by, page_by, fail_by, here, with_call, frame, over_of, AllCarried, Keeps, ReplyFits, HasCall, IsFit, CanFinish, Finishes, turned, Advanced}
+use Rattle.actor_steps.proofs.Places.{has_settled}
 use Rattle.actor_steps.proofs.Histories.{over_here, over_else, carried_more, none_carried, end_here, end_else}
 use Rattle.actor_steps.proofs.Turns.{rest, x, here_is}
 use Rattle.actor_steps.proofs.Calls.{alone_is}
@@ -51,6 +55,10 @@ got_plain (piece.AtLimit pages need limit) page p none = refl
 got_plain piece.NoMemory page p none = refl
 got_plain (piece.Eio fault) page p none = refl
 got_plain (piece.Marked pages) page p none = refl
+got_plain (piece.Written wrote lost) page p none = refl
+got_plain (piece.Budget wrote lost) page p none = refl
+got_plain (piece.NoBlock wrote lost) page p none = refl
+got_plain (piece.WriteEio fault wrote lost) page p none = refl
 got_plain (piece.Compacted moves frames) page p none = refl
 
 -- nor does one of an operation that is over in one piece
@@ -65,6 +73,10 @@ got_none (piece.AtLimit pages need limit) page p none = refl
 got_none piece.NoMemory page p none = refl
 got_none (piece.Eio fault) page p none = refl
 got_none (piece.Marked pages) page p none = refl
+got_none (piece.Written wrote lost) page p none = refl
+got_none (piece.Budget wrote lost) page p none = refl
+got_none (piece.NoBlock wrote lost) page p none = refl
+got_none (piece.WriteEio fault wrote lost) page p none = refl
 got_none (piece.Compacted moves frames) page p none = refl
 
 -- what a call says of it
@@ -72,6 +84,7 @@ got_is : {D : Type 0} (c : Call D) (r : Scratch) (end : PieceEnd) (p : Part) →
     → got_in c r end p ≡ got_of_piece end r.page p
 got_is (call.Page c) r end p e = refl
 got_is (call.Idle c) r end p e = sym (got_none end r.page p (e refl))
+got_is (call.Writeback c) r end p e = sym (got_none end r.page p (e refl))
 got_is (call.Compact c) r end p e = sym (got_none end r.page p (e refl))
 
 -- ---- room in replies
@@ -82,6 +95,7 @@ reads_fit : (size : ℕ) (pl : Place) (op : Op) (r : Reply) → is_single size o
 reads_fit size pl (Write start count stuff) r inside f le = omega arith
 reads_fit size pl (Discard start count) r inside f le = omega arith
 reads_fit size pl (Idle age) r inside f le = omega arith
+reads_fit size pl (Writeback mode) r inside f le = omega arith
 reads_fit size pl Compact r inside f le = omega arith
 reads_fit size pl (Read start count) r inside f le = let q = f.0.here refl inside in omega arith
 
@@ -101,6 +115,10 @@ has_room size pl op r k (piece.AtLimit pages need limit) single e f le = tt
 has_room size pl op r k piece.NoMemory single e f le = tt
 has_room size pl op r k (piece.Eio fault) single e f le = tt
 has_room size pl op r k (piece.Marked pages) single e f le = tt
+has_room size pl op r k (piece.Written wrote lost) single e f le = tt
+has_room size pl op r k (piece.Budget wrote lost) single e f le = tt
+has_room size pl op r k (piece.NoBlock wrote lost) single e f le = tt
+has_room size pl op r k (piece.WriteEio fault wrote lost) single e f le = tt
 has_room size pl op r k (piece.Compacted moves frames) single e f le = tt
 
 -- a later place asks for no more room
@@ -109,6 +127,7 @@ fits_later : (size : ℕ) (pl pl' : Place) (k : ℕ) (op : Op) (r : Reply) → k
 fits_later size pl pl' k (Write start count stuff) r ne on f = f
 fits_later size pl pl' k (Discard start count) r ne on f = f
 fits_later size pl pl' k (Idle age) r ne on f = f
+fits_later size pl pl' k (Writeback mode) r ne on f = f
 fits_later size pl pl' k Compact r ne on f = f
 fits_later size pl pl' k (Read start count) r ne on f = (
   record {
@@ -141,6 +160,10 @@ fits_here size pl pl' (Discard start count) was is k end page on len room got si
 fits_here size pl pl' (Idle age) was is k end page on len room got single e f =
     got ∙ ap (λ (xs : List (List ℕ)). was.sectors.items ++ xs)
     (got_plain end page (part_at pl (Idle age)) (λ b. refl))
+    ∙ append-nil was.sectors.items ∙ f
+fits_here size pl pl' (Writeback mode) was is k end page on len room got single e f =
+    got ∙ ap (λ (xs : List (List ℕ)). was.sectors.items ++ xs)
+    (got_plain end page (part_at pl (Writeback mode)) (λ b. refl))
     ∙ append-nil was.sectors.items ∙ f
 fits_here size pl pl' Compact was is k end page on len room got single e f =
     got ∙ ap (λ (xs : List (List ℕ)). was.sectors.items ++ xs)
@@ -175,8 +198,8 @@ more_at {nr} {n} {end} {got} {old} {new} m k r e = dite (ℕ_discrete k nr)
 -- ---- the worker
 
 -- the last turn of a call that does an operation in one piece reads nothing
-pub ends_as : {D : Type 0} (t : Terms) (ops : List Op) (v : Worker D) (c : Call D)
-    (fit : IsFit t ops (with_call v (Some c))) (op : Op) (at : slice_get ops v.place.nr ≡ Some op)
+pub ends_as : {D : Type 0} (t : Terms) (backed : Bool) (ops : List Op) (v : Worker D) (c : Call D)
+    (fit : IsFit t backed ops (with_call v (Some c))) (op : Op) (at : slice_get ops v.place.nr ≡ Some op)
     {X : Type 0} (takes : X → LockNo → Next → DiskHeld → X → Type 0)
     (misses : X → LockNo → X → Type 0) (gives : X → LockNo → Next → DiskHeld → X → Type 0)
     (h g : X) (r : Scratch) (end : PieceEnd)
@@ -184,10 +207,10 @@ pub ends_as : {D : Type 0} (t : Terms) (ops : List Op) (v : Worker D) (c : Call 
     → CallTurned takes misses gives y.terms (local c v.scratch y) h
     (ending_by (local c v.scratch y) (ending end) (got_in c r end) (local c v.scratch y).todo) g
     (progress.Done end)) → EndsAs (is_alone c) end
-ends_as t ops v c fit op at takes misses gives h g r end turns =
-    let does = fit.call.work op (rest t ops v c fit op at) [] at in
-    ends_alone takes misses gives h g (x t ops v c fit op at []) refl end c v.scratch r does
-    fit.call.fit fit.call.going (turns (x t ops v c fit op at []) does)
+ends_as t backed ops v c fit op at takes misses gives h g r end turns =
+    let does = fit.call.work op (rest t backed ops v c fit op at) [] at in
+    ends_alone takes misses gives h g (x t backed ops v c fit op at []) refl end c v.scratch r does
+    fit.call.fit fit.call.going (turns (x t backed ops v c fit op at []) does)
 
 -- the worker whose call is over, before its piece is finished
 abbrev pub ended : {D : Type 0} → Worker D → Scratch → Worker D
@@ -200,14 +223,14 @@ ended v r = record {
   replies = v.replies;
 }
 
-module _ {D : Type 0} (t : Terms) (ops : List Op) (v : Worker D) (c : Call D)
-    (fit : IsFit t ops (with_call v (Some c))) (op : Op)
+module _ {D : Type 0} (t : Terms) (backed : Bool) (ops : List Op) (v : Worker D) (c : Call D)
+    (fit : IsFit t backed ops (with_call v (Some c))) (op : Op)
     (at : slice_get ops v.place.nr ≡ Some op) (more : v.place.nr < length ops) (r : Scratch)
     (end : PieceEnd) (is_end : EndsAs (is_alone c) end) where
   single : is_single t.size op ≡ is_alone c
   single = alone_is c v.scratch (frame t v op [] []) (fit.call.work op [] [] at)
 
-  pub can_finish : CanFinish t.size ops end (ended v r)
+  pub can_finish : CanFinish t.size backed ops end (ended v r)
   can_finish = record {
     requests = fit.requests;
     more = more;
@@ -221,7 +244,7 @@ module _ {D : Type 0} (t : Terms) (ops : List Op) (v : Worker D) (c : Call D)
         is_end (fit.reads v.place.nr o y named there) y.sectors.ok.1;
   }
 
-  module _ (empty : v.call ≡ None) (w' : Worker D) (fin : Finishes t.size ops end (ended v r) w') where
+  module _ (empty : v.call ≡ None) (w' : Worker D) (fin : Finishes t.size backed ops end (ended v r) w') where
     no_call : (let o : Option (Call D) = None in o) ≡ w'.call
     no_call = sym (fin.call ∙ empty)
 
@@ -253,7 +276,7 @@ module _ {D : Type 0} (t : Terms) (ops : List Op) (v : Worker D) (c : Call D)
         ∙ ap (λ (b : Bool). cond b (v.carried + 1) 0)
         (ne_eqb w'.place.nr nr (λ e. let no : ⊥ = omega arith in no))
 
-    pub ends_fit : r.table ≡ v.scratch.table → IsFit t ops w'
+    pub ends_fit : r.table ≡ v.scratch.table → IsFit t backed ops w'
     ends_fit table = record {
       some = fit.some;
       requests = fit.requests;
@@ -283,17 +306,30 @@ module _ {D : Type 0} (t : Terms) (ops : List Op) (v : Worker D) (c : Call D)
           (fits_here t.size v.place w'.place op m.was m.is (is_alone c) end r.page fin.onward m.len
           m.room m.sectors single is_end (fit.reads nr op m.was at m.before))
 
+    -- the operation does something
+    does : is_void backed op ≡ false
+    does = not-true (is_void backed op) (and_parts (not (is_void backed op))
+        (is_single t.size op || has_event op v.place.page)
+        (has_settled t.size backed ops nr op at v.place.page v.place.left fit.settled).1).0
+
     -- the replies have what is over now
-    module _ (grows : GotGrows) (done : List Done) (keeps : Keeps v done) where
-      end_now : (k : ℕ) (y : Reply) → slice_get w'.replies.items k ≡ Some y
-          → y.end ≡ end_of k (done ++ d ∷ [])
-      end_now k y there = ⊎_elim
-          (λ s. subst (λ (z : ℕ × Reply). z.1.end ≡ end_of z.0 (done ++ d ∷ []))
-          (λ i. (sym s.0 i, s.1 i))
-          (m.ends ∙ sym (end_here nr 0 done d refl keeps.carried
+    module _ (grows : GotGrows) (done : List Done) (keeps : Keeps backed ops v done) where
+      end_now : (k : ℕ) (o : Op) (y : Reply) → slice_get ops k ≡ Some o
+          → slice_get w'.replies.items k ≡ Some y → y.end ≡ end_as backed k o (done ++ d ∷ [])
+      end_now k o y named there = ⊎_elim
+          (λ s. subst (λ (z : ℕ × Op × Reply). z.2.end ≡ end_as backed z.0 z.1 (done ++ d ∷ []))
+          (λ i. (
+            sym s.0 i,
+            (let q : Some op ≡ Some o = sym at
+                ∙ (ap (slice_get ops) (sym s.0) ∙ named) in let r : op ≡ o = cc in r) i,
+            s.1 i,
+          ))
+          (m.ends ∙ sym (ap (λ (b : Bool). cond b ends.NoBacking (end_of nr (done ++ d ∷ []))) does
+          ∙ end_here nr 0 done d refl keeps.carried
           ∙ ap (op_end (ending end)) (let q = keeps.count in
           let z : 0 + over_of nr done ≡ v.carried = omega arith in z))))
-          (λ s. keeps.ends k y s.1 ∙ sym (end_else k 0 done d (λ e. s.0 (sym e))))
+          (λ s. keeps.ends k o y named s.1 ∙ sym (ap (λ (e : OpEnd). cond (is_void backed o)
+          ends.NoBacking e) (end_else k 0 done d (λ e. s.0 (sym e)))))
           (more_at m k y there)
 
       got_now : (k : ℕ) (y : Reply) → slice_get w'.replies.items k ≡ Some y
@@ -336,7 +372,7 @@ module _ {D : Type 0} (t : Terms) (ops : List Op) (v : Worker D) (c : Call D)
           (λ lt. none_carried w'.place.nr (done ++ d ∷ []) (none_later w'.place.nr lt))
           nr_now
 
-      keeps_now : Keeps w' (done ++ d ∷ [])
+      keeps_now : Keeps backed ops w' (done ++ d ∷ [])
       keeps_now = record {
         ends = end_now;
         sectors = got_now;
@@ -347,23 +383,24 @@ module _ {D : Type 0} (t : Terms) (ops : List Op) (v : Worker D) (c : Call D)
       }
 
       abbrev y : Frame
-      y = frame t v op (todo_at t.size ops (behind v.place)) done
+      y = frame t v op (todo_at t.size backed ops (behind v.place)) done
 
       -- the local once the piece is over, which has read this
       abbrev over : List (List ℕ) → Here
-      over got = piece_over (here t.size ops v done) (part_at v.place op) (ending end) got
-          (todo_at t.size ops (behind v.place))
+      over got = piece_over (here t.size backed ops v done) (part_at v.place op) (ending end) got
+          (todo_at t.size backed ops (behind v.place))
 
       ends_so : (b : Call D)
           → ending_by (local b v.scratch y) (ending end) (got_in b r end) (local b v.scratch y).todo
           ≡ over (got_in b r end (part_at v.place op))
       ends_so (call.Page b) = refl
       ends_so (call.Idle b) = refl
+      ends_so (call.Writeback b) = refl
       ends_so (call.Compact b) = refl
 
       -- is the worker's
       over_is : ending_by (local c v.scratch y) (ending end) (got_in c r end) (local c v.scratch y).todo
-          ≡ here t.size ops w' (done ++ d ∷ [])
+          ≡ here t.size backed ops w' (done ++ d ∷ [])
       over_is = ends_so c ∙ ap over (got_is c r end (part_at v.place op) is_end) ∙ (λ i. record {
         actor = sym fin.actor i;
         at = at_by (no_call i);
@@ -371,12 +408,12 @@ module _ {D : Type 0} (t : Terms) (ops : List Op) (v : Worker D) (c : Call D)
         held = held_by w'.place.page (no_call i);
         done = done ++ d ∷ [];
         fresh = fresh_of w'.scratch (stage_of (no_call i));
-        pin = cell_in (stage_of (no_call i));
+        pin = pin_by (no_call i);
         owed = owed_by (no_call i);
-        ahead = ahead_of (stage_of (no_call i));
-        behind = behind_of (stage_of (no_call i));
-        page = page_of w'.scratch (stage_of (no_call i));
-        fail = fail_of (stage_of (no_call i));
+        ahead = ahead_by (no_call i);
+        behind = behind_by (no_call i);
+        page = page_by w'.scratch (no_call i);
+        fail = fail_by (no_call i);
       })
 
       pub ends_turn : {X : Type 0} (takes : X → LockNo → Next → DiskHeld → X → Type 0)
@@ -385,13 +422,13 @@ module _ {D : Type 0} (t : Terms) (ops : List Op) (v : Worker D) (c : Call D)
           → CallTurned takes misses gives z.terms (local c v.scratch z) h
           (ending_by (local c v.scratch z) (ending end) (got_in c r end) (local c v.scratch z).todo) g
           (progress.Done end))
-          → Advanced takes misses gives t ops (with_call v (Some c)) h w' g turn.Went done
+          → Advanced takes misses gives t backed ops (with_call v (Some c)) h w' g turn.Went done
       ends_turn takes misses gives h g turns = (
         done ++ d ∷ [],
         keeps_now,
         turned (progress.Done end)
             (subst (λ (k : Here × Here). CallTurned takes misses gives t k.0 h k.1 g
             (progress.Done end))
-            (λ i. (here_is t ops v c fit op at v.scratch c done i, over_is i))
-            (turns y (fit.call.work op (todo_at t.size ops (behind v.place)) done at))) refl,
+            (λ i. (here_is t backed ops v c fit op at v.scratch c done i, over_is i))
+            (turns y (fit.call.work op (todo_at t.size backed ops (behind v.place)) done at))) refl,
       )

@@ -11,6 +11,7 @@ use Rattle.lock_row.specs.declared.names.At.{At}
 use Rattle.lock_row.specs.declared.names.At.TheVariants as at
 use Rattle.lock_row.specs.declared.names.Compaction.{Compaction}
 use Rattle.lock_row.specs.declared.names.Scan.{Scan}
+use Rattle.lock_row.specs.declared.names.Trip.{Trip}
 use Rattle.lock_row.specs.declared.names.Plan.{Plan}
 use Rattle.lock_row.specs.declared.names.Plan.TheVariants.{Take}
 use Rattle.slot_entry.specs.Entries.{is_new_mark}
@@ -24,10 +25,12 @@ use Rattle.page_steps.specs.declared.stage.Progress.{Progress}
 use Rattle.page_steps.specs.declared.stage.Progress.TheVariants as progress
 use Rattle.page_steps.specs.Steps.{Terms, DiskHeld, Here, start_plan}
 use Rattle.page_steps.specs.Nexts.{Next, ending_by}
-use Rattle.page_steps.specs.Givings.{Works, refuses, pins, unpins, fetches, misses, counts, charges, limits, starves, stows, quits, frees, releases, repays, puts, reads, fails, errs, leaves, marks, compacts}
+use Rattle.page_steps.specs.Givings.{Works, refuses, pins, unpins, fetches, misses, counts, charges, limits, starves, stows, quits, frees, releases, repays, puts, reads, fails, errs, leaves, marks, visits, compacts}
+use Rattle.page_steps.specs.Visits.{Visits, trip_at, onward_by, undoing_by, ending_with, passed_page, wrote_page, lost_page}
+use Rattle.page_steps.specs.Visits.{passes as visit_passes, reserves as visit_reserves, refrains as visit_refrains, quits as visit_quits, pins as visit_pins, unpins as visit_unpins, marks as visit_marks, stores as visit_stores, spoils as visit_spoils, frees as visit_frees, commits as visit_commits, pays as visit_pays, puts as visit_puts, loses as visit_loses, releases as visit_releases}
 use Rattle.page_steps.specs.Scans.{scans, scan_at, with_page, marking_by}
 use Rattle.page_steps.specs.Compactions.{moves, rests, shrinks, resting_by, compaction_at}
-use Rattle.page_steps.specs.Calls.{Frame, here, is_count, IsWork, IsFit, IsGoing, end_of, got_of}
+use Rattle.page_steps.specs.Calls.{Frame, here, is_count, IsWork, IsFit, IsGoing, end_of, ends_of, got_of}
 use Rattle.page_steps.specs.Turns.{Turned, waited, took_it, gave_it}
 use Rattle.post_steps.specs.declared.compact.CompactStage.{CompactStage}
 use Rattle.post_steps.specs.declared.compact.CompactStage.TheVariants as compact
@@ -35,6 +38,10 @@ use Rattle.post_steps.specs.Compact.{here as compact_here, at_of}
 use Rattle.post_steps.specs.declared.idle.IdleStage.{IdleStage}
 use Rattle.post_steps.specs.declared.idle.IdleStage.TheVariants as scan
 use Rattle.post_steps.specs.Idle.{here as idle_here, at_of as scan_at_of}
+use Rattle.post_steps.specs.declared.writeback.WritebackHead.{WritebackHead}
+use Rattle.post_steps.specs.declared.writeback.WritebackStage.{WritebackStage}
+use Rattle.post_steps.specs.declared.writeback.WritebackStage.TheVariants as visit
+use Rattle.post_steps.specs.Writeback.{here as visit_here, at_of as visit_at_of, fail_of as visit_fail_of, IsStop, AreStops, IsFit as IsVisitFit}
 use Rattle.actor_steps.specs.declared.call.Call.{Call}
 use Rattle.actor_steps.specs.declared.call.Call.TheVariants as call
 use Rattle.actor_steps.specs.Calls.{Does, local, got_by, is_alone, IsFit as IsCallFit, IsGoing as IsCallGoing}
@@ -80,10 +87,47 @@ whole_end (piece.AtLimit pages need limit) whole e = tt
 whole_end piece.NoMemory whole e = tt
 whole_end (piece.Eio fault) whole e = tt
 whole_end (piece.Marked pages) whole e = tt
+whole_end (piece.Written wrote lost) whole e = tt
+whole_end (piece.Budget wrote lost) whole e = tt
+whole_end (piece.NoBlock wrote lost) whole e = tt
+whole_end (piece.WriteEio fault wrote lost) whole e = tt
 whole_end (piece.Compacted n frames) whole e = tt
 
 no : {A : Type 0} (b : Bool) → b ≡ true → b ≡ false → A
 no b on off = absurd (let q : true ≡ false = sym on ∙ off in cc)
+
+-- a writeback counts no request
+not_refusing : (t : Terms) (l : Here) (v : DiskHeld) (m : Here) → Visits t l v m → IsRefusing l.at → ⊥
+not_refusing t l v m (visit_passes p rest x e todo stage held give is) on =
+    subst IsRefusing stage on
+not_refusing t l v m (visit_reserves p rest x e y b todo stage held answer give is) on =
+    subst IsRefusing stage on
+not_refusing t l v m (visit_refrains p rest x e y r end todo stage held answer none give is) on =
+    subst IsRefusing stage on
+not_refusing t l v m (visit_quits p rest x e end todo stage held fail give is) on =
+    subst IsRefusing stage on
+not_refusing t l v m (visit_pins p rest x e o q q' cell todo stage held kept lends give is) on =
+    subst IsRefusing stage on
+not_refusing t l v m (visit_unpins p rest x e o q q' todo stage held kept back give is) on =
+    subst IsRefusing stage on
+not_refusing t l v m (visit_marks p rest x e b todo stage held block give is) on =
+    subst IsRefusing stage on
+not_refusing t l v m (visit_stores p rest x b page d d' todo stage held block seen written give is) on =
+    subst IsRefusing stage on
+not_refusing t l v m (visit_spoils p rest x b d d' fault todo stage held block failed give is) on =
+    subst IsRefusing stage on
+not_refusing t l v m (visit_frees p rest x e o q q' frames todo stage held kept drops give is) on =
+    subst IsRefusing stage on
+not_refusing t l v m (visit_commits p rest x e b y todo stage held block give is) on =
+    subst IsRefusing stage on
+not_refusing t l v m (visit_pays p rest x e c was todo stage held ahead give is) on =
+    subst IsRefusing stage on
+not_refusing t l v m (visit_puts p rest x e b todo stage held block give is) on =
+    subst IsRefusing stage on
+not_refusing t l v m (visit_loses p rest x e todo stage held give is) on =
+    subst IsRefusing stage on
+not_refusing t l v m (visit_releases p rest x b y todo stage held block give is) on =
+    subst IsRefusing stage on
 
 module _ (c : Head) (r : Scratch) (x : Frame) (first : x.done ≡ []) (end : PieceEnd) (page : List ℕ) where
   -- the giving of the account
@@ -121,6 +165,8 @@ module _ (c : Head) (r : Scratch) (x : Frame) (first : x.done ≡ []) (end : Pie
   refused D a v m (errs p rest e f last e₁ e₂ e₃ e₄ e₅ e₆ e₇ is) same = absurd (subst IsRefusing e₂ tt)
   refused D a v m (leaves p rest e last e₁ e₂ e₃ e₄ e₅ e₆ is) same = absurd (subst IsRefusing e₂ tt)
   refused D a v m (marks (scans p rest age y e e₁ e₂ e₃ e₄ e₅ is)) same = absurd (subst IsRefusing e₃ tt)
+  refused D a v m (visits w) same =
+      absurd (not_refusing x.terms (here {D = D} x r (stage.Refusing a)) v m w tt)
   refused D a v m (compacts (moves p rest y q q' budget frames e₁ e₂ e₃ e₄ e₅ e₆ is)) same = absurd (subst IsRefusing e₂ tt)
   refused D a v m (compacts (rests p rest y q e₁ e₂ e₃ e₄ e₅ is)) same = absurd (subst IsRefusing e₂ tt)
   refused D a v m (compacts (shrinks p rest y k e₁ e₂ e₃ e₄ is)) same = absurd (subst IsRefusing e₂ tt)
@@ -175,6 +221,7 @@ abbrev IsTending : At → Type 0
 IsTending at.Start = Unit {0}
 IsTending (at.Scanning y) = Unit {0}
 IsTending (at.Marking y) = Unit {0}
+IsTending (at.Visiting s y) = Unit {0}
 IsTending (at.Sweeping y) = Unit {0}
 IsTending (at.Moving y) = Unit {0}
 IsTending (at.Shrunk y) = Unit {0}
@@ -194,6 +241,57 @@ scanning scan.Start = tt
 scanning (scan.Scanning y) = tt
 scanning (scan.Marking y e) = tt
 scanning scan.Over = tt
+
+visiting : {D : Type 0} (s : WritebackStage D) → IsTending (visit_at_of s)
+visiting visit.Start = tt
+visiting (visit.Arriving x) = tt
+visiting (visit.Passing x e) = tt
+visiting (visit.Asking x e o) = tt
+visiting (visit.Reserving x e o y) = tt
+visiting (visit.Quitting x e end) = tt
+visiting (visit.Seen x e o) = tt
+visiting (visit.Pinning x e o q) = tt
+visiting (visit.Pinned x e y) = tt
+visiting (visit.Unpinning x e y q) = tt
+visiting (visit.Marking x e) = tt
+visiting (visit.Flying x) = tt
+visiting (visit.Storing x d) = tt
+visiting (visit.Landing x end) = tt
+visiting (visit.Won x e o) = tt
+visiting (visit.Freeing x e o q) = tt
+visiting (visit.Backing x e frames was) = tt
+visiting (visit.Committing x e frames was y) = tt
+visiting (visit.Owing x e frames was) = tt
+visiting (visit.Paying x e frames was a) = tt
+visiting (visit.Putting x e) = tt
+visiting (visit.Losing x e end) = tt
+visiting (visit.Undoing x end) = tt
+visiting (visit.Releasing x end y) = tt
+visiting visit.Over = tt
+
+-- a writeback that ends before its last page ends as a whole
+abbrev MayWhole : Option PartEnd → Type 0
+MayWhole None = Unit {0}
+MayWhole (Some end) = IsWhole (Some end)
+
+stop_whole : (end : PieceEnd) → IsStop end → IsWhole (Some (end_of end))
+stop_whole (piece.Budget wrote lost) stop = tt
+stop_whole (piece.NoBlock wrote lost) stop = tt
+stop_whole (piece.WriteEio fault wrote lost) stop = tt
+stop_whole end stop = absurd stop
+
+stops_whole : (o : Option PieceEnd) → AreStops o → MayWhole (ends_of o)
+stops_whole None stop = tt
+stops_whole (Some end) stop = stop_whole end stop
+
+visit_fails : {D : Type 0} (c : WritebackHead) (s : WritebackStage D) → IsVisitFit c s
+    → MayWhole (visit_fail_of s)
+visit_fails c (visit.Quitting x e end) fit = stop_whole end fit.1
+visit_fails c (visit.Landing x end) fit = stops_whole end fit.1
+visit_fails c (visit.Losing x e end) fit = stops_whole end fit.1
+visit_fails c (visit.Undoing x end) fit = stops_whole end fit.1
+visit_fails c (visit.Releasing x end y) fit = stops_whole end fit.1
+visit_fails c s fit = tt
 
 abbrev IsOver : Option PartEnd → Type 0
 IsOver None = ⊥
@@ -228,53 +326,113 @@ module _ (l : Here) (none : l.done ≡ []) (end : PieceEnd) where
       whole_end end whole (sym is ∙ first_is l (over.Whole whole) (λ q. []) p rest todo none)
   scanned y false v p rest todo is = not_yet (marking_by y false l v) refl is
 
-  -- the last giving
-  tended : (t : Terms) (v : DiskHeld) (m : Here) → IsTending l.at → Works t l v m
+  -- a piece that ends as the whole of its operation
+  whole_over : (last : PartEnd) (p : Part) (rest : List Part) → l.todo ≡ p ∷ rest
+      → IsWhole (Some last)
+      → first_end (ending_by l last (λ q. []) l.todo).done ≡ Some (end_of end) → ReadsNothing end
+  whole_over (over.Whole whole) p rest todo is so =
+      whole_end end whole (sym so ∙ first_is l (over.Whole whole) (λ q. []) p rest todo none)
+  whole_over last p rest todo is so = absurd is
+
+  onward_over : (y : Trip) (last : Bool) (v : DiskHeld) (p : Part) (rest : List Part)
+      → l.todo ≡ p ∷ rest → first_end (onward_by y last l v).done ≡ Some (end_of end)
+      → ReadsNothing end
+  onward_over y true v p rest todo so =
+      whole_over (over.Whole (ends.Written y.wrote y.lost)) p rest todo tt so
+  onward_over y false v p rest todo so = not_yet (onward_by y false l v) refl so
+
+  undone : (size : ℕ) (f : Option PartEnd) (v : DiskHeld) (p : Part) (rest : List Part)
+      → l.todo ≡ p ∷ rest → MayWhole f → first_end (undoing_by size f l v).done ≡ Some (end_of end)
+      → ReadsNothing end
+  undone size None v p rest todo may so =
+      onward_over (lost_page (trip_at l.at)) ((lost_page (trip_at l.at)).page == size) v p rest todo so
+  undone size (Some last) v p rest todo may so = whole_over last p rest todo may so
+
+  -- the last giving of a writeback
+  visited : (t : Terms) (v : DiskHeld) (m : Here) → MayWhole l.fail → Visits t l v m
       → first_end m.done ≡ Some (end_of end) → ReadsNothing end
-  tended t v m on (marks (scans p rest age y e e₁ e₂ e₃ e₄ e₅ is)) so =
+  visited t v m may (visit_passes p rest x e todo stage held give is) so =
+      onward_over (passed_page (trip_at l.at)) ((passed_page (trip_at l.at)).page == t.size) v p rest todo
+      (sym (ap (λ (k : Here). first_end k.done) is) ∙ so)
+  visited t v m may (visit_reserves p rest x e y b todo stage held answer give is) so =
+      not_yet m (ap (λ (k : Here). k.done) is) so
+  visited t v m may (visit_refrains p rest x e y r last todo stage held answer none give is) so =
+      not_yet m (ap (λ (k : Here). k.done) is) so
+  visited t v m may (visit_quits p rest x e last todo stage held fail give is) so =
+      whole_over last p rest todo (subst MayWhole fail may)
+      (sym (ap (λ (k : Here). first_end k.done) (is ∙ ap (ending_with l) fail)) ∙ so)
+  visited t v m may (visit_pins p rest x e o q q' cell todo stage held kept lends give is) so =
+      not_yet m (ap (λ (k : Here). k.done) is) so
+  visited t v m may (visit_unpins p rest x e o q q' todo stage held kept back give is) so =
+      not_yet m (ap (λ (k : Here). k.done) is) so
+  visited t v m may (visit_marks p rest x e b todo stage held block give is) so =
+      not_yet m (ap (λ (k : Here). k.done) is) so
+  visited t v m may (visit_stores p rest x b page d d' todo stage held block seen written give is) so =
+      not_yet m (ap (λ (k : Here). k.done) is) so
+  visited t v m may (visit_spoils p rest x b d d' fault todo stage held block failed give is) so =
+      not_yet m (ap (λ (k : Here). k.done) is) so
+  visited t v m may (visit_frees p rest x e o q q' frames todo stage held kept drops give is) so =
+      not_yet m (ap (λ (k : Here). k.done) is) so
+  visited t v m may (visit_commits p rest x e b y todo stage held block give is) so =
+      not_yet m (ap (λ (k : Here). k.done) is) so
+  visited t v m may (visit_pays p rest x e c was todo stage held ahead give is) so =
+      not_yet m (ap (λ (k : Here). k.done) is) so
+  visited t v m may (visit_puts p rest x e b todo stage held block give is) so =
+      onward_over (wrote_page (trip_at l.at)) ((wrote_page (trip_at l.at)).page == t.size) v p rest todo
+      (sym (ap (λ (k : Here). first_end k.done) is) ∙ so)
+  visited t v m may (visit_loses p rest x e todo stage held give is) so =
+      not_yet m (ap (λ (k : Here). k.done) is) so
+  visited t v m may (visit_releases p rest x b y todo stage held block give is) so =
+      undone t.size l.fail v p rest todo may (sym (ap (λ (k : Here). first_end k.done) is) ∙ so)
+
+  -- the last giving
+  tended : (t : Terms) (v : DiskHeld) (m : Here) → IsTending l.at → MayWhole l.fail → Works t l v m
+      → first_end m.done ≡ Some (end_of end) → ReadsNothing end
+  tended t v m on may (marks (scans p rest age y e e₁ e₂ e₃ e₄ e₅ is)) so =
       scanned (with_page (scan_at l.at) (is_new_mark t.clock age e))
       (((scan_at l.at).page + 1) == t.size) v p rest e₁
       (sym (ap (λ (k : Here). first_end k.done) is) ∙ so)
-  tended t v m on (compacts (moves p rest y q q' budget frames e₁ e₂ e₃ e₄ e₅ e₆ is)) so =
+  tended t v m on may (visits w) so = visited t v m may w so
+  tended t v m on may (compacts (moves p rest y q q' budget frames e₁ e₂ e₃ e₄ e₅ e₆ is)) so =
       not_yet m (ap (λ (k : Here). k.done) is) so
-  tended t v m on (compacts (rests p rest y q e₁ e₂ e₃ e₄ e₅ is)) so =
+  tended t v m on may (compacts (rests p rest y q e₁ e₂ e₃ e₄ e₅ is)) so =
       rested t.chain (compaction_at l.at) ((compaction_at l.at).class == 254) v p rest e₁
       (sym (ap (λ (k : Here). first_end k.done) is) ∙ so)
-  tended t v m on (compacts (shrinks p rest y k e₁ e₂ e₃ e₄ is)) so =
+  tended t v m on may (compacts (shrinks p rest y k e₁ e₂ e₃ e₄ is)) so =
       not_yet m (ap (λ (k : Here). k.done) is) so
-  tended t v m on (refuses p rest k e₁ e₂ e₃ e₄ is) so = absurd (subst IsTending e₂ on)
-  tended t v m on (pins p rest e o q q' cell e₁ e₂ e₃ e₄ e₅ e₆ is) so = absurd (subst IsTending e₂ on)
-  tended t v m on (unpins p rest e o q q' e₁ e₂ e₃ e₄ e₅ e₆ is) so = absurd (subst IsTending e₂ on)
-  tended t v m on (fetches p rest e b d d' page e₁ e₂ e₃ e₄ e₅ e₆ e₇ is) so = absurd (subst IsTending e₂ on)
-  tended t v m on (misses p rest e b d d' fault e₁ e₂ e₃ e₄ e₅ e₆ is) so = absurd (subst IsTending e₂ on)
-  tended t v m on (counts p rest e k e₁ e₂ e₃ e₄ is) so = absurd (subst IsTending e₂ on)
-  tended t v m on (charges p rest e k q q' class handle need bytes huge e₁ e₂ e₃ e₄ e₅ e₆ e₇ e₈ is) so =
+  tended t v m on may (refuses p rest k e₁ e₂ e₃ e₄ is) so = absurd (subst IsTending e₂ on)
+  tended t v m on may (pins p rest e o q q' cell e₁ e₂ e₃ e₄ e₅ e₆ is) so = absurd (subst IsTending e₂ on)
+  tended t v m on may (unpins p rest e o q q' e₁ e₂ e₃ e₄ e₅ e₆ is) so = absurd (subst IsTending e₂ on)
+  tended t v m on may (fetches p rest e b d d' page e₁ e₂ e₃ e₄ e₅ e₆ e₇ is) so = absurd (subst IsTending e₂ on)
+  tended t v m on may (misses p rest e b d d' fault e₁ e₂ e₃ e₄ e₅ e₆ is) so = absurd (subst IsTending e₂ on)
+  tended t v m on may (counts p rest e k e₁ e₂ e₃ e₄ is) so = absurd (subst IsTending e₂ on)
+  tended t v m on may (charges p rest e k q q' class handle need bytes huge e₁ e₂ e₃ e₄ e₅ e₆ e₇ e₈ is) so =
       absurd (subst IsTending e₂ on)
-  tended t v m on (limits p rest e k q class need e₁ e₂ e₃ e₄ e₅ e₆ is) so = absurd (subst IsTending e₂ on)
-  tended t v m on (starves p rest e k q class e₁ e₂ e₃ e₄ e₅ e₆ is) so = absurd (subst IsTending e₂ on)
-  tended t v m on (stows p rest e q class e₁ e₂ e₃ e₄ e₅ is) so = absurd (subst IsTending e₂ on)
-  tended t v m on (quits p rest e q class last e₁ e₂ e₃ e₄ e₅ is) so = absurd (subst IsTending e₂ on)
-  tended t v m on (frees p rest e o q q' frames e₁ e₂ e₃ e₄ e₅ e₆ is) so = absurd (subst IsTending e₂ on)
-  tended t v m on (releases p rest e b y e₁ e₂ e₃ e₄ e₅ is) so = absurd (subst IsTending e₂ on)
-  tended t v m on (repays p rest e k e₁ e₂ e₃ e₄ is) so = absurd (subst IsTending e₂ on)
-  tended t v m on (puts p rest e f e₁ e₂ e₃ e₄ e₅ is) so = absurd (subst IsTending e₂ on)
-  tended t v m on (reads p rest e f e₁ e₂ e₃ e₄ e₅ e₆ is) so = absurd (subst IsTending e₂ on)
-  tended t v m on (fails p rest e last e₁ e₂ e₃ e₄ e₅ is) so = absurd (subst IsTending e₂ on)
-  tended t v m on (errs p rest e f last e₁ e₂ e₃ e₄ e₅ e₆ e₇ is) so = absurd (subst IsTending e₂ on)
-  tended t v m on (leaves p rest e last e₁ e₂ e₃ e₄ e₅ e₆ is) so = absurd (subst IsTending e₂ on)
+  tended t v m on may (limits p rest e k q class need e₁ e₂ e₃ e₄ e₅ e₆ is) so = absurd (subst IsTending e₂ on)
+  tended t v m on may (starves p rest e k q class e₁ e₂ e₃ e₄ e₅ e₆ is) so = absurd (subst IsTending e₂ on)
+  tended t v m on may (stows p rest e q class e₁ e₂ e₃ e₄ e₅ is) so = absurd (subst IsTending e₂ on)
+  tended t v m on may (quits p rest e q class last e₁ e₂ e₃ e₄ e₅ is) so = absurd (subst IsTending e₂ on)
+  tended t v m on may (frees p rest e o q q' frames e₁ e₂ e₃ e₄ e₅ e₆ is) so = absurd (subst IsTending e₂ on)
+  tended t v m on may (releases p rest e b y e₁ e₂ e₃ e₄ e₅ is) so = absurd (subst IsTending e₂ on)
+  tended t v m on may (repays p rest e k e₁ e₂ e₃ e₄ is) so = absurd (subst IsTending e₂ on)
+  tended t v m on may (puts p rest e f e₁ e₂ e₃ e₄ e₅ is) so = absurd (subst IsTending e₂ on)
+  tended t v m on may (reads p rest e f e₁ e₂ e₃ e₄ e₅ e₆ is) so = absurd (subst IsTending e₂ on)
+  tended t v m on may (fails p rest e last e₁ e₂ e₃ e₄ e₅ is) so = absurd (subst IsTending e₂ on)
+  tended t v m on may (errs p rest e f last e₁ e₂ e₃ e₄ e₅ e₆ e₇ is) so = absurd (subst IsTending e₂ on)
+  tended t v m on may (leaves p rest e last e₁ e₂ e₃ e₄ e₅ e₆ is) so = absurd (subst IsTending e₂ on)
 
 module _ {X : Type 0} (takes : X → LockNo → Next → DiskHeld → X → Type 0)
     (misses : X → LockNo → X → Type 0) (gives : X → LockNo → Next → DiskHeld → X → Type 0) (h g : X)
     (x : Frame) (first : x.done ≡ []) (end : PieceEnd) where
-  tending_reads_nothing : (l : Here) (got : Part → List (List ℕ)) → IsTending l.at
+  tending_reads_nothing : (l : Here) (got : Part → List (List ℕ)) → IsTending l.at → MayWhole l.fail
       → l.todo ≡ x.part ∷ x.rest → l.done ≡ []
       → Turned takes misses gives x.terms l h (ending_by l (end_of end) got l.todo) g (progress.Done end)
       → ReadsNothing end
-  tending_reads_nothing l got on todo none (waited k e miss same never) = absurd never
-  tending_reads_nothing l got on todo none (took_it k f v e take is same never) =
+  tending_reads_nothing l got on may todo none (waited k e miss same never) = absurd never
+  tending_reads_nothing l got on may todo none (took_it k f v e take is same never) =
       absurd (subst IsDone never tt)
-  tending_reads_nothing l got on todo none (gave_it k f v e give is works moved) =
-      tended l none end x.terms v _ on works (first_is l (end_of end) got x.part x.rest todo none)
+  tending_reads_nothing l got on may todo none (gave_it k f v e give is works moved) =
+      tended l none end x.terms v _ on may works (first_is l (end_of end) got x.part x.rest todo none)
 
   -- the last turn of a call that does an operation in one piece
   pub ends_alone : {D : Type 0} (c : Call D) (r s : Scratch) → Does c r x → IsCallFit c r → IsCallGoing c
@@ -284,6 +442,9 @@ module _ {X : Type 0} (takes : X → LockNo → Next → DiskHeld → X → Type
   ends_alone (call.Page c) r s does fit going last on =
       reads_nothing c.head r x first end s.page on does takes misses gives h g c.stage going fit last
   ends_alone (call.Idle c) r s does fit going last on =
-      tending_reads_nothing (idle_here x c.stage) (λ p. []) (scanning c.stage) refl first last
+      tending_reads_nothing (idle_here x c.stage) (λ p. []) (scanning c.stage) tt refl first last
+  ends_alone (call.Writeback c) r s does fit going last on =
+      tending_reads_nothing (visit_here x r c.stage) (λ p. []) (visiting c.stage)
+      (visit_fails c.head c.stage fit) refl first last
   ends_alone (call.Compact c) r s does fit going last on =
-      tending_reads_nothing (compact_here x c.stage) (λ p. []) (compacting c.stage) refl first last
+      tending_reads_nothing (compact_here x c.stage) (λ p. []) (compacting c.stage) tt refl first last

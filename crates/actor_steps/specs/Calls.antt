@@ -15,6 +15,7 @@ use Rattle.page_steps.specs.Calls.{here as page_here, next_event as page_event, 
 use Rattle.page_steps.specs.Turns.{Turned}
 use Rattle.post_steps.specs.Compact.{here as compact_here, next_event as compact_event, IsWork as IsCompactWork, IsFit as IsCompactFit, IsGoing as IsCompactGoing}
 use Rattle.post_steps.specs.Idle.{here as idle_here, next_event as idle_event, IsWork as IsIdleWork, IsFit as IsIdleFit, IsGoing as IsIdleGoing}
+use Rattle.post_steps.specs.Writeback.{here as writeback_here, next_event as writeback_event, IsWork as IsWritebackWork, IsFit as IsWritebackFit, IsGoing as IsWritebackGoing}
 use Rattle.actor_steps.specs.declared.call.Call.{Call}
 use Rattle.actor_steps.specs.declared.call.Call.TheVariants as call
 
@@ -22,37 +23,43 @@ use Rattle.actor_steps.specs.declared.call.Call.TheVariants as call
 abbrev pub Does : {D : Type 0} → Call D → Scratch → Frame → Type 0
 Does (call.Page c) r x = IsPageWork c.head r x
 Does (call.Idle c) r x = IsIdleWork c.head x
+Does (call.Writeback c) r x = IsWritebackWork c.head x
 Does (call.Compact c) r x = IsCompactWork r.table x
 
 -- the local of an actor whose work it does
 abbrev pub local : {D : Type 0} → Call D → Scratch → Frame → Here
 local (call.Page c) r x = page_here x r c.stage
 local (call.Idle c) r x = idle_here x c.stage
+local (call.Writeback c) r x = writeback_here x r c.stage
 local (call.Compact c) r x = compact_here x c.stage
 
 -- its next event
 abbrev pub next_event : {D : Type 0} → Call D → Plan
 next_event (call.Page c) = page_event c.head c.stage
 next_event (call.Idle c) = idle_event c.stage
+next_event (call.Writeback c) = writeback_event c.stage
 next_event (call.Compact c) = compact_event c.stage
 
 -- what holds of it between two events
 abbrev pub IsFit : {D : Type 0} → Call D → Scratch → Type 0
 IsFit (call.Page c) r = IsPageFit c.head r c.stage
 IsFit (call.Idle c) r = IsIdleFit c.head c.stage
+IsFit (call.Writeback c) r = IsWritebackFit c.head c.stage
 IsFit (call.Compact c) r = IsCompactFit r.table c.stage
 
 -- it isn't over
 abbrev pub IsGoing : {D : Type 0} → Call D → Type 0
 IsGoing (call.Page c) = IsPageGoing c.stage
 IsGoing (call.Idle c) = IsIdleGoing c.stage
+IsGoing (call.Writeback c) = IsWritebackGoing c.stage
 IsGoing (call.Compact c) = IsCompactGoing c.stage
 
 -- whether it does an operation that is over in one piece: it counts a request beyond the disk, marks
--- pages, or compacts
+-- pages, writes pages back, or compacts
 abbrev pub is_alone : {D : Type 0} → Call D → Bool
 is_alone (call.Page c) = is_count c.head.work
 is_alone (call.Idle c) = true
+is_alone (call.Writeback c) = true
 is_alone (call.Compact c) = true
 
 -- ---- turns
@@ -61,6 +68,7 @@ is_alone (call.Compact c) = true
 abbrev pub got_by : {D : Type 0} → Call D → Scratch → PieceEnd → Part → List (List ℕ)
 got_by (call.Page c) r end p = got_of end r.page p
 got_by (call.Idle c) r end p = []
+got_by (call.Writeback c) r end p = []
 got_by (call.Compact c) r end p = []
 
 -- the local after a turn: an end hands it on to what follows

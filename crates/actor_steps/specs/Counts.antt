@@ -1,5 +1,5 @@
 -- The pieces with events on a page, counted.
-use Rattle.std.specs.Prelude.{ℕ, ◌+◌, ◌==◌, ◌<◌, List, [], ◌∷◌, if◌then◌else◌, unwrap_or, IfSome}
+use Rattle.std.specs.Prelude.{ℕ, Bool, ◌+◌, ◌==◌, ◌<◌, List, [], ◌∷◌, if◌then◌else◌, unwrap_or, IfSome}
 use Rattle.std.specs.BTreeMap.{BTreeMap, get}
 use Rattle.std.specs.Ordering.{nat_cmp}
 use Rattle.zr_base.specs.declared.op.Op.{Op}
@@ -16,11 +16,11 @@ abbrev pub pieces_on : ℕ → ℕ → List Part → ℕ
 pieces_on size page [] = 0
 pieces_on size page (p ∷ ps) = piece_on size page p + pieces_on size page ps
 
--- the pieces of all actors on a page
-abbrev pub pieces_each : ℕ → List (List Op) → ℕ → ℕ
-pieces_each size [] page = 0
-pieces_each size (ops ∷ more) page =
-    pieces_on size page (program size 0 ops) + pieces_each size more page
+-- the pieces of all actors on a page, on a disk that has a backing or none
+abbrev pub pieces_each : ℕ → Bool → List (List Op) → ℕ → ℕ
+pieces_each size backed [] page = 0
+pieces_each size backed (ops ∷ more) page =
+    pieces_on size page (program size backed 0 ops) + pieces_each size backed more page
 
 -- what is counted for a page
 abbrev pub count_at : BTreeMap ℕ ℕ → ℕ → ℕ

@@ -1,8 +1,8 @@
 -- Where an actor is among the pieces of its operations.
-use Rattle.std.specs.Prelude.{◌≡◌, ◌⊎◌, ℕ, zero, suc, ◌+◌, ◌-◌, ◌*◌, ◌<◌, ◌≤◌, max, Bool, true, ◌||◌, List, [], ◌∷◌, ◌++◌, length, drop, Some, slice_get, if◌then◌else◌, ⊤}
+use Rattle.std.specs.Prelude.{◌≡◌, ◌⊎◌, ℕ, zero, suc, ◌+◌, ◌-◌, ◌*◌, ◌<◌, ◌≤◌, max, Bool, true, not, ◌&&◌, ◌||◌, List, [], ◌∷◌, ◌++◌, length, drop, Some, slice_get, if◌then◌else◌, ⊤}
 use Rattle.zr_base.specs.declared.limits.TheConstants.{MOST_ACTORS, MOST_OPERATIONS}
 use Rattle.zr_base.specs.declared.op.Op.{Op}
-use Rattle.zr_base.specs.Plain.{has_event, IsRequest}
+use Rattle.zr_base.specs.Plain.{is_void, has_event, IsRequest}
 use Rattle.zr_base.specs.Pieces.{first_page, pages_of}
 use Rattle.plain_disk.specs.Ends.{is_single}
 use Rattle.call_history.specs.declared.part.Part.{Part}
@@ -24,17 +24,18 @@ pub record IsWork (actors : List (List Op)) : Type 0 where
   pub most : operations actors ≤ MOST_OPERATIONS
   pub requests : (a : ℕ) (ops : List Op) → slice_get actors a ≡ Some ops → AreRequests ops
 
--- whether an operation has a piece with events on a page; one that is over in one piece is such a
--- piece
-abbrev pub is_part : ℕ → Op → ℕ → Bool
-is_part size op page = is_single size op || has_event op page
+-- whether an operation has a piece with events on a page, on a disk that has a backing or none; one
+-- that is over in one piece is such a piece, where it does anything
+abbrev pub is_part : ℕ → Bool → Op → ℕ → Bool
+is_part size backed op page =
+    not (is_void backed op) && (is_single size op || has_event op page)
 
 -- the pieces with events of an operation on so many pages, from a page on
-abbrev pub left_from : ℕ → ℕ → Op → ℕ → ℕ → List Part
-left_from size nr op page zero = []
-left_from size nr op page (suc n) =
-    (if is_part size op page then record { nr = nr; op = op; page = page } ∷ [] else [])
-    ++ left_from size nr op (page + 1) n
+abbrev pub left_from : ℕ → Bool → ℕ → Op → ℕ → ℕ → List Part
+left_from size backed nr op page zero = []
+left_from size backed nr op page (suc n) =
+    (if is_part size backed op page then record { nr = nr; op = op; page = page } ∷ [] else [])
+    ++ left_from size backed nr op (page + 1) n
 
 -- how many pages an operation has pieces on; one that is over in one piece has one, whose page says
 -- nothing
@@ -42,13 +43,14 @@ abbrev pub pages_to_do : ℕ → Op → ℕ
 pages_to_do size op = if is_single size op then 1 else pages_of op
 
 -- so many pages of the first operation are left, from a page on, and then the later operations
-abbrev pub todo_by : ℕ → ℕ → ℕ → ℕ → List Op → List Part
-todo_by size nr page n [] = []
-todo_by size nr page n (op ∷ later) = left_from size nr op page n ++ program size (nr + 1) later
+abbrev pub todo_by : ℕ → Bool → ℕ → ℕ → ℕ → List Op → List Part
+todo_by size backed nr page n [] = []
+todo_by size backed nr page n (op ∷ later) =
+    left_from size backed nr op page n ++ program size backed (nr + 1) later
 
 -- the pieces that are left
-abbrev pub todo_at : ℕ → List Op → Place → List Part
-todo_at size ops pl = todo_by size pl.nr pl.page pl.left (drop pl.nr ops)
+abbrev pub todo_at : ℕ → Bool → List Op → Place → List Part
+todo_at size backed ops pl = todo_by size backed pl.nr pl.page pl.left (drop pl.nr ops)
 
 -- the piece of an operation at a place
 abbrev pub part_at : Place → Op → Part
@@ -73,13 +75,13 @@ abbrev pub IsPlace : List Op → Place → Type 0
 IsPlace ops pl = IsPlaceBy pl.page pl.left (drop pl.nr ops)
 
 -- the next page has a piece with events, or no operation is left
-abbrev pub IsSettledBy : ℕ → ℕ → ℕ → List Op → Type 0
-IsSettledBy size page n [] = ⊤
-IsSettledBy size page n (op ∷ later) = (1 ≤ n) × (is_part size op page ≡ true)
+abbrev pub IsSettledBy : ℕ → Bool → ℕ → ℕ → List Op → Type 0
+IsSettledBy size backed page n [] = ⊤
+IsSettledBy size backed page n (op ∷ later) = (1 ≤ n) × (is_part size backed op page ≡ true)
 
 -- the place is at a piece with events, or past all operations
-abbrev pub IsSettled : ℕ → List Op → Place → Type 0
-IsSettled size ops pl = IsSettledBy size pl.page pl.left (drop pl.nr ops)
+abbrev pub IsSettled : ℕ → Bool → List Op → Place → Type 0
+IsSettled size backed ops pl = IsSettledBy size backed pl.page pl.left (drop pl.nr ops)
 
 -- the second place isn't before the first
 abbrev pub IsOnward : Place → Place → Type 0

@@ -1,7 +1,7 @@
 -- What a piece needs, and the sectors that it reads.
 use Rattle.std.specs.Prelude.{ℕ, ◌+◌, ◌-◌, ◌*◌, ◌<◌, ◌≤◌, min, max}
 use Rattle.zr_base.specs.declared.op.Op.{Op}
-use Rattle.zr_base.specs.declared.op.Op.TheVariants.{Write, Read, Discard, Idle, Compact}
+use Rattle.zr_base.specs.declared.op.Op.TheVariants.{Write, Read, Discard, Idle, Writeback, Compact}
 use Rattle.zr_base.specs.Plain.{IsRequest}
 use Rattle.zr_base.specs.Pieces.{first_page, pages_of}
 
@@ -17,4 +17,5 @@ reads (Write start count stuff) page = 0
 reads (Read start count) page = min (start + count) (8 * page + 8) - max start (8 * page)
 reads (Discard start count) page = 0
 reads (Idle age) page = 0
+reads (Writeback mode) page = 0
 reads Compact page = 0

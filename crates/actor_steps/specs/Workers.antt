@@ -1,15 +1,18 @@
 -- A worker, which has an actor's place and replies and its call in work, and the local that it
 -- stands for.
-use Rattle.std.specs.Prelude.{◌≡◌, ◌≢◌, ℕ, ◌+◌, ◌-◌, ◌*◌, ◌<◌, ◌≤◌, ◌^◌, ◌==◌, max, true, false, List, [], ◌∷◌, length, Option, Some, None, slice_get, vec_len, vec_capacity, if◌then◌else◌, ⊤}
+use Rattle.std.specs.Prelude.{◌≡◌, ◌≢◌, ℕ, ◌+◌, ◌-◌, ◌*◌, ◌<◌, ◌≤◌, ◌^◌, ◌==◌, max, Bool, true, false, List, [], ◌∷◌, length, Option, Some, None, slice_get, vec_len, vec_capacity, if◌then◌else◌, ⊤}
 use Rattle.zr_base.specs.declared.op.Op.{Op}
-use Rattle.zr_base.specs.declared.op.Op.TheVariants.{Write, Read, Discard, Idle, Compact}
+use Rattle.zr_base.specs.declared.op.Op.TheVariants.{Write, Read, Discard, Idle, Writeback, Compact}
 use Rattle.plain_disk.specs.Ends.{is_single}
+use Rattle.mem_account.specs.declared.weight.Weight.{Weight}
 use Rattle.call_history.specs.declared.part.Part.{Part}
+use Rattle.call_history.specs.declared.part.PartEnd.{PartEnd}
 use Rattle.call_history.specs.declared.part.Done.{Done}
-use Rattle.call_history.specs.Parts.{is_carried, left_by, got_of, op_end, end_of}
+use Rattle.call_history.specs.Parts.{is_carried, left_by, got_of, op_end, end_as}
 use Rattle.lock_row.specs.declared.names.LockNo.{LockNo}
 use Rattle.lock_row.specs.declared.names.Plan.{Plan}
 use Rattle.lock_row.specs.declared.names.Plan.TheVariants.{Finished, Take, Give}
+use Rattle.lock_row.specs.declared.names.Pin.{Pin}
 use Rattle.lock_row.specs.declared.names.At.{At}
 use Rattle.lock_row.specs.declared.names.At.TheVariants as at
 use Rattle.page_steps.specs.declared.stage.Stage.{Stage}
@@ -24,6 +27,7 @@ use Rattle.zr_base.specs.declared.op.Tag.{Tag}
 use Rattle.call_history.specs.Shows.{tag_by}
 use Rattle.page_steps.specs.Calls.{here as page_here, end_of as ending, got_of as got_of_piece}
 use Rattle.post_steps.specs.Idle.{at_of as idle_at, held_of as idle_held}
+use Rattle.post_steps.specs.Writeback.{at_of as writeback_at, held_of as writeback_held, pin_of as writeback_pin, owed_of as writeback_owed, ahead_of as writeback_ahead, behind_of as writeback_behind, page_of as writeback_page, fail_of as writeback_fail}
 use Rattle.post_steps.specs.Compact.{at_of as compact_at, held_of as compact_held, owed_of as compact_owed}
 use Rattle.page_steps.specs.declared.stage.PieceEnd.{PieceEnd}
 use Rattle.page_steps.specs.declared.stage.Progress.{Progress}
@@ -48,6 +52,7 @@ abbrev pub at_by : {D : Type 0} → Option (Call D) → At
 at_by None = at.Start
 at_by (Some (call.Page c)) = at_of c.stage
 at_by (Some (call.Idle c)) = idle_at c.stage
+at_by (Some (call.Writeback c)) = writeback_at c.stage
 at_by (Some (call.Compact c)) = compact_at c.stage
 
 -- the locks that are held with their values, for a piece of this page
@@ -55,6 +60,7 @@ abbrev pub held_by : {D : Type 0} → ℕ → Option (Call D) → List (LockNo �
 held_by page None = []
 held_by page (Some (call.Page c)) = held_of page c.stage
 held_by page (Some (call.Idle c)) = idle_held c.stage
+held_by page (Some (call.Writeback c)) = writeback_held c.stage
 held_by page (Some (call.Compact c)) = compact_held c.stage
 
 -- the frames that are owed
@@ -62,36 +68,62 @@ abbrev pub owed_by : {D : Type 0} → Option (Call D) → ℕ
 owed_by None = 0
 owed_by (Some (call.Page c)) = owed_of c.stage
 owed_by (Some (call.Idle c)) = 0
+owed_by (Some (call.Writeback c)) = writeback_owed c.stage
 owed_by (Some (call.Compact c)) = compact_owed c.stage
 
--- the stage of a page's call, by which the rest of the local goes: all that is a page's alone, of
--- which there is none without such a call
+-- the stage of a page's call, or one at which there is nothing of what a page's call alone has
 abbrev pub stage_of : {D : Type 0} → Option (Call D) → Stage D
 stage_of None = stage.Start
 stage_of (Some (call.Page c)) = c.stage
 stage_of (Some (call.Idle c)) = stage.Start
+stage_of (Some (call.Writeback c)) = stage.Start
 stage_of (Some (call.Compact c)) = stage.Start
 
--- the local, where these pieces are over
-abbrev pub here : {D : Type 0} → ℕ → List Op → Worker D → List Done → Here
-here size ops w done = record {
+-- the cell that is pinned
+abbrev pub pin_by : {D : Type 0} → Option (Call D) → Option Pin
+pin_by (Some (call.Writeback c)) = writeback_pin c.stage
+pin_by o = cell_in (stage_of o)
+
+-- what the account counts of the page, beside what the entry shows
+abbrev pub ahead_by : {D : Type 0} → Option (Call D) → Option Weight
+ahead_by (Some (call.Writeback c)) = writeback_ahead c.stage
+ahead_by o = ahead_of (stage_of o)
+
+-- what the entry shows, and the account doesn't count any more
+abbrev pub behind_by : {D : Type 0} → Option (Call D) → Option Weight
+behind_by (Some (call.Writeback c)) = writeback_behind c.stage
+behind_by o = behind_of (stage_of o)
+
+-- the page that was read from a pinned cell or from the device
+abbrev pub page_by : {D : Type 0} → Scratch → Option (Call D) → Option (List ℕ)
+page_by r (Some (call.Writeback c)) = writeback_page r c.stage
+page_by r o = page_of r (stage_of o)
+
+-- the end that the piece will have, if that is known
+abbrev pub fail_by : {D : Type 0} → Option (Call D) → Option PartEnd
+fail_by (Some (call.Writeback c)) = writeback_fail c.stage
+fail_by o = fail_of (stage_of o)
+
+-- the local, where these pieces are over, on a disk of so many pages, which has a backing or none
+abbrev pub here : {D : Type 0} → ℕ → Bool → List Op → Worker D → List Done → Here
+here size backed ops w done = record {
   actor = w.actor;
   at = at_by w.call;
-  todo = todo_at size ops w.place;
+  todo = todo_at size backed ops w.place;
   held = held_by w.place.page w.call;
   done = done;
   fresh = fresh_of w.scratch (stage_of w.call);
-  pin = cell_in (stage_of w.call);
+  pin = pin_by w.call;
   owed = owed_by w.call;
-  ahead = ahead_of (stage_of w.call);
-  behind = behind_of (stage_of w.call);
-  page = page_of w.scratch (stage_of w.call);
-  fail = fail_of (stage_of w.call);
+  ahead = ahead_by w.call;
+  behind = behind_by w.call;
+  page = page_by w.scratch w.call;
+  fail = fail_by w.call;
 }
 
 -- what it does next, whatever is over
-abbrev pub next_event : {D : Type 0} → Terms → List Op → Worker D → Plan
-next_event t ops w = plan t (here t.size ops w [])
+abbrev pub next_event : {D : Type 0} → Terms → Bool → List Op → Worker D → Plan
+next_event t backed ops w = plan t (here t.size backed ops w [])
 
 -- what the terms of a phase are to a worker, by the disk's pages and the time
 abbrev pub terms_of : {D : Type 0} → ℕ → ℕ → Worker D → Terms
@@ -122,8 +154,10 @@ AllCarried nr (d ∷ ds) = (d.part.nr ≡ nr → is_carried d.end ≡ true) × A
 
 -- The replies have the ends of the operations by the pieces that are over, and what these have
 -- read; of the operation in work so many pieces are over, all carried out, and none of a later one.
-pub record Keeps {D : Type 0} (w : Worker D) (done : List Done) : Type 0 where
-  pub ends : (k : ℕ) (r : Reply) → slice_get w.replies.items k ≡ Some r → r.end ≡ end_of k done
+pub record Keeps {D : Type 0} (backed : Bool) (ops : List Op) (w : Worker D) (done : List Done)
+    : Type 0 where
+  pub ends : (k : ℕ) (op : Op) (r : Reply) → slice_get ops k ≡ Some op
+      → slice_get w.replies.items k ≡ Some r → r.end ≡ end_as backed k op done
   pub sectors : (k : ℕ) (r : Reply) → slice_get w.replies.items k ≡ Some r
       → r.sectors.items ≡ got_of k done
   pub count : over_of w.place.nr done ≡ w.carried
@@ -147,6 +181,7 @@ ReplyFits size pl k (Read start count) r =
     × (is_single size (Read start count) ≡ true → r.sectors.items ≡ [])
 ReplyFits size pl k (Discard start count) r = r.sectors.items ≡ []
 ReplyFits size pl k (Idle age) r = r.sectors.items ≡ []
+ReplyFits size pl k (Writeback mode) r = r.sectors.items ≡ []
 ReplyFits size pl k Compact r = r.sectors.items ≡ []
 
 -- what the call in work doesn't know of its actor, where these pieces follow and these are over
@@ -173,12 +208,13 @@ HasCall t ops w (Some c) = IsCallOf t ops w c
 
 -- The worker is at a piece with events, or past all of them, with room for what is left to do, on a
 -- disk that has a page.
-pub record IsFit {D : Type 0} (t : Terms) (ops : List Op) (w : Worker D) : Type 0 where
+pub record IsFit {D : Type 0} (t : Terms) (backed : Bool) (ops : List Op) (w : Worker D)
+    : Type 0 where
   pub some : 0 < t.size
   pub requests : AreRequests ops
   pub few : length ops < 2 ^ 32
   pub place : IsPlace ops w.place
-  pub settled : IsSettled t.size ops w.place
+  pub settled : IsSettled t.size backed ops w.place
   pub chain : w.scratch.table ≡ t.chain
   pub most : t.chain ≤ 16
   pub carried : w.carried ≤ w.place.page
@@ -201,22 +237,25 @@ pub record IsBegun {D : Type 0} (size now : ℕ) (tag : Tag) (op : Op) (page : �
       → r.fresh ≡ fresh → Does c r x
 
 -- The worker's next piece has begun: it has a call, and stands for the local that it stood for.
-pub record HasBegun {D : Type 0} (t : Terms) (ops : List Op) (w w' : Worker D) : Type 0 where
+pub record HasBegun {D : Type 0} (t : Terms) (backed : Bool) (ops : List Op) (w w' : Worker D)
+    : Type 0 where
   pub call : w'.call ≢ None
   pub place : w'.place ≡ w.place
   pub table : w'.scratch.table ≡ w.scratch.table
-  pub fit : IsFit t ops w'
-  pub same : (done : List Done) → here t.size ops w done ≡ here t.size ops w' done
-  pub keeps : (done : List Done) → Keeps w done → Keeps w' done
+  pub fit : IsFit t backed ops w'
+  pub same : (done : List Done)
+      → here t.size backed ops w done ≡ here t.size backed ops w' done
+  pub keeps : (done : List Done) → Keeps backed ops w done → Keeps backed ops w' done
 
 -- ---- ends of pieces
 
 -- What a worker needs where its piece is over with this end.
-pub record CanFinish {D : Type 0} (size : ℕ) (ops : List Op) (end : PieceEnd) (w : Worker D) : Type 0 where
+pub record CanFinish {D : Type 0} (size : ℕ) (backed : Bool) (ops : List Op) (end : PieceEnd)
+    (w : Worker D) : Type 0 where
   pub requests : AreRequests ops
   pub more : w.place.nr < length ops
   pub place : IsPlace ops w.place
-  pub settled : IsSettled size ops w.place
+  pub settled : IsSettled size backed ops w.place
   pub carried : w.carried ≤ w.place.page
   pub replies : length w.replies.items ≡ length ops
   pub room : (op : Op) (r : Reply) → slice_get ops w.place.nr ≡ Some op
@@ -224,15 +263,16 @@ pub record CanFinish {D : Type 0} (size : ℕ) (ops : List Op) (end : PieceEnd) 
       → HasRoomFor end (vec_len r.sectors + reads op w.place.page) (vec_capacity r.sectors)
 
 -- The worker's piece is over with this end: its reply has that, and the place goes on.
-pub record Finishes {D : Type 0} (size : ℕ) (ops : List Op) (end : PieceEnd) (w w' : Worker D) : Type 0 where
+pub record Finishes {D : Type 0} (size : ℕ) (backed : Bool) (ops : List Op) (end : PieceEnd)
+    (w w' : Worker D) : Type 0 where
   pub actor : w'.actor ≡ w.actor
   pub call : w'.call ≡ w.call
   pub scratch : w'.scratch ≡ w.scratch
   pub place : IsPlace ops w'.place
-  pub settled : IsSettled size ops w'.place
+  pub settled : IsSettled size backed ops w'.place
   pub onward : IsOnward (behind w.place) w'.place
-  pub todo : todo_at size ops w'.place
-      ≡ left_by (ending end) w.place.nr (todo_at size ops (behind w.place))
+  pub todo : todo_at size backed ops w'.place
+      ≡ left_by (ending end) w.place.nr (todo_at size backed ops (behind w.place))
   pub later : is_carried (ending end) ≡ false → w.place.nr < w'.place.nr
   pub carried : w'.carried ≡ (if w'.place.nr == w.place.nr then w.carried + 1 else 0)
   pub replies : (op : Op) → slice_get ops w.place.nr ≡ Some op
@@ -243,26 +283,27 @@ pub record Finishes {D : Type 0} (size : ℕ) (ops : List Op) (end : PieceEnd) (
 -- ---- turns
 
 -- an event that takes a value may be told so, whatever is over
-abbrev pub TakesAs : {D : Type 0} → Terms → List Op → Worker D → Next → Type 0
-TakesAs t ops w f = (done : List Done) (v : DiskHeld)
-    → f (here t.size ops w done) v ≡ took t (here t.size ops w done) v
+abbrev pub TakesAs : {D : Type 0} → Terms → Bool → List Op → Worker D → Next → Type 0
+TakesAs t backed ops w f = (done : List Done) (v : DiskHeld)
+    → f (here t.size backed ops w done) v ≡ took t (here t.size backed ops w done) v
 
 -- an event that gives this value may be told so, whatever is over
-abbrev pub GivesAs : {D : Type 0} → Terms → List Op → Worker D → Next → DiskHeld → Type 0
-GivesAs t ops w f v = (done : List Done)
-    → Works t (here t.size ops w done) v (f (here t.size ops w done) v)
+abbrev pub GivesAs : {D : Type 0} → Terms → Bool → List Op → Worker D → Next → DiskHeld → Type 0
+GivesAs t backed ops w f v = (done : List Done)
+    → Works t (here t.size backed ops w done) v (f (here t.size backed ops w done) v)
 
 module _ {X : Type 0} (can_take : X → LockNo → Next → Type 0)
     (takes : X → LockNo → Next → DiskHeld → X → Type 0)
     (can_give : X → LockNo → Next → DiskHeld → Type 0) where
   -- The hand allows the next event of a worker, and what it gives to a take fits.
-  pub record Allows {D : Type 0} (t : Terms) (ops : List Op) (w : Worker D) (h : X) : Type 0 where
-    pub take : (k : LockNo) (f : Next) → next_event t ops w ≡ Take k → TakesAs t ops w f
-        → can_take h k f
-    pub fits : (k : LockNo) (f : Next) (v : DiskHeld) (g : X) → next_event t ops w ≡ Take k
-        → TakesAs t ops w f → takes h k f v g → StageFits t (here t.size ops w []) v
-    pub give : (k : LockNo) (f : Next) (v : DiskHeld) → next_event t ops w ≡ Give k
-        → GivesAs t ops w f v → can_give h k f v
+  pub record Allows {D : Type 0} (t : Terms) (backed : Bool) (ops : List Op) (w : Worker D) (h : X)
+      : Type 0 where
+    pub take : (k : LockNo) (f : Next) → next_event t backed ops w ≡ Take k
+        → TakesAs t backed ops w f → can_take h k f
+    pub fits : (k : LockNo) (f : Next) (v : DiskHeld) (g : X) → next_event t backed ops w ≡ Take k
+        → TakesAs t backed ops w f → takes h k f v g → StageFits t (here t.size backed ops w []) v
+    pub give : (k : LockNo) (f : Next) (v : DiskHeld) → next_event t backed ops w ≡ Give k
+        → GivesAs t backed ops w f v → can_give h k f v
 
 -- what a turn of its call is to an actor
 abbrev pub turn_of : Progress → Turn
@@ -281,6 +322,7 @@ module _ {X : Type 0} (takes : X → LockNo → Next → DiskHeld → X → Type
         → Turned t l h m g n
 
   -- that of a worker, where these pieces are over before it
-  abbrev pub Advanced : {D : Type 0} → Terms → List Op → Worker D → X → Worker D → X → Turn → List Done → Type 0
-  Advanced t ops w h w' g n done = (done' : List Done) × Keeps w' done'
-      × Turned t (here t.size ops w done) h (here t.size ops w' done') g n
+  abbrev pub Advanced : {D : Type 0} → Terms → Bool → List Op → Worker D → X → Worker D → X → Turn
+      → List Done → Type 0
+  Advanced t backed ops w h w' g n done = (done' : List Done) × Keeps backed ops w' done'
+      × Turned t (here t.size backed ops w done) h (here t.size backed ops w' done') g n

@@ -8,7 +8,7 @@ ghost use Rattle.actor_steps.specs.Calls.{Does, local, next_event, IsFit, IsGoin
 use backing_dev::Backing;
 use lock_row::Hand;
 use page_steps::{DiskHeld, PageCall, Progress, Scratch};
-use post_steps::{CompactCall, IdleCall};
+use post_steps::{CompactCall, IdleCall, WritebackCall};
 
 /// The call of a piece in work.
 #[derive(Drop)]
@@ -17,6 +17,8 @@ pub enum Call<D: Backing> {
     Page(PageCall<D>),
     /// A scan that marks pages.
     Idle(IdleCall),
+    /// A writeback.
+    Writeback(WritebackCall<D>),
     /// A compaction.
     Compact(CompactCall),
 }
@@ -42,6 +44,7 @@ impl<D: Backing> Call<D> {
         match self {
             Call::Page(call) => call.advance(hand, scratch),
             Call::Idle(call) => call.advance(hand),
+            Call::Writeback(call) => call.advance(hand, scratch),
             Call::Compact(call) => call.advance(&scratch.table, hand),
         }
     }

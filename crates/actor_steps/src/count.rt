@@ -1,6 +1,6 @@
 //! How many pieces with events a phase has on each page, for which the page's order needs room.
 
-ghost use Rattle.std.specs.Prelude.{◌≡◌, ℕ, ◌+◌, ◌<◌, ◌^◌, IfOk, OnOk, Some};
+ghost use Rattle.std.specs.Prelude.{◌≡◌, ℕ, Bool, ◌+◌, ◌<◌, ◌^◌, IfOk, OnOk, Some};
 ghost use Rattle.std.specs.BTreeMap.{Updates};
 ghost use Rattle.std.specs.Ordering.{nat_cmp};
 ghost use Rattle.zr_base.specs.Plain.{IsRequest};
@@ -26,11 +26,12 @@ fn count_piece(page: u32, counts: &mut BTreeMap<u32, u32>) -> Result<(), AllocEr
 fn count_op(size: u32, op: &Op, counts: &mut BTreeMap<u32, u32>) -> Result<(), AllocError>
     requires request { IsRequest op.now }
     requires only { HasOnlyCounts size counts.old }
-    requires fits { (p : ℕ) → p < size
-        → count_at counts.old p + pieces_on size p (parts size 0 op.now) < 2 ^ 32 }
+    requires fits { (backed : Bool) (p : ℕ) → p < size
+        → count_at counts.old p + pieces_on size p (parts size backed 0 op.now) < 2 ^ 32 }
     ensures only { OnOk result (HasOnlyCounts size counts.new) }
-    ensures counted { OnOk result ((p : ℕ) → p < size
-        → count_at counts.new p ≡ count_at counts.old p + pieces_on size p (parts size 0 op.now)) }
+    ensures counted { OnOk result ((backed : Bool) (p : ℕ) → p < size
+        → count_at counts.new p
+        ≡ count_at counts.old p + pieces_on size p (parts size backed 0 op.now)) }
 {
     if is_single(size, op) {
         return Ok(());
@@ -48,11 +49,12 @@ fn count_op(size: u32, op: &Op, counts: &mut BTreeMap<u32, u32>) -> Result<(), A
 fn count_actor(size: u32, ops: &[Op], counts: &mut BTreeMap<u32, u32>) -> Result<(), AllocError>
     requires requests { AreRequests ops.now }
     requires only { HasOnlyCounts size counts.old }
-    requires fits { (p : ℕ) → p < size
-        → count_at counts.old p + pieces_on size p (program size 0 ops.now) < 2 ^ 32 }
+    requires fits { (backed : Bool) (p : ℕ) → p < size
+        → count_at counts.old p + pieces_on size p (program size backed 0 ops.now) < 2 ^ 32 }
     ensures only { OnOk result (HasOnlyCounts size counts.new) }
-    ensures counted { OnOk result ((p : ℕ) → p < size
-        → count_at counts.new p ≡ count_at counts.old p + pieces_on size p (program size 0 ops.now)) }
+    ensures counted { OnOk result ((backed : Bool) (p : ℕ) → p < size
+        → count_at counts.new p
+        ≡ count_at counts.old p + pieces_on size p (program size backed 0 ops.now)) }
 {
     for op in ops {
         count_op(size, op, counts)?;
@@ -60,7 +62,8 @@ fn count_actor(size: u32, ops: &[Op], counts: &mut BTreeMap<u32, u32>) -> Result
     Ok(())
 }
 
-/// The pieces with events that a phase has on each page. A page without any has no entry.
+/// The pieces with events that a phase has on each page, whether the disk has a backing or none. A page
+/// without any has no entry.
 pub fn count_pieces(
     alloc: Global,
     size: u32,
@@ -68,8 +71,8 @@ pub fn count_pieces(
 ) -> Result<BTreeMap<u32, u32>, AllocError>
     requires { IsWork ops.now }
     ensures only { IfOk result (HasOnlyCounts size) }
-    ensures counted { IfOk result (λ counts. (p : ℕ) → p < size
-        → count_at counts p ≡ pieces_each size ops.now p) }
+    ensures counted { IfOk result (λ counts. (backed : Bool) (p : ℕ) → p < size
+        → count_at counts p ≡ pieces_each size backed ops.now p) }
 {
     let mut counts = BTreeMap::new(alloc);
     for actor in ops {

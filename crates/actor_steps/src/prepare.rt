@@ -15,30 +15,32 @@ use size_class::ClassTable;
 use std::alloc::{AllocError, Global};
 use zr_base::{ActorOps, Op, OpEnd, Page};
 
-// The reply of an operation, with room for what it will tell.
-fn new_reply(alloc: Global, size: u32, op: &Op) -> Result<Reply, AllocError>
+// The reply of an operation, with room for what it will tell. One that does nothing has its end.
+fn new_reply(alloc: Global, size: u32, backed: bool, op: &Op) -> Result<Reply, AllocError>
     requires { IsRequest op.now }
-    ensures { IfOk result (IsNewReply size op.now) }
+    ensures { IfOk result (IsNewReply size backed op.now) }
 {
     let room = match op {
         Op::Read { count, .. } if !op.is_beyond(size) => *count as usize,
         _ => 0,
     };
     let sectors = Vec::with_capacity(alloc, room)?;
-    Ok(Reply {
-        end: OpEnd::Ok,
-        sectors,
-    })
+    let end = if op.is_void(backed) {
+        OpEnd::NoBacking
+    } else {
+        OpEnd::Ok
+    };
+    Ok(Reply { end, sectors })
 }
 
 // The replies of an actor's operations.
-fn new_replies(alloc: Global, size: u32, ops: &[Op]) -> Result<Vec<Reply>, AllocError>
+fn new_replies(alloc: Global, size: u32, backed: bool, ops: &[Op]) -> Result<Vec<Reply>, AllocError>
     requires { AreRequests ops.now }
-    ensures { IfOk result (λ replies. AreNewReplies size ops.now replies.items) }
+    ensures { IfOk result (λ replies. AreNewReplies size backed ops.now replies.items) }
 {
     let mut replies = Vec::with_capacity(alloc, ops.len())?;
     for op in ops {
-        replies.push_reserved(new_reply(alloc, size, op)?);
+        replies.push_reserved(new_reply(alloc, size, backed, op)?);
     }
     Ok(replies)
 }
@@ -47,6 +49,7 @@ fn new_replies(alloc: Global, size: u32, ops: &[Op]) -> Result<Vec<Reply>, Alloc
 fn push_worker<D: Backing>(
     alloc: Global,
     size: u32,
+    backed: bool,
     chain: u32,
     ops: &[Op],
     workers: &mut Vec<Worker<D>>,
@@ -61,11 +64,11 @@ fn push_worker<D: Backing>(
     ensures len { OnOk result (vec_len workers.new ≡ vec_len workers.old + 1) }
     ensures capacity { OnOk result (vec_capacity workers.new ≡ vec_capacity workers.old) }
     ensures added { OnOk result ((w : Worker D)
-        × IsNewWorker size chain (vec_len workers.old) ops.now w
+        × IsNewWorker size backed chain (vec_len workers.old) ops.now w
         × (workers.new.items ≡ workers.old.items ++ w ∷ [])) }
 {
-    let replies = new_replies(alloc, size, ops)?;
-    let place = settled(size, ops, first_piece(size, ops, 0));
+    let replies = new_replies(alloc, size, backed, ops)?;
+    let place = settled(size, backed, ops, first_piece(size, ops, 0));
     let scratch = Scratch {
         page: Page::zero(),
         fresh: Page::zero(),
@@ -83,11 +86,12 @@ fn push_worker<D: Backing>(
     Ok(())
 }
 
-/// The actors of a phase before their first turns, on a disk of `size` pages whose chains have at
-/// most `chain` frames.
+/// The actors of a phase before their first turns, on a disk of `size` pages, which has a backing or none,
+/// and whose chains have at most `chain` frames.
 pub fn new_workers<D: Backing>(
     alloc: Global,
     size: u32,
+    backed: bool,
     chain: u32,
     ops: &[ActorOps],
 ) -> Result<Vec<Worker<D>>, AllocError>
@@ -95,11 +99,11 @@ pub fn new_workers<D: Backing>(
     requires some { 0 < length ops.now → 0 < size }
     requires low { 4 ≤ chain }
     requires high { chain ≤ 16 }
-    ensures { IfOk result (λ workers. AreNewWorkers size chain ops.now workers.items) }
+    ensures { IfOk result (λ workers. AreNewWorkers size backed chain ops.now workers.items) }
 {
     let mut workers = Vec::with_capacity(alloc, ops.len())?;
     for actor in ops {
-        push_worker(alloc, size, chain, actor.as_slice(), &mut workers)?;
+        push_worker(alloc, size, backed, chain, actor.as_slice(), &mut workers)?;
     }
     Ok(workers)
 }

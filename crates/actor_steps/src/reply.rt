@@ -41,6 +41,10 @@ fn op_end(end: PieceEnd, carried: u32) -> OpEnd
             done: carried,
         },
         PieceEnd::Marked(pages) => OpEnd::Marked(pages),
+        PieceEnd::Written { wrote, lost } => OpEnd::Written { wrote, lost },
+        PieceEnd::Budget { wrote, lost } => OpEnd::Budget { wrote, lost },
+        PieceEnd::NoBlock { wrote, lost } => OpEnd::NoBlock { wrote, lost },
+        PieceEnd::WriteEio { fault, wrote, lost } => OpEnd::WriteEio { fault, wrote, lost },
         PieceEnd::Compacted { moves, frames } => OpEnd::Compacted { moves, frames },
     }
 }
@@ -59,6 +63,10 @@ pub(crate) fn goes_on(end: PieceEnd) -> bool
         | PieceEnd::NoMemory
         | PieceEnd::Eio { .. }
         | PieceEnd::Marked(_)
+        | PieceEnd::Written { .. }
+        | PieceEnd::Budget { .. }
+        | PieceEnd::NoBlock { .. }
+        | PieceEnd::WriteEio { .. }
         | PieceEnd::Compacted { .. } => false,
     }
 }

@@ -1,7 +1,7 @@
 //! An actor of a phase: its place among its operations, the call of its piece in work, and its
 //! replies. Its steps are written for any hand.
 
-ghost use Rattle.std.specs.Prelude.{◌≡◌, ◌≢◌, ◌<◌, ◌^◌, nat_le, List, length, Some, None, slice_get};
+ghost use Rattle.std.specs.Prelude.{◌≡◌, ◌≢◌, ◌<◌, ◌^◌, nat_le, Bool, List, length, Some, None, slice_get};
 ghost use Rattle.zr_base.specs.declared.op.Op.{Op};
 ghost use Rattle.call_history.specs.declared.part.Done.{Done};
 ghost use Rattle.actor_steps.specs.Places.{AreRequests, IsPlace, IsSettled};
@@ -15,7 +15,10 @@ use backing_dev::Backing;
 use call_history::histories_go_on;
 use lock_row::{Hand, LockNo};
 use page_steps::{DiskHeld, PageCall, PieceEnd, Progress, Scratch, calls_are_events};
-use post_steps::{CompactCall, IdleCall, compactions_are_events, scans_are_events};
+use post_steps::{
+    CompactCall, IdleCall, WritebackCall, compactions_are_events, scans_are_events,
+    writebacks_are_events,
+};
 use zr_base::{Op, Page, Tag};
 
 /// What a turn was.
@@ -56,7 +59,7 @@ fn begun<D: Backing>(
     requires few { length ops.now < 2 ^ 32 }
     requires more { place.nr < length ops.now }
     requires place { IsPlace ops.now place }
-    requires settled { IsSettled size ops.now place }
+    requires settled { (backed : Bool) × IsSettled size backed ops.now place }
     ensures { (op : Op) → slice_get ops.now place.nr ≡ Some op
         → IsBegun size now (record { actor = actor; op = place.nr }) op place.page fresh.new result }
 {
@@ -82,6 +85,7 @@ fn begun<D: Backing>(
         Op::Read { .. } => Call::Page(PageCall::read(op.piece_on(page), tag, now)),
         Op::Discard { .. } => Call::Page(PageCall::discard(op.piece_on(page), tag, now)),
         Op::Idle { age } => Call::Idle(IdleCall::new(size, now, *age)),
+        Op::Writeback { mode } => Call::Writeback(WritebackCall::new(size, *mode)),
         Op::Compact => Call::Compact(CompactCall::new()),
     }
 }
@@ -103,9 +107,9 @@ impl<D: Backing> Worker<D> {
     }
 
     // The piece in work is over: its reply has its end and its sectors, and the place goes on.
-    fn finish(&mut self, size: u32, ops: &[Op], end: PieceEnd)
-        requires { CanFinish size ops.now end self.old }
-        ensures { Finishes size ops.now end self.old self.new }
+    fn finish(&mut self, size: u32, backed: bool, ops: &[Op], end: PieceEnd)
+        requires { CanFinish size backed ops.now end self.old }
+        ensures { Finishes size backed ops.now end self.old self.new }
     {
         let Place { nr, page, .. } = self.place;
         keep(
@@ -117,7 +121,7 @@ impl<D: Backing> Worker<D> {
             self.carried,
             &self.scratch.page,
         );
-        self.place = next_place(size, ops, self.place, goes_on(end));
+        self.place = next_place(size, backed, ops, self.place, goes_on(end));
         self.carried = if self.place.nr == nr {
             self.carried + 1
         } else {
@@ -130,8 +134,9 @@ impl<D: Backing> Worker<D> {
     fn begin(&mut self, size: u32, now: u64, ops: &[Op])
         requires more { self.old.place.nr < length ops.now }
         requires none { self.old.call ≡ None }
-        requires fit { IsFit (terms_of size now self.old) ops.now self.old }
-        ensures { HasBegun (terms_of size now self.old) ops.now self.old self.new }
+        requires fit { (backed : Bool) × IsFit (terms_of size now self.old) backed ops.now self.old }
+        ensures { (backed : Bool) → IsFit (terms_of size now self.old) backed ops.now self.old
+            → HasBegun (terms_of size now self.old) backed ops.now self.old self.new }
     {
         let fresh = &mut self.scratch.fresh;
         self.call = Some(begun(size, now, self.actor, self.place, ops, fresh));
@@ -141,23 +146,25 @@ impl<D: Backing> Worker<D> {
     fn go_on<H: Hand<Value = DiskHeld<D>>>(
         &mut self,
         size: u32,
+        backed: bool,
         now: u64,
         ops: &[Op],
         hand: &mut H,
     ) -> Turn
         requires more { self.old.place.nr < length ops.now }
         requires begun { self.old.call ≢ None }
-        requires fit { IsFit (terms_of size now self.old) ops.now self.old }
-        requires allows { Allows H.can_take H.takes H.can_give (terms_of size now self.old) ops.now
-            self.old hand.old }
-        ensures fit { IsFit (terms_of size now self.old) ops.now self.new }
-        ensures turn { (done : List Done) → Keeps self.old done
-            → Advanced H.takes H.misses H.gives (terms_of size now self.old) ops.now
-            self.old hand.old self.new hand.new result done }
+        requires fit { IsFit (terms_of size now self.old) backed ops.now self.old }
+        requires allows { Allows H.can_take H.takes H.can_give (terms_of size now self.old) backed
+            ops.now self.old hand.old }
+        ensures fit { IsFit (terms_of size now self.old) backed ops.now self.new }
+        ensures turn { (done : List Done) → Keeps backed ops.now self.old done
+            → Advanced H.takes H.misses H.gives (terms_of size now self.old) backed
+            ops.now self.old hand.old self.new hand.new result done }
     {
         calls_are_events::<D>();
         compactions_are_events();
         scans_are_events();
+        writebacks_are_events::<D>();
         histories_go_on();
         match &mut self.call {
             Some(call) => match call.advance(hand, &mut self.scratch) {
@@ -165,7 +172,7 @@ impl<D: Backing> Worker<D> {
                 Progress::Waits(lock) => Turn::Waited(lock),
                 Progress::Done(end) => {
                     clear(&mut self.call);
-                    self.finish(size, ops, end);
+                    self.finish(size, backed, ops, end);
                     Turn::Went
                 }
             },
@@ -173,29 +180,31 @@ impl<D: Backing> Worker<D> {
         }
     }
 
-    /// One turn of the actor, by this hand, on a disk of `size` pages at the time `now`.
+    /// One turn of the actor, by this hand, on a disk of `size` pages, which has a backing or none, at the
+    /// time `now`.
     pub fn advance<H: Hand<Value = DiskHeld<D>>>(
         &mut self,
         size: u32,
+        backed: bool,
         now: u64,
         ops: &[Op],
         hand: &mut H,
     ) -> Turn
-        requires fit { IsFit (terms_of size now self.old) ops.now self.old }
-        requires allows { Allows H.can_take H.takes H.can_give (terms_of size now self.old) ops.now
-            self.old hand.old }
-        ensures fit { IsFit (terms_of size now self.old) ops.now self.new }
-        ensures turn { (done : List Done) → Keeps self.old done
-            → Advanced H.takes H.misses H.gives (terms_of size now self.old) ops.now
-            self.old hand.old self.new hand.new result done }
+        requires fit { IsFit (terms_of size now self.old) backed ops.now self.old }
+        requires allows { Allows H.can_take H.takes H.can_give (terms_of size now self.old) backed
+            ops.now self.old hand.old }
+        ensures fit { IsFit (terms_of size now self.old) backed ops.now self.new }
+        ensures turn { (done : List Done) → Keeps backed ops.now self.old done
+            → Advanced H.takes H.misses H.gives (terms_of size now self.old) backed
+            ops.now self.old hand.old self.new hand.new result done }
     {
         if self.is_done(ops) {
             return Turn::Finished;
         }
         if self.call.is_some() {
-            return self.go_on(size, now, ops, hand);
+            return self.go_on(size, backed, now, ops, hand);
         }
         self.begin(size, now, ops);
-        self.go_on(size, now, ops, hand)
+        self.go_on(size, backed, now, ops, hand)
     }
 }

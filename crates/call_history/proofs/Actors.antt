@@ -8,15 +8,16 @@ use Rattle.std.proofs.lemmas.List.Sums.{sum_by-cons}
 use Rattle.zr_base.specs.declared.op.Op.{Op}
 use Rattle.zr_base.specs.declared.op.Op.TheVariants.{Read}
 use Rattle.zr_base.specs.declared.op.OpEnd.{OpEnd}
-use Rattle.zr_base.specs.Plain.{stands_on, stands_named}
+use Rattle.zr_base.specs.declared.op.OpEnd.TheVariants as ends
+use Rattle.zr_base.specs.Plain.{stands_on, stands_named, is_void}
 use Rattle.plain_disk.specs.Ends.{Ground, Bounds, MayEnd, MayEndAll, read_by, due_from}
 use Rattle.call_history.specs.declared.part.Part.{Part}
 use Rattle.call_history.specs.declared.part.PartEnd.{PartEnd}
 use Rattle.call_history.specs.declared.part.Done.{Done}
-use Rattle.call_history.specs.Parts.{parts, program, Follows, noted_on, got_of, end_of, ends_from, shown, told_from}
+use Rattle.call_history.specs.Parts.{parts, program, Follows, noted_on, got_of, end_of, end_as, ends_from, shown, told_from}
 use Rattle.call_history.specs.Histories.{HasSome, SomeEach}
 use Rattle.call_history.proofs.Orders.{Rising}
-use Rattle.call_history.proofs.Ends.{Mine, split, every_parts_of, program_above, every_done, every_mine, noted_append, got_append, end_none, end_front, got_none, all_map, Else, Of, Above}
+use Rattle.call_history.proofs.Ends.{Mine, split, parts_have_nr, program_above, every_done, every_mine, noted_append, got_append, end_none, end_front, got_none, all_map, Else, Of, Above}
 use Rattle.call_history.proofs.Operations.{By, Reads, one_op, one_read}
 
 -- ---- the first operation and the later ones
@@ -28,13 +29,14 @@ of_else nr k ds all lt = all_map (λ (d : Done). d.part.nr ≡ nr) (Else k) ds
     (λ d e s. absurd (let none : ⊥ = omega arith in none)) all
 
 -- the ends of later operations
-ends_back : (nr k : ℕ) (ops : List Op) (front back : List Done)
+ends_back : (backed : Bool) (nr k : ℕ) (ops : List Op) (front back : List Done)
     → AllByRecursion (λ (d : Done). d.part.nr ≡ nr) front → nr < k
-    → ends_from k ops (front ++ back) ≡ ends_from k ops back
-ends_back nr k [] front back all lt = refl
-ends_back nr k (op ∷ ops) front back all lt =
-    λ i. end_none k 0 front back (of_else nr k front all lt) i
-    ∷ ends_back nr (k + 1) ops front back all (omega arith) i
+    → ends_from backed k ops (front ++ back) ≡ ends_from backed k ops back
+ends_back backed nr k [] front back all lt = refl
+ends_back backed nr k (op ∷ ops) front back all lt =
+    λ i. cond (is_void backed op) ends.NoBacking
+    (end_none k 0 front back (of_else nr k front all lt) i)
+    ∷ ends_back backed nr (k + 1) ops front back all (omega arith) i
 
 -- what they tell
 told_back : (nr k : ℕ) (ops : List Op) (front back : List Done)
@@ -48,30 +50,30 @@ told_back nr k (op ∷ ops) front back all lt =
     ∙ ap (λ (xs : List (List ℕ)). xs ++ got_of k back) (got_none k front other)) i)
     ∷ told_back nr (k + 1) ops front back all (omega arith) i
 
-module _ (So : Part → PartEnd → Type 0) (pages : ℕ) where
+module _ (So : Part → PartEnd → Type 0) (pages : ℕ) (backed : Bool) where
   pub record Cut (nr : ℕ) (op : Op) (ops : List Op) (done : List Done) : Type 0 where
     pub front : List Done
     pub back : List Done
     pub is : done ≡ front ++ back
-    pub mine : Mine So (parts pages nr op) front
-    pub later : Follows So (program pages (nr + 1) ops) back []
+    pub mine : Mine So (parts pages backed nr op) front
+    pub later : Follows So (program pages backed (nr + 1) ops) back []
     pub of : AllByRecursion (λ (d : Done). d.part.nr ≡ nr) front
     pub above : AllByRecursion (λ (d : Done). nr + 1 ≤ d.part.nr) back
 
   pub cut : (nr : ℕ) (op : Op) (ops : List Op) (done : List Done)
-      → Follows So (program pages nr (op ∷ ops)) done [] → Cut nr op ops done
+      → Follows So (program pages backed nr (op ∷ ops)) done [] → Cut nr op ops done
   cut nr op ops done f =
-      let s = split So nr (parts pages nr op) (program pages (nr + 1) ops) done
-      (every_parts_of pages nr op) (program_above pages (nr + 1) ops) f in
+      let s = split So nr (parts pages backed nr op) (program pages backed (nr + 1) ops) done
+      (parts_have_nr pages backed nr op) (program_above pages backed (nr + 1) ops) f in
       record {
         front = s.front;
         back = s.back;
         is = s.is;
         mine = s.mine;
         later = s.later;
-        of = every_mine So (Of nr) (parts pages nr op) s.front s.mine (every_parts_of pages nr op);
-        above = every_done So (Above (nr + 1)) (program pages (nr + 1) ops) s.back [] s.later
-            (program_above pages (nr + 1) ops);
+        of = every_mine So (Of nr) (parts pages backed nr op) s.front s.mine (parts_have_nr pages backed nr op);
+        above = every_done So (Above (nr + 1)) (program pages backed (nr + 1) ops) s.back [] s.later
+            (program_above pages backed (nr + 1) ops);
       }
 
   module _ (nr : ℕ) (op : Op) (ops : List Op) (done : List Done) (c : Cut nr op ops done) where
@@ -79,17 +81,24 @@ module _ (So : Part → PartEnd → Type 0) (pages : ℕ) where
     back_else = all_map (λ (d : Done). nr + 1 ≤ d.part.nr) (Else nr) c.back
         (λ d e s. absurd (let none : ⊥ = omega arith in none)) c.above
 
-    pub front_end : end_of nr done ≡ end_of nr c.front
-    front_end = ap (end_of nr) c.is ∙ end_front nr 0 c.front c.back back_else
+    front_last : end_of nr done ≡ end_of nr c.front
+    front_last = ap (end_of nr) c.is ∙ end_front nr 0 c.front c.back back_else
 
-    pub front_got : got_of nr done ≡ got_of nr c.front
+    pub front_end : end_as backed nr op done ≡ end_as backed nr op c.front
+    front_end = ap (λ (end : OpEnd). cond (is_void backed op) ends.NoBacking end) front_last
+
+    front_got : got_of nr done ≡ got_of nr c.front
     front_got = ap (got_of nr) c.is ∙ got_append nr c.front c.back
         ∙ ap (λ (xs : List (List ℕ)). got_of nr c.front ++ xs) (got_none nr c.back back_else)
         ∙ append-nil (got_of nr c.front)
 
-    pub back_ends : ends_from (nr + 1) ops done ≡ ends_from (nr + 1) ops c.back
-    back_ends = ap (ends_from (nr + 1) ops) c.is
-        ∙ ends_back nr (nr + 1) ops c.front c.back c.of (omega arith)
+    pub front_shown : shown op (end_of nr done) (got_of nr done)
+        ≡ shown op (end_of nr c.front) (got_of nr c.front)
+    front_shown = λ i. shown op (front_last i) (front_got i)
+
+    pub back_ends : ends_from backed (nr + 1) ops done ≡ ends_from backed (nr + 1) ops c.back
+    back_ends = ap (ends_from backed (nr + 1) ops) c.is
+        ∙ ends_back backed nr (nr + 1) ops c.front c.back c.of (omega arith)
 
     pub back_told : told_from (nr + 1) ops done ≡ told_from (nr + 1) ops c.back
     back_told = ap (told_from (nr + 1) ops) c.is
@@ -116,20 +125,20 @@ all_back P (x ∷ xs) ys all = all_back P xs ys all.1
 
 module _ (t : Ground) (b : Bounds) where
   pub actor_noted : (p nr : ℕ) (ops : List Op) (done : List Done) → SomeEach ops
-      → Follows (By t b) (program t.size nr ops) done []
-      → noted_on p done ≡ stood p nr ops (ends_from nr ops done)
+      → Follows (By t b) (program t.size t.backed nr ops) done []
+      → noted_on p done ≡ stood p nr ops (ends_from t.backed nr ops done)
   actor_noted p nr [] [] some f = refl
   actor_noted p nr [] (d ∷ ds) some f = absurd f
   actor_noted p nr (op ∷ ops) done some f =
-      let c = cut (By t b) t.size nr op ops done f in
+      let c = cut (By t b) t.size t.backed nr op ops done f in
       let o = one_op t b p nr op c.front some.0 c.mine in
       let more = actor_noted p (nr + 1) ops c.back some.1 c.later in
-      let front = sym (front_end (By t b) t.size nr op ops done c) in
-      let back = sym (back_ends (By t b) t.size nr op ops done c) in
+      let front = sym (front_end (By t b) t.size t.backed nr op ops done c) in
+      let back = sym (back_ends (By t b) t.size t.backed nr op ops done c) in
       ap (noted_on p) c.is ∙ noted_append p c.front c.back
       ∙ (λ i. o.noted i ++ more i)
-      ∙ push (stands_on op (end_of nr c.front) p)
-      (stood p (nr + 1) ops (ends_from (nr + 1) ops c.back))
+      ∙ push (stands_on op (end_as t.backed nr op c.front) p)
+      (stood p (nr + 1) ops (ends_from t.backed (nr + 1) ops c.back))
       ∙ (λ i. cond (stands_on op (front i) p) (nr ∷ stood p (nr + 1) ops (back i))
       (stood p (nr + 1) ops (back i))) where
         push : (x : Bool) (xs : List ℕ) → cond x (nr ∷ []) [] ++ xs ≡ cond x (nr ∷ xs) xs
@@ -137,37 +146,37 @@ module _ (t : Ground) (b : Bounds) where
         push false xs = refl
 
   pub actor_ends : (nr : ℕ) (ops : List Op) (done : List Done) → SomeEach ops
-      → Follows (By t b) (program t.size nr ops) done [] → MayEndAll t b ops (ends_from nr ops done)
+      → Follows (By t b) (program t.size t.backed nr ops) done [] → MayEndAll t b ops (ends_from t.backed nr ops done)
   actor_ends nr [] done some f = tt
   actor_ends nr (op ∷ ops) done some f =
-      let c = cut (By t b) t.size nr op ops done f in (
-        subst (MayEnd t b op) (sym (front_end (By t b) t.size nr op ops done c))
+      let c = cut (By t b) t.size t.backed nr op ops done f in (
+        subst (MayEnd t b op) (sym (front_end (By t b) t.size t.backed nr op ops done c))
             (one_op t b 0 nr op c.front some.0 c.mine).may,
-        subst (MayEndAll t b ops) (sym (back_ends (By t b) t.size nr op ops done c))
+        subst (MayEndAll t b ops) (sym (back_ends (By t b) t.size t.backed nr op ops done c))
             (actor_ends (nr + 1) ops c.back some.1 c.later),
       )
 
   -- what each operation tells is what it read
   pub actor_reads : (R : ℕ → ℕ → List ℕ) (nr : ℕ) (ops : List Op) (done : List Done)
-      → SomeEach ops → Follows (By t b) (program t.size nr ops) done []
+      → SomeEach ops → Follows (By t b) (program t.size t.backed nr ops) done []
       → AllByRecursion (Reads R) done
-      → told_from nr ops done ≡ due_from nr ops (ends_from nr ops done) R
+      → told_from nr ops done ≡ due_from nr ops (ends_from t.backed nr ops done) R
   actor_reads R nr [] done some f all = refl
   actor_reads R nr (op ∷ ops) done some f all =
-      let c = cut (By t b) t.size nr op ops done f in
+      let c = cut (By t b) t.size t.backed nr op ops done f in
       let both = subst (AllByRecursion (Reads R)) c.is all in
       let more = actor_reads R (nr + 1) ops c.back some.1 c.later
       (all_back (Reads R) c.front c.back both) in
-      let end = front_end (By t b) t.size nr op ops done c in
-      let got = front_got (By t b) t.size nr op ops done c in
-      let told = back_told (By t b) t.size nr op ops done c in
-      let back = sym (back_ends (By t b) t.size nr op ops done c) in
-      (λ i. shown op (end i) (got i) ∷ told i)
+      let end = front_end (By t b) t.size t.backed nr op ops done c in
+      let first = front_shown (By t b) t.size t.backed nr op ops done c in
+      let told = back_told (By t b) t.size t.backed nr op ops done c in
+      let back = sym (back_ends (By t b) t.size t.backed nr op ops done c) in
+      (λ i. first i ∷ told i)
       ∙ (λ i. one op some.0 c.front c.mine (all_front (Reads R) c.front c.back both) i ∷ more i)
       ∙ (λ i. read_by op (sym end i) (R nr) ∷ due_from (nr + 1) ops (back i) R) where
-        one : (o : Op) → HasSome o → (front : List Done) → Mine (By t b) (parts t.size nr o) front
+        one : (o : Op) → HasSome o → (front : List Done) → Mine (By t b) (parts t.size t.backed nr o) front
             → AllByRecursion (Reads R) front
-            → shown o (end_of nr front) (got_of nr front) ≡ read_by o (end_of nr front) (R nr)
+            → shown o (end_of nr front) (got_of nr front) ≡ read_by o (end_as t.backed nr o front) (R nr)
         one (Read start count) some front m all =
             one_read t b R nr start count front (some refl) m all
         one _ some front m all = refl

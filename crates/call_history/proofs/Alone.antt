@@ -2,16 +2,16 @@
 use Rattle.std.proofs.Common.{◌≡◌, ◌⊎◌, ℕ, ◌+◌, ◌≤◌, Bool, true, false, List, [], ◌∷◌, ◌++◌, refl, sym, ap, ◌∙◌, subst, arith, inl, inr, ⊎_elim}
 use Rattle.std.specs.List.{AllByRecursion}
 use Rattle.zr_base.specs.declared.op.Op.{Op}
-use Rattle.zr_base.specs.declared.op.Op.TheVariants.{Write, Read, Discard, Idle, Compact}
+use Rattle.zr_base.specs.declared.op.Op.TheVariants.{Write, Read, Discard, Idle, Writeback, Compact}
 use Rattle.zr_base.specs.declared.op.OpEnd.{OpEnd}
 use Rattle.zr_base.specs.declared.op.OpEnd.TheVariants as ends
-use Rattle.zr_base.specs.Plain.{is_compaction}
-use Rattle.plain_disk.specs.Ends.{Ground, Bounds, MayEnd}
+use Rattle.zr_base.specs.Plain.{is_compaction, is_void}
+use Rattle.plain_disk.specs.Ends.{Ground, Bounds, MayEndSo, MayEndBy, MayEnd}
 use Rattle.plain_disk.specs.Compactions.{tight_by, tight_after, MovesNone, MoveNone, moves_by, moves_after}
 use Rattle.call_history.specs.declared.part.Part.{Part}
 use Rattle.call_history.specs.declared.part.PartEnd.{PartEnd}
 use Rattle.call_history.specs.declared.part.Done.{Done}
-use Rattle.call_history.specs.Parts.{parts, program, Follows, op_end, end_of, ends_from}
+use Rattle.call_history.specs.Parts.{parts, program, Follows, op_end, end_of, end_as, ends_from}
 use Rattle.call_history.specs.Alone.{tight_over, MoveNoneOver, moves_over}
 use Rattle.call_history.specs.Histories.{HasSome, SomeEach}
 use Rattle.call_history.proofs.Ends.{Mine, every_mine}
@@ -31,6 +31,7 @@ idle_less b (d ∷ ds) all = ((λ e. absurd (cc)), later (idle_less b ds) d.part
   later less (Write start count stuff) rest = rest
   later less (Discard start count) rest = rest
   later less (Idle age) rest = less rest
+  later less (Writeback mode) rest = rest
   later less Compact rest = rest
 
 -- classes that come to be tight come to be so if they were before
@@ -43,6 +44,7 @@ tight_more b (d ∷ ds) e = later (tight_more b ds) d.part.op e where
   later more (Write start count stuff) e = e
   later more (Discard start count) e = e
   later more (Idle age) e = more e
+  later more (Writeback mode) e = e
   later more Compact e = e
 
 -- more moves before are more moves after
@@ -55,6 +57,7 @@ moves_more (d ∷ ds) i j le = moves_more ds (moves_by d.part.op (op_end d.end 0
       now (Write start count stuff) end = omega arith
       now (Discard start count) end = omega arith
       now (Idle age) end = le
+      now (Writeback mode) end = omega arith
       now Compact (ends.Compacted moves frames) = omega arith
       now Compact _ = omega arith
 
@@ -94,21 +97,22 @@ module _ (start count : ℕ) where
 
 module _ (t : Ground) (b : Bounds) where
   -- only a compaction ends as one
-  idle_else : (op : Op) (end : OpEnd) → is_compaction op ≡ false → MayEnd t b op end → MovesNone end
-  idle_else op ends.Ok other may = tt
-  idle_else op ends.Range other may = tt
-  idle_else op (ends.AtLimit pages need limit done) other may = tt
-  idle_else op (ends.NoMemory done) other may = tt
-  idle_else op (ends.Eio fault done) other may = tt
-  idle_else op (ends.Marked pages) other may = tt
-  idle_else op (ends.Compacted moves frames) other may =
+  idle_so : (op : Op) (end : OpEnd) → is_compaction op ≡ false → MayEndSo t b op end → MovesNone end
+  idle_so op (ends.Compacted moves frames) other may =
       absurd (let q : true ≡ false = sym may.0 ∙ other in cc)
+  idle_so op _ other may = tt
+
+  idle_else : (op : Op) (end : OpEnd) → is_compaction op ≡ false → MayEnd t b op end → MovesNone end
+  idle_else op end other may = by_void (is_void t.backed op) may where
+    by_void : (x : Bool) → MayEndBy x t b op end → MovesNone end
+    by_void true is = subst MovesNone (sym is) tt
+    by_void false so = idle_so op end other so
 
   -- What the pieces of an operation say of it.
   record Says (nr : ℕ) (op : Op) (front : List Done) (tight : Bool) (n : ℕ) : Type 0 where
     after : (tight_over tight front ≡ tight_by op tight) ⊎ (tight_by op tight ≡ false)
-    still : MoveNoneOver tight front → tight ≡ true → MovesNone (end_of nr front)
-    moves : moves_by op (end_of nr front) n ≤ moves_over n front
+    still : MoveNoneOver tight front → tight ≡ true → MovesNone (end_as t.backed nr op front)
+    moves : moves_by op (end_as t.backed nr op front) n ≤ moves_over n front
 
   module _ (nr : ℕ) (front : List Done) (tight : Bool) (n : ℕ) where
     -- a compaction has one piece
@@ -125,12 +129,12 @@ module _ (t : Ground) (b : Bounds) where
               ap (moves_over n) o.is ∙ (λ i. moves_by (op i) (sym end i) n) in omega arith;
         }
 
-    says : (op : Op) → HasSome op → Mine (By t b) (parts t.size nr op) front
+    says : (op : Op) → HasSome op → Mine (By t b) (parts t.size t.backed nr op) front
         → Says nr op front tight n
     says (Read start count) some m =
         let all = every_mine (By t b) (λ (p : Part). p.op ≡ Read start count)
-        (parts t.size nr (Read start count)) front m
-        (every_parts (λ (p : Part). p.op ≡ Read start count) t.size nr (Read start count)
+        (parts t.size t.backed nr (Read start count)) front m
+        (every_parts (λ (p : Part). p.op ≡ Read start count) t.size t.backed nr (Read start count)
         (λ q. refl)) in record {
           after = inl (reads_tight start count tight front all);
           still = λ rest yes. idle_else (Read start count) (end_of nr front) refl
@@ -160,6 +164,12 @@ module _ (t : Ground) (b : Bounds) where
               ap (moves_over n) o.is ∙ ap (λ (x : Op). moves_by x (op_end o.d.end 0) n) op in
               omega arith;
         }
+    says (Writeback mode) some m = record {
+      after = inr refl;
+      still = λ rest yes. idle_else (Writeback mode) (end_as t.backed nr (Writeback mode) front) refl
+          (one_op t b 0 nr (Writeback mode) front some m).may;
+      moves = omega arith;
+    }
     says Compact some m = compaction_says
         (only_is t b nr Compact front refl (mine_single t b nr Compact front refl m))
 
@@ -167,22 +177,22 @@ module _ (t : Ground) (b : Bounds) where
 
   -- What an actor's pieces say of its operations.
   pub record Tell (nr : ℕ) (ops : List Op) (done : List Done) (tight : Bool) (n : ℕ) : Type 0 where
-    pub still : MoveNoneOver tight done → MoveNone tight ops (ends_from nr ops done)
+    pub still : MoveNoneOver tight done → MoveNone tight ops (ends_from t.backed nr ops done)
     pub least : tight_after tight ops ≡ true → tight_over tight done ≡ true
-    pub few : moves_after n ops (ends_from nr ops done) ≤ moves_over n done
+    pub few : moves_after n ops (ends_from t.backed nr ops done) ≤ moves_over n done
 
   pub tell : (nr : ℕ) (ops : List Op) (done : List Done) (tight : Bool) (n : ℕ) → SomeEach ops
-      → Follows (By t b) (program t.size nr ops) done [] → Tell nr ops done tight n
+      → Follows (By t b) (program t.size t.backed nr ops) done [] → Tell nr ops done tight n
   tell nr [] [] tight n some f =
       record { still = λ all. tt; least = λ e. e; few = omega arith }
   tell nr [] (d ∷ ds) tight n some f = absurd f
   tell nr (op ∷ ops) done tight n some f =
-      let c = cut (By t b) t.size nr op ops done f in
+      let c = cut (By t b) t.size t.backed nr op ops done f in
       let s = says nr c.front tight n op some.0 c.mine in
-      let end = front_end (By t b) t.size nr op ops done c in
-      let back = back_ends (By t b) t.size nr op ops done c in
+      let end = front_end (By t b) t.size t.backed nr op ops done c in
+      let back = back_ends (By t b) t.size t.backed nr op ops done c in
       let later = tell (nr + 1) ops c.back (tight_by op tight)
-      (moves_by op (end_of nr c.front) n) some.1 c.later in
+      (moves_by op (end_as t.backed nr op c.front) n) some.1 c.later in
       record {
         still = λ all.
             let q = idle_append tight c.front c.back (subst (MoveNoneOver tight) c.is all) in (
@@ -200,12 +210,12 @@ module _ (t : Ground) (b : Bounds) where
             (sym (ap (λ (x : Bool). tight_over x c.back) none) ∙ q)) s.after;
         few =
             let q = later.few in
-            let r = moves_more c.back (moves_by op (end_of nr c.front) n)
+            let r = moves_more c.back (moves_by op (end_as t.backed nr op c.front) n)
             (moves_over n c.front) s.moves in
             let e : moves_over n done ≡ moves_over (moves_over n c.front) c.back =
             ap (moves_over n) c.is ∙ moves_append n c.front c.back in
-            let h : moves_after n (op ∷ ops) (ends_from nr (op ∷ ops) done)
-            ≡ moves_after (moves_by op (end_of nr c.front) n) ops
-            (ends_from (nr + 1) ops c.back) =
+            let h : moves_after n (op ∷ ops) (ends_from t.backed nr (op ∷ ops) done)
+            ≡ moves_after (moves_by op (end_as t.backed nr op c.front) n) ops
+            (ends_from t.backed (nr + 1) ops c.back) =
             (λ i. moves_after (moves_by op (end i) n) ops (back i)) in omega arith;
       }

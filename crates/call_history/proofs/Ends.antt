@@ -35,21 +35,22 @@ without_none nr [] all = refl
 without_none nr (p ∷ ps) all = rw (ne_eqb p.nr nr (λ s. let z = all.0 in
     omega arith)) (ap (λ (qs : List Part). p ∷ qs) (without_none nr ps all.1))
 
-pub every_parts_of : (pages : ℕ) (nr : ℕ) (op : Op) → AllByRecursion (Of nr) (parts pages nr op)
-every_parts_of pages nr op = every_parts (Of nr) pages nr op (λ q. refl)
+pub parts_have_nr : (pages : ℕ) (backed : Bool) (nr : ℕ) (op : Op)
+    → AllByRecursion (Of nr) (parts pages backed nr op)
+parts_have_nr pages backed nr op = every_parts (Of nr) pages backed nr op (λ q. refl)
 
 less_above : (a b : ℕ) (ps : List Part) → b ≤ a → AllByRecursion (Above a) ps
     → AllByRecursion (Above b) ps
 less_above a b [] le all = tt
 less_above a b (p ∷ ps) le all = ((let z = all.0 in omega arith), less_above a b ps le all.1)
 
-pub program_above : (pages : ℕ) (nr : ℕ) (ops : List Op)
-    → AllByRecursion (Above nr) (program pages nr ops)
-program_above pages nr [] = tt
-program_above pages nr (op ∷ ops) =
-    every_append (Above nr) (parts pages nr op) (program pages (nr + 1) ops)
-    (every_parts (Above nr) pages nr op (λ q. omega arith))
-    (less_above (nr + 1) nr _ (omega arith) (program_above pages (nr + 1) ops))
+pub program_above : (pages : ℕ) (backed : Bool) (nr : ℕ) (ops : List Op)
+    → AllByRecursion (Above nr) (program pages backed nr ops)
+program_above pages backed nr [] = tt
+program_above pages backed nr (op ∷ ops) =
+    every_append (Above nr) (parts pages backed nr op) (program pages backed (nr + 1) ops)
+    (every_parts (Above nr) pages backed nr op (λ q. omega arith))
+    (less_above (nr + 1) nr _ (omega arith) (program_above pages backed (nr + 1) ops))
 
 -- ---- what lists of pieces say of an operation
 

@@ -3,7 +3,7 @@ use Rattle.std.proofs.Common.{◌≡◌, ℕ, ◌+◌, Bool, true, false, cond, 
 use Rattle.std.specs.List.{AllByRecursion}
 use Rattle.std.proofs.lemmas.Bool.{cases_Bool, and_right}
 use Rattle.zr_base.specs.declared.op.Op.{Op}
-use Rattle.zr_base.specs.declared.op.Op.TheVariants.{Write, Read, Discard, Idle, Compact}
+use Rattle.zr_base.specs.declared.op.Op.TheVariants.{Write, Read, Discard, Idle, Writeback, Compact}
 use Rattle.zr_base.specs.declared.op.OpEnd.{OpEnd}
 use Rattle.zr_base.specs.Plain.{Look, Finds, stands_on}
 use Rattle.mem_account.specs.declared.weight.Weight.{Weight}
@@ -13,7 +13,7 @@ use Rattle.plain_disk.specs.Rests.{Rest}
 use Rattle.call_history.specs.declared.part.Part.{Part}
 use Rattle.call_history.specs.declared.part.PartEnd.{PartEnd}
 use Rattle.call_history.specs.declared.part.Done.{Done}
-use Rattle.call_history.specs.Parts.{parts, program, Follows, is_on, noted_on, stands_so, op_end, end_of, ends_from}
+use Rattle.call_history.specs.Parts.{parts, program, Follows, is_on, noted_on, stands_so, op_end, end_of, end_as, ends_from}
 use Rattle.call_history.specs.Alone.{aged_over, each_over, pages_over, AreMarkedOver}
 use Rattle.call_history.specs.Histories.{HasSome, SomeEach}
 use Rattle.call_history.proofs.Ends.{Mine, every_mine}
@@ -94,21 +94,21 @@ module _ (form : List ℕ → Weight) (clock : ℕ) (finds : ℕ → Finds) wher
     -- What the pieces of an operation say of the marks.
     record SaysMarks (nr : ℕ) (op : Op) (front : List Done) : Type 0 where
       pages : (pages : ℕ → Aged) (p : ℕ) → pages_over form clock finds pages front p
-          ≡ each_by form clock finds nr op (end_of nr front) pages p
+          ≡ each_by form clock finds nr op (end_as t.backed nr op front) pages p
       marks : (size : ℕ) (pages : ℕ → Aged) → AreMarkedOver form clock finds size pages front
-          → IsMarked form clock size pages op (end_of nr front)
+          → IsMarked form clock size pages op (end_as t.backed nr op front)
 
     module _ (nr : ℕ) (op : Op) (front : List Done) (some : HasSome op)
-        (m : Mine (By t b) (parts t.size nr op) front) where
+        (m : Mine (By t b) (parts t.size t.backed nr op) front) where
       -- an operation that doesn't mark
       request_pages : Passes op → (pages : ℕ → Aged) (p : ℕ)
           → pages_over form clock finds pages front p
-          ≡ each_by form clock finds nr op (end_of nr front) pages p
+          ≡ each_by form clock finds nr op (end_as t.backed nr op front) pages p
       request_pages pass pages p =
-          let stands = stands_on op (end_of nr front) p in
+          let stands = stands_on op (end_as t.backed nr op front) p in
           pages_noted nr op p stands front pages pass
-          (every_mine (By t b) (λ (x : Part). x.op ≡ op) (parts t.size nr op) front m
-          (every_parts (λ (x : Part). x.op ≡ op) t.size nr op (λ q. refl)))
+          (every_mine (By t b) (λ (x : Part). x.op ≡ op) (parts t.size t.backed nr op) front m
+          (every_parts (λ (x : Part). x.op ≡ op) t.size t.backed nr op (λ q. refl)))
           (one_op t b p nr op front some m).noted
           ∙ ap (λ (s : Aged). cond stands (accessed clock op (finds p (only_tag nr)) (pages p)) s)
           (sym (pass p (pages p)))
@@ -142,7 +142,7 @@ module _ (form : List ℕ → Weight) (clock : ℕ) (finds : ℕ → Finds) wher
         }
 
     says_marks : (nr : ℕ) (op : Op) (front : List Done) → HasSome op
-        → Mine (By t b) (parts t.size nr op) front → SaysMarks nr op front
+        → Mine (By t b) (parts t.size t.backed nr op) front → SaysMarks nr op front
     says_marks nr (Write start count stuff) front some m = record {
       pages = request_pages nr (Write start count stuff) front some m (λ p s. refl);
       marks = λ size pages all. tt;
@@ -153,6 +153,10 @@ module _ (form : List ℕ → Weight) (clock : ℕ) (finds : ℕ → Finds) wher
     }
     says_marks nr (Discard start count) front some m = record {
       pages = request_pages nr (Discard start count) front some m (λ p s. refl);
+      marks = λ size pages all. tt;
+    }
+    says_marks nr (Writeback mode) front some m = record {
+      pages = request_pages nr (Writeback mode) front some m (λ p s. refl);
       marks = λ size pages all. tt;
     }
     says_marks nr Compact front some m = record {
@@ -170,21 +174,21 @@ module _ (form : List ℕ → Weight) (r : Rest) (finds : ℕ → Finds) (t : Gr
   pub record TellMarks (nr : ℕ) (ops : List Op) (done : List Done) (pages : ℕ → Aged)
       : Type 0 where
     pub marks : AreMarkedOver form r.set.clock finds r.size pages done
-        → AreMarked form r finds nr pages ops (ends_from nr ops done)
-    pub pages_are : (p : ℕ) → pages_after form r finds nr pages ops (ends_from nr ops done) p
+        → AreMarked form r finds nr pages ops (ends_from t.backed nr ops done)
+    pub pages_are : (p : ℕ) → pages_after form r finds nr pages ops (ends_from t.backed nr ops done) p
         ≡ pages_over form r.set.clock finds pages done p
 
   pub tell_marks : (nr : ℕ) (ops : List Op) (done : List Done) (pages : ℕ → Aged)
-      → SomeEach ops → Follows (By t b) (program t.size nr ops) done []
+      → SomeEach ops → Follows (By t b) (program t.size t.backed nr ops) done []
       → TellMarks nr ops done pages
   tell_marks nr [] [] pages some f = record { marks = λ all. tt; pages_are = λ p. refl }
   tell_marks nr [] (d ∷ ds) pages some f = absurd f
   tell_marks nr (op ∷ ops) done pages some f =
-      let c = cut (By t b) t.size nr op ops done f in
+      let c = cut (By t b) t.size t.backed nr op ops done f in
       let s = says_marks form r.set.clock finds t b nr op c.front some.0 c.mine in
-      let end = front_end (By t b) t.size nr op ops done c in
-      let back = back_ends (By t b) t.size nr op ops done c in
-      let next = each_by form r.set.clock finds nr op (end_of nr c.front) pages in
+      let end = front_end (By t b) t.size t.backed nr op ops done c in
+      let back = back_ends (By t b) t.size t.backed nr op ops done c in
+      let next = each_by form r.set.clock finds nr op (end_as t.backed nr op c.front) pages in
       let later = tell_marks (nr + 1) ops c.back next some.1 c.later in
       record {
         marks = λ all.

@@ -3,18 +3,18 @@ use Rattle.std.proofs.Common.{◌≡◌, ℕ, zero, suc, ◌+◌, ◌-◌, ◌*�
 use Rattle.std.specs.List.{range_with_len, AllByRecursion}
 use Rattle.std.proofs.lemmas.Bool.{cases_Bool, eq-eqb, ne_eqb, and_right, and_parts, and_from, ltb-true, leb-true, le-leb, lt-ltb, cases_lt}
 use Rattle.zr_base.specs.declared.op.Op.{Op}
-use Rattle.zr_base.specs.declared.op.Op.TheVariants.{Write, Read, Discard, Idle, Compact}
+use Rattle.zr_base.specs.declared.op.Op.TheVariants.{Write, Read, Discard, Idle, Writeback, Compact}
 use Rattle.zr_base.specs.declared.op.OpEnd.{OpEnd}
 use Rattle.zr_base.specs.declared.op.OpEnd.TheVariants as ends
-use Rattle.zr_base.specs.Plain.{start_of, count_of, has_event, touches, is_among, pieces_noted, stands_on}
+use Rattle.zr_base.specs.Plain.{start_of, count_of, has_event, touches, is_among, pieces_noted, stands_on, is_void}
 use Rattle.zr_base.specs.Pieces.{first_page, pages_of}
-use Rattle.plain_disk.specs.Ends.{Ground, Bounds, is_single, MayBeSingle, MayEnd, sectors_before, read_by}
+use Rattle.plain_disk.specs.Ends.{Ground, Bounds, is_single, MayBeSingle, MayEndSo, MayEnd, sectors_before, read_by}
 use Rattle.call_history.specs.declared.part.Part.{Part}
 use Rattle.call_history.specs.declared.part.PartEnd.{PartEnd}
 use Rattle.call_history.specs.declared.part.PartEnd.TheVariants as over
 use Rattle.call_history.specs.declared.part.Done.{Done}
 use Rattle.call_history.specs.Histories.{HasSome}
-use Rattle.call_history.specs.Parts.{parts_from, parts, EndsSo, KeepsTo, is_carried, is_read, stands_so, op_end, noted_on, got_by, got_of, end_by, end_of, shown}
+use Rattle.call_history.specs.Parts.{parts_from, parts_of, parts, EndsSo, KeepsTo, is_carried, is_read, stands_so, op_end, noted_on, got_by, got_of, end_by, end_of, end_as, shown}
 use Rattle.call_history.proofs.Ends.{Mine, carried, bool_same, mine_on, none_left, piece_of, noted_one, end_here, pages_noted, pages_end, wholes_noted}
 
 -- ---- sectors and pages
@@ -89,6 +89,7 @@ among_noted (Write start count stuff) first n p = among_more first n p
 among_noted (Read start count) first n p = refl
 among_noted (Discard start count) first n p = among_more first n p
 among_noted (Idle age) first n p = among_more first n p
+among_noted (Writeback mode) first n p = among_more first n p
 among_noted Compact first n p = among_more first n p
 
 -- a request's sectors on its first so many pages, as those from its first sector on
@@ -108,7 +109,12 @@ module _ (t : Ground) (b : Bounds) where
   abbrev pub By : Part → PartEnd → Type 0
   By p x = EndsSo t p x × KeepsTo t b x
 
-  -- what the pieces of an operation say of it
+  -- what the pieces of an operation that does something say of it
+  record Does (p nr : ℕ) (op : Op) (end : OpEnd) (front : List Done) : Type 0 where
+    may : MayEndSo t b op end
+    noted : noted_on p front ≡ cond (stands_on op end p) (nr ∷ []) []
+
+  -- what those of any operation say
   pub record IsOp (p nr : ℕ) (op : Op) (end : OpEnd) (front : List Done) : Type 0 where
     pub may : MayEnd t b op end
     pub noted : noted_on p front ≡ cond (stands_on op end p) (nr ∷ []) []
@@ -120,6 +126,7 @@ module _ (t : Ground) (b : Bounds) where
     pub end : OpEnd
     pub is : x ≡ over.Whole end
     pub may : MayBeSingle t op end
+    pub keeps : KeepsTo t b (over.Whole end)
 
   whole_is : (p : Part) (x : PartEnd) → is_single t.size p.op ≡ true → By p x → IsWhole p.op x
   whole_is p over.Carried on so = absurd (clash (is_single t.size p.op) on so.0)
@@ -127,23 +134,33 @@ module _ (t : Ground) (b : Bounds) where
       absurd (clash (is_single t.size p.op) on so.0.0)
   whole_is p over.NoMemory on so = absurd (clash (is_single t.size p.op) on so.0.0)
   whole_is p (over.Eio fault) on so = absurd (clash (is_single t.size p.op) on so.0.0)
-  whole_is p (over.Whole end) on so = record { end = end; is = refl; may = so.0.1 }
+  whole_is p (over.Whole end) on so =
+      record { end = end; is = refl; may = so.0.1; keeps = so.1 }
 
   pub never_stands : (p : Part) (x : PartEnd) → is_single t.size p.op ≡ true → By p x
       → stands_so p.op x ≡ false
   never_stands p x on so = ap (stands_so p.op) (whole_is p x on so).is
 
   -- such an end is one that the operation may have, and it stands in no order
-  single_may : (op : Op) (end : OpEnd) → MayBeSingle t op end → MayEnd t b op end
-  single_may op ends.Range may = may
-  single_may op (ends.Marked pages) may = may
-  single_may op (ends.Compacted moves frames) may = may
-  single_may op _ may = absurd may
+  single_may : (op : Op) (end : OpEnd) → MayBeSingle t op end → KeepsTo t b (over.Whole end)
+      → MayEndSo t b op end
+  single_may op ends.Range may keeps = may
+  single_may op (ends.Marked pages) may keeps = may
+  single_may op (ends.Written wrote lost) may keeps = may
+  single_may op (ends.Budget wrote lost) may keeps = may
+  single_may op (ends.NoBlock wrote lost) may keeps = may
+  single_may op (ends.WriteEio fault wrote lost) may keeps = (may, keeps)
+  single_may op (ends.Compacted moves frames) may keeps = may
+  single_may op _ may keeps = absurd may
 
   pub single_stands : (op : Op) (end : OpEnd) (p : ℕ) → MayBeSingle t op end
       → stands_on op end p ≡ false
   single_stands op ends.Range p may = refl
   single_stands op (ends.Marked pages) p may = refl
+  single_stands op (ends.Written wrote lost) p may = refl
+  single_stands op (ends.Budget wrote lost) p may = refl
+  single_stands op (ends.NoBlock wrote lost) p may = refl
+  single_stands op (ends.WriteEio fault wrote lost) p may = refl
   single_stands op (ends.Compacted moves frames) p may = refl
   single_stands op _ p may = absurd may
 
@@ -152,6 +169,10 @@ module _ (t : Ground) (b : Bounds) where
       → shown (Read start count) end got ≡ read_by (Read start count) end f
   single_shown start count ends.Range got f may = refl
   single_shown start count (ends.Marked pages) got f may = refl
+  single_shown start count (ends.Written wrote lost) got f may = refl
+  single_shown start count (ends.Budget wrote lost) got f may = refl
+  single_shown start count (ends.NoBlock wrote lost) got f may = refl
+  single_shown start count (ends.WriteEio fault wrote lost) got f may = refl
   single_shown start count (ends.Compacted moves frames) got f may = refl
   single_shown start count _ got f may = absurd may
 
@@ -178,10 +199,10 @@ module _ (t : Ground) (b : Bounds) where
       ∙ ap (λ (x : PartEnd). cond (is_carried x) (end_by nr 1 []) (op_end x 0)) o.whole.is
 
   only_op : (p nr : ℕ) (op : Op) (front : List Done) → Only nr op front
-      → IsOp p nr op (end_by nr 0 front) front
+      → Does p nr op (end_by nr 0 front) front
   only_op p nr op front o =
-      subst (λ (end : OpEnd). IsOp p nr op end front) (sym (only_end nr op front o)) record {
-        may = single_may op o.whole.end o.whole.may;
+      subst (λ (end : OpEnd). Does p nr op end front) (sym (only_end nr op front o)) record {
+        may = single_may op o.whole.end o.whole.may o.whole.keeps;
         noted = ap (noted_on p) o.is
             ∙ noted_one nr p (first_page op) op o.d [] false o.part
             (ap (stands_so op) o.whole.is)
@@ -191,13 +212,13 @@ module _ (t : Ground) (b : Bounds) where
       }
 
   pub mine_single : (nr : ℕ) (op : Op) (front : List Done) → is_single t.size op ≡ true
-      → Mine By (parts t.size nr op) front → Mine By (piece_of nr op (first_page op) ∷ []) front
+      → Mine By (parts_of t.size nr op) front → Mine By (piece_of nr op (first_page op) ∷ []) front
   mine_single nr op front on m =
       subst (λ (x : Bool). Mine By (cond x (piece_of nr op (first_page op) ∷ [])
       (parts_from nr op (first_page op) (pages_of op))) front) on m
 
   mine_several : (nr : ℕ) (op : Op) (front : List Done) → is_single t.size op ≡ false
-      → Mine By (parts t.size nr op) front
+      → Mine By (parts_of t.size nr op) front
       → Mine By (parts_from nr op (first_page op) (pages_of op)) front
   mine_several nr op front off m =
       subst (λ (x : Bool). Mine By (cond x (piece_of nr op (first_page op) ∷ [])
@@ -208,7 +229,7 @@ module _ (t : Ground) (b : Bounds) where
   -- a refused end
   may_end : (nr : ℕ) (op : Op) (x : PartEnd) (n : ℕ) → is_carried x ≡ false
       → By (piece_of nr op (first_page op + n)) x → is_single t.size op ≡ false
-      → n < pages_of op → MayEnd t b op (op_end x n)
+      → n < pages_of op → MayEndSo t b op (op_end x n)
   may_end nr op over.Carried n not so inside few = absurd (cc)
   may_end nr op (over.AtLimit charged need limit) n not so inside few =
       ((inside, few), so.0.1, so.1)
@@ -233,11 +254,11 @@ module _ (t : Ground) (b : Bounds) where
   by_pages : (p nr : ℕ) (op : Op) (front : List Done) → 1 ≤ count_of op
       → ((q : ℕ) → has_event op q ≡ true) → is_single t.size op ≡ false
       → Mine By (parts_from nr op (first_page op) (pages_of op)) front
-      → IsOp p nr op (end_by nr 0 front) front
+      → Does p nr op (end_by nr 0 front) front
   by_pages p nr op front some on inside m =
       let noted = pages_noted By nr op p (first_page op) (pages_of op) front on m in
       ⊎_elim
-      (λ h. subst (λ (end : OpEnd). IsOp p nr op end front) (sym h.0) record {
+      (λ h. subst (λ (end : OpEnd). Does p nr op end front) (sym h.0) record {
         may = inside;
         noted = noted
             ∙ ap (λ (x : Bool). cond x (nr ∷ []) [])
@@ -245,7 +266,7 @@ module _ (t : Ground) (b : Bounds) where
             ∙ sym (touches_among op p some)
             ∙ sym (all_event (touches (start_of op) (count_of op) p) (on p)));
       })
-      (λ h. subst (λ (end : OpEnd). IsOp p nr op end front) (sym (h.end_is
+      (λ h. subst (λ (end : OpEnd). Does p nr op end front) (sym (h.end_is
       ∙ ap (op_end h.last) (zero-add (carried front)))) record {
         may = may_end nr op h.last (carried front) h.not h.so inside h.fewer;
         noted = noted
@@ -262,10 +283,10 @@ module _ (t : Ground) (b : Bounds) where
       → ((q : ℕ) (x : PartEnd) → By (piece_of nr op q) x → is_carried x ≡ true)
       → is_single t.size op ≡ false
       → Mine By (parts_from nr op (first_page op) (pages_of op)) front
-      → IsOp p nr op (end_by nr 0 front) front
+      → Does p nr op (end_by nr 0 front) front
   by_wholes p nr op front some not inside m =
       let r = wholes_noted By nr op p (first_page op) (pages_of op) 0 front not m in
-      subst (λ (end : OpEnd). IsOp p nr op end front) (sym r.1) record {
+      subst (λ (end : OpEnd). Does p nr op end front) (sym r.1) record {
         may = inside;
         noted = r.0
             ∙ ap (λ (x : Bool). cond (x && has_event op p) (nr ∷ []) [])
@@ -284,15 +305,15 @@ module _ (t : Ground) (b : Bounds) where
   discard_ends nr start count inside q (over.Whole end) so =
       absurd (clash (is_single t.size (Discard start count)) so.0.0 inside)
 
-  pub one_op : (p nr : ℕ) (op : Op) (front : List Done) → HasSome op
-      → Mine By (parts t.size nr op) front → IsOp p nr op (end_of nr front) front
-  one_op p nr op front some m = elim (cases_Bool (is_single t.size op)) [
+  one_does : (p nr : ℕ) (op : Op) (front : List Done) → HasSome op
+      → Mine By (parts_of t.size nr op) front → Does p nr op (end_of nr front) front
+  one_does p nr op front some m = elim (cases_Bool (is_single t.size op)) [
     | inl on ↦ only_op p nr op front (only_is nr op front on (mine_single nr op front on m))
     | inr off ↦ by_kind op some off (mine_several nr op front off m)
   ] where
     by_kind : (o : Op) → HasSome o → is_single t.size o ≡ false
         → Mine By (parts_from nr o (first_page o) (pages_of o)) front
-        → IsOp p nr o (end_by nr 0 front) front
+        → Does p nr o (end_by nr 0 front) front
     by_kind (Write start count stuff) some off k =
         by_pages p nr (Write start count stuff) front (some refl) (λ q. refl) off k
     by_kind (Read start count) some off k =
@@ -301,7 +322,25 @@ module _ (t : Ground) (b : Bounds) where
         by_wholes p nr (Discard start count) front (some refl) (discard_ends nr start count off) off
         k
     by_kind (Idle age) some off k = absurd (cc)
+    by_kind (Writeback mode) some off k = absurd (cc)
     by_kind Compact some off k = absurd (cc)
+
+  -- one that does nothing has no piece
+  pub one_op : (p nr : ℕ) (op : Op) (front : List Done) → HasSome op
+      → Mine By (parts t.size t.backed nr op) front
+      → IsOp p nr op (end_as t.backed nr op front) front
+  one_op p nr op front some m = elim (cases_Bool (is_void t.backed op)) [
+    | inl void ↦ record {
+      may = rw void refl;
+      noted = rw void (ap (noted_on p) (none_left By front (mine_by true void)));
+    }
+    | inr does ↦
+        let o = one_does p nr op front some (mine_by false does) in
+        record { may = rw does o.may; noted = rw does o.noted }
+  ] where
+    mine_by : (x : Bool) → is_void t.backed op ≡ x
+        → Mine By (cond x [] (parts_of t.size nr op)) front
+    mine_by x e = subst (λ (y : Bool). Mine By (cond y [] (parts_of t.size nr op)) front) e m
 
   -- ---- what a read tells
 
@@ -365,7 +404,7 @@ module _ (t : Ground) (b : Bounds) where
 
   -- what a read tells is what its pieces have read
   pub one_read : (R : ℕ → ℕ → List ℕ) (nr start count : ℕ) (front : List Done) → 1 ≤ count
-      → Mine By (parts t.size nr (Read start count)) front → AllByRecursion (Reads R) front
+      → Mine By (parts t.size t.backed nr (Read start count)) front → AllByRecursion (Reads R) front
       → shown (Read start count) (end_of nr front) (got_of nr front)
       ≡ read_by (Read start count) (end_of nr front) (R nr)
   one_read R nr start count front some m all =

@@ -1,5 +1,5 @@
 -- One more piece.
-use Rattle.std.proofs.Common.{◌≡◌, ℕ, zero, suc, ◌+◌, ◌-◌, ◌*◌, ◌<◌, ◌≤◌, cond, eqb, min, max, List, [], ◌∷◌, ◌++◌, length, map, take, Some, slice_get, refl, sym, ap, ◌∙◌, subst, arith, zero-add, ◌⊎◌, inl, inr}
+use Rattle.std.proofs.Common.{◌≡◌, ℕ, zero, suc, ◌+◌, ◌-◌, ◌*◌, ◌<◌, ◌≤◌, Bool, cond, eqb, min, max, List, [], ◌∷◌, ◌++◌, length, map, take, Some, slice_get, refl, sym, ap, ◌∙◌, subst, arith, zero-add, ◌⊎◌, inl, inr}
 use Rattle.std.specs.List.{range_with_len, AllByRecursion}
 use Rattle.std.proofs.lemmas.Bool.{cases_Bool}
 use Rattle.zr_base.specs.declared.op.Tag.{Tag}
@@ -9,10 +9,10 @@ use Rattle.call_history.specs.declared.part.Part.{Part}
 use Rattle.call_history.specs.declared.part.PartEnd.{PartEnd}
 use Rattle.call_history.specs.declared.part.Done.{Done}
 use Rattle.zr_base.specs.Sectors.{page_sector}
-use Rattle.zr_base.specs.Plain.{Look, PageCalls, named, sector_after_named, content, has_event}
+use Rattle.zr_base.specs.Plain.{Look, PageCalls, named, sector_after_named, content, is_void, has_event}
 use Rattle.zr_base.specs.Pieces.{first_page, pages_of}
 use Rattle.plain_disk.specs.Ends.{is_single}
-use Rattle.call_history.specs.Parts.{parts_from, parts, program, without, left_by, is_carried, Follows, is_on, noted_on, ops_of, got_by}
+use Rattle.call_history.specs.Parts.{parts_from, parts_of, parts, program, without, left_by, is_carried, Follows, is_on, noted_on, ops_of, got_by}
 use Rattle.call_history.specs.Shows.{SeesSo}
 
 pub content-append : (c : PageCalls) (s : ℕ) (old : List ℕ) (xs ys : List Tag)
@@ -120,36 +120,43 @@ module _ (P : Part → Type 0) where
     | inr off ↦ rw off (every_parts_from nr op (page + 1) n all)
   ]
 
-  pub every_parts : (pages : ℕ) (nr : ℕ) (op : Op)
-      → ((q : ℕ) → P (record { nr = nr; op = op; page = q })) → Every (parts pages nr op)
-  every_parts pages nr op all = elim (cases_Bool (is_single pages op)) [
+  every_parts_of : (pages : ℕ) (nr : ℕ) (op : Op)
+      → ((q : ℕ) → P (record { nr = nr; op = op; page = q })) → Every (parts_of pages nr op)
+  every_parts_of pages nr op all = elim (cases_Bool (is_single pages op)) [
     | inl on ↦ rw on (all (first_page op), tt)
     | inr off ↦ rw off (every_parts_from nr op (first_page op) (pages_of op) all)
+  ]
+
+  pub every_parts : (pages : ℕ) (backed : Bool) (nr : ℕ) (op : Op)
+      → ((q : ℕ) → P (record { nr = nr; op = op; page = q })) → Every (parts pages backed nr op)
+  every_parts pages backed nr op all = elim (cases_Bool (is_void backed op)) [
+    | inl void ↦ rw void tt
+    | inr does ↦ rw does (every_parts_of pages nr op all)
   ]
 
 -- each piece of a program is of the operation that it names
 abbrev pub Named : List Op → Part → Type 0
 Named ops p = slice_get ops p.nr ≡ Some p.op
 
-pub every_named : (pages : ℕ) (nr : ℕ) (all ops : List Op)
+pub every_named : (pages : ℕ) (backed : Bool) (nr : ℕ) (all ops : List Op)
     → ((j : ℕ) → slice_get ops j ≡ slice_get all (nr + j))
-    → AllByRecursion (Named all) (program pages nr ops)
-every_named pages nr all [] same = tt
-every_named pages nr all (op ∷ ops) same =
-    every_append (Named all) (parts pages nr op) (program pages (nr + 1) ops)
-    (every_parts (Named all) pages nr op
+    → AllByRecursion (Named all) (program pages backed nr ops)
+every_named pages backed nr all [] same = tt
+every_named pages backed nr all (op ∷ ops) same =
+    every_append (Named all) (parts pages backed nr op) (program pages backed (nr + 1) ops)
+    (every_parts (Named all) pages backed nr op
     (λ q. ap (λ (k : ℕ). slice_get all k) (let e : nr ≡ nr + 0 = omega arith in e)
     ∙ sym (same 0)))
-    (every_named pages (nr + 1) all ops (λ j. same (suc j)
+    (every_named pages backed (nr + 1) all ops (λ j. same (suc j)
     ∙ ap (λ (k : ℕ). slice_get all k) (let e : nr + suc j ≡ nr + 1 + j = omega arith in e)))
 
 -- the piece that is next is of the operation that it names
-pub next_named : (So : Part → PartEnd → Type 0) (pages : ℕ) (ops : List Op) (ds : List Done)
-    (p : Part) (rest : List Part)
-    → Follows So (program pages 0 ops) ds (p ∷ rest) → slice_get ops p.nr ≡ Some p.op
-next_named So pages ops ds p rest f =
-    let all = every_todo (Named ops) So (program pages 0 ops) ds (p ∷ rest) f
-    (every_named pages 0 ops ops (λ j. ap (λ (k : ℕ). slice_get ops k) (sym (zero-add j)))) in
+pub next_named : (So : Part → PartEnd → Type 0) (pages : ℕ) (backed : Bool) (ops : List Op)
+    (ds : List Done) (p : Part) (rest : List Part)
+    → Follows So (program pages backed 0 ops) ds (p ∷ rest) → slice_get ops p.nr ≡ Some p.op
+next_named So pages backed ops ds p rest f =
+    let all = every_todo (Named ops) So (program pages backed 0 ops) ds (p ∷ rest) f
+    (every_named pages backed 0 ops ops (λ j. ap (λ (k : ℕ). slice_get ops k) (sym (zero-add j)))) in
     all.0
 
 -- what a piece reads depends on the sectors of its page alone

@@ -1,5 +1,5 @@
 -- What the pieces of a phase's only actor say of its compactions and of its marks.
-use Rattle.std.specs.Prelude.{◌≡◌, ℕ, ◌<◌, ◌≤◌, Bool, true, List, [], ◌∷◌, if◌then◌else◌, ⊤}
+use Rattle.std.specs.Prelude.{◌≡◌, ℕ, ◌<◌, ◌≤◌, Bool, true, false, List, [], ◌∷◌, if◌then◌else◌, ⊤}
 use Rattle.zr_base.specs.Plain.{Look, Finds}
 use Rattle.mem_account.specs.declared.weight.Weight.{Weight}
 use Rattle.size_class.specs.Classes.{per_of}
@@ -49,13 +49,13 @@ AreMarkedOver form clock finds size pages (d ∷ ds) =
     IsMarked form clock size pages d.part.op (op_end d.end 0)
     × AreMarkedOver form clock finds size (each_over form clock finds d pages) ds
 
--- What the pieces of the only actor that are over leave.
+-- What the pieces of the only actor that are over leave, where pages may have been written back or not.
 pub record IsAloneOver (form : List ℕ → Weight) (r : Rest) (finds : ℕ → Finds)
-    (done : List Done) (m : Rest) : Type 0 where
+    (writes : Bool) (done : List Done) (m : Rest) : Type 0 where
   pub still : MoveNoneOver (are_tight r.set.chain r.used) done
   pub least : tight_over (are_tight r.set.chain r.used) done ≡ true
       → (k : ℕ) → k < 255 → IsLeast (per_of m.set.chain k) (m.used k)
   pub few : moves_over 0 done ≤ pooled_pages form m
-  pub marks : AreMarkedOver form r.set.clock finds r.size (pages_at r) done
-  pub idle : (p : ℕ) → p < r.size
+  pub marks : writes ≡ false → AreMarkedOver form r.set.clock finds r.size (pages_at r) done
+  pub idle : writes ≡ false → (p : ℕ) → p < r.size
       → m.idle p ≡ (pages_over form r.set.clock finds (pages_at r) done p).idle

@@ -1,6 +1,6 @@
 -- What the histories of all actors of a phase say, and when they agree with the orders of the
 -- pages.
-use Rattle.std.specs.Prelude.{◌≡◌, ℕ, ◌<◌, ◌≤◌, true, false, List, [], ◌∷◌, length, get_or, Some, slice_get}
+use Rattle.std.specs.Prelude.{◌≡◌, ℕ, ◌<◌, ◌≤◌, Bool, true, false, List, [], ◌∷◌, length, get_or, Some, slice_get}
 use Rattle.std.specs.List.{AllByRecursion}
 use Rattle.zr_base.specs.declared.op.Tag.{Tag}
 use Rattle.zr_base.specs.declared.op.Op.{Op}
@@ -12,11 +12,12 @@ use Rattle.call_history.specs.declared.part.Done.{Done}
 use Rattle.call_history.specs.Parts.{program, EndsSo, KeepsTo, Follows, stands_so, noted_on, ops_of, ends_from, told_from, dones_sum}
 use Rattle.call_history.specs.Shows.{IsTold}
 
--- the ends of the actors' operations
-abbrev pub ends_each : List (List Op) → List (List Done) → List (List OpEnd)
-ends_each [] dones = []
-ends_each (ops ∷ more) [] = []
-ends_each (ops ∷ more) (done ∷ dones) = ends_from 0 ops done ∷ ends_each more dones
+-- the ends of the actors' operations, on a disk that has a backing or none
+abbrev pub ends_each : Bool → List (List Op) → List (List Done) → List (List OpEnd)
+ends_each backed [] dones = []
+ends_each backed (ops ∷ more) [] = []
+ends_each backed (ops ∷ more) (done ∷ dones) =
+    ends_from backed 0 ops done ∷ ends_each backed more dones
 
 -- the sectors that they tell
 abbrev pub told_each : List (List Op) → List (List Done) → List (List (List (List ℕ)))
@@ -47,7 +48,7 @@ pub record Agree (t : Ground) (b : ℕ → Bounds) (g : Given) (dones : List (Li
   pub count : length dones ≡ length g.actors
   pub follows : (a : ℕ) (ops : List Op) (done : List Done) → slice_get g.actors a ≡ Some ops
       → slice_get dones a ≡ Some done
-      → Follows (EndsSo t) (program t.size 0 ops) done []
+      → Follows (EndsSo t) (program t.size t.backed 0 ops) done []
   pub every_page : length orders ≡ g.size
   pub turns : (p a : ℕ) → p < g.size → ops_of a (nth_order orders p) ≡ noted_on p (history dones a)
   pub reads : (a i : ℕ) (d : Done) → slice_get (history dones a) i ≡ Some d → d.part.page < g.size

@@ -1,5 +1,5 @@
 -- What histories say, whatever the turns were: statements that the laws claim.
-use Rattle.std.specs.Prelude.{◌≡◌, ℕ, ◌+◌, true, false, List, [], ◌∷◌, ◌++◌, Some, slice_get, if◌then◌else◌}
+use Rattle.std.specs.Prelude.{◌≡◌, ℕ, ◌+◌, Bool, true, false, List, [], ◌∷◌, ◌++◌, Some, slice_get, if◌then◌else◌}
 use Rattle.zr_base.specs.declared.op.Tag.{Tag}
 use Rattle.zr_base.specs.declared.op.Op.{Op}
 use Rattle.zr_base.specs.declared.op.OpEnd.{OpEnd}
@@ -8,7 +8,7 @@ use Rattle.mem_account.specs.declared.weight.Weight.{Weight}
 use Rattle.mem_account.specs.Counters.{Counters}
 use Rattle.plain_disk.specs.Ends.{Ground}
 use Rattle.plain_disk.specs.Output.{phase_lines}
-use Rattle.plain_disk.specs.Rests.{Rest, stats}
+use Rattle.plain_disk.specs.Rests.{Rest, is_backed, stats}
 use Rattle.plain_disk.specs.Phases.{Given, FindsHeld, IsPhase, begun, phase_ground, bounds}
 use Rattle.call_history.specs.declared.part.Part.{Part}
 use Rattle.call_history.specs.declared.part.Done.{Done}
@@ -42,11 +42,11 @@ TellsPhase =
     (form : List ℕ → Weight) (r : Rest) (actors : List (List Op)) (finds : ℕ → Finds)
     (dones : List (List Done)) (orders : List (List Tag)) (c : Counters) (m : Rest)
     → HasSomeEach actors → FindsHeld r actors orders finds
-    → Agree (phase_ground form r)
+    → Agree (phase_ground form r actors)
     (bounds form r (begun r actors finds) orders m.device.faults) (begun r actors finds) dones orders
     → Tallies form r (begun r actors finds) dones orders c m
     → IsPhase form r actors
-    (phase_lines (ends_each actors dones) (told_each actors dones) orders) m
+    (phase_lines (ends_each (is_backed r) actors dones) (told_each actors dones) orders) m
 
 -- what the account has then counted are the statistics of the rest that the phase leaves
 abbrev pub TellsAccount : Type 0
@@ -63,8 +63,8 @@ GoesOn = (t : Ground) (ps : List Part) (ds : List Done) (p : Part) (rest : List 
 
 -- the next piece is of the operation that it names
 abbrev pub NamesItsOp : Type 0
-NamesItsOp = (t : Ground) (pages : ℕ) (ops : List Op) (ds : List Done) (p : Part)
-    (rest : List Part) → Follows (EndsSo t) (program pages 0 ops) ds (p ∷ rest)
+NamesItsOp = (t : Ground) (pages : ℕ) (backed : Bool) (ops : List Op) (ds : List Done) (p : Part)
+    (rest : List Part) → Follows (EndsSo t) (program pages backed 0 ops) ds (p ∷ rest)
     → slice_get ops p.nr ≡ Some p.op
 
 -- what an operation has read by more pieces is what it had read, and then what these have

@@ -3,7 +3,7 @@ use Rattle.std.specs.Prelude.{◌≡◌, ℕ, zero, suc, ◌+◌, ◌-◌, ◌*�
 use Rattle.std.specs.List.{range_with_len}
 use Rattle.zr_base.specs.declared.op.Tag.{Tag}
 use Rattle.zr_base.specs.declared.op.Op.{Op}
-use Rattle.zr_base.specs.declared.op.Op.TheVariants.{Write, Read, Discard, Idle, Compact}
+use Rattle.zr_base.specs.declared.op.Op.TheVariants.{Write, Read, Discard, Idle, Writeback, Compact}
 use Rattle.zr_base.specs.declared.op.OpEnd.{OpEnd}
 use Rattle.zr_base.specs.declared.op.OpEnd.TheVariants as ends
 use Rattle.call_history.specs.declared.part.Part.{Part}
@@ -11,7 +11,7 @@ use Rattle.call_history.specs.declared.part.PartEnd.{PartEnd}
 use Rattle.call_history.specs.declared.part.PartEnd.TheVariants as over
 use Rattle.call_history.specs.declared.part.Done.{Done}
 use Rattle.zr_base.specs.Pieces.{first_page, pages_of}
-use Rattle.zr_base.specs.Plain.{start_of, count_of, has_event}
+use Rattle.zr_base.specs.Plain.{start_of, count_of, is_void, has_event}
 use Rattle.plain_disk.specs.Ends.{Ground, Bounds, is_single, MayWant, MayBeAtLimit, MayFault, MayBeSingle}
 
 -- the pieces with events of an operation on so many pages, from a page on
@@ -21,16 +21,22 @@ parts_from nr op page (suc n) =
     (if has_event op page then record { nr = nr; op = op; page = page } ∷ [] else [])
     ++ parts_from nr op (page + 1) n
 
--- the pieces with events of an operation on a disk of so many pages: one where it is over in one
-abbrev pub parts : ℕ → ℕ → Op → List Part
-parts pages nr op = if is_single pages op
+-- the pieces of an operation that does something
+abbrev pub parts_of : ℕ → ℕ → Op → List Part
+parts_of pages nr op = if is_single pages op
     then record { nr = nr; op = op; page = first_page op } ∷ []
     else parts_from nr op (first_page op) (pages_of op)
 
+-- the pieces with events of an operation on a disk of so many pages, which has a backing or none: none
+-- where it does nothing, and one where it is over in one
+abbrev pub parts : ℕ → Bool → ℕ → Op → List Part
+parts pages backed nr op = if is_void backed op then [] else parts_of pages nr op
+
 -- those of all operations of an actor from the nr-th on
-abbrev pub program : ℕ → ℕ → List Op → List Part
-program pages nr [] = []
-program pages nr (op ∷ ops) = parts pages nr op ++ program pages (nr + 1) ops
+abbrev pub program : ℕ → Bool → ℕ → List Op → List Part
+program pages backed nr [] = []
+program pages backed nr (op ∷ ops) =
+    parts pages backed nr op ++ program pages backed (nr + 1) ops
 
 -- without the pieces of an operation
 abbrev pub without : ℕ → List Part → List Part
@@ -48,6 +54,7 @@ is_read (Write start count stuff) = false
 is_read (Read start count) = true
 is_read (Discard start count) = false
 is_read (Idle age) = false
+is_read (Writeback mode) = false
 is_read Compact = false
 
 -- whether its tag was noted: that of a read also where the device failed
@@ -73,6 +80,7 @@ EndsSo t p (over.Whole end) = (is_single t.size p.op ≡ true) × MayBeSingle t 
 abbrev pub KeepsTo : Ground → Bounds → PartEnd → Type 0
 KeepsTo t b (over.AtLimit charged need limit) = limit < t.chain * b.reach
 KeepsTo t b (over.Eio fault) = fault ≤ b.faults
+KeepsTo t b (over.Whole (ends.WriteEio fault wrote lost)) = fault ≤ b.faults
 KeepsTo t b _ = ⊤
 
 -- the pieces that are over, and those that are left, are those of the program; each ended in a way
@@ -137,10 +145,15 @@ end_by nr n (d ∷ ds) =
 abbrev pub end_of : ℕ → List Done → OpEnd
 end_of nr done = end_by nr 0 done
 
+-- how an operation has ended: a writeback without a backing has no piece
+abbrev pub end_as : Bool → ℕ → Op → List Done → OpEnd
+end_as backed nr op done = if is_void backed op then ends.NoBacking else end_of nr done
+
 -- how an actor's operations end, from the nr-th on
-abbrev pub ends_from : ℕ → List Op → List Done → List OpEnd
-ends_from nr [] done = []
-ends_from nr (op ∷ ops) done = end_of nr done ∷ ends_from (nr + 1) ops done
+abbrev pub ends_from : Bool → ℕ → List Op → List Done → List OpEnd
+ends_from backed nr [] done = []
+ends_from backed nr (op ∷ ops) done =
+    end_as backed nr op done ∷ ends_from backed (nr + 1) ops done
 
 -- the sectors that are told of an operation, of those that its pieces have read
 abbrev pub shown : Op → OpEnd → List (List ℕ) → List (List ℕ)

@@ -1,13 +1,14 @@
 -- What the account and the pages tell at the end of a phase, beside the histories.
-use Rattle.std.specs.Prelude.{◌≡◌, ℕ, ◌+◌, List, [], ◌∷◌}
+use Rattle.std.specs.Prelude.{◌≡◌, ℕ, ◌+◌, ◌≤◌, List, [], ◌∷◌}
 use Rattle.zr_base.specs.declared.op.Tag.{Tag}
 use Rattle.mem_account.specs.declared.weight.Weight.{Weight}
 use Rattle.mem_account.specs.Counters.{Counters, at_most_end}
 use Rattle.mem_account.specs.Tally.{IsTally}
-use Rattle.plain_disk.specs.Ends.{failed_read, failed_write, starved, beyond, compacted}
+use Rattle.plain_disk.specs.Ends.{failed_read, failed_write, starved, left_back, written, beyond, compacted}
 use Rattle.plain_disk.specs.Calls.{calls_sum, made_huge, freed, may_fetch}
 use Rattle.plain_disk.specs.Rests.{Rest, kept_pages, frames_of, so_far_of}
-use Rattle.plain_disk.specs.Phases.{Given, calls_on, phase_sum, LeavesPages, LeavesDevice}
+use Rattle.plain_disk.specs.Phases.{Given, calls_on, phase_sum, new_back, LeavesPages, LeavesDevice}
+use Rattle.plain_disk.specs.Idles.{may_write}
 use Rattle.call_history.specs.declared.part.Done.{Done}
 use Rattle.call_history.specs.Alone.{IsAloneOver}
 use Rattle.call_history.specs.Parts.{dones_sum}
@@ -35,4 +36,7 @@ pub record Tallies (form : List ℕ → Weight) (r : Rest) (g : Given)
       (r.so_far.freed + phase_sum (λ p. calls_sum freed (calls_on g p)) r orders)
   pub device : LeavesDevice r.device m.device
       (phase_sum (λ p. calls_sum may_fetch (calls_on g p)) r orders + dones_sum starved dones)
-  pub alone : (done : List Done) → dones ≡ done ∷ [] → IsAloneOver form r g.finds done m
+      (dones_sum written dones)
+  pub few_back : new_back r g.actors orders m ≤ dones_sum left_back dones
+  pub alone : (done : List Done) → dones ≡ done ∷ [] → IsAloneOver form r g.finds
+      (may_write g.backed g.actors) done m

@@ -96,6 +96,7 @@ module _ (r : Rest) (n : ℕ) (row : Row) (at_rest : NewIsAtRest)
       most = high;
     };
     rest = empty_rest;
+    marks = λ p e at. (value_new p (holds.Slot e) at).4;
     used = no_used;
     account = nothing_yet_counted;
     device = device_here;

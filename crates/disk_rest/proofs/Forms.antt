@@ -1,18 +1,19 @@
 -- What a page in the form that it has to have weighs.
 use Rattle.std.proofs.Common.{◌≡◌, ℕ, Bool, true, false, ◌&&◌, cond, List, [], refl, sym, ap, ◌∙◌}
 use Rattle.std.proofs.lemmas.Bool.{true≢false}
+use Rattle.plain_disk.specs.Rests.{Rest, is_backed}
+use Rattle.plain_disk.specs.Idles.{may_write}
 use Rattle.zr_base.specs.declared.op.Tag.{Tag}
 use Rattle.mem_account.specs.declared.weight.Weight.{Weight}
 use Rattle.mem_account.specs.declared.weight.Weight.TheVariants as weights
 use Rattle.plain_disk.specs.Calls.{kept_as}
-use Rattle.plain_disk.specs.Idles.{is_marked_in}
 use Rattle.slot_entry.specs.declared.kept.Kept.{Kept}
 use Rattle.slot_entry.specs.declared.kept.Kept.TheVariants as kept
-use Rattle.slot_entry.specs.Entries.{EntryState, weight_of}
+use Rattle.slot_entry.specs.Entries.{weight_of, is_wb}
 use Rattle.slot_entry.specs.Forms.{PageForm, Blank, Word, Pooled, form_of, form_weight, page_weight}
-use Rattle.joint_rule.specs.Begins.{Begin, content, form_by, form_at, found_after}
-use Rattle.joint_rule.specs.Joint.{MarkFits}
-use Rattle.joint_rule.specs.Stages.{IsForm, is_wb}
+use Rattle.joint_rule.specs.Begins.{Begin, content, form_by, form_at, found_after, back_at}
+use Rattle.joint_rule.specs.Ends.{begin_at}
+use Rattle.joint_rule.specs.Stages.{IsForm, IsBack}
 
 -- the account counts a kept form as the form, where its page isn't on the device
 weight_same : (chain : ℕ) (f : PageForm) (k : Kept) → IsForm chain f k → is_wb k ≡ false
@@ -56,18 +57,17 @@ form_keeps g p order =
     by_blank (found_after g p order).blank (form_of (content g p order))
 
 -- without calls a page stays where it is
-pub back_still : (back : Bool) → (back && true) ≡ back
+back_still : (back : Bool) → (back && true) ≡ back
 back_still true = refl
 back_still false = refl
 
--- two marks are the same where each is set by the other
-same_mark : (x y : Bool) → (x ≡ true → y ≡ true) → (y ≡ true → x ≡ true) → x ≡ y
-same_mark true y to from = sym (to refl)
-same_mark false true to from = from refl
-same_mark false false to from = refl
+-- where there is no actor nothing is written back
+none_written : (backed : Bool) → may_write backed [] ≡ false
+none_written true = refl
+none_written false = refl
 
--- without calls, and where no operation marks pages, a page is idle where it was
-pub mark_still : (g : Begin) (p : ℕ) (e : EntryState) → e.order ≡ []
-    → is_marked_in g.given.actors ≡ false → MarkFits g p e → g.idle p ≡ e.idle
-mark_still g p e none unmarked fits =
-    same_mark (g.idle p) e.idle (fits.stays none) (λ idle. (fits.only unmarked idle).1)
+-- between two phases a page without calls is on the device where the rest says
+pub backed_still : (r : Rest) (p : ℕ) (k : Kept) (order : List Tag) → order ≡ []
+    → IsBack (begin_at r []) k (back_at (begin_at r []) p order) → is_wb k ≡ r.back p
+backed_still r p k order none is = is.only (none_written (is_backed r))
+    ∙ ap (back_at (begin_at r []) p) none ∙ back_still (r.back p)

@@ -6,7 +6,7 @@ use Rattle.std.proofs.lemmas.List.FromFn.{length-map-range_with_len, get_or-map-
 use Rattle.zr_base.specs.declared.op.Tag.{Tag}
 use Rattle.zr_base.specs.declared.op.Op.{Op}
 use Rattle.plain_disk.specs.Output.{phase_lines}
-use Rattle.plain_disk.specs.Rests.{Rest, stats}
+use Rattle.plain_disk.specs.Rests.{Rest, is_backed, stats}
 use Rattle.plain_disk.specs.Phases.{IsPhase, begun}
 use Rattle.backing_dev.specs.Dev.{DeviceState}
 use Rattle.call_history.specs.declared.part.Part.{Part}
@@ -22,7 +22,7 @@ use Rattle.joint_rule.specs.Begins.{Begin, finding, Proper, IsRoomy}
 use Rattle.joint_rule.specs.Laws.{FinishedIsAtRest, FinishedAgrees, FinishedFinds, FinishedTallies, RestGoesOn, EntryGoesOn, NextIsProper}
 use Rattle.joint_rule.specs.Rule.{Rule}
 use Rattle.joint_rule.specs.Starts.{AtRest, Renewed, slots, accounts, pools, maps, devices}
-use Rattle.joint_rule.specs.Ends.{begin_at, AllFinished, orders_of, histories, account_of, device_in, rest_after}
+use Rattle.joint_rule.specs.Ends.{begin_at, AllFinished, orders_of, histories, idle_in, account_of, device_in, rest_after}
 use Rattle.disk_rest.specs.Rows.{Row, NoPieceLeft, AreOrders, order_at, without_calls, without_orders}
 use Rattle.disk_rest.specs.Resting.{IsPlain, StandsFor}
 use Rattle.disk_rest.proofs.Asked.{no_requests}
@@ -87,11 +87,11 @@ module _ (laws : Ending) (r : Rest) (actors : List (List Op)) (w : State DiskHel
 
   pub prints : TellsPhase → HasSomeEach actors → (orders : List (List Tag))
       → AreOrders r.size w.row orders
-      → IsPhase page_weight r actors (phase_lines (ends_each actors (histories w.locals))
+      → IsPhase page_weight r actors (phase_lines (ends_each (is_backed r) actors (histories w.locals))
       (told_each actors (histories w.locals)) orders) m
   prints tells some orders are =
       subst (λ (x : List (List Tag)). IsPhase page_weight r actors
-      (phase_lines (ends_each actors (histories w.locals))
+      (phase_lines (ends_each (is_backed r) actors (histories w.locals))
       (told_each actors (histories w.locals)) x) m)
       (sym (orders_are r.size w.row orders are))
       (tells page_weight r actors rule.finds (histories w.locals) (orders_of r.size w.row)
@@ -158,6 +158,7 @@ module _ (laws : Ending) (r : Rest) (actors : List (List Op)) (w : State DiskHel
       record {
         plain = plain;
         rest = goes_on;
+        marks = λ p e at. sym (ap idle_in (value_is w.row p (holds.Slot e) at));
         used = λ k lt. refl;
         account = account_right tells;
         device = d.at ∙ ap (λ (x : DeviceState). Some (Some (holds.Device x)))

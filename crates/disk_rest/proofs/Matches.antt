@@ -73,7 +73,6 @@ pub record WasSlot (v : DiskHeld) (e : EntryState) : Type 0 where
   pub is : v ≡ holds.Slot entry
   pub kept : e.kept ≡ entry.kept
   pub order : e.order ≡ []
-  pub idle : e.idle ≡ entry.idle
   pub touched : e.touched ≡ entry.touched
 
 pub was_slot : (v : DiskHeld) (e : EntryState) → holds.Slot e ≡ without_calls v → WasSlot v e
@@ -83,7 +82,6 @@ was_slot (holds.Slot x) e q =
       is = refl;
       kept = ap (λ (y : EntryState). y.kept) s;
       order = ap (λ (y : EntryState). y.order) s;
-      idle = ap (λ (y : EntryState). y.idle) s;
       touched = ap (λ (y : EntryState). y.touched) s;
     }
 was_slot (holds.Class x) e q = absurd (cc)

@@ -1,6 +1,6 @@
 -- A row that stands for a rest, and what may follow: a phase, another limit, a later time, or a
 -- lower maximum.
-use Rattle.std.proofs.Common.{◌≡◌, ◌≢◌, ℕ, ◌+◌, ◌<◌, ◌≤◌, List, [], length, Some, None, slice_get, slice_set, get_or-set_same, get_or-set_other, length-set, refl, sym, ap, ◌∙◌, subst, arith, inl, inr}
+use Rattle.std.proofs.Common.{◌≡◌, ◌≢◌, ℕ, ◌+◌, ◌<◌, ◌≤◌, Bool, List, [], length, Some, None, slice_get, slice_set, get_or-set_same, get_or-set_other, length-set, refl, sym, ap, ◌∙◌, subst, arith, inl, inr}
 use Rattle.std.proofs.lemmas.Bool.{cases_eq}
 use Rattle.std.proofs.lemmas.Option.{slice_get_within}
 use Rattle.zr_base.specs.declared.op.Op.{Op}
@@ -10,7 +10,7 @@ use Rattle.plain_disk.specs.Rests.{Rest, frames_of, stats}
 use Rattle.plain_disk.specs.Legal.{sets, lowered}
 use Rattle.lock_row.specs.declared.names.Held.TheVariants as holds
 use Rattle.lock_row.specs.declared.names.State.{State}
-use Rattle.slot_entry.specs.Entries.{EntryState}
+use Rattle.slot_entry.specs.Entries.{EntryState, is_wb}
 use Rattle.page_steps.specs.Steps.{DiskHeld}
 use Rattle.slot_entry.specs.Forms.{page_weight}
 use Rattle.joint_rule.specs.Begins.{Begin}
@@ -20,11 +20,11 @@ use Rattle.joint_rule.specs.Starts.{AtRest, IsStart, Renewed, slots, accounts, p
 use Rattle.joint_rule.specs.Ends.{begin_at, value_at, used_in, account_in, account_of}
 use Rattle.disk_rest.specs.Rows.{Row, used_at, without_calls, without_orders, IsKept, KeepsValues}
 use Rattle.disk_rest.specs.Resting.{IsPlain, StandsFor, IsSetUp}
-use Rattle.disk_rest.proofs.Forms.{back_still, mark_still}
+use Rattle.disk_rest.proofs.Forms.{backed_still}
 use Rattle.disk_rest.proofs.Places.{value_is}
 use Rattle.disk_rest.proofs.Tight.{no_pool_loose}
 use Rattle.disk_rest.proofs.Matches.{matched, value_there, was_at, was_slot, emptied_long, emptied_at}
-use Rattle.disk_rest.proofs.Reports.{entry_tells, pool_tells, account_tells}
+use Rattle.disk_rest.proofs.Reports.{EntryTells, entry_tells, pool_tells, account_tells}
 
 -- the rest at another limit, another time and another greatest number of frames
 abbrev changed : Rest → ℕ → ℕ → ℕ → Rest
@@ -70,12 +70,28 @@ kept_still (holds.Account x) u is = ap without_calls is
 kept_still (holds.Blocks x) u is = ap without_calls is
 kept_still (holds.Device x) u is = ap without_calls is
 
+-- an entry that is kept was one, with its mark
+mark_kept : (v : DiskHeld) (e : EntryState) (mark : Bool) → IsKept v (holds.Slot e)
+    → ((x : EntryState) → v ≡ holds.Slot x → x.idle ≡ mark) → e.idle ≡ mark
+mark_kept (holds.Slot x) e mark is was =
+    let same : e ≡ is.0 = (let q = is.1 in cc) in
+    ap (λ (y : EntryState). y.idle) (same ∙ is.2) ∙ was x refl
+mark_kept (holds.Class x) e mark is was = absurd (cc)
+mark_kept (holds.Account x) e mark is was = absurd (cc)
+mark_kept (holds.Blocks x) e mark is was = absurd (cc)
+mark_kept (holds.Device x) e mark is was = absurd (cc)
+
 -- the value's order, if it has one, is empty
 abbrev NoCalls : DiskHeld → Type 0
 NoCalls u = (f : EntryState) → u ≡ holds.Slot f → f.order ≡ []
 
 no_calls : (u : DiskHeld) → NoCalls (without_calls u)
 no_calls u f e = (was_slot u f (sym e)).order
+
+-- What a rest knows of a value: the device is its device, and an entry is marked as it says.
+record Known (r : Rest) (k : ℕ) (v : DiskHeld) : Type 0 where
+  pub device : (d : DeviceState) → v ≡ holds.Device d → r.device ≡ d
+  pub mark : (e : EntryState) → v ≡ holds.Slot e → r.idle k ≡ e.idle
 
 -- the device of a row that stands for a rest is the rest's
 device_known : (r : Rest) (row : Row) → StandsFor r row → (k : ℕ) (v : DiskHeld)
@@ -90,6 +106,14 @@ device_known r row st k v at home d is =
     ap (slice_get row) place ∙ st.device in
     cc
 
+-- and so are its marks
+known_at : (r : Rest) (row : Row) → StandsFor r row → (k : ℕ) (v : DiskHeld)
+    → slice_get row k ≡ Some (Some v) → AtHome (begin_at r []) k (without_calls v) → Known r k v
+known_at r row st k v at home = record {
+  device = device_known r row st k v at home;
+  mark = λ e is. sym (st.marks k e (at ∙ ap (λ (x : DiskHeld). Some (Some x)) is));
+}
+
 -- ---- rows that go on from one that stands for a rest
 
 module _ (r : Rest) (limit time most : ℕ) (actors : List (List Op)) where
@@ -101,7 +125,7 @@ module _ (r : Rest) (limit time most : ℕ) (actors : List (List Op)) where
 
   -- a value that is kept, with an empty order, is one with which the next phase begins
   renews : (k : ℕ) (v u : DiskHeld) → IsKept v u → NoCalls u → AtHome g k (without_calls v)
-      → ((d : DeviceState) → v ≡ holds.Device d → r.device ≡ d)
+      → Known r k v
       → Renewed g h k (without_calls v) u
   renews k (holds.Slot e) u is none home known =
       slots (record e { order = []; room = 0 }) is.0 refl is.1
@@ -110,17 +134,17 @@ module _ (r : Rest) (limit time most : ℕ) (actors : List (List Op)) where
         order = none is.0 is.1;
         under = ap (λ (x : EntryState). x.under) is.2;
         idle = ap (λ (x : EntryState). x.idle) is.2;
-        mark = mark_still g k (record e { order = []; room = 0 }) refl refl home.sound.mark;
+        mark = known.mark e refl;
         touched = ap (λ (x : EntryState). x.touched) is.2;
         time = sym home.sound.touched;
         blank = refl;
-        back = sym (back_still (r.back k));
+        back = sym (backed_still r k e.kept [] refl home.backs);
         before = λ j lt. refl;
       })
   renews k (holds.Class x) u is none home known = pools x refl is
   renews k (holds.Account x) u is none home known = accounts x x refl is refl (λ le. le)
   renews k (holds.Blocks x) u is none home known = maps x x refl is refl
-  renews k (holds.Device x) u is none home known = devices x refl is (known x refl)
+  renews k (holds.Device x) u is none home known = devices x refl is (known.device x refl)
 
   goes_on : (row ys : Row) → RestGoesOn → AtRest g (without_orders row) → length ys ≡ length row
       → ((k : ℕ) (v : DiskHeld) → slice_get row k ≡ Some (Some v) → AtHome g k (without_calls v)
@@ -158,7 +182,7 @@ module _ (r : Rest) (actors : List (List Op)) (row : Row) (w : State DiskHeld)
         u.1,
         renews r r.set.limit r.set.clock r.most actors k v u.0 u.2
             (λ f e. (up.orders k f (u.1 ∙ ap (λ (x : DiskHeld). Some (Some x)) e)).0) home
-            (device_known r row st k v at home),
+            (known_at r row st k v at home),
       ))
 
   account_is : (k : ℕ) (c : Counters) → slice_get w.row k ≡ Some (Some (holds.Account c))
@@ -179,22 +203,30 @@ module _ (r : Rest) (actors : List (List Op)) (row : Row) (w : State DiskHeld)
       let u = up.row.each (r.size + 257) _ st.device in
       let a = u.1 in let b = u.2 in cc
 
-  -- marks are kept
-  marks_are : (k : ℕ) (e : EntryState) → slice_get w.row k ≡ Some (Some (holds.Slot e))
-      → e.idle ≡ r.idle k
-  marks_are k e at =
+  -- An entry is one that the row had, but for its order.
+  record IsOld (k : ℕ) (e : EntryState) : Type 0 where
+    pub old : EntryTells r row k
+    pub is : e ≡ record old.entry { order = e.order; room = e.room }
+
+  is_old : (k : ℕ) (e : EntryState) → slice_get w.row k ≡ Some (Some (holds.Slot e)) → IsOld k e
+  is_old k e at =
       let old = entry_tells r row st k (next_rest.home k (holds.Slot e) at).sound.page in
       let u = up.row.each k (holds.Slot old.entry) old.at in
       let q : Some (Some (holds.Slot e)) ≡ Some (Some (holds.Slot u.2.0)) =
       sym at ∙ u.1 ∙ ap (λ (v : DiskHeld). Some (Some v)) u.2.1 in
-      let same : e ≡ u.2.0 = cc in
-      ap (λ (x : EntryState). x.idle) (same ∙ u.2.2) ∙ old.idle
+      let same : e ≡ u.2.0 = cc in record {
+        old = old;
+        is = subst (λ (x : EntryState). x ≡ record old.entry { order = x.order; room = x.room })
+            (sym same) u.2.2;
+      }
 
   pub starts : IsStart (begin_at r actors) w
   starts = record {
     rest = next_rest;
     orders = up.orders;
-    marks = marks_are;
+    marks = λ k e at. let x = is_old k e at in ap (λ (y : EntryState). y.idle) x.is ∙ x.old.idle;
+    backs = λ k e at. let x = is_old k e at in
+        ap (λ (y : EntryState). is_wb y.kept) x.is ∙ x.old.back;
     account = account_is;
     device = device_is;
     actors = up.starts;
@@ -216,6 +248,17 @@ module _ (r : Rest) (row ys : Row) (next : RestGoesOn) (st : StandsFor r row)
       ap account_in (value_is ys (r.size + 255) u.0 u.1)
       ∙ ap (λ (v : DiskHeld). account_in (Some v)) u.2
 
+  marks_still : (p : ℕ) (e : EntryState) → slice_get ys p ≡ Some (Some (holds.Slot e))
+      → e.idle ≡ r.idle p
+  marks_still p e at =
+      let lt = slice_get_within ys p (Some (holds.Slot e)) at in
+      let old = st.rest.whole p (let s = emptied_long row in let k = keeps.size in omega arith) in
+      let o = was_at row p old.0 old.1 in
+      let u = keeps.each p o.value o.at in
+      let same : u.0 ≡ holds.Slot e = (let q = u.1 in cc) in
+      mark_kept o.value e (r.idle p) (subst (IsKept o.value) same u.2)
+      (λ x is. st.marks p x (o.at ∙ ap (λ (v : DiskHeld). Some (Some v)) is))
+
   later_stands : (time : ℕ) → r.set.clock ≤ time
       → StandsFor (sets r (record r.set { clock = time })) ys
   later_stands time later = record {
@@ -226,8 +269,9 @@ module _ (r : Rest) (row ys : Row) (next : RestGoesOn) (st : StandsFor r row)
           without_calls u.0,
           emptied_at ys k u.0 u.1,
           renews r r.set.limit time r.most [] k v (without_calls u.0) (kept_still v u.0 u.2)
-              (no_calls u.0) home (device_known r row st k v at home),
+              (no_calls u.0) home (known_at r row st k v at home),
         ));
+    marks = marks_still;
     used = used_still r row ys st keeps;
     account = account_still;
     device =
@@ -286,7 +330,7 @@ module _ (r : Rest) (row : Row) (n most : ℕ) (next : RestGoesOn) (st : StandsF
       emptied_at ys k v
           (value_there ys k v (value_else k else ∙ value_is row k v e)),
       renews r n r.set.clock most [] k v (without_calls v)
-          (kept_still v v (self_kept v)) (no_calls v) home (device_known r row st k v e home),
+          (kept_still v v (self_kept v)) (no_calls v) home (known_at r row st k v e home),
     )
   ]
 
@@ -295,12 +339,21 @@ module _ (r : Rest) (row : Row) (n most : ℕ) (next : RestGoesOn) (st : StandsF
       ap used_in (value_else (r.size + k) (λ e. let none : ⊥ = omega arith in none))
       ∙ st.used k lt
 
+  marks_same : (p : ℕ) (e : EntryState) → slice_get ys p ≡ Some (Some (holds.Slot e))
+      → e.idle ≡ r.idle p
+  marks_same p e there = elim (cases_eq p (r.size + 255)) [
+    | inl here ↦ absurd (let q = ap (slice_get ys) here ∙ at_account in cc)
+    | inr else ↦ st.marks p e (value_there row p (holds.Slot e)
+        (sym (value_else p else) ∙ value_is ys p (holds.Slot e) there))
+  ]
+
   change_stands : StandsFor (changed r n r.set.clock most) ys
   change_stands = record {
     plain = later_plain r n r.set.clock most st.plain (no_less r.set.clock);
     rest = goes_on r n r.set.clock most [] row (without_orders ys) next st.rest
         (emptied_long ys ∙ length-set row (r.size + 255) (Some (holds.Account now)))
         change_each;
+    marks = marks_same;
     used = used_same;
     account = ap account_in (value_is ys (r.size + 255) (holds.Account now) at_account);
     device = value_there ys (r.size + 257) (holds.Device r.device)

@@ -5,10 +5,10 @@ use Rattle.std.proofs.lemmas.Bool.{cases_Bool, cases_eq, ne_eqb}
 use Rattle.std.proofs.lemmas.List.Sums.{sum_by-cons}
 use Rattle.zr_base.specs.declared.op.Op.{Op}
 use Rattle.zr_base.specs.Pieces.{first_page, pages_of}
-use Rattle.zr_base.specs.Plain.{has_event}
+use Rattle.zr_base.specs.Plain.{has_event, is_void}
 use Rattle.plain_disk.specs.Ends.{is_single}
 use Rattle.call_history.specs.declared.part.Part.{Part}
-use Rattle.call_history.specs.Parts.{parts_from, parts, program}
+use Rattle.call_history.specs.Parts.{parts_from, parts_of, parts, program}
 use Rattle.joint_rule.specs.Begins.{piece_on, pieces_on, pieces_each}
 
 module _ (size p : ℕ) where
@@ -73,31 +73,38 @@ module _ (size p : ℕ) where
         → piece_on size p (part_at (first_page op)) ≡ 0
     single_none b is e = ap (λ (x : Bool). cond x 0 (cond (eqb (first_page op) p) 1 0)) (is ∙ e)
 
-    parts_most : pieces_on size p (parts size nr op) ≤ 1
-    parts_most = elim (cases_Bool (is_single size op)) [
+    some_most : pieces_on size p (parts_of size nr op) ≤ 1
+    some_most = elim (cases_Bool (is_single size op)) [
       | inl single ↦
           let s = single_none true single refl in
-          let e : pieces_on size p (parts size nr op) ≡ piece_on size p (part_at (first_page op)) + 0 =
+          let e : pieces_on size p (parts_of size nr op) ≡ piece_on size p (part_at (first_page op)) + 0 =
           ap (λ (b : Bool). pieces_on size p (cond b (part_at (first_page op) ∷ [])
           (parts_from nr op (first_page op) (pages_of op)))) single in omega arith
       | inr many ↦
           let m = from_most (first_page op) (pages_of op) in
-          let e : pieces_on size p (parts size nr op)
+          let e : pieces_on size p (parts_of size nr op)
           ≡ pieces_on size p (parts_from nr op (first_page op) (pages_of op)) =
           ap (λ (b : Bool). pieces_on size p (cond b (part_at (first_page op) ∷ [])
           (parts_from nr op (first_page op) (pages_of op)))) many in omega arith
     ]
 
-  program_most : (nr : ℕ) (ops : List Op) → pieces_on size p (program size nr ops) ≤ length ops
-  program_most nr [] = omega arith
-  program_most nr (op ∷ ops) =
-      let a = appended (parts size nr op) (program size (nr + 1) ops) in
-      let m = parts_most nr op in let r = program_most (nr + 1) ops in omega arith
+  -- none where the operation does nothing
+  void_most : (b : Bool) (ps : List Part) → pieces_on size p ps ≤ 1
+      → pieces_on size p (cond b [] ps) ≤ 1
+  void_most true ps most = omega arith
+  void_most false ps most = most
+
+  program_most : (backed : Bool) (nr : ℕ) (ops : List Op)
+      → pieces_on size p (program size backed nr ops) ≤ length ops
+  program_most backed nr [] = omega arith
+  program_most backed nr (op ∷ ops) =
+      let a = appended (parts size backed nr op) (program size backed (nr + 1) ops) in
+      let m = void_most (is_void backed op) (parts_of size nr op) (some_most nr op) in let r = program_most backed (nr + 1) ops in omega arith
 
   -- all actors have at most as many pieces on a page as operations
-  pub pieces_most : (actors : List (List Op))
-      → pieces_each size actors p ≤ sum_by (λ (ops : List Op). length ops) actors
-  pieces_most [] = omega arith
-  pieces_most (ops ∷ more) =
-      let m = program_most 0 ops in let r = pieces_most more in
+  pub pieces_most : (backed : Bool) (actors : List (List Op))
+      → pieces_each size backed actors p ≤ sum_by (λ (ops : List Op). length ops) actors
+  pieces_most backed [] = omega arith
+  pieces_most backed (ops ∷ more) =
+      let m = program_most backed 0 ops in let r = pieces_most backed more in
       let s = sum_by-cons (λ (xs : List Op). length xs) ops more in omega arith

@@ -10,10 +10,10 @@ use Rattle.plain_disk.specs.Calls.{kept_as}
 use Rattle.plain_disk.specs.Rests.{Rest, kept_at, stats, state_line, class_line, Report, mm_stat, io_stat, bd_stat, states, classes, report}
 use Rattle.plain_disk.specs.Phases.{touched_by}
 use Rattle.lock_row.specs.declared.names.Held.TheVariants as holds
-use Rattle.slot_entry.specs.Entries.{EntryState, weight_of}
+use Rattle.slot_entry.specs.Entries.{EntryState, weight_of, is_wb}
 use Rattle.page_steps.specs.Steps.{DiskHeld}
 use Rattle.slot_entry.specs.Forms.{page_weight}
-use Rattle.joint_rule.specs.Begins.{Begin, form_at, back_at, found_after}
+use Rattle.joint_rule.specs.Begins.{Begin, form_at, found_after}
 use Rattle.joint_rule.specs.Joint.{PoolFits}
 use Rattle.joint_rule.specs.Ends.{begin_at, value_at, used_in, account_in}
 use Rattle.joint_rule.specs.Weights.{used_each}
@@ -22,12 +22,13 @@ use Rattle.disk_rest.specs.Resting.{StandsFor}
 use Rattle.disk_rest.specs.Printed.{state_in, device_line, row_report}
 use Rattle.disk_rest.proofs.Places.{slot_at, pool_at, account_there, value_is}
 use Rattle.disk_rest.proofs.Matches.{was_at, was_slot, was_pool, was_account}
-use Rattle.disk_rest.proofs.Forms.{weight_kept, form_keeps, back_still, mark_still}
+use Rattle.disk_rest.proofs.Forms.{weight_kept, form_keeps, backed_still}
 
--- An entry that keeps page p, and is marked, as the rest says.
+-- An entry that keeps page p where the rest says, and is marked as it says.
 pub record EntryTells (r : Rest) (row : Row) (p : ℕ) : Type 0 where
   pub entry : EntryState
   pub at : slice_get row p ≡ Some (Some (holds.Slot entry))
+  pub back : is_wb entry.kept ≡ r.back p
   pub weight : weight_of entry.kept ≡ kept_at page_weight r p
   pub idle : entry.idle ≡ r.idle p
   pub touched : entry.touched ≡ r.touched p
@@ -55,16 +56,18 @@ module _ (r : Rest) (row : Row) (st : StandsFor r row) where
       let s = slot_at g _ st.rest p lt in
       let was = was_at row p (holds.Slot s.entry) s.at in
       let e = was_slot was.value s.entry was.is in
+      let back = backed_still r p s.entry.kept s.entry.order e.order s.home.backs in
+      let at = was.at ∙ ap (λ (v : DiskHeld). Some (Some v)) e.is in
       record {
         entry = e.entry;
-        at = was.at ∙ ap (λ (v : DiskHeld). Some (Some v)) e.is;
+        at = at;
+        back = ap is_wb (sym e.kept) ∙ back;
         weight = ap weight_of (sym e.kept)
             ∙ weight_kept r.set.chain (form_at g p s.entry.order) s.entry.kept (r.back p) _
-            s.home.stands
-            (s.home.backs ∙ ap (back_at g p) e.order ∙ back_still (r.back p))
+            s.home.stands back
             (form_keeps g p s.entry.order
             ∙ ap (λ (order : List Tag). kept_as page_weight p (found_after g p order)) e.order);
-        idle = sym e.idle ∙ sym (mark_still g p s.entry e.order refl s.home.sound.mark);
+        idle = st.marks p e.entry at;
         touched = sym e.touched ∙ s.home.sound.touched
             ∙ ap (λ (order : List Tag). touched_by order r.set.clock (r.touched p)) e.order;
       }

@@ -8,7 +8,7 @@ use Rattle.size_class.specs.Groups.{group_of}
 use Rattle.zspage.specs.Cells.{used_of}
 use Rattle.class_pool.specs.Pool.{PoolState, objects, is_in_group}
 use Rattle.plain_disk.specs.Output.{device_calls, phase_lines}
-use Rattle.plain_disk.specs.Rests.{Rest, kept_at, stats, Report, bd_stat, states, classes, report}
+use Rattle.plain_disk.specs.Rests.{Rest, is_backed, kept_at, stats, Report, bd_stat, states, classes, report}
 use Rattle.plain_disk.specs.Phases.{IsPhase}
 use Rattle.plain_disk.specs.Legal.{IsNew, IsUnused, sets, lowered}
 use Rattle.call_history.specs.Histories.{HasSomeEach, ends_each, told_each}
@@ -33,7 +33,7 @@ abbrev pub PrintsPhase : Type 0
 PrintsPhase = (r : Rest) (actors : List (List Op)) (w : State DiskHeld) (orders : List (List Tag))
     → Proper (begin_at r actors) → (x : Rule (begin_at r actors) w)
     → NoPieceLeft w → HasSomeEach actors → AreOrders r.size w.row orders
-    → IsPhase page_weight r actors (phase_lines (ends_each actors (histories w.locals))
+    → IsPhase page_weight r actors (phase_lines (ends_each (is_backed r) actors (histories w.locals))
     (told_each actors (histories w.locals)) orders) (rest_after r actors x.finds w.row)
 
 -- its row stands for the rest that it leaves

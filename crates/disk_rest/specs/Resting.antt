@@ -22,11 +22,14 @@ pub record IsPlain (r : Rest) : Type 0 where
   pub least : 4 ≤ r.set.chain
   pub most : r.set.chain ≤ 16
 
--- The row stands for the rest: with empty orders it is one on which a phase may begin, each pool has
--- the rest's used cells, the account has counted the rest's statistics, and the device is the rest's.
+-- The row stands for the rest: with empty orders it is one on which a phase may begin, each entry is
+-- marked idle as the rest says, each pool has the rest's used cells, the account has counted the rest's
+-- statistics, and the device is the rest's.
 pub record StandsFor (r : Rest) (row : Row) : Type 0 where
   pub plain : IsPlain r
   pub rest : AtRest (begin_at r []) (without_orders row)
+  pub marks : (p : ℕ) (e : EntryState) → slice_get row p ≡ Some (Some (holds.Slot e))
+      → e.idle ≡ r.idle p
   pub used : (k : ℕ) → k < 255 → used_at r.size row k ≡ r.used k
   pub account : account_of r.size row ≡ stats page_weight r
   pub device : slice_get row (r.size + 257) ≡ Some (Some (holds.Device r.device))

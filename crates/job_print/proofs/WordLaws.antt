@@ -16,9 +16,9 @@ use Rattle.job_text.specs.declared.fault.Cause.{Cause}
 use Rattle.job_text.specs.declared.fault.Cause.TheVariants as causes
 use Rattle.job_print.specs.declared.line.Refusal.{Refusal}
 use Rattle.job_print.specs.declared.line.Refusal.TheVariants as refusals
-use Rattle.job_print.specs.Texts.{tag_word, end_words, cause_word, refusal_words}
+use Rattle.job_print.specs.Texts.{tag_word, written_words, end_words, cause_word, refusal_words}
 use Rattle.job_print.specs.Proper.{IsProperTag, IsProperEnd, AreLong, IsLetter, AreLetters}
-use Rattle.job_print.specs.Reading.{all_in, number_in, short_in, tag_at, tag_in, limit_end_in, memory_end_in, eio_in, fault_end_in, compacted_in, triple_end_in, marked_end_in, plain_end_in, end_in, is_letter, letters_in, cause_in, refusal_in}
+use Rattle.job_print.specs.Reading.{all_in, number_in, short_in, tag_at, tag_in, limit_end_in, memory_end_in, eio_in, fault_end_in, written_in, write_fault_in, four_end_in, cut_end_in, six_end_in, compacted_in, triple_end_in, marked_end_in, plain_end_in, end_in, is_letter, letters_in, cause_in, refusal_in}
 use Rattle.job_print.proofs.Numbers.{number-decimal, number_some, short-decimal, short_some, decimal_digits}
 use Rattle.job_print.proofs.Marks.{is_word, position-marked, position_marks, digits_word, digits_lack}
 
@@ -130,8 +130,18 @@ tag_is_word tag is =
 
 -- ---- ends
 
+-- how many pages were written back and how many in vain, read back
+written-words : (w l : ℕ) → w < 2 ^ 32 → l < 2 ^ 32
+    → written_in (codes "wrote") (decimal w) (codes "lost") (decimal l) ≡ Some (w, l)
+unfolding written_in
+written-words w l few small =
+    ap (λ (o : Option ℕ). option_and_then (λ n. option_and_then
+    (λ k. Some (n, k)) (short_in (decimal l))) o) (short-decimal w few)
+    ∙ ap (λ (o : Option ℕ). option_and_then (λ k. Some (w, k)) o) (short-decimal l small)
+
 pub end-words : (end : OpEnd) → IsProperEnd end → end_in (end_words end) ≡ Some end
-unfolding end_in plain_end_in memory_end_in fault_end_in marked_end_in triple_end_in limit_end_in
+unfolding end_in plain_end_in memory_end_in fault_end_in four_end_in cut_end_in six_end_in
+    marked_end_in triple_end_in limit_end_in
 end-words ends.Ok is = refl
 end-words ends.Range is = refl
 end-words (ends.AtLimit pages need limit done) is =
@@ -148,6 +158,20 @@ end-words (ends.Eio fault done) is =
     ∙ ap (λ (o : Option ℕ). option_and_then (λ d. Some (ends.Eio fault d)) o)
     (short-decimal done is.1)
 end-words (ends.Marked pages) is = ap (option_map ends.Marked) (short-decimal pages is)
+end-words (ends.Written wrote lost) is =
+    ap (option_map (λ (n : ℕ × ℕ). ends.Written n.0 n.1)) (written-words wrote lost is.0 is.1)
+end-words (ends.Budget wrote lost) is =
+    ap (option_map (λ (n : ℕ × ℕ). ends.Budget n.0 n.1)) (written-words wrote lost is.0 is.1)
+end-words (ends.NoBlock wrote lost) is =
+    ap (option_map (λ (n : ℕ × ℕ). ends.NoBlock n.0 n.1)) (written-words wrote lost is.0 is.1)
+end-words ends.NoBacking is = refl
+end-words (ends.WriteEio fault wrote lost) is =
+    ap (λ (o : Option ℕ). option_and_then (λ f. option_and_then
+    (λ (n : ℕ × ℕ). Some (ends.WriteEio f n.0 n.1))
+    (written_in (codes "wrote") (decimal wrote) (codes "lost") (decimal lost))) o)
+    (number-decimal fault is.0)
+    ∙ ap (λ (o : Option (ℕ × ℕ)). option_and_then
+    (λ (n : ℕ × ℕ). Some (ends.WriteEio fault n.0 n.1)) o) (written-words wrote lost is.1 is.2)
 end-words (ends.Compacted moves frames) is =
     ap (λ (o : Option ℕ). option_and_then (λ m. option_and_then
     (λ f. Some (ends.Compacted m f)) (number_in (decimal frames))) o) (number-decimal moves is.0)
@@ -168,7 +192,11 @@ plain_some word end e =
     (λ is told. let same : ends.Range ≡ end = cc in
     let P : OpEnd → Type 0 = λ x. IsEnd x (word ∷ []) in
     subst P same (ap (λ w. w ∷ []) (sym (same_bytes word (codes "range") is)), tt))
-    (λ none. cc))
+    (λ e. chosen (bytes_eq word (codes "nobacking")) _ _ end e
+    (λ is told. let same : ends.NoBacking ≡ end = cc in
+    let P : OpEnd → Type 0 = λ x. IsEnd x (word ∷ []) in
+    subst P same (ap (λ w. w ∷ []) (sym (same_bytes word (codes "nobacking") is)), tt))
+    (λ none. cc)))
 
 memory_some : (word name done : List ℕ) (end : OpEnd) → memory_end_in word name done ≡ Some end
     → IsEnd end (word ∷ name ∷ done ∷ [])
@@ -207,16 +235,97 @@ eio_some word fault name done end is named e =
     let all : end_words (ends.Eio f d) ≡ word ∷ fault ∷ name ∷ done ∷ [] = cc in
     subst P (some_is (ends.Eio f d) end last) (all, (p.1, q.1))))
 
-fault_some : (word fault name done : List ℕ) (end : OpEnd)
-    → fault_end_in word fault name done ≡ Some end
+fault_some : (word fault name done : List ℕ) (end : OpEnd) → word ≡ codes "eio"
+    → fault_end_in fault name done ≡ Some end
     → IsEnd end (word ∷ fault ∷ name ∷ done ∷ [])
 unfolding fault_end_in
-fault_some word fault name done end e =
-    chosen (bytes_eq word (codes "eio") && bytes_eq name (codes "done")) _ _ end e
-    (λ is told. let parts = and_parts _ _ is in
-    eio_some word fault name done end (same_bytes word (codes "eio") parts.0)
-    (same_bytes name (codes "done") parts.1) told)
+fault_some word fault name done end is e =
+    chosen (bytes_eq name (codes "done")) _ _ end e
+    (λ named told. eio_some word fault name done end is (same_bytes name (codes "done") named) told)
     (λ none. cc)
+
+-- these words tell how many pages were written back and how many in vain
+abbrev IsWritten : List (List ℕ) → ℕ × ℕ → Type 0
+IsWritten words n = (written_words n.0 n.1 ≡ words) × (n.0 < 2 ^ 32) × (n.1 < 2 ^ 32)
+
+written_some : (name wrote other lost : List ℕ) (n : ℕ × ℕ)
+    → written_in name wrote other lost ≡ Some n
+    → IsWritten (name ∷ wrote ∷ other ∷ lost ∷ []) n
+unfolding written_in
+written_some name wrote other lost n e =
+    chosen (bytes_eq name (codes "wrote") && bytes_eq other (codes "lost")) _ _ n e
+    (λ is told. option_and_then_some (λ w. option_and_then (λ l. Some (w, l)) (short_in lost))
+    (short_in wrote) n told
+    (λ w one rest. option_and_then_some (λ l. Some (w, l)) (short_in lost) n rest
+    (λ l two last.
+    let parts = and_parts _ _ is in
+    let p = short_some wrote w one in
+    let q = short_some lost l two in
+    let a = same_bytes name (codes "wrote") parts.0 in
+    let b = same_bytes other (codes "lost") parts.1 in
+    let c = p.0 in
+    let d = q.0 in
+    let all : written_words w l ≡ name ∷ wrote ∷ other ∷ lost ∷ [] = cc in
+    subst (IsWritten (name ∷ wrote ∷ other ∷ lost ∷ [])) (some_is (w, l) n last)
+    (all, p.1, q.1))))
+    (λ none. cc)
+
+four_some : (word second third fourth : List ℕ) (end : OpEnd)
+    → four_end_in word second third fourth ≡ Some end
+    → IsEnd end (word ∷ second ∷ third ∷ fourth ∷ [])
+unfolding four_end_in
+four_some word second third fourth end e =
+    chosen (bytes_eq word (codes "eio")) _ _ end e
+    (λ is told. fault_some word second third fourth end (same_bytes word (codes "eio") is) told)
+    (λ other. option_and_then_some (λ (n : ℕ × ℕ). Some (ends.Written n.0 n.1))
+    (written_in word second third fourth) end other
+    (λ n one last.
+    let p = written_some word second third fourth n one in
+    let P : OpEnd → Type 0 = λ x. IsEnd x (word ∷ second ∷ third ∷ fourth ∷ []) in
+    subst P (some_is (ends.Written n.0 n.1) end last) (p.0, (p.1, p.2))))
+
+-- what follows why a writeback was cut short
+cut_as : (make : ℕ → ℕ → OpEnd) (why word name wrote other lost : List ℕ) (end : OpEnd)
+    → ((w l : ℕ) → w < 2 ^ 32 → l < 2 ^ 32 → IsEnd (make w l) (why ∷ written_words w l))
+    → word ≡ why
+    → option_map (λ (n : ℕ × ℕ). make n.0 n.1) (written_in name wrote other lost) ≡ Some end
+    → IsEnd end (word ∷ name ∷ wrote ∷ other ∷ lost ∷ [])
+cut_as make why word name wrote other lost end makes is e =
+    option_and_then_some (λ (n : ℕ × ℕ). Some (make n.0 n.1)) (written_in name wrote other lost) end e
+    (λ n one last.
+    let p = written_some name wrote other lost n one in
+    let q = makes n.0 n.1 p.1 p.2 in
+    let P : OpEnd → Type 0 = λ x. IsEnd x (word ∷ name ∷ wrote ∷ other ∷ lost ∷ []) in
+    subst P (some_is (make n.0 n.1) end last) (q.0 ∙ (λ i. sym is i ∷ p.0 i), q.1))
+
+cut_some : (word name wrote other lost : List ℕ) (end : OpEnd)
+    → cut_end_in word name wrote other lost ≡ Some end
+    → IsEnd end (word ∷ name ∷ wrote ∷ other ∷ lost ∷ [])
+unfolding cut_end_in
+cut_some word name wrote other lost end e =
+    chosen (bytes_eq word (codes "budget")) _ _ end e
+    (λ is told. cut_as ends.Budget (codes "budget") word name wrote other lost end
+    (λ w l few small. (refl, (few, small))) (same_bytes word (codes "budget") is) told)
+    (λ e. chosen (bytes_eq word (codes "noblock")) _ _ end e
+    (λ is told. cut_as ends.NoBlock (codes "noblock") word name wrote other lost end
+    (λ w l few small. (refl, (few, small))) (same_bytes word (codes "noblock") is) told)
+    (λ none. cc))
+
+write_fault_some : (word fault name wrote other lost : List ℕ) (end : OpEnd) → word ≡ codes "eio"
+    → write_fault_in fault name wrote other lost ≡ Some end
+    → IsEnd end (word ∷ fault ∷ name ∷ wrote ∷ other ∷ lost ∷ [])
+write_fault_some word fault name wrote other lost end is e =
+    option_and_then_some (λ f. option_and_then (λ (n : ℕ × ℕ). Some (ends.WriteEio f n.0 n.1))
+    (written_in name wrote other lost)) (number_in fault) end e
+    (λ f one rest.
+    option_and_then_some (λ (n : ℕ × ℕ). Some (ends.WriteEio f n.0 n.1))
+    (written_in name wrote other lost) end rest
+    (λ n two last.
+    let p = number_some fault f one in
+    let q = written_some name wrote other lost n two in
+    let P : OpEnd → Type 0 = λ x. IsEnd x (word ∷ fault ∷ name ∷ wrote ∷ other ∷ lost ∷ []) in
+    subst P (some_is (ends.WriteEio f n.0 n.1) end last)
+    ((λ i. sym is i ∷ p.0 i ∷ q.0 i), (p.1, q.1, q.2))))
 
 compacted_some : (word moves frames : List ℕ) (end : OpEnd) → word ≡ codes "compacted"
     → compacted_in moves frames ≡ Some end
@@ -294,15 +403,32 @@ limit_some word pages need limit name done end e =
     by (a ∷ b ∷ []) d is named said long same small told = cc
     by (a ∷ b ∷ c ∷ n ∷ ns) d is named said long same small told = cc
 
+six_some : (word second third fourth fifth sixth : List ℕ) (end : OpEnd)
+    → six_end_in word second third fourth fifth sixth ≡ Some end
+    → IsEnd end (word ∷ second ∷ third ∷ fourth ∷ fifth ∷ sixth ∷ [])
+unfolding six_end_in
+six_some word second third fourth fifth sixth end e =
+    chosen (bytes_eq word (codes "eio")) _ _ end e
+    (λ is told. write_fault_some word second third fourth fifth sixth end
+    (same_bytes word (codes "eio") is) told)
+    (λ other. limit_some word second third fourth fifth sixth end other)
+
 pub end_some : (words : List (List ℕ)) (end : OpEnd) → end_in words ≡ Some end → IsEnd end words
 unfolding end_in
 end_some (word ∷ []) end e = plain_some word end e
 end_some (word ∷ pages ∷ []) end e = marked_some word pages end e
 end_some (word ∷ second ∷ third ∷ []) end e = triple_some word second third end e
-end_some (word ∷ fault ∷ name ∷ done ∷ []) end e = fault_some word fault name done end e
-end_some (word ∷ pages ∷ need ∷ limit ∷ name ∷ done ∷ []) end e =
-    limit_some word pages need limit name done end e
+end_some (word ∷ second ∷ third ∷ fourth ∷ []) end e = four_some word second third fourth end e
+end_some (word ∷ name ∷ wrote ∷ other ∷ lost ∷ []) end e =
+    cut_some word name wrote other lost end e
+end_some (word ∷ second ∷ third ∷ fourth ∷ fifth ∷ sixth ∷ []) end e =
+    six_some word second third fourth fifth sixth end e
 end_some words end e = cc
+
+written_are_words : (w l : ℕ) → w < 2 ^ 32 → l < 2 ^ 32
+    → list_all is_word (written_words w l) ≡ true
+written_are_words w l few small = ap (λ b. b && (is_word (decimal l) && true)) (short_word w few)
+    ∙ ap (λ b. b && true) (short_word l small)
 
 pub end_is_words : (end : OpEnd) → IsProperEnd end → list_all is_word (end_words end) ≡ true
 end_is_words ends.Ok is = refl
@@ -318,6 +444,13 @@ end_is_words (ends.Eio fault done) is =
     ap (λ b. b && (is_word (decimal done) && true)) (long_word fault is.0)
     ∙ ap (λ b. b && true) (short_word done is.1)
 end_is_words (ends.Marked pages) is = ap (λ b. b && true) (short_word pages is)
+end_is_words (ends.Written wrote lost) is = written_are_words wrote lost is.0 is.1
+end_is_words (ends.Budget wrote lost) is = written_are_words wrote lost is.0 is.1
+end_is_words (ends.NoBlock wrote lost) is = written_are_words wrote lost is.0 is.1
+end_is_words ends.NoBacking is = refl
+end_is_words (ends.WriteEio fault wrote lost) is =
+    ap (λ b. b && list_all is_word (written_words wrote lost)) (long_word fault is.0)
+    ∙ written_are_words wrote lost is.1 is.2
 end_is_words (ends.Compacted moves frames) is =
     ap (λ b. b && (is_word (decimal frames) && true)) (long_word moves is.0)
     ∙ ap (λ b. b && true) (long_word frames is.1)

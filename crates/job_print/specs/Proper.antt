@@ -26,6 +26,12 @@ IsProperEnd (ends.AtLimit pages need limit done) =
 IsProperEnd (ends.NoMemory done) = done < 2 ^ 32
 IsProperEnd (ends.Eio fault done) = (fault < 2 ^ 64) × (done < 2 ^ 32)
 IsProperEnd (ends.Marked pages) = pages < 2 ^ 32
+IsProperEnd (ends.Written wrote lost) = (wrote < 2 ^ 32) × (lost < 2 ^ 32)
+IsProperEnd (ends.Budget wrote lost) = (wrote < 2 ^ 32) × (lost < 2 ^ 32)
+IsProperEnd (ends.NoBlock wrote lost) = (wrote < 2 ^ 32) × (lost < 2 ^ 32)
+IsProperEnd ends.NoBacking = Unit {0}
+IsProperEnd (ends.WriteEio fault wrote lost) =
+    (fault < 2 ^ 64) × (wrote < 2 ^ 32) × (lost < 2 ^ 32)
 IsProperEnd (ends.Compacted moves frames) = (moves < 2 ^ 64) × (frames < 2 ^ 64)
 
 -- the numbers of a tag are of their types

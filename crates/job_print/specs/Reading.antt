@@ -134,6 +134,7 @@ unfoldable pub plain_end_in : List ℕ → Option OpEnd
 plain_end_in word =
     if bytes_eq word (codes "ok") then Some ends.Ok
     else if bytes_eq word (codes "range") then Some ends.Range
+    else if bytes_eq word (codes "nobacking") then Some ends.NoBacking
     else None
 
 -- the end of an operation that was refused at the limit, if the words say so
@@ -148,17 +149,57 @@ memory_end_in word name done =
     if bytes_eq word (codes "nomem") && bytes_eq name (codes "done")
     then option_map ends.NoMemory (short_in done) else None
 
--- the end of an operation that the device failed, by the words of its numbers
+-- the end of a request that the device failed, by the words of its numbers
 abbrev pub eio_in : List ℕ → List ℕ → Option OpEnd
 eio_in fault done = do
   f ← number_in fault
   d ← short_in done
   Some (ends.Eio f d)
 
--- the end of an operation that the device failed, if the words say so
-unfoldable pub fault_end_in : List ℕ → List ℕ → List ℕ → List ℕ → Option OpEnd
-fault_end_in word fault name done =
-    if bytes_eq word (codes "eio") && bytes_eq name (codes "done") then eio_in fault done else None
+-- the end of a request that the device failed, if the words after the first say so
+unfoldable pub fault_end_in : List ℕ → List ℕ → List ℕ → Option OpEnd
+fault_end_in fault name done = if bytes_eq name (codes "done") then eio_in fault done else None
+
+-- two numbers of 4 bytes
+abbrev pub pair_in : List ℕ → List ℕ → Option (ℕ × ℕ)
+pair_in first second = do
+  n ← short_in first
+  k ← short_in second
+  Some (n, k)
+
+-- how many pages a writeback left on the device and how many it wrote in vain, if the words say so
+unfoldable pub written_in : List ℕ → List ℕ → List ℕ → List ℕ → Option (ℕ × ℕ)
+written_in name wrote other lost =
+    if bytes_eq name (codes "wrote") && bytes_eq other (codes "lost") then pair_in wrote lost
+    else None
+
+-- the end of a writeback that the device failed, if the words after the first say so
+abbrev pub write_fault_in : List ℕ → List ℕ → List ℕ → List ℕ → List ℕ → Option OpEnd
+write_fault_in fault name wrote other lost = do
+  f ← number_in fault
+  n ← written_in name wrote other lost
+  Some (ends.WriteEio f n.0 n.1)
+
+-- the end of an operation that has four words
+unfoldable pub four_end_in : List ℕ → List ℕ → List ℕ → List ℕ → Option OpEnd
+four_end_in word second third fourth =
+    if bytes_eq word (codes "eio") then fault_end_in second third fourth
+    else option_map (λ n. ends.Written n.0 n.1) (written_in word second third fourth)
+
+-- the end of a writeback that was cut short, if the words say so
+unfoldable pub cut_end_in : List ℕ → List ℕ → List ℕ → List ℕ → List ℕ → Option OpEnd
+cut_end_in word name wrote other lost =
+    if bytes_eq word (codes "budget")
+    then option_map (λ n. ends.Budget n.0 n.1) (written_in name wrote other lost)
+    else if bytes_eq word (codes "noblock")
+    then option_map (λ n. ends.NoBlock n.0 n.1) (written_in name wrote other lost)
+    else None
+
+-- the end of an operation that has six words
+unfoldable pub six_end_in : List ℕ → List ℕ → List ℕ → List ℕ → List ℕ → List ℕ → Option OpEnd
+six_end_in word second third fourth fifth sixth =
+    if bytes_eq word (codes "eio") then write_fault_in second third fourth fifth sixth
+    else limit_end_in word (second ∷ third ∷ fourth ∷ []) fifth sixth
 
 -- the end of a compaction, by the words of its numbers
 abbrev pub compacted_in : List ℕ → List ℕ → Option OpEnd
@@ -183,9 +224,10 @@ unfoldable pub end_in : List (List ℕ) → Option OpEnd
 end_in (word ∷ []) = plain_end_in word
 end_in (word ∷ pages ∷ []) = marked_end_in word pages
 end_in (word ∷ second ∷ third ∷ []) = triple_end_in word second third
-end_in (word ∷ fault ∷ name ∷ done ∷ []) = fault_end_in word fault name done
-end_in (word ∷ pages ∷ need ∷ limit ∷ name ∷ done ∷ []) =
-    limit_end_in word (pages ∷ need ∷ limit ∷ []) name done
+end_in (word ∷ second ∷ third ∷ fourth ∷ []) = four_end_in word second third fourth
+end_in (word ∷ name ∷ wrote ∷ other ∷ lost ∷ []) = cut_end_in word name wrote other lost
+end_in (word ∷ second ∷ third ∷ fourth ∷ fifth ∷ sixth ∷ []) =
+    six_end_in word second third fourth fifth sixth
 end_in words = None
 
 -- whether a byte is the letter, or a dot

@@ -42,6 +42,10 @@ word_digits word = flat_map hex_byte (to_be_bytes w64 word)
 abbrev pub tag_word : Tag → List ℕ
 tag_word tag = decimal tag.actor ++ 58 ∷ decimal tag.op
 
+-- the words of how many pages a writeback left on the device, and of how many it wrote in vain
+abbrev pub written_words : ℕ → ℕ → List (List ℕ)
+written_words wrote lost = codes "wrote" ∷ decimal wrote ∷ codes "lost" ∷ decimal lost ∷ []
+
 -- the words of an operation's end
 abbrev pub end_words : OpEnd → List (List ℕ)
 end_words ends.Ok = codes "ok" ∷ []
@@ -51,6 +55,12 @@ end_words (ends.AtLimit pages need limit done) =
 end_words (ends.NoMemory done) = codes "nomem" ∷ codes "done" ∷ decimal done ∷ []
 end_words (ends.Eio fault done) = codes "eio" ∷ decimal fault ∷ codes "done" ∷ decimal done ∷ []
 end_words (ends.Marked pages) = codes "marked" ∷ decimal pages ∷ []
+end_words (ends.Written wrote lost) = written_words wrote lost
+end_words (ends.Budget wrote lost) = codes "budget" ∷ written_words wrote lost
+end_words (ends.NoBlock wrote lost) = codes "noblock" ∷ written_words wrote lost
+end_words ends.NoBacking = codes "nobacking" ∷ []
+end_words (ends.WriteEio fault wrote lost) =
+    codes "eio" ∷ decimal fault ∷ written_words wrote lost
 end_words (ends.Compacted moves frames) = codes "compacted" ∷ decimal moves ∷ decimal frames ∷ []
 
 -- the nine numbers of `mm_stat`, in zram's order

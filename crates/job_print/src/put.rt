@@ -1,10 +1,10 @@
 //! The text of each line, put behind other text.
 
-ghost use Rattle.std.specs.Prelude.{◌≡◌, ℕ, ◌*◌, ◌≤◌, ◌++◌, [], ◌∷◌, length, map, OnOk};
+ghost use Rattle.std.specs.Prelude.{◌≡◌, ℕ, ◌*◌, ◌≤◌, ◌++◌, [], ◌∷◌, length, map, codes, OnOk};
 ghost use Rattle.std.specs.List.{flat_map};
 ghost use Rattle.std.specs.Fmt.{decimal};
 ghost use Rattle.plain_disk.specs.Output.{sector, ClassLine, StateLine, memory, calls, device_calls, refused, state, class_of, op_lines, order_line};
-ghost use Rattle.job_print.specs.Texts.{hex_byte, word_digits, tag_word, end_words, cell_words, use_words, cause_word, refusal_words, why_of, spaced, out_line, is_filled, sector_line, shown, line_text, text, fault_text, usage_text, IsStateOf, IsSummary};
+ghost use Rattle.job_print.specs.Texts.{hex_byte, word_digits, tag_word, written_words, end_words, cell_words, use_words, cause_word, refusal_words, why_of, spaced, out_line, is_filled, sector_line, shown, line_text, text, fault_text, usage_text, IsStateOf, IsSummary};
 ghost use Rattle.job_print.specs.declared.line.OutLine.TheVariants as lines;
 
 use crate::hex::set_hex;
@@ -63,6 +63,32 @@ fn put_named(out: &mut Vec<u8>, name: &[u8], n: u32) -> Result<(), AllocError>
     put_next(out, u64::from(n))
 }
 
+// How many pages a writeback left on the device, and how many it wrote in vain.
+fn put_written(out: &mut Vec<u8>, wrote: u32, lost: u32) -> Result<(), AllocError>
+    ensures { OnOk result (out.new.items ≡ out.old.items ++ spaced (written_words wrote lost)) }
+{
+    put_named(out, b"wrote", wrote)?;
+    put_named(out, b"lost", lost)
+}
+
+// The same after why it was cut short.
+fn put_cut(out: &mut Vec<u8>, why: &[u8], wrote: u32, lost: u32) -> Result<(), AllocError>
+    ensures { OnOk result (out.new.items
+        ≡ out.old.items ++ spaced (why.now ∷ written_words wrote lost)) }
+{
+    put_word(out, why)?;
+    put_written(out, wrote, lost)
+}
+
+// The device's count of faults.
+fn put_eio(out: &mut Vec<u8>, fault: u64) -> Result<(), AllocError>
+    ensures { OnOk result (out.new.items
+        ≡ out.old.items ++ spaced (codes "eio" ∷ decimal fault ∷ [])) }
+{
+    put_word(out, b"eio")?;
+    put_next(out, fault)
+}
+
 // The words of an operation's end, each after a space.
 fn put_end(out: &mut Vec<u8>, end: OpEnd) -> Result<(), AllocError>
     ensures { OnOk result (out.new.items ≡ out.old.items ++ spaced (end_words end)) }
@@ -85,11 +111,18 @@ fn put_end(out: &mut Vec<u8>, end: OpEnd) -> Result<(), AllocError>
             put_named(out, b"done", done)
         }
         OpEnd::Eio { fault, done } => {
-            put_word(out, b"eio")?;
-            put_next(out, fault)?;
+            put_eio(out, fault)?;
             put_named(out, b"done", done)
         }
         OpEnd::Marked(pages) => put_named(out, b"marked", pages),
+        OpEnd::Written { wrote, lost } => put_written(out, wrote, lost),
+        OpEnd::Budget { wrote, lost } => put_cut(out, b"budget", wrote, lost),
+        OpEnd::NoBlock { wrote, lost } => put_cut(out, b"noblock", wrote, lost),
+        OpEnd::NoBacking => put_word(out, b"nobacking"),
+        OpEnd::WriteEio { fault, wrote, lost } => {
+            put_eio(out, fault)?;
+            put_written(out, wrote, lost)
+        }
         OpEnd::Compacted { moves, frames } => {
             put_word(out, b"compacted")?;
             put_numbers(out, &[moves, frames])

@@ -55,6 +55,10 @@ fn prints_what_it_read(rt: HostRuntime) -> Result<(), Fail> {
         "op 0 0 eio 12 done 1\nfill 00000000000000aa\norder 0 0:0\n",
         "op 1 2 compacted 0 0\nop 0 0 compacted 18446744073709551615 10\n",
         "op 0 0 marked 0\nop 3 1 marked 262144\nop 0 0 marked 4294967295\n",
+        "op 0 0 wrote 0 lost 0\nop 3 1 wrote 4294967295 lost 10\nop 0 0 wrote 2 lost 4294967295\n",
+        "op 0 0 budget wrote 0 lost 0\nop 1 0 budget wrote 4294967295 lost 4294967295\n",
+        "op 0 0 noblock wrote 1 lost 0\nop 1 0 noblock wrote 0 lost 262144\nop 2 0 nobacking\n",
+        "op 0 0 eio 1 wrote 0 lost 0\nop 0 1 eio 18446744073709551615 wrote 12 lost 4294967295\n",
         "fill 00000000000000aa\nfill 0123456789abcdef\n",
         "order 0 0:0 1:0\norder 262143 4294967295:4294967295\n",
         "mm_stat 4096 74 12288 0 18446744073709551615 0 0 0 1\nio_stat 0 10 100 99\n",
@@ -98,6 +102,37 @@ fn tells_the_first_faulty_end(rt: HostRuntime) -> Result<(), Fail> {
         ("op 0 0 marked 1 2\n", 1),
         ("op 0 0 marks 1\n", 1),
         ("op 0 0 compacted 1 2\nop 0 1 compacted 1 2 3\n", 2),
+    ];
+    for (text, number) in table {
+        let back = read_back(rt.alloc(), text.as_bytes())?;
+        assert!(rt; matches!(back, Err(n) if n == number), "at {text}");
+    }
+    Ok(())
+}
+
+#[test]
+fn tells_the_first_faulty_end_of_a_writeback(rt: HostRuntime) -> Result<(), Fail> {
+    let table = [
+        ("op 0 0 wrote\n", 1),
+        ("op 0 0 wrote 1\n", 1),
+        ("op 0 0 wrote 1 lost\n", 1),
+        ("op 0 0 lost 1 wrote 0\n", 1),
+        ("op 0 0 wrote 01 lost 0\n", 1),
+        ("op 0 0 wrote 1 done 0\n", 1),
+        ("op 0 0 wrote 4294967296 lost 0\n", 1),
+        ("op 0 0 wrote 0 lost 4294967296\n", 1),
+        ("op 0 0 wrote 1 lost 0 0\n", 1),
+        ("op 0 0 budget\n", 1),
+        ("op 0 0 budget 1 lost 0\n", 1),
+        ("op 0 0 budget wrote 1 done 0\n", 1),
+        ("op 0 0 noblocks wrote 1 lost 0\n", 1),
+        ("op 0 0 nobacking wrote 0 lost 0\n", 1),
+        ("op 0 0 nobacking\nop 0 1 nobackings\n", 2),
+        ("op 0 0 eio 1 wrote 0\n", 1),
+        ("op 0 0 eio wrote 1 lost 0\n", 1),
+        ("op 0 0 eio 1 wrote 0 done 0\n", 1),
+        ("op 0 0 eio 18446744073709551616 wrote 0 lost 0\n", 1),
+        ("op 0 0 wrote 1 lost 0\nop 0 1 limit 1 wrote 1 lost 0\n", 2),
     ];
     for (text, number) in table {
         let back = read_back(rt.alloc(), text.as_bytes())?;

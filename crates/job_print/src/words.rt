@@ -1,7 +1,7 @@
 //! The words of a line, read back.
 
 ghost use Rattle.std.specs.Prelude.{◌≡◌, ◌+◌, ◌*◌, ◌++◌, [], ◌∷◌, ◌==◌, length, map, position, Some, None, OnOk, IfOk, if◌then◌else◌};
-ghost use Rattle.job_print.specs.Reading.{digit_in, byte_in, bytes_in, tag_in, all_in, limit_in, limit_end_in, memory_end_in, eio_in, fault_end_in, compacted_in, triple_end_in, marked_end_in, plain_end_in, end_in, letters_in, is_letter, cause_in, refusal_in};
+ghost use Rattle.job_print.specs.Reading.{digit_in, byte_in, bytes_in, tag_in, all_in, limit_in, limit_end_in, memory_end_in, eio_in, fault_end_in, pair_in, written_in, write_fault_in, four_end_in, cut_end_in, six_end_in, compacted_in, triple_end_in, marked_end_in, plain_end_in, end_in, letters_in, is_letter, cause_in, refusal_in};
 
 use crate::line::{Refusal, TagList};
 use crate::number::{number, numbers, short};
@@ -131,13 +131,86 @@ fn eio(fault: &[u8], done: &[u8]) -> Option<OpEnd>
 }
 
 #[tactic(auto, unfolding(crate::specs::Reading::fault_end_in))]
-fn fault_end(word: &[u8], fault: &[u8], name: &[u8], done: &[u8]) -> Option<OpEnd>
-    ensures { result ≡ fault_end_in word.now fault.now name.now done.now }
+fn fault_end(fault: &[u8], name: &[u8], done: &[u8]) -> Option<OpEnd>
+    ensures { result ≡ fault_end_in fault.now name.now done.now }
 {
-    if word == b"eio".as_slice() && name == b"done".as_slice() {
+    if name == b"done".as_slice() {
         eio(fault, done)
     } else {
         None
+    }
+}
+
+// Two numbers of 4 bytes.
+fn pair(first: &[u8], second: &[u8]) -> Option<(u32, u32)>
+    ensures { result ≡ pair_in first.now second.now }
+{
+    let first = short(first)?;
+    let second = short(second)?;
+    Some((first, second))
+}
+
+// How many pages a writeback left on the device, and how many it wrote in vain.
+#[tactic(auto, unfolding(crate::specs::Reading::written_in))]
+fn written(name: &[u8], wrote: &[u8], other: &[u8], lost: &[u8]) -> Option<(u32, u32)>
+    ensures { result ≡ written_in name.now wrote.now other.now lost.now }
+{
+    if name == b"wrote".as_slice() && other == b"lost".as_slice() {
+        pair(wrote, lost)
+    } else {
+        None
+    }
+}
+
+fn write_fault(fault: &[u8], name: &[u8], wrote: &[u8], other: &[u8], lost: &[u8]) -> Option<OpEnd>
+    ensures { result ≡ write_fault_in fault.now name.now wrote.now other.now lost.now }
+{
+    let fault = number(fault)?;
+    let (wrote, lost) = written(name, wrote, other, lost)?;
+    Some(OpEnd::WriteEio { fault, wrote, lost })
+}
+
+#[tactic(auto, unfolding(crate::specs::Reading::four_end_in))]
+fn four_end(word: &[u8], second: &[u8], third: &[u8], fourth: &[u8]) -> Option<OpEnd>
+    ensures { result ≡ four_end_in word.now second.now third.now fourth.now }
+{
+    if word == b"eio".as_slice() {
+        return fault_end(second, third, fourth);
+    }
+    let (wrote, lost) = written(word, second, third, fourth)?;
+    Some(OpEnd::Written { wrote, lost })
+}
+
+#[tactic(auto, unfolding(crate::specs::Reading::cut_end_in))]
+fn cut_end(word: &[u8], name: &[u8], wrote: &[u8], other: &[u8], lost: &[u8]) -> Option<OpEnd>
+    ensures { result ≡ cut_end_in word.now name.now wrote.now other.now lost.now }
+{
+    if word == b"budget".as_slice() {
+        let (wrote, lost) = written(name, wrote, other, lost)?;
+        Some(OpEnd::Budget { wrote, lost })
+    } else if word == b"noblock".as_slice() {
+        let (wrote, lost) = written(name, wrote, other, lost)?;
+        Some(OpEnd::NoBlock { wrote, lost })
+    } else {
+        None
+    }
+}
+
+#[tactic(auto, unfolding(crate::specs::Reading::six_end_in))]
+fn six_end(
+    word: &[u8],
+    second: &[u8],
+    third: &[u8],
+    fourth: &[u8],
+    fifth: &[u8],
+    sixth: &[u8],
+) -> Option<OpEnd>
+    ensures { result ≡ six_end_in word.now second.now third.now fourth.now fifth.now sixth.now }
+{
+    if word == b"eio".as_slice() {
+        write_fault(second, third, fourth, fifth, sixth)
+    } else {
+        limit_end(word, &[second, third, fourth], fifth, sixth)
     }
 }
 
@@ -168,6 +241,8 @@ fn plain_end(word: &[u8]) -> Option<OpEnd>
         Some(OpEnd::Ok)
     } else if word == b"range".as_slice() {
         Some(OpEnd::Range)
+    } else if word == b"nobacking".as_slice() {
+        Some(OpEnd::NoBacking)
     } else {
         None
     }
@@ -193,9 +268,10 @@ pub(crate) fn end(words: &[&[u8]]) -> Option<OpEnd>
         [word] => plain_end(word),
         [word, pages] => marked_end(word, pages),
         [word, second, third] => triple_end(word, second, third),
-        [word, fault, name, done] => fault_end(word, fault, name, done),
-        [word, pages, need, limit, name, done] => {
-            limit_end(word, &[*pages, *need, *limit], name, done)
+        [word, second, third, fourth] => four_end(word, second, third, fourth),
+        [word, name, wrote, other, lost] => cut_end(word, name, wrote, other, lost),
+        [word, second, third, fourth, fifth, sixth] => {
+            six_end(word, second, third, fourth, fifth, sixth)
         }
         _ => None,
     }

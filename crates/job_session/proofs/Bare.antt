@@ -1,7 +1,8 @@
 -- A disk without pages: nothing is printed, and nothing changes but the limit.
-use Rattle.std.proofs.Common.{◌≡◌, ℕ, ◌+◌, ◌<◌, ◌≤◌, List, [], ◌∷◌, length, Option, Some, slice_get, refl, sym, ap, ◌∙◌, subst, arith}
+use Rattle.std.proofs.Common.{◌≡◌, ℕ, ◌+◌, ◌^◌, ◌<◌, ◌≤◌, Bool, List, [], ◌∷◌, length, Option, Some, slice_get, refl, sym, ap, ◌∙◌, subst, arith}
 use Rattle.std.proofs.lemmas.Option.{slice_get_within}
 use Rattle.zr_base.specs.Plain.{as_held}
+use Rattle.mem_account.specs.Counters.{at_most_end}
 use Rattle.backing_dev.specs.Dev.{DeviceState}
 use Rattle.plain_disk.specs.Output.{OutLine}
 use Rattle.plain_disk.specs.Rests.{Rest, nothing_yet, frames_of, IsUsed}
@@ -38,13 +39,13 @@ module _ (t : Terms) where
   no_run (a ∷ turns) w n none run = absurd (no_turn a w run.0 none run.1)
 
 -- a phase without actors on a disk without pages prints nothing
-pub phase_nowhere : (t : Terms) (turns : List ℕ) (lines : List OutLine)
+pub phase_nowhere : (t : Terms) (backed : Bool) (turns : List ℕ) (lines : List OutLine)
     (after : List (Option DiskHeld))
-    → t.size ≡ 0 → PhaseSteps t [] [] turns lines after → (lines ≡ []) × (after ≡ [])
-phase_nowhere t turns lines after none s =
+    → t.size ≡ 0 → PhaseSteps t backed [] [] turns lines after → (lines ≡ []) × (after ≡ [])
+phase_nowhere t backed turns lines after none s =
     let same : s.last ≡ s.start =
     no_run t turns s.start s.last s.is_set_up.count s.run in (
-      s.prints ∙ ap (λ (n : ℕ). printed n [] s.last) none,
+      s.prints ∙ ap (λ (n : ℕ). printed n backed [] s.last) none,
       s.leaves ∙ ap (λ (x : State DiskHeld). x.row) same
           ∙ nothing_in s.start.row s.is_set_up.row.size,
     )
@@ -66,20 +67,23 @@ least_one = omega arith
 no_more : (n : ℕ) → n ≤ n + 0
 no_more n = omega arith
 
+at_end : (n : ℕ) → n < 2 ^ 64 → n ≡ at_most_end (n + 0)
+at_end n short = omega arith
+
 -- the device is left as it is
-device_still : (d : DeviceState) → LeavesDevice d d 0
-device_still d = record {
+device_still : (d : DeviceState) → d.writes < 2 ^ 64 → LeavesDevice d d 0 0
+device_still d short = record {
   same = refl;
   blocks = refl;
   honest = λ honest. honest;
   faults = no_less d.faults;
   reads = no_less d.reads;
   few = no_more d.reads;
-  writes = refl;
+  writes = at_end d.writes short;
 }
 
 module _ (r : Rest) (none : r.size ≡ 0) (unused : IsUnused r)
-    (empty : frames_of r.set.chain r.used ≡ 0) where
+    (empty : frames_of r.set.chain r.used ≡ 0) (short : r.device.writes < 2 ^ 64) where
   -- the rest with what is known of it
   abbrev known : Rest
   known = record r { size = 0; most = 0; so_far = nothing_yet }
@@ -110,7 +114,7 @@ module _ (r : Rest) (none : r.size ≡ 0) (unused : IsUnused r)
     held = record {
       sectors = λ p t s old ok. ok;
       honest = λ yes p t s old. refl;
-      pooled = λ p at t lt there gone s old. refl;
+      pooled = λ unwritten p at t lt there gone s old. refl;
     };
     may = tt;
     faults_differ = λ f. least_one;
@@ -135,7 +139,8 @@ module _ (r : Rest) (none : r.size ≡ 0) (unused : IsUnused r)
         set = refl;
       };
       so_far = refl;
-      device = device_still r.device;
+      device = device_still r.device short;
+      few_back = least 0 refl;
     };
     alone = λ ops es one ends. absurd (cc);
   }

@@ -211,31 +211,33 @@ module _ {D : Type 0} {b : Ghosts D} (d : Disk) (clock : ℕ) (text : PhaseText)
       (lines_shown (playing world phase text.actors)) (disk_of clock world)
   over_steps early =
       phase_steps d (disk_of clock world) text turns _
-      (is_run_on d clock x.spare world.spare x.terms.size world.pages world.limit x.cells
+      (is_run_on d clock world.backed x.spare world.spare x.terms.size world.pages world.limit x.cells
       world.row.cells over.spare (ap (λ (t : Terms). t.size) over.same)
-      (ap (λ (t : Terms). t.size) started.goes_by) (over.limit ∙ started.limit) (sym time)
+      (ap (λ (t : Terms). t.size) started.goes_by) (over.limit ∙ started.limit) (over.backed ∙ started.backed) (sym time)
       started.device started.blocks early over.rest.rests)
-      (subst (λ (t : Terms). PhaseSteps t text.actors d.row turns
-      (lines_shown (playing world phase text.actors)) world.row.cells) started.goes_by over.steps)
+      (subst (λ (y : Terms × Bool). PhaseSteps y.0 y.1 text.actors d.row turns
+      (lines_shown (playing world phase text.actors)) world.row.cells)
+      (λ i. (started.goes_by i, started.backed i)) over.steps)
 
 -- a phase that was prepared on the disk d
 pub started_by : {D : Type 0} {b : Ghosts D} (d : Disk) (world : World D b) (phase : Phase D)
     (actors js : List (List Op)) → js ≡ actors → world.pages ≡ d.size → phase.clock ≡ d.clock
-    → world.limit ≡ d.limit → device_by world.spare world.pages world.row.cells ≡ d.device
+    → world.limit ≡ d.limit → world.backed ≡ d.backed → device_by world.spare world.pages world.row.cells ≡ d.device
     → blocks_by world.spare world.pages world.row.cells ≡ d.blocks
     → CanGoOn (playing world phase js) → IsSetUpOn d.row (playing world phase js)
     → ((g : Begin) → RestsAs g d.size d.row
-    → IsPrepared (begun g js d.clock) (playing world phase js))
+    → IsPrepared (begun g d.backed js d.clock) (playing world phase js))
     → IsStarted d actors (playing world phase actors)
-started_by d world phase actors js same size time limit device blocks can set_up prepared = record {
+started_by d world phase actors js same size time limit backed device blocks can set_up prepared = record {
   goes_by = λ i. record { size = size i; chain = MOST_CHAIN; clock = time i };
   acting = refl;
   limit = limit;
+  backed = backed;
   device = device;
   blocks = blocks;
   can = subst (λ (x : List (List Op)). CanGoOn (playing world phase x)) same can;
   set_up = subst (λ (x : List (List Op)). IsSetUpOn d.row (playing world phase x)) same set_up;
-  prepared = λ g rests. subst (λ (x : List (List Op)). IsPrepared (begun g x d.clock)
+  prepared = λ g rests. subst (λ (x : List (List Op)). IsPrepared (begun g d.backed x d.clock)
       (playing world phase x)) same (prepared g rests);
 }
 
@@ -245,14 +247,14 @@ module _ {D : Type 0} {b : Ghosts D} (d : Disk) (text : PhaseText) (s : Session 
     (same : js ≡ text.actors) (is : schedule ≡ text.schedule) (out : IsOut s d text)
     (started : IsStarted d text.actors (playing w0 f0 text.actors))
     (goes_by : (playing w1 f1 js).terms ≡ (playing w0 f0 js).terms) (spare : w1.spare ≡ w0.spare)
-    (limit : w1.limit ≡ w0.limit) (can : CanGoOn (playing w1 f1 js))
+    (limit : w1.limit ≡ w0.limit) (backed : w1.backed ≡ w0.backed) (can : CanGoOn (playing w1 f1 js))
     (over : AllOver js f1.workers.items)
     (rest : IsAtRest w1.pages w1.noted.items w1.row.cells)
     (steps : (before : List (Option DiskHeld)) → IsSetUpOn before (playing w0 f0 js)
-    → (rounds : ℕ) × PhaseSteps (playing w0 f0 js).terms js before
+    → (rounds : ℕ) × PhaseSteps (playing w0 f0 js).terms w0.backed js before
     (turns_of schedule ++ rounds_of (length js) rounds) (lines_shown (playing w1 f1 js))
     w1.row.cells) where
-  abbrev pub run : (rounds : ℕ) × PhaseSteps (playing w0 f0 js).terms js d.row
+  abbrev pub run : (rounds : ℕ) × PhaseSteps (playing w0 f0 js).terms w0.backed js d.row
       (turns_of schedule ++ rounds_of (length js) rounds) (lines_shown (playing w1 f1 js))
       w1.row.cells
   run = steps d.row
@@ -276,10 +278,11 @@ module _ {D : Type 0} {b : Ghosts D} (d : Disk) (text : PhaseText) (s : Session 
       same = goes_by;
       spare = spare;
       limit = limit;
+      backed = backed;
       can = subst (λ (x : List (List Op)). CanGoOn (playing w1 f1 x)) same can;
       over = subst (λ (x : List (List Op)). AllOver x f1.workers.items) same over;
       rest = rest;
-      steps = subst (λ (x : List (List Op) × List Turns). PhaseSteps (playing w0 f0 js).terms x.0
+      steps = subst (λ (x : List (List Op) × List Turns). PhaseSteps (playing w0 f0 js).terms w0.backed x.0
           d.row (turns_of x.1 ++ rounds_of (length x.0) run.0) (lines_shown (playing w1 f1 x.0))
           w1.row.cells) (λ i. (same i, is i)) run.1;
     };

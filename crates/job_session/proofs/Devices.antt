@@ -1,5 +1,5 @@
 -- What becomes of the device of a world, and of the map of its blocks.
-use Rattle.std.proofs.Common.{◌≡◌, ◌⊎◌, ℕ, ◌+◌, ◌≤◌, zero, suc, true, false, List, Option, Some, None, slice_get, slice_set, get_or-set_other, refl, sym, ap, ◌∙◌, subst, inl, inr, arith}
+use Rattle.std.proofs.Common.{◌≡◌, ◌⊎◌, ℕ, ◌+◌, ◌≤◌, zero, suc, Bool, true, false, List, Option, Some, None, slice_get, slice_set, get_or-set_other, refl, sym, ap, ◌∙◌, subst, inl, inr, arith}
 use Rattle.std.proofs.lemmas.Bool.{eqb-true}
 use Rattle.std.proofs.lemmas.Option.{get_or_from_slice_get}
 use Rattle.mem_account.specs.Counters.{Counters}
@@ -111,11 +111,12 @@ map_left (Some s) (suc n) old new early =
 
 -- ---- disks of worlds
 
--- the disk of a world at this time, with these pages, this limit, this row, and what stands beside it
-abbrev disk_by : {D : Type 0} → ℕ → Option (Spare D) → ℕ → ℕ → List (Option DiskHeld) → Disk
-disk_by clock s pages limit row = record {
+-- the disk of a world at this time, which has a backing or none, with these pages, this limit, this row, and what stands beside it
+abbrev disk_by : {D : Type 0} → ℕ → Bool → Option (Spare D) → ℕ → ℕ → List (Option DiskHeld) → Disk
+disk_by clock backed s pages limit row = record {
   size = pages;
   limit = limit;
+  backed = backed;
   clock = clock;
   row = row;
   device = device_by s pages row;
@@ -123,14 +124,15 @@ disk_by clock s pages limit row = record {
 }
 
 -- a disk whose size was given
-pub is_new_disk : {D : Type 0} (d : Disk) (s : Option (Spare D)) (pages n limit : ℕ)
-    (row : List (Option DiskHeld)) → pages ≡ n → 1 ≤ n → limit ≡ d.limit → IsEarly pages s
+pub is_new_disk : {D : Type 0} (d : Disk) (backed : Bool) (s : Option (Spare D)) (pages n limit : ℕ)
+    (row : List (Option DiskHeld)) → pages ≡ n → 1 ≤ n → limit ≡ d.limit → backed ≡ d.backed → IsEarly pages s
     → device_by s pages row ≡ d.device → blocks_by s pages row ≡ d.blocks
     → AreNew (new_disk n d.limit d.device) (n + 258) row
-    → RestsAs (new_disk n d.limit d.device) n row → IsNewDisk d n (disk_by d.clock s pages limit row)
-is_new_disk d s pages n limit row size some same early device blocks are rests = record {
+    → RestsAs (new_disk n d.limit d.device) n row → IsNewDisk d n (disk_by d.clock backed s pages limit row)
+is_new_disk d backed s pages n limit row size some same as_backed early device blocks are rests = record {
   size = size;
   limit = same;
+  backed = as_backed;
   clock = refl;
   device = device;
   blocks = blocks;
@@ -142,8 +144,10 @@ is_new_disk d s pages n limit row size some same early device blocks are rests =
 }
 
 -- a disk of which only the account has changed
-module _ {D : Type 0} (clock : ℕ) (s t : Option (Spare D)) (pages after limit now : ℕ)
+module _ {D : Type 0} (clock : ℕ) (backed still : Bool) (s t : Option (Spare D))
+    (pages after limit now : ℕ)
     (old new : List (Option DiskHeld)) (beside : t ≡ s) (size : after ≡ pages)
+    (as_backed : still ≡ backed)
     (rests : IsBare pages old ⊎ ((g : Begin) × RestsAs g pages old))
     (none : pages ≡ 0 → new ≡ old) where
   same_beside : (f : Counters → DiskHeld)
@@ -160,11 +164,12 @@ module _ {D : Type 0} (clock : ℕ) (s t : Option (Spare D)) (pages after limit 
   pub is_limited : (n : ℕ) → now ≡ n
       → ((c : Counters) → slice_get old (pages + 255) ≡ Some (Some (holds.Account c))
       → new ≡ slice_set old (pages + 255) (Some (holds.Account (record c { limit = n }))))
-      → IsLimited (disk_by clock s pages limit old) n (disk_by clock t after now new)
+      → IsLimited (disk_by clock backed s pages limit old) n (disk_by clock still t after now new)
   is_limited n is set =
       let kept = same_beside (λ c. holds.Account (record c { limit = n })) set in record {
         size = size;
         limit = is;
+        backed = as_backed;
         clock = refl;
         device = kept.0;
         blocks = kept.1;
@@ -175,11 +180,12 @@ module _ {D : Type 0} (clock : ℕ) (s t : Option (Spare D)) (pages after limit 
   pub is_lowered : now ≡ limit
       → ((c : Counters) → slice_get old (pages + 255) ≡ Some (Some (holds.Account c))
       → new ≡ slice_set old (pages + 255) (Some (holds.Account (record c { most = c.pages }))))
-      → IsLowered (disk_by clock s pages limit old) (disk_by clock t after now new)
+      → IsLowered (disk_by clock backed s pages limit old) (disk_by clock still t after now new)
   is_lowered is set =
       let kept = same_beside (λ c. holds.Account (record c { most = c.pages })) set in record {
         size = size;
         limit = is;
+        backed = as_backed;
         clock = refl;
         device = kept.0;
         blocks = kept.1;
@@ -188,15 +194,16 @@ module _ {D : Type 0} (clock : ℕ) (s t : Option (Spare D)) (pages after limit 
       }
 
 -- a disk on which a phase was set up and run
-pub is_run_on : {D : Type 0} (d : Disk) (clock : ℕ) (t u : Option (Spare D))
+pub is_run_on : {D : Type 0} (d : Disk) (clock : ℕ) (backed : Bool) (t u : Option (Spare D))
     (between after now : ℕ) (mid new : List (Option DiskHeld)) → u ≡ t → after ≡ between
-    → between ≡ d.size → now ≡ d.limit → clock ≡ d.clock → device_by t between mid ≡ d.device
+    → between ≡ d.size → now ≡ d.limit → backed ≡ d.backed → clock ≡ d.clock → device_by t between mid ≡ d.device
     → blocks_by t between mid ≡ d.blocks → IsEarly after u
     → IsBare after new ⊎ ((g : Begin) × RestsAs g after new)
-    → IsRunOn d (disk_by clock u after now new)
-is_run_on d clock t u q r now mid new beside run set same time device blocks early rests = record {
+    → IsRunOn d (disk_by clock backed u after now new)
+is_run_on d clock backed t u q r now mid new beside run set same as_backed time device blocks early rests = record {
   size = run ∙ set;
   limit = same;
+  backed = as_backed;
   clock = time;
   device = device_left u r mid new early rests
       ∙ (λ i. device_of (device_by (beside i) (run i) mid) ((run ∙ set) i) new)

@@ -10,7 +10,7 @@ use Rattle.job_text.specs.declared.job.Report.{Report}
 use Rattle.job_text.specs.declared.job.Item.{Item}
 use Rattle.job_text.specs.declared.job.Item.TheVariants as items
 use Rattle.job_text.specs.declared.job.PhaseText.{PhaseText}
-use Rattle.job_session.specs.Stepped.{Disk, terms_of, report_of, IsNewDisk, backed, SizeSteps, BackingSteps, AttrSteps, IsRunOn, Stepped, AreOwn}
+use Rattle.job_session.specs.Stepped.{Disk, terms_of, report_of, IsNewDisk, with_backing, SizeSteps, BackingSteps, AttrSteps, IsRunOn, Stepped, AreOwn}
 use Rattle.job_session.specs.declared.stop.Stop.{Stop}
 use Rattle.job_session.specs.Telling.{StopCause, OutputState, Tells, ItemsTold}
 use Rattle.job_session.proofs.Lawful.{KeepsPages, KeepsTimeOf}
@@ -214,7 +214,7 @@ backing_past zero false d n none is = absurd (let no : ⊥ = cc is in no)
 backing_past (suc size) past d n none is = absurd (omega (arith, none))
 
 pub backing_given : (size : ℕ) (past : Bool) (d m : Disk) (n : ℕ) → size ≡ 0 → past ≡ false
-    → m ≡ backed d n → BackingSteps size past d n [] m
+    → m ≡ with_backing d n → BackingSteps size past d n [] m
 backing_given zero false d m n none is same = (refl, same)
 backing_given zero true d m n none is same = absurd (let no : ⊥ = cc is in no)
 backing_given (suc size) past d m n none is same = absurd (omega (arith, none))
@@ -256,7 +256,7 @@ report_told d report o p r told = record {
 
 -- a phase that was run by these turns
 pub phase_steps : (d m : Disk) (phase : PhaseText) (turns : List ℕ) (lines : List OutLine)
-    → IsRunOn d m → PhaseSteps (terms_of d) phase.actors d.row turns lines m.row
+    → IsRunOn d m → PhaseSteps (terms_of d) d.backed phase.actors d.row turns lines m.row
     → Stepped d (items.Phase phase ∷ []) (turns ∷ []) lines m
 phase_steps d m phase turns lines run steps = (
   m,

@@ -4,7 +4,7 @@ use Rattle.std.specs.Prelude.{nat_lt}
 use Rattle.std.proofs.lemmas.Option.{get_or_from_slice_get}
 use Rattle.zr_base.specs.declared.limits.TheConstants.{MOST_PAGES, MOST_ACTORS}
 use Rattle.zr_base.specs.declared.op.Op.{Op}
-use Rattle.zr_base.specs.declared.op.Op.TheVariants.{Write, Read, Discard, Idle, Compact}
+use Rattle.zr_base.specs.declared.op.Op.TheVariants.{Write, Read, Discard, Idle, Writeback, Compact}
 use Rattle.zr_base.specs.Plain.{IsRequest}
 use Rattle.mem_account.specs.Counters.{Counters, no_counts}
 use Rattle.mem_account.specs.Stat.{mm_stat_of, io_stat_of}
@@ -36,7 +36,7 @@ use Rattle.job_text.specs.declared.job.Item.TheVariants as items
 use Rattle.job_text.specs.Jobs.{Used, with_attr, with_phase, with_op, with_ops, with_text, MaySet, KeepsTime, MayOperate, MayAct, MayFollow}
 use Rattle.job_session.specs.Legal.{Legal, plain_report, plain_item}
 use Rattle.job_session.specs.Stands.{IsBare, HasRow, Stands}
-use Rattle.job_session.specs.Stepped.{Disk, terms_of, report_of, IsNewDisk, IsLimited, IsLowered, backed, SizeSteps, BackingSteps, AttrSteps, IsRunOn, Stepped}
+use Rattle.job_session.specs.Stepped.{Disk, terms_of, report_of, IsNewDisk, IsLimited, IsLowered, with_backing, SizeSteps, BackingSteps, AttrSteps, IsRunOn, Stepped}
 use Rattle.job_session.proofs.Bare.{phase_nowhere, phase_without}
 use Rattle.job_session.proofs.Jobs.{attr_keeps, attr_times}
 use Rattle.job_session.proofs.Lawful.{no_item, sized_on, timed_on, requests_each, work_by, few_operations, none_without, disk_by, clock_by}
@@ -49,6 +49,7 @@ some_of (Write start count stuff) is = λ request. is.0.1
 some_of (Read start count) is = λ request. is.1
 some_of (Discard start count) is = λ request. is.1
 some_of (Idle age) is = λ request. absurd (cc)
+some_of (Writeback mode) is = λ request. absurd (cc)
 some_of Compact is = λ request. absurd (cc)
 
 some_each : (u : Used) (ops : List Op) → MayOperate u ops → SomeEach ops
@@ -104,6 +105,7 @@ module _ (laws : Laws) where
           size = sym new.size;
           most = omega (arith, most, new.size);
           limit = s.limit ∙ sym new.limit;
+          backed = s.backed ∙ sym new.backed;
           clock = s.clock ∙ sym new.clock;
           chain = s.chain;
           device = s.device ∙ sym new.device;
@@ -125,6 +127,7 @@ module _ (laws : Laws) where
       most = bare.unused.most;
       so_far = bare.unused.so_far;
     };
+    writes = bare.writes;
   })
   limited_row r d m n s is (inr has) =
       let c : Counters = stats page_weight r in
@@ -145,6 +148,7 @@ module _ (laws : Laws) where
     size = s.size ∙ sym is.size;
     most = omega (arith, s.most, is.size);
     limit = sym is.limit;
+    backed = s.backed ∙ sym is.backed;
     clock = s.clock ∙ sym is.clock;
     chain = s.chain;
     device = s.device ∙ sym is.device;
@@ -163,6 +167,7 @@ module _ (laws : Laws) where
       most = ap (λ (c : Counters). c.pages) (laws.nothing r (s.size ∙ bare.none) bare.unused).0;
       so_far = bare.unused.so_far;
     };
+    writes = bare.writes;
   })
   lowered_row r d m s is (inr has) =
       let c : Counters = stats page_weight r in
@@ -181,6 +186,7 @@ module _ (laws : Laws) where
     size = s.size ∙ sym is.size;
     most = omega (arith, s.most, is.size);
     limit = s.limit ∙ sym is.limit;
+    backed = s.backed ∙ sym is.backed;
     clock = s.clock ∙ sym is.clock;
     chain = s.chain;
     device = s.device ∙ sym is.device;
@@ -200,6 +206,7 @@ module _ (laws : Laws) where
       most = bare.unused.most;
       so_far = bare.unused.so_far;
     };
+    writes = bare.writes;
   })
   clocked_row r d n later (inr has) =
       inr (record { some = has.some; stands = laws.clocks r d.row n has.stands later })
@@ -210,6 +217,7 @@ module _ (laws : Laws) where
     size = s.size;
     most = s.most;
     limit = s.limit;
+    backed = s.backed;
     clock = refl;
     chain = s.chain;
     device = s.device;
@@ -275,7 +283,7 @@ module _ (laws : Laws) where
   module _ (u : Used) (actors : List (List Op)) (few : length actors ≤ MOST_ACTORS)
       (may : MayAct u actors) (d m : Disk) (run : IsRunOn d m)
       (turns : List ℕ) (lines : List OutLine)
-      (steps : PhaseSteps (terms_of d) actors d.row turns lines m.row) (r : Rest)
+      (steps : PhaseSteps (terms_of d) d.backed actors d.row turns lines m.row) (r : Rest)
       (s : Stands r d) where
     -- the rest after it
     abbrev After : Type 0
@@ -293,13 +301,15 @@ module _ (laws : Laws) where
         (omega (arith, s.size, s.most, few))
         (few_operations actors (work_by u actors few may)))
         turns lines m.row has.stands (has_some_each u actors may)
-        (subst (λ (t : Terms). PhaseSteps t actors d.row turns lines m.row) terms_are steps) in (
+        (subst (λ (x : Terms × Bool). PhaseSteps x.0 x.1 actors d.row turns lines m.row)
+        (λ i. (terms_are i, sym s.backed i)) steps) in (
           rest_after r actors both.0 m.row,
           both.1,
           record {
             size = s.size ∙ sym run.size;
             most = omega (arith, s.most, run.size);
             limit = s.limit ∙ sym run.limit;
+            backed = s.backed ∙ sym run.backed;
             clock = s.clock ∙ sym run.clock;
             chain = s.chain;
             device = (λ i. device_of (s.device i) (s.size i) m.row) ∙ sym run.device;
@@ -310,22 +320,28 @@ module _ (laws : Laws) where
     phase_bare : IsBare r d → actors ≡ [] → After
     phase_bare bare none =
         let P : List (List Op) × List (Option DiskHeld) → Type 0 =
-        λ x. PhaseSteps (terms_of d) x.0 x.1 turns lines m.row in
-        let over = phase_nowhere (terms_of d) turns lines m.row bare.none
+        λ x. PhaseSteps (terms_of d) d.backed x.0 x.1 turns lines m.row in
+        let over = phase_nowhere (terms_of d) d.backed turns lines m.row bare.none
         (subst P (λ i. (none i, bare.empty i)) steps) in
         let no_size = s.size ∙ bare.none in
         let empty = ap (λ (c : Counters). c.pages) (laws.nothing r no_size bare.unused).0 in (
           r,
           subst (λ (x : List (List Op)). IsPhase page_weight r x lines r) (sym none)
-              (phase_without r no_size bare.unused empty lines over.0),
+              (phase_without r no_size bare.unused empty bare.writes lines over.0),
           record {
             size = s.size ∙ sym run.size;
             most = omega (arith, s.most, run.size);
             limit = s.limit ∙ sym run.limit;
+            backed = s.backed ∙ sym run.backed;
             clock = s.clock ∙ sym run.clock;
             chain = s.chain;
             device = s.device ∙ sym (run.device ∙ (λ i. device_of d.device (bare.none i) (over.1 i)));
-            row = inl (record { none = run.size ∙ bare.none; empty = over.1; unused = bare.unused });
+            row = inl (record {
+              none = run.size ∙ bare.none;
+              empty = over.1;
+              unused = bare.unused;
+              writes = bare.writes;
+            });
           },
         )
 
@@ -355,7 +371,7 @@ module _ (laws : Laws) where
 
   -- other blocks for the disk that is to come
   backed_row : (r : Rest) (d : Disk) (n : ℕ) → 0 ≡ d.size → IsBare r d ⊎ HasRow r d
-      → IsBare (sets r (record r.set { backing = n })) (backed d n)
+      → IsBare (sets r (record r.set { backing = n })) (with_backing d n)
   backed_row r d n none (inl bare) = record {
     none = bare.none;
     empty = bare.empty;
@@ -364,15 +380,17 @@ module _ (laws : Laws) where
       most = bare.unused.most;
       so_far = bare.unused.so_far;
     };
+    writes = bare.writes;
   }
   backed_row r d n none (inr has) = let some = has.some in absurd (omega (arith, none, some))
 
   backed_stands : (r : Rest) (d : Disk) (n : ℕ) → 0 ≡ d.size → Stands r d
-      → Stands (sets r (record r.set { backing = n })) (backed d n)
+      → Stands (sets r (record r.set { backing = n })) (with_backing d n)
   backed_stands r d n none s = record {
     size = s.size;
     most = s.most;
     limit = s.limit;
+    backed = refl;
     clock = s.clock;
     chain = s.chain;
     device = s.device;

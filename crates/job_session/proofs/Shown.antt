@@ -1,5 +1,5 @@
 -- What the workers of a phase show of their operations.
-use Rattle.std.proofs.Common.{◌≡◌, ℕ, zero, suc, ◌<◌, ◌≤◌, ◌^◌, List, [], ◌∷◌, length, map, get_or, Some, slice_get, refl, sym, ap, ◌∙◌, subst, arith}
+use Rattle.std.proofs.Common.{◌≡◌, ℕ, zero, suc, ◌<◌, ◌≤◌, ◌^◌, Bool, List, [], ◌∷◌, length, map, get_or, Some, slice_get, refl, sym, ap, ◌∙◌, subst, arith}
 use Rattle.std.specs.Option.{IsSome}
 use Rattle.std.proofs.lemmas.List.{get_or-map, length-map}
 use Rattle.std.proofs.lemmas.Option.{get_or_from_slice_get, slice_get_read, slice_get_within}
@@ -36,8 +36,8 @@ module _ {A D : Type 0} (f : Reply → A) (ws : List (Worker D)) where
       ∙ ap shown (get_or_from_slice_get ws actor w w there))
       ∙ length-map w.replies.items f
 
-module _ {D : Type 0} (t : Terms) (actors : List (List Op)) (ws : List (Worker D))
-    (fit : AreFit t actors ws) where
+module _ {D : Type 0} (t : Terms) (backed : Bool) (actors : List (List Op)) (ws : List (Worker D))
+    (fit : AreFit t backed actors ws) where
   pub ends_count : length (ends_shown ws) ≡ length actors
   ends_count = length-map ws (λ (w : Worker D). map (λ (r : Reply). r.end) w.replies.items)
       ∙ fit.count
@@ -58,7 +58,7 @@ module _ {D : Type 0} (t : Terms) (actors : List (List Op)) (ws : List (Worker D
     named : slice_get actors actor ≡ Some mine
     named = slice_get_read actors (length actors) actor mine refl lt is
 
-    is_fit : IsFit t mine worker.0
+    is_fit : IsFit t backed mine worker.0
     is_fit = fit.each actor mine worker.0 named worker.1
 
     same_size : length mine ≡ length ops

@@ -7,7 +7,7 @@ use Rattle.zr_base.specs.Plain.{Finds}
 use Rattle.mem_account.specs.Counters.{Counters, no_counts}
 use Rattle.backing_dev.specs.Dev.{DeviceState}
 use Rattle.plain_disk.specs.Output.{OutLine}
-use Rattle.plain_disk.specs.Rests.{Rest}
+use Rattle.plain_disk.specs.Rests.{Rest, is_backed}
 use Rattle.plain_disk.specs.Phases.{IsPhase}
 use Rattle.plain_disk.specs.Legal.{IsNew as IsNewRest}
 use Rattle.call_history.specs.Histories.{HasSomeEach}
@@ -31,7 +31,7 @@ use Rattle.zr_core.specs.Rows.{AreNew}
 -- ---- a phase
 
 module _ (r : Rest) (actors : List (List Op)) (row : List (Option DiskHeld)) where
-  begins : (a : ℕ) (l : Here) → Begins r.size actors a l → Starts (begin_at r actors) a l
+  begins : (a : ℕ) (l : Here) → Begins r.size (is_backed r) actors a l → Starts (begin_at r actors) a l
   begins a l b = record {
     who = b.who;
     ops = b.ops;
@@ -49,7 +49,7 @@ module _ (r : Rest) (actors : List (List Op)) (row : List (Option DiskHeld)) whe
     fail = b.fail;
   }
 
-  set_up : (w : State DiskHeld) → IsSetUpOn r.size actors row w → IsSetUp r actors row w
+  set_up : (w : State DiskHeld) → IsSetUpOn r.size (is_backed r) actors row w → IsSetUp r actors row w
   set_up w s = record {
     row = record { size = s.row.size; each = s.row.each };
     orders = s.orders;
@@ -69,7 +69,7 @@ module _ (r : Rest) (actors : List (List Op)) (row : List (Option DiskHeld)) whe
     -- its calls have found
     pub phase_on : (turns : List ℕ) (lines : List OutLine) (after : List (Option DiskHeld))
         → StandsFor r row → HasSomeEach actors
-        → PhaseSteps (terms (begin_at r actors)) actors row turns lines after
+        → PhaseSteps (terms (begin_at r actors)) (is_backed r) actors row turns lines after
         → (finds : ℕ → Finds) × IsPhase page_weight r actors lines (rest_after r actors finds after)
         × StandsFor (rest_after r actors finds after) after
     phase_on turns lines after stands some s =

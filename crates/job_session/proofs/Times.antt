@@ -1,5 +1,5 @@
 -- No page was touched after the time that is set, where the disk stands for a rest.
-use Rattle.std.proofs.Common.{◌≡◌, ◌⊎◌, ℕ, ◌≤◌, List, [], Option, Some, slice_get, sym, ap, ◌∙◌, subst, inl, inr, arith}
+use Rattle.std.proofs.Common.{◌≡◌, ◌⊎◌, ℕ, ◌≤◌, false, List, [], Option, Some, slice_get, sym, ap, ◌∙◌, subst, inl, inr, arith}
 use Rattle.std.specs.Option.{option_map}
 use Rattle.std.proofs.lemmas.Option.{slice_get-map}
 use Rattle.plain_disk.specs.Rests.{Rest}
@@ -42,10 +42,10 @@ time_of d some p e is = by some.1.row
 -- ---- before the first item
 
 -- the disk of a new world stands for the first rest
-pub first_some : (d : Disk) → d.size ≡ 0 → d.limit ≡ 0 → d.clock ≡ 0 → d.row ≡ []
-    → d.blocks ≡ no_blocks → StandsForSome d
-first_some d size limit clock row blocks = (
+pub first_some : (d : Disk) → d.size ≡ 0 → d.limit ≡ 0 → d.backed ≡ false → d.clock ≡ 0 → d.row ≡ []
+    → d.blocks ≡ no_blocks → d.device.writes ≡ 0 → StandsForSome d
+first_some d size limit backed clock row blocks none = (
   first_rest d.device,
-  subst (Stands (first_rest d.device)) (sym (bare_disk d size limit clock row blocks))
-      (first_stands d.device),
+  subst (Stands (first_rest d.device)) (sym (bare_disk d size limit backed clock row blocks))
+      (first_stands d.device (omega arith)),
 )

@@ -1,5 +1,5 @@
 -- The disk of a new world, and the rest that it stands for.
-use Rattle.std.proofs.Common.{◌≡◌, refl, inl, arith, []}
+use Rattle.std.proofs.Common.{◌≡◌, ◌^◌, ◌<◌, false, refl, inl, arith, []}
 use Rattle.backing_dev.specs.Dev.{DeviceState}
 use Rattle.plain_disk.specs.Legal.{IsFirst}
 use Rattle.zr_core.specs.Rests.{no_blocks}
@@ -16,23 +16,31 @@ first_is device = record {
   over = refl;
 }
 
-pub first_stands : (device : DeviceState) → Stands (first_rest device) (without_pages device)
-first_stands device = record {
+pub first_stands : (device : DeviceState) → device.writes < 2 ^ 64
+    → Stands (first_rest device) (without_pages device)
+first_stands device short = record {
   size = refl;
   most = omega arith;
   limit = refl;
+  backed = refl;
   clock = refl;
   chain = refl;
   device = refl;
-  row = inl (record { none = refl; empty = refl; unused = (first_is device).unused });
+  row = inl (record {
+    none = refl;
+    empty = refl;
+    unused = (first_is device).unused;
+    writes = short;
+  });
 }
 
 -- the disk of a new world
-pub bare_disk : (d : Disk) → d.size ≡ 0 → d.limit ≡ 0 → d.clock ≡ 0 → d.row ≡ []
+pub bare_disk : (d : Disk) → d.size ≡ 0 → d.limit ≡ 0 → d.backed ≡ false → d.clock ≡ 0 → d.row ≡ []
     → d.blocks ≡ no_blocks → d ≡ without_pages d.device
-bare_disk d size limit clock row blocks = λ i. record {
+bare_disk d size limit backed clock row blocks = λ i. record {
   size = size i;
   limit = limit i;
+  backed = backed i;
   clock = clock i;
   row = row i;
   device = d.device;

@@ -114,12 +114,13 @@ pub record IsStarted {D : Type 0} (d : Disk) (actors : List (List Op)) (x : Play
   pub goes_by : x.terms ≡ terms_of d
   pub acting : x.actors ≡ actors
   pub limit : x.limit ≡ d.limit
+  pub backed : x.backed ≡ d.backed
   pub device : device_by x.spare x.terms.size x.cells ≡ d.device
   pub blocks : blocks_by x.spare x.terms.size x.cells ≡ d.blocks
   pub can : CanGoOn x
   pub set_up : IsSetUpOn d.row x
   pub prepared : (g : Begin) → RestsAs g d.size d.row
-      → IsPrepared (begun g actors d.clock) x
+      → IsPrepared (begun g d.backed actors d.clock) x
 
 -- A phase that began as x, on the disk d, has come to y: by these turns of its actors alone, after
 -- which all are finished and the row is at rest.
@@ -128,10 +129,11 @@ pub record IsOver {D : Type 0} (d : Disk) (x : Playing D) (turns : List ℕ) (y 
   pub same : y.terms ≡ x.terms
   pub spare : y.spare ≡ x.spare
   pub limit : y.limit ≡ x.limit
+  pub backed : y.backed ≡ x.backed
   pub can : CanGoOn y
   pub over : AllOver y.actors y.workers
   pub rest : IsAtRest y.terms.size y.noted y.cells
-  pub steps : PhaseSteps x.terms y.actors d.row turns (lines_shown y) y.cells
+  pub steps : PhaseSteps x.terms x.backed y.actors d.row turns (lines_shown y) y.cells
 
 -- ---- sessions
 

@@ -27,11 +27,12 @@ use Rattle.job_text.specs.declared.job.Report.TheVariants as reports
 use Rattle.job_text.specs.declared.job.Item.{Item}
 use Rattle.job_text.specs.declared.job.Item.TheVariants as items
 
--- the disk between two items: its pages, none before its size is given, the limit in frames, the time
--- that is set, the row of its locks, the device, and the map of its blocks
+-- the disk between two items: its pages, none before its size is given, the limit in frames, whether it
+-- has a backing, the time that is set, the row of its locks, the device, and the map of its blocks
 pub record Disk : Type 0 where
   pub size : ℕ
   pub limit : ℕ
+  pub backed : Bool
   pub clock : ℕ
   pub row : List (Option DiskHeld)
   pub device : DeviceState
@@ -42,6 +43,7 @@ abbrev pub without_pages : DeviceState → Disk
 without_pages device = record {
   size = 0;
   limit = 0;
+  backed = false;
   clock = 0;
   row = [];
   device = device;
@@ -53,6 +55,7 @@ abbrev pub disk_of : {D : Type 0} {b : Ghosts D} → ℕ → World D b → Disk
 disk_of clock world = record {
   size = world.pages;
   limit = world.limit;
+  backed = world.backed;
   clock = clock;
   row = world.row.cells;
   device = device_by world.spare world.pages world.row.cells;
@@ -78,11 +81,12 @@ report_of d reports.Classes = row_report d.size MOST_CHAIN d.row classes
 
 -- ---- attributes
 
--- A new disk of so many pages, with the limit and the time of the disk before. Its row has the device
+-- A new disk of so many pages, with the limit, the backing and the time of the disk before. Its row has the device
 -- and the map of the blocks.
 pub record IsNewDisk (d : Disk) (pages : ℕ) (m : Disk) : Type 0 where
   pub size : m.size ≡ pages
   pub limit : m.limit ≡ d.limit
+  pub backed : m.backed ≡ d.backed
   pub clock : m.clock ≡ d.clock
   pub device : m.device ≡ d.device
   pub blocks : m.blocks ≡ d.blocks
@@ -95,6 +99,7 @@ pub record IsNewDisk (d : Disk) (pages : ℕ) (m : Disk) : Type 0 where
 pub record IsLimited (d : Disk) (n : ℕ) (m : Disk) : Type 0 where
   pub size : m.size ≡ d.size
   pub limit : m.limit ≡ n
+  pub backed : m.backed ≡ d.backed
   pub clock : m.clock ≡ d.clock
   pub device : m.device ≡ d.device
   pub blocks : m.blocks ≡ d.blocks
@@ -106,6 +111,7 @@ pub record IsLimited (d : Disk) (n : ℕ) (m : Disk) : Type 0 where
 pub record IsLowered (d m : Disk) : Type 0 where
   pub size : m.size ≡ d.size
   pub limit : m.limit ≡ d.limit
+  pub backed : m.backed ≡ d.backed
   pub clock : m.clock ≡ d.clock
   pub device : m.device ≡ d.device
   pub blocks : m.blocks ≡ d.blocks
@@ -114,8 +120,9 @@ pub record IsLowered (d m : Disk) : Type 0 where
       → m.row ≡ slice_set d.row (d.size + 255) (Some (holds.Account (record c { most = c.pages })))
 
 -- the disk to come uses so many blocks of the device, which are free
-abbrev pub backed : Disk → ℕ → Disk
-backed d n = record d { blocks = record d.blocks { states = replicate n Free } }
+abbrev pub with_backing : Disk → ℕ → Disk
+with_backing d n =
+    record d { backed = nat_lt 0 n; blocks = record d.blocks { states = replicate n Free } }
 
 -- An attribute that is refused prints why, and changes nothing.
 pub record IsRefusedAttr (why : AttrRefusal) (d : Disk) (lines : List OutLine) (m : Disk)
@@ -131,7 +138,7 @@ SizeSteps (suc size) d n lines m = IsRefusedAttr disksize_busy d lines m
 -- a backing is refused where the disk's size is set already, and else where the device has fewer
 -- blocks
 abbrev pub BackingSteps : ℕ → Bool → Disk → ℕ → List OutLine → Disk → Type 0
-BackingSteps zero false d n lines m = (lines ≡ []) × (m ≡ backed d n)
+BackingSteps zero false d n lines m = (lines ≡ []) × (m ≡ with_backing d n)
 BackingSteps zero true d n lines m = IsRefusedAttr backing_range d lines m
 BackingSteps (suc size) past d n lines m = IsRefusedAttr backing_busy d lines m
 
@@ -151,11 +158,12 @@ abbrev pub map_of : BlockMap → ℕ → List (Option DiskHeld) → BlockMap
 map_of x zero row = x
 map_of x (suc n) row = blocks_in (value_at row (suc n + 256))
 
--- What a run of a phase leaves beside its row: the pages, the limit, the time, and the device and the
--- map of the row, if there is one.
+-- What a run of a phase leaves beside its row: the pages, the limit, whether there is a backing, the
+-- time, and the device and the map of the row, if there is one.
 pub record IsRunOn (d m : Disk) : Type 0 where
   pub size : m.size ≡ d.size
   pub limit : m.limit ≡ d.limit
+  pub backed : m.backed ≡ d.backed
   pub clock : m.clock ≡ d.clock
   pub device : m.device ≡ device_of d.device d.size m.row
   pub blocks : m.blocks ≡ map_of d.blocks d.size m.row
@@ -173,7 +181,7 @@ Stepped d (items.Report report ∷ more) turns lines last =
     (rest : List OutLine) × Stepped d more turns rest last × (lines ≡ report_of d report ++ rest)
 Stepped d (items.Phase text ∷ more) turns lines last =
     (m : Disk) × (mine : List ℕ) × (others : List (List ℕ)) × (first rest : List OutLine)
-    × IsRunOn d m × PhaseSteps (terms_of d) text.actors d.row mine first m.row
+    × IsRunOn d m × PhaseSteps (terms_of d) d.backed text.actors d.row mine first m.row
     × Stepped m more others rest last × (turns ≡ mine ∷ others) × (lines ≡ first ++ rest)
 
 -- turns of a schedule, and then of rounds in which each actor has one

@@ -49,8 +49,15 @@ fn is_refused(end: OpEnd) -> bool
     ensures { (tag : Tag) → result ≡ is_refusal (ended tag end) }
 {
     match end {
-        OpEnd::Ok | OpEnd::Marked(_) | OpEnd::Compacted { .. } => false,
-        OpEnd::Range | OpEnd::AtLimit { .. } | OpEnd::NoMemory { .. } | OpEnd::Eio { .. } => true,
+        OpEnd::Ok | OpEnd::Marked(_) | OpEnd::Written { .. } | OpEnd::Compacted { .. } => false,
+        OpEnd::Range
+        | OpEnd::AtLimit { .. }
+        | OpEnd::NoMemory { .. }
+        | OpEnd::Eio { .. }
+        | OpEnd::Budget { .. }
+        | OpEnd::NoBlock { .. }
+        | OpEnd::NoBacking
+        | OpEnd::WriteEio { .. } => true,
     }
 }
 

@@ -1,7 +1,7 @@
 //! The lines of a phase that was run: its operations, actor by actor, and then the orders of its
 //! pages. And the lines of reports.
 
-ghost use Rattle.std.specs.Prelude.{◌≡◌, ℕ, ◌<◌, ◌≤◌, [], length, get_or};
+ghost use Rattle.std.specs.Prelude.{◌≡◌, ℕ, ◌<◌, ◌≤◌, Bool, [], length, get_or};
 ghost use Rattle.zr_base.specs.declared.limits.TheConstants.{MOST_ACTORS};
 ghost use Rattle.plain_disk.specs.Output.{order_lines, actor_lines, actors_lines};
 ghost use Rattle.page_steps.specs.Steps.{Terms};
@@ -56,7 +56,8 @@ fn tell_actors<K: Sink, D: Backing>(
     actors: &[ActorOps],
 ) -> Result<(), Stop>
     requires few { length actors.now ≤ MOST_ACTORS }
-    requires fit { (t : Terms) × AreFit t actors.now phase.now.workers.items }
+    requires fit { (t : Terms) × (backed : Bool)
+        × AreFit t backed actors.now phase.now.workers.items }
     requires over { AllOver actors.now phase.now.workers.items }
     ensures { Tells out.old out.new result (actors_lines 0
         (ends_shown phase.now.workers.items) (sectors_shown phase.now.workers.items)) }

@@ -175,6 +175,46 @@ fn tells_reports(rt: HostRuntime) -> Result<(), Fail> {
     Ok(())
 }
 
+// Pages that are written back: one, none without a backing, one where a block is left for one, and one
+// that is written by another actor meanwhile.
+#[test]
+fn writes_pages_back(rt: HostRuntime) -> Result<(), Fail> {
+    let huge = "actor\nwrite 0 8 seq 0 9e3779b97f4a7c15\n";
+    let two = "actor\nwrite 0 16 seq 0 9e3779b97f4a7c15\n";
+    let back = "run\nbd_stat\nstates\n";
+    let table = [
+        (
+            format!(in rt.alloc();
+                "backing 2\ndisksize 4K\n{huge}writeback huge\nwriteback huge\n{back}"
+            )?,
+            Status::Done,
+            "op 0 0 ok\nop 0 1 wrote 1 lost 0\nop 0 2 wrote 0 lost 0\norder 0 0:0\nbd_stat 1 0 1\nstate 0 .w.. 0\n",
+        ),
+        (
+            format!(in rt.alloc(); "disksize 4K\n{huge}writeback huge\n{back}")?,
+            Status::Refused,
+            "op 0 0 ok\nop 0 1 nobacking\norder 0 0:0\nbd_stat 0 0 0\nstate 0 ..h. 0\n",
+        ),
+        (
+            format!(in rt.alloc(); "backing 1\ndisksize 8K\n{two}writeback huge\n{back}")?,
+            Status::Refused,
+            "op 0 0 ok\nop 0 1 noblock wrote 1 lost 0\norder 0 0:0\norder 1 0:0\nbd_stat 1 0 1\nstate 0 .w.. 0\nstate 1 ..h. 0\n",
+        ),
+        (
+            format!(in rt.alloc();
+                "backing 1\ndisksize 4K\n{huge}run\nactor\nwriteback huge\nactor\nwrite 0 8 fill 1\nschedule 0*8 1*6\n{back}"
+            )?,
+            Status::Done,
+            "op 0 0 ok\norder 0 0:0\nop 0 0 wrote 0 lost 1\nop 1 0 ok\norder 0 1:0\nbd_stat 0 0 1\nstate 0 s... 0\n",
+        ),
+    ];
+    for (job, status, wanted) in table {
+        let ended = ends(rt.alloc(), &["run"], &job, &[], 1000, wanted)?;
+        assert_eq!(rt; ended, (status, true), "at {job}");
+    }
+    Ok(())
+}
+
 // Marks by ages, at the times that are set, and by whether an access comes before or after.
 #[test]
 fn marks_idle_pages(rt: HostRuntime) -> Result<(), Fail> {

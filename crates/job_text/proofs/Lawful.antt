@@ -8,6 +8,7 @@ use Rattle.std.proofs.lemmas.List.{length-map, get_or_past}
 use Rattle.std.proofs.lemmas.List.Folds.{list_all_at}
 use Rattle.std.proofs.lemmas.List.FromFn.{length-map-range_with_len, get_or-map-range_with_len}
 use Rattle.zr_base.specs.Plain.{InBounds}
+use Rattle.zr_base.specs.declared.op.Mode.{Mode}
 use Rattle.zr_base.specs.declared.op.Turns.{Turns}
 use Rattle.zr_base.specs.declared.limits.TheConstants.{MOST_PAGES, MOST_SECTORS, MOST_ACTORS}
 use Rattle.job_text.specs.declared.limits.TheConstants.{MOST_BLOCKS, MOST_LIMIT_PAGES}
@@ -17,7 +18,7 @@ use Rattle.job_text.specs.declared.fault.Cause.TheVariants as causes
 use Rattle.job_text.specs.declared.fault.NotTaken.{NotTaken}
 use Rattle.job_text.specs.declared.line.Line.{Line}
 use Rattle.job_text.specs.Numbers.{digit_value, byte_at, is_number, size_pages, number_of, are_digits, bytes_by, turn_of}
-use Rattle.job_text.specs.Lines.{Form, blank_form, disk_form, limit_form, backing_form, clock_form, max_form, report_form, actor_form, fill_form, seq_form, hex_form, read_form, discard_form, idle_all_form, idle_form, compact_form, schedule_form, run_form, alone, with_word, report_named, report_in, read_in, discard_in, idle_with, idle_in, fill_in, seq_in, hex_in, stuff_in, write_in, schedule_in, named_in, form_of, fill_sectors, is_malformed, meaning, are_bounds, may_give, is_out_of_range, line_with, line_of}
+use Rattle.job_text.specs.Lines.{Form, blank_form, disk_form, limit_form, backing_form, clock_form, max_form, report_form, actor_form, fill_form, seq_form, hex_form, read_form, discard_form, idle_all_form, idle_form, writeback_form, compact_form, schedule_form, run_form, alone, with_word, report_named, report_in, read_in, discard_in, idle_with, idle_in, mode_named, writeback_with, writeback_in, fill_in, seq_in, hex_in, stuff_in, write_in, schedule_in, named_in, form_of, fill_sectors, is_malformed, meaning, are_bounds, may_give, is_out_of_range, line_with, line_of}
 use Rattle.job_text.specs.Jobs.{MayTurn}
 use Rattle.job_text.specs.Answers.{Answers, IsInRange}
 
@@ -43,6 +44,7 @@ HasWords (read_form start count) = Unit {0}
 HasWords (discard_form start count) = Unit {0}
 HasWords idle_all_form = Unit {0}
 HasWords (idle_form number) = Unit {0}
+HasWords (writeback_form mode) = Unit {0}
 HasWords compact_form = Unit {0}
 HasWords (schedule_form turns) = 1 ≤ length turns
 HasWords run_form = Unit {0}
@@ -136,6 +138,7 @@ form-lawful (discard_form start count) has well good =
     bounds (number_of start) (number_of count) good
 form-lawful idle_all_form has well good = tt
 form-lawful (idle_form number) has well good = tt
+form-lawful (writeback_form mode) has well good = tt
 form-lawful compact_form has well good = tt
 form-lawful (schedule_form turns) has well good = (
   omega (arith, length-map turns turn_of),
@@ -193,6 +196,15 @@ idle-words [] = tt
 idle-words (a ∷ []) = idle-word a
 idle-words (a ∷ b ∷ more) = tt
 
+mode-word : (mode : Option Mode) → IfForm (writeback_with mode)
+mode-word None = tt
+mode-word (Some mode) = tt
+
+writeback-words : (words : List (List ℕ)) → IfForm (writeback_in words)
+writeback-words [] = tt
+writeback-words (a ∷ []) = mode-word (mode_named a)
+writeback-words (a ∷ b ∷ more) = tt
+
 fill-words : (start count : List ℕ) (words : List (List ℕ)) → IfForm (fill_in start count words)
 fill-words start count [] = tt
 fill-words start count (a ∷ []) = tt
@@ -236,10 +248,11 @@ form-words (name ∷ words) =
     (when (bytes_eq name (codes "read")) _ _ (read-words words)
     (when (bytes_eq name (codes "discard")) _ _ (discard-words words)
     (when (bytes_eq name (codes "idle")) _ _ (idle-words words)
+    (when (bytes_eq name (codes "writeback")) _ _ (writeback-words words)
     (when (bytes_eq name (codes "compact")) _ _ (alone-words compact_form words tt)
     (when (bytes_eq name (codes "schedule")) _ _ (schedule-words words)
     (when (bytes_eq name (codes "run")) _ _ (alone-words run_form words tt)
-    (report-words (report_named name) words)))))))))))))
+    (report-words (report_named name) words))))))))))))))
 
 line-lawful-by : (form : Form) → HasWords form → (m b : Bool) → is_malformed form ≡ m
     → is_out_of_range form ≡ b

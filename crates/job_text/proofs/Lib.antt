@@ -1,6 +1,8 @@
 pub mod Digits
+pub mod Generated
 pub mod Joins
 pub mod Lawful
+pub mod Rooms
 pub mod Scans
 pub mod Spelling
 pub mod Splits

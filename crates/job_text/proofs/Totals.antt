@@ -22,17 +22,17 @@ record Fits (u : Used) (phases operations pieces sectors turns : ℕ) : Type 0 w
   turns_fit : u.turns + turns ≤ MOST_TURNS
 
 -- what operations add
-record Adds (u v : Used) (operations pieces sectors : ℕ) : Type 0 where
-  phases_stay : v.phases ≡ u.phases
-  operations_grow : v.operations ≡ u.operations + operations
-  pieces_grow : v.pieces ≡ u.pieces + pieces
-  sectors_grow : v.sectors ≡ u.sectors + sectors
-  turns_stay : v.turns ≡ u.turns
+pub record Adds (u v : Used) (operations pieces sectors : ℕ) : Type 0 where
+  pub phases_stay : v.phases ≡ u.phases
+  pub operations_grow : v.operations ≡ u.operations + operations
+  pub pieces_grow : v.pieces ≡ u.pieces + pieces
+  pub sectors_grow : v.sectors ≡ u.sectors + sectors
+  pub turns_stay : v.turns ≡ u.turns
 
-abbrev AddsOps : Used → Used → List Op → Type 0
+abbrev pub AddsOps : Used → Used → List Op → Type 0
 AddsOps u v ops = Adds u v (sum_by (λ op. 1) ops) (sum_by pages_of ops) (sum_by sectors_to_read ops)
 
-ops_add : (u : Used) (ops : List Op) → AddsOps u (with_ops u ops) ops
+pub ops_add : (u : Used) (ops : List Op) → AddsOps u (with_ops u ops) ops
 ops_add u [] = record {
   phases_stay = refl;
   operations_grow = omega arith;
@@ -50,14 +50,14 @@ ops_add u (op ∷ ops) =
     }
 
 -- the sum of a number of each operation, over actors
-abbrev over : (Op → ℕ) → List (List Op) → ℕ
+abbrev pub over : (Op → ℕ) → List (List Op) → ℕ
 over f actors = sum_by (λ ops. sum_by f ops) actors
 
-over-cons : (f : Op → ℕ) (ops : List Op) (more : List (List Op))
+pub over-cons : (f : Op → ℕ) (ops : List Op) (more : List (List Op))
     → over f (ops ∷ more) ≡ sum_by f ops + over f more
 over-cons f ops more = sum_by-cons (λ (ops : List Op). sum_by f ops) ops more
 
-actors_add : (u : Used) (actors : List (List Op))
+pub actors_add : (u : Used) (actors : List (List Op))
     → Adds u (with_actors u actors) (over (λ op. 1) actors) (over pages_of actors)
     (over sectors_to_read actors)
 actors_add u [] = record {

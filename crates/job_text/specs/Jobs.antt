@@ -4,7 +4,7 @@ use Rattle.std.specs.List.{slice_split, flat_map}
 use Rattle.zr_base.specs.Plain.{IsRequest}
 use Rattle.zr_base.specs.Pieces.{pages_of}
 use Rattle.zr_base.specs.declared.op.Op.{Op}
-use Rattle.zr_base.specs.declared.op.Op.TheVariants.{Write, Read, Discard, Idle, Compact}
+use Rattle.zr_base.specs.declared.op.Op.TheVariants.{Write, Read, Discard, Idle, Writeback, Compact}
 use Rattle.zr_base.specs.declared.op.Turns.{Turns}
 use Rattle.zr_base.specs.declared.limits.TheConstants.{MOST_PAGES, MOST_ACTORS, MOST_OPERATIONS}
 use Rattle.job_text.specs.declared.limits.TheConstants.{MOST_BLOCKS, MOST_BYTES, MOST_LIMIT_PAGES, MOST_PHASES, MOST_PIECES, MOST_SCANNED, MOST_SECTORS_READ, MOST_TURNS}
@@ -101,6 +101,7 @@ sectors_to_read (Write start count stuff) = 0
 sectors_to_read (Read start count) = count
 sectors_to_read (Discard start count) = 0
 sectors_to_read (Idle age) = 0
+sectors_to_read (Writeback mode) = 0
 sectors_to_read Compact = 0
 
 -- the pages that an operation scans, on a disk of so many
@@ -109,6 +110,7 @@ pages_to_scan pages (Write start count stuff) = 0
 pages_to_scan pages (Read start count) = 0
 pages_to_scan pages (Discard start count) = 0
 pages_to_scan pages (Idle age) = pages
+pages_to_scan pages (Writeback mode) = pages
 pages_to_scan pages Compact = 0
 
 -- the sum of the turns that a schedule gives

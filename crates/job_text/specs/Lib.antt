@@ -1,5 +1,6 @@
 pub mod Answers
 pub mod Faults
+pub mod Generator
 pub mod Jobs
 pub mod Lines
 pub mod Numbers

@@ -3,7 +3,9 @@ use Rattle.std.specs.Prelude.{ℕ, ◌-◌, ◌*◌, ◌^◌, Bool, true, false,
 use Rattle.std.specs.List.{slice_split, position_or_len, list_all, concat}
 use Rattle.std.specs.Str.{bytes_eq}
 use Rattle.zr_base.specs.declared.op.Op.{Op}
-use Rattle.zr_base.specs.declared.op.Op.TheVariants.{Write, Read, Discard, Idle, Compact}
+use Rattle.zr_base.specs.declared.op.Op.TheVariants.{Write, Read, Discard, Idle, Writeback, Compact}
+use Rattle.zr_base.specs.declared.op.Mode.{Mode}
+use Rattle.zr_base.specs.declared.op.Mode.TheVariants as modes
 use Rattle.zr_base.specs.declared.op.Stuff.TheVariants.{Fill, Seq, Hex}
 use Rattle.zr_base.specs.declared.op.Turns.{Turns}
 use Rattle.zr_base.specs.declared.limits.TheConstants.{MOST_PAGES, MOST_SECTORS, MOST_ACTORS}
@@ -58,6 +60,7 @@ pub data Form : Type 0 where
   discard_form : (start count : List ℕ) → Form
   idle_all_form : Form
   idle_form : (number : List ℕ) → Form
+  writeback_form : Mode → Form
   compact_form : Form
   schedule_form : (turns : List (List ℕ)) → Form
   run_form : Form
@@ -106,6 +109,24 @@ abbrev pub idle_in : List (List ℕ) → Option Form
 idle_in (word ∷ []) = Some (idle_with word)
 idle_in words = None
 
+-- the mode of a writeback of this name, if there is one
+abbrev pub mode_named : List ℕ → Option Mode
+mode_named name =
+    if bytes_eq name (codes "idle") then Some modes.Idle
+    else if bytes_eq name (codes "huge") then Some modes.Huge
+    else if bytes_eq name (codes "huge_idle") then Some modes.HugeIdle
+    else None
+
+-- `writeback` with this mode, if there is one
+abbrev pub writeback_with : Option Mode → Option Form
+writeback_with None = None
+writeback_with (Some mode) = Some (writeback_form mode)
+
+-- what stands after `writeback`
+abbrev pub writeback_in : List (List ℕ) → Option Form
+writeback_in (word ∷ []) = writeback_with (mode_named word)
+writeback_in words = None
+
 -- what stands after `write START COUNT fill`
 abbrev pub fill_in : List ℕ → List ℕ → List (List ℕ) → Option Form
 fill_in start count (word ∷ []) = Some (fill_form start count word)
@@ -152,6 +173,7 @@ named_in name words =
     else if bytes_eq name (codes "read") then read_in words
     else if bytes_eq name (codes "discard") then discard_in words
     else if bytes_eq name (codes "idle") then idle_in words
+    else if bytes_eq name (codes "writeback") then writeback_in words
     else if bytes_eq name (codes "compact") then alone compact_form words
     else if bytes_eq name (codes "schedule") then schedule_in words
     else if bytes_eq name (codes "run") then alone run_form words
@@ -190,6 +212,7 @@ is_malformed (read_form start count) = not (is_number start && is_number count)
 is_malformed (discard_form start count) = not (is_number start && is_number count)
 is_malformed idle_all_form = false
 is_malformed (idle_form number) = not (is_number number)
+is_malformed (writeback_form mode) = false
 is_malformed compact_form = false
 is_malformed (schedule_form turns) = not (list_all is_turn turns)
 is_malformed run_form = false
@@ -214,6 +237,7 @@ meaning (read_form start count) = Operation (Read (number_of start) (number_of c
 meaning (discard_form start count) = Operation (Discard (number_of start) (number_of count))
 meaning idle_all_form = Operation (Idle None)
 meaning (idle_form number) = Operation (Idle (Some (number_of number)))
+meaning (writeback_form mode) = Operation (Writeback mode)
 meaning compact_form = Operation Compact
 meaning (schedule_form turns) = Schedule (map turn_of turns)
 meaning run_form = Run
@@ -238,12 +262,13 @@ may_age None = true
 may_age (Some age) = nat_lt age (2 ^ 64)
 
 -- an operation's sectors are those that a request may have, and its age is one that may be given; a
--- compaction asks for nothing
+-- writeback and a compaction ask for nothing
 abbrev pub may_ask : Op → Bool
 may_ask (Write start count stuff) = are_bounds start count
 may_ask (Read start count) = are_bounds start count
 may_ask (Discard start count) = are_bounds start count
 may_ask (Idle age) = may_age age
+may_ask (Writeback mode) = true
 may_ask Compact = true
 
 -- a turn of an actor that a phase may have, given once at least and no more often than a job's

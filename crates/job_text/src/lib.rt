@@ -9,6 +9,7 @@
 
 mod begun;
 mod fault;
+mod generator;
 mod job;
 mod joined;
 mod limits;
@@ -19,10 +20,11 @@ mod reading;
 mod turns;
 
 pub use fault::{Cause, JobFault, ReadFault};
+pub use generator::gen_job;
 pub use job::{ActorList, Attr, Item, Job, PhaseText, Report, TurnList};
 pub use limits::{
-    MOST_BLOCKS, MOST_BYTES, MOST_LIMIT_PAGES, MOST_PHASES, MOST_PIECES, MOST_SCANNED,
-    MOST_SECTORS_READ, MOST_TURNS,
+    MOST_BLOCKS, MOST_BYTES, MOST_GENERATED, MOST_LIMIT_PAGES, MOST_PHASES, MOST_PIECES,
+    MOST_SCANNED, MOST_SECTORS_READ, MOST_TURNS,
 };
 pub use line::Line;
 pub use reader::read_job;

@@ -19,9 +19,12 @@ pub const MOST_PIECES: u32 = 1_048_576;
 /// The most sectors that the operations of a job read.
 pub const MOST_SECTORS_READ: u32 = 262_144;
 
-/// The most pages that the operations of a job scan: for each `idle`, the pages of the disk, by the
-/// job's first `disksize`.
+/// The most pages that the operations of a job scan: for each `idle` and each `writeback`, the pages of
+/// the disk, by the job's first `disksize`.
 pub const MOST_SCANNED: u32 = 16_777_216;
 
 /// The most turns in all schedules of a job.
 pub const MOST_TURNS: u32 = 16_777_216;
+
+/// The most pages of the disk of a generated job.
+pub const MOST_GENERATED: u32 = 16_384;

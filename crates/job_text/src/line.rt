@@ -3,7 +3,7 @@
 ghost use Rattle.std.specs.Prelude.{◌≡◌, ℕ, List, map, IfOk, if◌then◌else◌};
 ghost use Rattle.job_text.specs.Lines.{without_return, before_comment, words_of, line_by, line_with, line_of, report_named, are_bounds, fill_sectors};
 ghost use Rattle.job_text.specs.Lines.{Form, disk_form, limit_form, backing_form, clock_form, max_form, report_form, actor_form, fill_form, seq_form, hex_form, read_form, discard_form, idle_all_form, idle_form, compact_form, schedule_form, run_form};
-ghost use Rattle.job_text.specs.Lines.{alone, with_word, report_in, read_in, discard_in, idle_with, idle_in, fill_in, seq_in, hex_in, stuff_in, write_in, schedule_in, named_in};
+ghost use Rattle.job_text.specs.Lines.{alone, with_word, report_in, read_in, discard_in, idle_with, idle_in, mode_named, writeback_with, writeback_in, fill_in, seq_in, hex_in, stuff_in, write_in, schedule_in, named_in};
 ghost use Rattle.job_text.specs.Answers.{Answers, IsInRange, hash_in};
 
 use crate::fault::{Cause, NotTaken};
@@ -13,7 +13,7 @@ use crate::limits::{MOST_BLOCKS, MOST_LIMIT_PAGES};
 use crate::number::{exact, number, pages, word64};
 use crate::turns::{are_turns, turns};
 use std::alloc::{AllocError, Global};
-use zr_base::{MOST_PAGES, MOST_SECTORS, Op, Stuff};
+use zr_base::{MOST_PAGES, MOST_SECTORS, Mode, Op, Stuff};
 
 /// What a line says.
 #[derive(Drop)]
@@ -377,6 +377,39 @@ fn idle_line(words: &[&[u8]]) -> Result<Line, NotTaken>
     }
 }
 
+fn mode(name: &[u8]) -> Option<Mode>
+    ensures { result ≡ mode_named name.now }
+{
+    if name == b"idle".as_slice() {
+        Some(Mode::Idle)
+    } else if name == b"huge".as_slice() {
+        Some(Mode::Huge)
+    } else if name == b"huge_idle".as_slice() {
+        Some(Mode::HugeIdle)
+    } else {
+        None
+    }
+}
+
+#[tactic(auto, unfolding(crate::specs::Lines::is_malformed, crate::specs::Lines::meaning))]
+fn writeback(mode: Option<Mode>) -> Result<Line, NotTaken>
+    ensures { Answers (line_with (writeback_with mode)) result }
+{
+    match mode {
+        Some(mode) => Ok(Line::Operation(Op::Writeback { mode })),
+        None => Err(NotTaken::Faulty(Cause::Word)),
+    }
+}
+
+fn writeback_line(words: &[&[u8]]) -> Result<Line, NotTaken>
+    ensures { Answers (line_with (writeback_in (map (λ word. word.now) words.now))) result }
+{
+    match words {
+        [word] => writeback(mode(word)),
+        _ => Err(NotTaken::Faulty(Cause::Word)),
+    }
+}
+
 fn fill_line(start: &[u8], count: &[u8], words: &[&[u8]]) -> Result<Line, NotTaken>
     ensures { Answers (line_with (fill_in start.now count.now
         (map (λ word. word.now) words.now))) result }
@@ -471,6 +504,8 @@ fn named_line(alloc: Global, name: &[u8], words: &[&[u8]]) -> Result<Line, NotTa
         discard_line(words)
     } else if name == b"idle".as_slice() {
         idle_line(words)
+    } else if name == b"writeback".as_slice() {
+        writeback_line(words)
     } else if name == b"compact".as_slice() {
         compact_line(words)
     } else if name == b"schedule".as_slice() {

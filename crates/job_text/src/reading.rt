@@ -53,7 +53,11 @@ fn sectors_to_read(op: &Op) -> u32
 {
     match op {
         Op::Read { count, .. } => *count,
-        Op::Write { .. } | Op::Discard { .. } | Op::Idle { .. } | Op::Compact => 0,
+        Op::Write { .. }
+        | Op::Discard { .. }
+        | Op::Idle { .. }
+        | Op::Writeback { .. }
+        | Op::Compact => 0,
     }
 }
 
@@ -62,7 +66,7 @@ fn pages_to_scan(pages: u32, op: &Op) -> u32
     ensures { result ≡ pages_to_scan pages op.now }
 {
     match op {
-        Op::Idle { .. } => pages,
+        Op::Idle { .. } | Op::Writeback { .. } => pages,
         Op::Write { .. } | Op::Read { .. } | Op::Discard { .. } | Op::Compact => 0,
     }
 }

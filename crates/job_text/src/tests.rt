@@ -3,7 +3,7 @@
 use crate::{Attr, Cause, Item, Job, JobFault, MOST_BYTES, PhaseText, ReadFault, read_job};
 use std::alloc::{AllocError, Global};
 use std::test::Fail;
-use zr_base::{ActorOps, Op, Stuff};
+use zr_base::{ActorOps, Mode, Op, Stuff};
 
 // The first fault of a text; None where it is a job.
 fn fault_in(alloc: Global, text: &str) -> Result<Option<JobFault>, AllocError> {
@@ -34,6 +34,7 @@ fn tells_jobs(rt: HostRuntime) -> Result<(), Fail> {
         "bd_stat\ndisksize 4K\nbd_stat # none\nactor\nread 0 1\nrun\n\tbd_stat\nbd_stat",
         "clock 0\nclock 00\nclock 18446744073709551615\nclock 18446744073709551615\nmm_stat",
         "disksize 4K\nactor\nidle all\nidle 0\nidle 18446744073709551615\nrun\nclock 5 # later",
+        "disksize 4K\nactor\nwriteback idle\nwriteback huge\nwriteback huge_idle # both\nrun",
         "disksize 4K\ndisksize 4K\nrun\n\ndisksize 1G\nactor\nrun\ndisksize 4K",
     ];
     for text in table {
@@ -43,11 +44,10 @@ fn tells_jobs(rt: HostRuntime) -> Result<(), Fail> {
 }
 
 // Texts with their first faulty line and its cause: by their words alone, then by their places.
-const FAULTY: [(&str, u32, Cause); 97] = [
+const FAULTY: [(&str, u32, Cause); 96] = [
     ("stop", 1, Cause::Word),
     ("RUN", 1, Cause::Word),
     ("run now", 1, Cause::Word),
-    ("disksize 4K\nwriteback idle", 2, Cause::Word),
     ("backing", 1, Cause::Word),
     ("backing 1 1", 1, Cause::Word),
     ("backing x #\nbacking x 1", 1, Cause::Number),
@@ -202,6 +202,39 @@ fn tells_faults_of_times(rt: HostRuntime) -> Result<(), Fail> {
     Ok(())
 }
 
+#[test]
+fn tells_faults_of_writebacks(rt: HostRuntime) -> Result<(), Fail> {
+    let table = [
+        ("writeback", 1, Cause::Word),
+        ("writeback all", 1, Cause::Word),
+        ("disksize 4K\nWRITEBACK idle", 2, Cause::Word),
+        ("disksize 4K\nactor\nwriteback", 3, Cause::Word),
+        ("disksize 4K\nactor\nwriteback IDLE", 3, Cause::Word),
+        ("disksize 4K\nactor\nwriteback 5", 3, Cause::Word),
+        ("disksize 4K\nactor\nwriteback idle huge", 3, Cause::Word),
+        ("disksize 4K\nactor\nwriteback hugeidle", 3, Cause::Word),
+        ("disksize 4K\nactor\nwriteback huge_idl", 3, Cause::Word),
+        ("writeback idle", 1, Cause::Order),
+        ("backing 1\ndisksize 4K\nwriteback huge", 3, Cause::Order),
+        (
+            "disksize 4K\nactor\nrun\nwriteback huge_idle",
+            4,
+            Cause::Order,
+        ),
+        (
+            "disksize 4K\nactor\nschedule 0\nwriteback idle",
+            4,
+            Cause::Order,
+        ),
+        ("backing 1\nactor\nwriteback idle\nrun", 2, Cause::NoDisk),
+    ];
+    for (text, line, cause) in table {
+        let wanted = Some(JobFault { line, cause });
+        assert_eq!(rt; fault_in(rt.alloc(), text)?, wanted, "at {text}");
+    }
+    Ok(())
+}
+
 // 64 bytes that say nothing.
 const COMMENT: &str = "###############################################################\n";
 
@@ -245,6 +278,13 @@ fn tells_limits(rt: HostRuntime) -> Result<(), Fail> {
         ),
         ("disksize 1G\nactor\n", "idle all\n", 64, "run\n", None),
         ("disksize 1G\nactor\n", "idle 5\n", 65, "run\n", Some(67)),
+        (
+            "disksize 1G\nactor\nidle 5\n",
+            "writeback huge\n",
+            64,
+            "run\n",
+            Some(67),
+        ),
         (
             "disksize 8K\ndisksize 1G\nactor\n",
             "idle all\n",
@@ -291,7 +331,19 @@ fn op_shown(alloc: Global, op: &Op) -> Result<String, AllocError> {
         Op::Discard { start, count } => format!(in alloc; "discard {start} {count}; "),
         Op::Idle { age: None } => format!(in alloc; "idle all; "),
         Op::Idle { age: Some(age) } => format!(in alloc; "idle {age}; "),
+        Op::Writeback { mode } => {
+            let mode = mode_shown(*mode);
+            format!(in alloc; "writeback {mode}; ")
+        }
         Op::Compact => format!(in alloc; "compact; "),
+    }
+}
+
+fn mode_shown(mode: Mode) -> &'static str {
+    match mode {
+        Mode::Idle => "idle",
+        Mode::Huge => "huge",
+        Mode::HugeIdle => "both",
     }
 }
 
@@ -415,6 +467,10 @@ fn reads_values(rt: HostRuntime) -> Result<(), Fail> {
         (
             "clock 007\ndisksize 4K\nactor\nidle all\nidle 010\nidle 0\nrun\nclock 7\nclock 8",
             "clock 7; pages 1; actor; idle all; idle 10; idle 0; run; clock 7; clock 8; ",
+        ),
+        (
+            "backing 1\ndisksize 4K\nactor\nwriteback idle\n\twriteback huge # now\nwriteback huge_idle\nrun",
+            "backing 1; pages 1; actor; writeback idle; writeback huge; writeback both; run; ",
         ),
         (
             "clock 18446744073709551615\ndisksize 4K\nactor\nidle 18446744073709551615\nrun",

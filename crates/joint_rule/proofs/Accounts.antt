@@ -1,4 +1,5 @@
 -- What each giving does where the account counts a page or a failure of the device.
+use Rattle.joint_rule.proofs.Trips.{quiet_storage}
 use Rattle.std.proofs.Common.{◌≡◌, ◌+◌, ◌≤◌, ◌∷◌, ℕ, List, [], Some, slice_get, refl, ap, arith, inl}
 use Rattle.call_history.specs.declared.part.Part.{Part}
 use Rattle.joint_rule.proofs.Balances.{fails_count, fails_fixed, fails_most, fails_pages, settled_count, settled_fixed, settled_most, settled_pages}
@@ -70,10 +71,11 @@ module _ (g : Begin) (ok : Known g) (w : State DiskHeld) (j : Joint g w) (a : �
       fails = sg.fails;
       begun = sg.begun;
       scans = tt;
+      visits = tt;
       compacts = tt;
     }
 
-    pub give_repays : Gift g a l lock.Account (holds.Account now)
+    pub give_repays : Gift g w a l lock.Account (holds.Account now)
         (on l Ready ((slot p.page, holds.Slot e) ∷ []) l.fresh l.pin 0 (Some (form_weight new))
         (Some (weight_of e.kept)) l.page l.fail)
     give_repays = record {
@@ -87,8 +89,9 @@ module _ (g : Begin) (ok : Known g) (w : State DiskHeld) (j : Joint g w) (a : �
       alone = λ i. let r = ap (held_sum (spot n) (at_place i)) held in omega arith;
       owners = λ f. let r = ap (held_sum (spot n) (claims g f)) held in
           let x = ap (held_sum (spot n) (stored f)) held in omega arith;
-      storage = apart g l _ _ _ (λ f z y. let r = ap (held_sum (spot n) f) held in
-          let s = y (n + 255) c in let t = y (n + 255) now in omega arith);
+      storage = quiet_storage g w a l _ _ _ j who Giving at tt tt
+          (apart g a l _ _ _ (λ f z y. let r = ap (held_sum (spot n) f) held in
+          let s = y (n + 255) c in let t = y (n + 255) now in omega arith));
       pins = λ f. let r = ap (held_sum (spot n) (outs f)) held in
           let x = ap (held_sum (spot n) nothing) held in omega arith;
       frames = let r = ap (held_sum (spot n) pages) held in
@@ -121,7 +124,7 @@ module _ (g : Begin) (ok : Known g) (w : State DiskHeld) (j : Joint g w) (a : �
     sc : Stage g p e Counting l.fresh l.pin l.owed l.ahead l.behind l.page l.fail
     sc = stage g ok w j a l who p rest todo _ Counting held at
 
-    pub give_counts : Gift g a l lock.Account (holds.Account (fails_by p.op c))
+    pub give_counts : Gift g w a l lock.Account (holds.Account (fails_by p.op c))
         (on l Missed ((slot p.page, holds.Slot e) ∷ []) l.fresh l.pin l.owed l.ahead l.behind l.page
         l.fail)
     give_counts = record {
@@ -144,6 +147,7 @@ module _ (g : Begin) (ok : Known g) (w : State DiskHeld) (j : Joint g w) (a : �
             fails = sc.fails;
             begun = sc.begun;
             scans = tt;
+            visits = tt;
             compacts = tt;
           }) (let lr = ap (held_sum (spot n) (claims g each_one)) held in
           let lx = ap (held_sum (spot n) (ever_at g)) held in
@@ -151,8 +155,9 @@ module _ (g : Begin) (ok : Known g) (w : State DiskHeld) (j : Joint g w) (a : �
       alone = λ i. let r = ap (held_sum (spot n) (at_place i)) held in omega arith;
       owners = λ f. let r = ap (held_sum (spot n) (claims g f)) held in
           let x = ap (held_sum (spot n) (stored f)) held in omega arith;
-      storage = apart g l _ _ _ (λ f z y. let r = ap (held_sum (spot n) f) held in
-          let s = y (n + 255) c in let t = y (n + 255) (fails_by p.op c) in omega arith);
+      storage = quiet_storage g w a l _ _ _ j who Counting at tt tt
+          (apart g a l _ _ _ (λ f z y. let r = ap (held_sum (spot n) f) held in
+          let s = y (n + 255) c in let t = y (n + 255) (fails_by p.op c) in omega arith));
       pins = λ f. let r = ap (held_sum (spot n) (outs f)) held in
           let x = ap (held_sum (spot n) nothing) held in omega arith;
       frames = let r = ap (held_sum (spot n) pages) held in

@@ -1,4 +1,5 @@
 -- What a phase's only actor makes of its pages and their marks.
+use Rattle.joint_rule.proofs.Alikes.{arrived_is, visited_is}
 use Rattle.std.proofs.Common.{◌≡◌, ◌≢◌, ◌+◌, ◌<◌, ◌≤◌, ◌∷◌, ◌++◌, ◌∙◌, ◌&&◌, ◌||◌, ◌⊎◌, ℕ, zero, suc, Bool, true, false, not, cond, eqb, ltb, List, [], sum_by, is_none, Option, Some, None, slice_get, slice_set, refl, sym, ap, subst, arith, inl, inr, ⊎_elim}
 use Rattle.call_history.specs.Alone.{AreMarkedOver, aged_over, pages_over, each_over}
 use Rattle.call_history.specs.Parts.{left_by, op_end, stands_so}
@@ -12,10 +13,10 @@ use Rattle.joint_rule.proofs.Sums.{get_set, gone}
 use Rattle.joint_rule.specs.Alone.{Ages, CountsSo, IsAged, aged_at, aged_done, aged_in, aged_now, scanned_by}
 use Rattle.joint_rule.specs.Begins.{Begin, back_at, form_at, found, found_after, terms}
 use Rattle.joint_rule.specs.Joint.{Joint}
-use Rattle.joint_rule.specs.Stages.{IsForm, Scans, is_wb}
+use Rattle.joint_rule.specs.Stages.{IsForm, Scans}
 use Rattle.joint_rule.specs.Weights.{HeldAll}
 use Rattle.lock_row.specs.declared.names.At.{At}
-use Rattle.lock_row.specs.declared.names.At.TheVariants.{Away, Backed, Both, Counting, Failing, Fetching, Freeing, Giving, Inside, Leaving, Made, Marking, Missed, Moving, Old, Owing, Pinned, Pinning, Ready, Refusing, Releasing, Scanning, Seen, Shrinking, Shrunk, Start, Sweeping, Unpinning, Wanting}
+use Rattle.lock_row.specs.declared.names.At.TheVariants.{Away, Backed, Both, Counting, Failing, Fetching, Freeing, Giving, Inside, Leaving, Made, Marking, Missed, Moving, Old, Owing, Pinned, Pinning, Ready, Refusing, Releasing, Scanning, Seen, Shrinking, Shrunk, Start, Sweeping, Unpinning, Wanting, Visiting}
 use Rattle.lock_row.specs.declared.names.LockNo.{LockNo}
 use Rattle.lock_row.specs.declared.names.Pin.{Pin}
 use Rattle.lock_row.specs.declared.names.Plan.TheVariants.{Take}
@@ -25,11 +26,11 @@ use Rattle.mem_account.specs.declared.weight.Weight.{Weight}
 use Rattle.page_steps.specs.Givings.{Notes}
 use Rattle.page_steps.specs.Pages.{next_form}
 use Rattle.page_steps.specs.Scans.{scan_at, with_page}
-use Rattle.page_steps.specs.Steps.{DiskHeld, Here, after_take, begun_at, discard_at, entered_at, entry_in, entry_or, fetched_at, first_at, first_scan, lock_of, made_at, on, part_at, piece_over, pinned_at, plan, quit_at, seen_at, settle_at, slot, spot, taken_at, took, write_at}
+use Rattle.page_steps.specs.Steps.{DiskHeld, Here, after_take, begun_at, discard_at, entered_at, entry_in, entry_or, fetched_at, first_at, first_scan, lock_of, made_at, on, part_at, piece_over, pinned_at, plan, quit_at, seen_at, settle_at, slot, spot, taken_at, took, write_at, first_trip}
 use Rattle.plain_disk.specs.Calls.{after, leave_page, leaves_page}
 use Rattle.plain_disk.specs.Forms.{is_pooled}
 use Rattle.plain_disk.specs.Idles.{Aged, IsMarked, accessed, may_mark as may_mark_page, new_mark, passed, only_tag}
-use Rattle.slot_entry.specs.Entries.{EntryState, is_new_mark, is_obj, marked, may_mark}
+use Rattle.slot_entry.specs.Entries.{EntryState, is_new_mark, is_obj, marked, may_mark, is_wb, is_eligible}
 use Rattle.slot_entry.specs.Forms.{Blank, PageForm, Pooled, Word, form_weight, page_weight}
 use Rattle.slot_entry.specs.declared.kept.Kept.{Kept}
 use Rattle.std.proofs.lemmas.Bool.{and_right, cases_lt, eq-eqb, le-ltb, lt-ltb, ne_eqb}
@@ -37,7 +38,7 @@ use Rattle.std.proofs.lemmas.List.Sums.{sum_by-cons}
 use Rattle.std.specs.List.{range_with_len}
 use Rattle.zr_base.specs.Plain.{has_whole, is_beyond, is_maintenance, is_marking, is_older, named, Look, Finds}
 use Rattle.zr_base.specs.declared.op.Op.{Op}
-use Rattle.zr_base.specs.declared.op.Op.TheVariants.{Compact, Discard, Idle, Read, Write}
+use Rattle.zr_base.specs.declared.op.Op.TheVariants.{Compact, Discard, Idle, Read, Write, Writeback}
 use Rattle.zr_base.specs.declared.op.OpEnd.{OpEnd}
 use Rattle.zr_base.specs.declared.op.Tag.{Tag}
 use Rattle.lock_row.specs.declared.names.Held.TheVariants as holds
@@ -69,6 +70,7 @@ module _ (form : List ℕ → Weight) (clock : ℕ) where
   other_passes (Read start count) e p s = refl
   other_passes (Discard start count) e p s = refl
   other_passes (Idle age) e p s = absurd (cc)
+  other_passes (Writeback mode) e p s = refl
   other_passes Compact e p s = refl
 
   other_marks : (size : ℕ) (pages : ℕ → Aged) (op : Op) (end : OpEnd) → is_marking op ≡ false
@@ -77,6 +79,7 @@ module _ (form : List ℕ → Weight) (clock : ℕ) where
   other_marks size pages (Read start count) end e = tt
   other_marks size pages (Discard start count) end e = tt
   other_marks size pages (Idle age) end e = absurd (cc)
+  other_marks size pages (Writeback mode) end e = tt
   other_marks size pages Compact end e = tt
 
   -- a piece that is on no page, and doesn't mark, leaves each page
@@ -106,6 +109,7 @@ request_other (Write start count stuff) e = refl
 request_other (Read start count) e = refl
 request_other (Discard start count) e = refl
 request_other (Idle age) e = absurd (cc)
+request_other (Writeback mode) e = absurd (cc)
 request_other Compact e = refl
 
 -- ---- stages
@@ -152,6 +156,7 @@ still_entered (Write start count stuff) page f k = still_write (has_whole start 
 still_entered (Read start count) page f k = still_seen k
 still_entered (Discard start count) page f k = still_discard k
 still_entered (Idle age) page f k = refl
+still_entered (Writeback mode) page f k = refl
 still_entered Compact page f k = refl
 
 pub still_pinned : (op : Op) (f : PageForm) (k : Kept) → IsStill (pinned_at op f k)
@@ -159,6 +164,7 @@ still_pinned (Write start count stuff) f k = still_made f k
 still_pinned (Read start count) f k = refl
 still_pinned (Discard start count) f k = refl
 still_pinned (Idle age) f k = refl
+still_pinned (Writeback mode) f k = refl
 still_pinned Compact f k = refl
 
 pub still_fetched : (op : Op) (f : PageForm) (k : Kept) → IsStill (fetched_at op f k)
@@ -166,61 +172,67 @@ still_fetched (Write start count stuff) f k = still_made f k
 still_fetched (Read start count) f k = refl
 still_fetched (Discard start count) f k = refl
 still_fetched (Idle age) f k = refl
+still_fetched (Writeback mode) f k = refl
 still_fetched Compact f k = refl
 
 pub still_quit : (x : Option Pin) → IsStill (quit_at x)
 still_quit None = refl
 still_quit (Some x) = refl
 
-still_first : (op : Op) → IsStill (first_at op)
-still_first (Write start count stuff) = refl
-still_first (Read start count) = refl
-still_first (Discard start count) = refl
-still_first (Idle age) = refl
-still_first Compact = refl
+still_first : (op : Op) (e : EntryState) → IsStill (first_at op e)
+still_first (Write start count stuff) e = refl
+still_first (Read start count) e = refl
+still_first (Discard start count) e = refl
+still_first (Idle age) e = refl
+still_first (Writeback mode) e =
+    ap scan_at (arrived_is (is_eligible mode e) first_trip).2
+still_first Compact e = refl
 
-still_begun : (a b : Bool) (p : Part) (f : PageForm) (k : Kept) → IsStill (begun_at a b p f k)
-still_begun true b p f k = still_first p.op
-still_begun false true p f k = refl
-still_begun false false p f k = still_entered p.op p.page f k
+still_begun : (a b : Bool) (p : Part) (f : PageForm) (e : EntryState)
+    → IsStill (begun_at a b p f e)
+still_begun true b p f e = still_first p.op e
+still_begun false true p f e = refl
+still_begun false false p f e = still_entered p.op p.page f e.kept
 
 -- a taking leaves the scan where it is
-scan_after : (size : ℕ) (at : At) (p : Part) (f : PageForm) (k : Kept)
-    → scan_at (after_take size at p f k) ≡ scan_at at
-scan_after size Start p f k = still_begun (is_maintenance p.op) (is_beyond size p.op) p f k
-scan_after size Refusing p f k = refl
-scan_after size Seen p f k = refl
-scan_after size Pinning p f k = refl
-scan_after size Pinned p f k = refl
-scan_after size Unpinning p f k = refl
-scan_after size Leaving p f k = refl
-scan_after size Away p f k = refl
-scan_after size Fetching p f k = refl
-scan_after size Failing p f k = refl
-scan_after size Counting p f k = refl
-scan_after size Missed p f k = refl
-scan_after size Wanting p f k = refl
-scan_after size Inside p f k = refl
-scan_after size Both p f k = refl
-scan_after size Made p f k = refl
-scan_after size Old p f k = refl
-scan_after size Freeing p f k = refl
-scan_after size Backed p f k = refl
-scan_after size Releasing p f k = refl
-scan_after size Owing p f k = refl
-scan_after size Giving p f k = refl
-scan_after size Ready p f k = refl
-scan_after size (Scanning x) p f k = refl
-scan_after size (Marking x) p f k = refl
-scan_after size (Sweeping x) p f k = refl
-scan_after size (Moving x) p f k = refl
-scan_after size (Shrunk x) p f k = refl
-scan_after size (Shrinking x) p f k = refl
+scan_after : (size : ℕ) (at : At) (p : Part) (f : PageForm) (k : EntryState)
+    (fail : Option PartEnd) → scan_at (after_take size at p f k fail) ≡ scan_at at
+scan_after size Start p f k fail = still_begun (is_maintenance p.op) (is_beyond size p.op) p f k
+scan_after size Refusing p f k fail = refl
+scan_after size Seen p f k fail = refl
+scan_after size Pinning p f k fail = refl
+scan_after size Pinned p f k fail = refl
+scan_after size Unpinning p f k fail = refl
+scan_after size Leaving p f k fail = refl
+scan_after size Away p f k fail = refl
+scan_after size Fetching p f k fail = refl
+scan_after size Failing p f k fail = refl
+scan_after size Counting p f k fail = refl
+scan_after size Missed p f k fail = refl
+scan_after size Wanting p f k fail = refl
+scan_after size Inside p f k fail = refl
+scan_after size Both p f k fail = refl
+scan_after size Made p f k fail = refl
+scan_after size Old p f k fail = refl
+scan_after size Freeing p f k fail = refl
+scan_after size Backed p f k fail = refl
+scan_after size Releasing p f k fail = refl
+scan_after size Owing p f k fail = refl
+scan_after size Giving p f k fail = refl
+scan_after size Ready p f k fail = refl
+scan_after size (Scanning x) p f k fail = refl
+scan_after size (Marking x) p f k fail = refl
+scan_after size (Visiting s x) p f k fail = ap scan_at (visited_is s x p.op k fail).2
+scan_after size (Sweeping x) p f k fail = refl
+scan_after size (Moving x) p f k fail = refl
+scan_after size (Shrunk x) p f k fail = refl
+scan_after size (Shrinking x) p f k fail = refl
 
-scan_taken : (size : ℕ) (ps : List Part) (at : At) (page : Option (List ℕ)) (k : Kept)
-    → scan_at (taken_at size ps at page k) ≡ scan_at at
-scan_taken size [] at page k = refl
-scan_taken size (p ∷ ps) at page k = scan_after size at p (next_form p page k) k
+scan_taken : (size : ℕ) (ps : List Part) (at : At) (page : Option (List ℕ)) (k : EntryState)
+    (fail : Option PartEnd) → scan_at (taken_at size ps at page k fail) ≡ scan_at at
+scan_taken size [] at page k fail = refl
+scan_taken size (p ∷ ps) at page k fail =
+    scan_after size at p (next_form p page k.kept) k fail
 
 module _ (g : Begin) where
   -- pages and marks by the scan alone
@@ -256,6 +268,7 @@ module _ (g : Begin) where
         none (Read start count) = tt
         none (Discard start count) = tt
         none (Idle age) = refl
+        none (Writeback mode) = tt
         none Compact = tt
 
 -- ---- pages that a scan has passed
@@ -436,7 +449,7 @@ module _ (g : Begin) (w : State DiskHeld) (a : ℕ) (l : Here)
   pub ages_take : plan (terms g) l ≡ Take k → slice_get w.row place ≡ Some (Some v)
       → Ages g w l → Ages g (gone g.given.size w a l who k None taker) taker
   ages_take what there r =
-      let scan = scan_taken g.given.size l.todo l.at l.page (entry_or v (entry_in l.held)).kept in
+      let scan = scan_taken g.given.size l.todo l.at l.page (entry_or v (entry_in l.held)) l.fail in
       let same = now_same g l taker refl refl scan in
       record {
         marks = r.marks;
@@ -550,7 +563,8 @@ module _ (g : Begin) (w : State DiskHeld) (a : ℕ) (l : Here)
       (e : EntryState) (todo : l.todo ≡ p ∷ rest) (op : p.op ≡ Idle age) (at : l.at ≡ Marking x)
       (held : l.held ≡ (slot x.page, holds.Slot e) ∷ [])
       (value : v ≡ holds.Slot (marked g.clock age e)) (here : spot n k ≡ x.page)
-      (st : Scans g x e) (under : e.under ≡ None) where
+      (st : Scans g x e) (under : e.under ≡ None)
+      (back : is_wb e.kept ≡ back_at g x.page e.order) where
     abbrev next : Scan
     next = with_page x (is_new_mark g.clock age e)
 
@@ -573,7 +587,7 @@ module _ (g : Begin) (w : State DiskHeld) (a : ℕ) (l : Here)
 
     -- and is given as the scan leaves it
     in_home : aged_in g x.page (marked g.clock age e) ≡ new x.page
-    in_home = marked_aged g x.page e age under st.stands st.backs
+    in_home = marked_aged g x.page e age under st.stands back
         ∙ ap (passed page_weight g.clock x.page (Idle age)) in_hand
 
     -- ---- new marks
@@ -588,7 +602,7 @@ module _ (g : Begin) (w : State DiskHeld) (a : ℕ) (l : Here)
 
     now_marked : next.marked ≡ sum_by mark (range_with_len 0 (x.page + 1))
     now_marked =
-        let one = new_same g x.page e age under st.stands st.backs
+        let one = new_same g x.page e age under st.stands back
         ∙ ap (new_mark page_weight g.clock x.page age) in_hand in
         let more = range_push mark 0 x.page in
         let size : x.page + 1 ≡ suc x.page = omega arith in

@@ -1,4 +1,6 @@
 -- Each turn keeps what the rule says of the marks of a phase's only actor.
+use Rattle.joint_rule.proofs.Backings.{under_none, writes_on}
+use Rattle.joint_rule.proofs.Courses.{course_of}
 use Rattle.std.proofs.Common.{◌≡◌, ◌+◌, ◌∷◌, ◌∙◌, ℕ, zero, suc, true, false, List, [], Option, Some, None, slice_get, slice_set, refl, sym, ap, subst}
 use Rattle.call_history.specs.Alone.{AreMarkedOver}
 use Rattle.call_history.specs.Parts.{is_read, stands_so}
@@ -12,7 +14,7 @@ use Rattle.joint_rule.proofs.Alone.{beyond_other, on_page}
 use Rattle.joint_rule.proofs.Calm.{one_left}
 use Rattle.joint_rule.proofs.Events.{Event}
 use Rattle.joint_rule.proofs.Facts.{Known}
-use Rattle.joint_rule.proofs.Gifts.{all, is_named, stage}
+use Rattle.joint_rule.proofs.Gifts.{is_named, stage}
 use Rattle.joint_rule.proofs.Givings.{event_is, given_lock}
 use Rattle.joint_rule.proofs.Keeps.{OneTurn, event_at}
 use Rattle.joint_rule.proofs.Sums.{gone}
@@ -34,7 +36,7 @@ use Rattle.page_steps.specs.Givings.{Notes}
 use Rattle.page_steps.specs.Pages.{next_form}
 use Rattle.page_steps.specs.Scans.{scan_at}
 use Rattle.page_steps.specs.Steps.{DiskHeld, Here, class_by, entry_in, on, piece_over, plan, plan_at, slot, spot}
-use Rattle.plain_disk.specs.Idles.{accessed, only_tag}
+use Rattle.plain_disk.specs.Idles.{accessed, only_tag, may_write}
 use Rattle.plain_disk.specs.Phases.{touched_by}
 use Rattle.slot_entry.specs.Entries.{EntryState}
 use Rattle.slot_entry.specs.Forms.{class_in, page_weight}
@@ -42,7 +44,7 @@ use Rattle.slot_entry.specs.declared.kept.Kept.{Kept}
 use Rattle.std.proofs.lemmas.Bool.{eqb-true}
 use Rattle.zr_base.specs.Plain.{is_maintenance, is_marking}
 use Rattle.zr_base.specs.declared.op.Op.{Op}
-use Rattle.zr_base.specs.declared.op.Op.TheVariants.{Compact, Discard, Idle, Read, Write}
+use Rattle.zr_base.specs.declared.op.Op.TheVariants.{Compact, Discard, Idle, Read, Write, Writeback}
 use Rattle.zr_base.specs.declared.op.Tag.{Tag}
 use Rattle.lock_row.specs.declared.names.Held.TheVariants as holds
 use Rattle.zr_base.specs.declared.op.OpEnd.TheVariants as ends
@@ -69,6 +71,7 @@ refused_off g p (Write start count stuff) (Whole end) f = refl
 refused_off g p (Read start count) x f = absurd f
 refused_off g p (Discard start count) x f = absurd f
 refused_off g p (Idle age) x f = absurd f
+refused_off g p (Writeback mode) x f = absurd f
 refused_off g p Compact x f = absurd f
 
 still_moved : (frames : ℕ) (x : Compaction) → IsStill (moved_at frames x)
@@ -80,6 +83,7 @@ still_moved (suc n) x = refl
 module _ (g : Begin) (ok : Known g) (w : State DiskHeld) (j : Joint g w) (a : ℕ) (l : Here)
     (who : slice_get w.locals a ≡ Some l) (k : LockNo) (v : DiskHeld) (m : Here)
     (what : plan (terms g) l ≡ Give k) (first : a ≡ 0)
+    (none : may_write g.given.backed g.given.actors ≡ false)
     (there : slice_get w.row (spot g.given.size k) ≡ Some None) (r : Ages g w l) where
   -- the tag of the only actor's piece
   tag_so : (p : Part) → tag_by l.actor p ≡ only_tag p.nr
@@ -151,6 +155,9 @@ module _ (g : Begin) (ok : Known g) (w : State DiskHeld) (j : Joint g w) (a : �
       (subst Hand held r.hand).0) is
 
   ages_event : Event g l v m → After m
+  ages_event (event.visits t) = absurd (let c = course_of g ok w j a l who v m t in
+      let on = writes_on g ok w j a l who c.p c.rest c.todo c.wb in
+      let q : true ≡ false = sym on ∙ none in cc)
   ages_event (event.refuses p rest c todo at held v_is m_is) =
       let st = stage g ok w j a l who p rest todo _ Refusing held at in
       off_so p rest Refusing _ (Whole ends.Range) [] at refl
@@ -215,16 +222,14 @@ module _ (g : Begin) (ok : Known g) (w : State DiskHeld) (j : Joint g w) (a : �
       on_so _ Releasing _ _ held at refl v_is m_is refl refl refl (λ h. (tt, h.1))
   ages_event (event.scans p rest age x e todo op at held other v_is m_is) =
       let st = stage g ok w j a l who p rest todo _ (Marking x) held at in
-      let fits = (all g ok w j a l who p rest todo _ (Marking x) held at).0 in
       subst After (sym m_is) (keeps_scans g w a l who k v there r j p rest age x e todo op at held
       v_is (page_so x.page (lock_so p rest _ (Marking x) (slot x.page) todo held at refl)) st.scans
-      fits.mark.under)
+      (under_none g ok w j none a l who x.page e held) (st.scans.backs.only none))
   ages_event (event.stops p rest age x e todo op at held last v_is m_is) =
       let st = stage g ok w j a l who p rest todo _ (Marking x) held at in
-      let fits = (all g ok w j a l who p rest todo _ (Marking x) held at).0 in
       subst After (sym m_is) (keeps_stops g w a l who k v there r j p rest age x e todo op at held
       v_is (page_so x.page (lock_so p rest _ (Marking x) (slot x.page) todo held at refl)) st.scans
-      fits.mark.under (eqb-true (x.page + 1) g.given.size last))
+      (under_none g ok w j none a l who x.page e held) (st.scans.backs.only none) (eqb-true (x.page + 1) g.given.size last))
   ages_event (event.moves p rest x q q' u u' budget frames todo at held sh some d v_is m_is) =
       on_so _ (Moving x) _ _ held at refl v_is m_is refl refl (still_moved frames _)
       (λ h. (tt, tt))
@@ -271,16 +276,16 @@ next_state g w n a l m x y row who only next is up ages =
     (up (subst (Ages g w) first ages))
 
 pub ages_turn : (g : Begin) (ok : Known g) (a : ℕ) (w n : State DiskHeld) → Ruled g w
-    → OneTurn g a w n → (l m : Here) → w.locals ≡ l ∷ [] → n.locals ≡ m ∷ [] → Ages g w l
+    → OneTurn g a w n → may_write g.given.backed g.given.actors ≡ false → (l m : Here) → w.locals ≡ l ∷ [] → n.locals ≡ m ∷ [] → Ages g w l
     → Ages g n m
-ages_turn g ok a w n r (turn.finished x who what e) l m only next = same_state g w n l m e only next
-ages_turn g ok a w n r (turn.missed x k who what there e) l m only next = same_state g w n l m e
+ages_turn g ok a w n r (turn.finished x who what e) none l m only next = same_state g w n l m e only next
+ages_turn g ok a w n r (turn.missed x k who what there e) none l m only next = same_state g w n l m e
     only next
-ages_turn g ok a w n r (turn.taken x k v t) l m only next = next_state g w n a l m x _ _ t.who only
+ages_turn g ok a w n r (turn.taken x k v t) none l m only next = next_state g w n a l m x _ _ t.who only
     next t.after (ages_take g w a x t.who k v t.what t.there)
-ages_turn g ok a w n r (turn.given x k v y t) l m only next = next_state g w n a l m x y _ t.who
+ages_turn g ok a w n r (turn.given x k v y t) none l m only next = next_state g w n a l m x y _ t.who
     only next t.after (λ ages. ages_event g ok w r.joint a x t.who k v y t.what
-    (first_of w.locals a l x only t.who) t.there ages
+    (first_of w.locals a l x only t.who) none t.there ages
     (event_at g ok w r.joint a x t.who v y t.work))
 
 -- ---- the start

@@ -1,11 +1,16 @@
 -- Each turn keeps what the rule says of a phase's only actor.
+use Rattle.plain_disk.specs.Idles.{may_write}
+use Rattle.zr_base.specs.declared.op.OpEnd.{OpEnd}
+use Rattle.lock_row.specs.declared.names.Trip.{Trip}
+use Rattle.lock_row.specs.declared.names.Step.{Step}
+use Rattle.joint_rule.proofs.Courses.{Course, IsCourse, IsTripEnd, course_of}
 use Rattle.std.proofs.Common.{◌≡◌, ◌+◌, ◌*◌, ◌∷◌, ◌∙◌, ℕ, true, false, List, [], sum_by, Some, None, slice_get, slice_set, refl, sym, ap, subst, arith}
 use Rattle.call_history.specs.Parts.{op_end}
 use Rattle.call_history.specs.declared.part.Part.{Part}
 use Rattle.call_history.specs.declared.part.PartEnd.{PartEnd}
 use Rattle.call_history.specs.declared.part.PartEnd.TheVariants.{AtLimit, Carried, Eio, NoMemory, Whole}
 use Rattle.class_pool.specs.Pool.{PoolState, used_cells}
-use Rattle.joint_rule.proofs.Calm.{AreSame, IsPlain, goes_on, is_over, one_left, only_take, plain_fetched, plain_pinned, plain_quit, plain_settle, IsSwept, scan_goes_on, scan_is_over}
+use Rattle.joint_rule.proofs.Calm.{AreSame, IsPlain, goes_on, is_over, one_left, only_take, plain_fetched, plain_pinned, plain_quit, plain_settle, IsSwept, scan_goes_on, scan_is_over, never_read, visit_is_over}
 use Rattle.joint_rule.proofs.Events.{Event}
 use Rattle.joint_rule.proofs.Facts.{Known}
 use Rattle.joint_rule.proofs.Gifts.{stage}
@@ -20,30 +25,32 @@ use Rattle.joint_rule.specs.Stages.{Changes, FailBy, IsFault, IsWrite}
 use Rattle.joint_rule.specs.Weights.{cell_weight, each_one, loose_pools, stored, used_each}
 use Rattle.lock_row.specs.Totals.{held_sum}
 use Rattle.lock_row.specs.declared.names.At.{At}
-use Rattle.lock_row.specs.declared.names.At.TheVariants.{Both, Counting, Failing, Fetching, Freeing, Giving, Leaving, Made, Missed, Moving, Owing, Pinning, Ready, Refusing, Releasing, Shrinking, Unpinning}
+use Rattle.lock_row.specs.declared.names.At.TheVariants.{Both, Counting, Failing, Fetching, Freeing, Giving, Leaving, Made, Missed, Moving, Owing, Pinning, Ready, Refusing, Releasing, Shrinking, Unpinning, Visiting}
 use Rattle.lock_row.specs.declared.names.LockNo.{LockNo}
 use Rattle.lock_row.specs.declared.names.Plan.TheVariants.{Give, Take}
 use Rattle.lock_row.specs.declared.names.State.{State}
-use Rattle.page_steps.specs.Steps.{DiskHeld, Here, plan, spot, took}
+use Rattle.page_steps.specs.Steps.{DiskHeld, Here, plan, spot, took, piece_over}
 use Rattle.plain_disk.specs.Compactions.{MovesNone, loose}
 use Rattle.plain_disk.specs.Ends.{is_single}
 use Rattle.std.proofs.lemmas.Bool.{ltb-true, or_parts}
 use Rattle.zr_base.specs.Plain.{is_beyond, is_maintenance}
 use Rattle.zr_base.specs.declared.op.Op.{Op}
-use Rattle.zr_base.specs.declared.op.Op.TheVariants.{Compact, Discard, Idle, Read, Write}
+use Rattle.zr_base.specs.declared.op.Op.TheVariants.{Compact, Discard, Idle, Read, Write, Writeback}
 use Rattle.joint_rule.proofs.Events as event
+use Rattle.joint_rule.proofs.Courses as course
 use Rattle.lock_row.specs.declared.names.LockNo.TheVariants as lock
 use Rattle.lock_row.specs.declared.names.Held.TheVariants as holds
 use Rattle.zr_base.specs.declared.op.OpEnd.TheVariants as ends
 
 -- the actor that is left alone by a turn keeps its pages
 abbrev pub KeepsAges : Begin → State DiskHeld → State DiskHeld → Type 0
-KeepsAges g w n = (l m : Here) → w.locals ≡ l ∷ [] → n.locals ≡ m ∷ [] → Ages g w l → Ages g n m
+KeepsAges g w n = may_write g.given.backed g.given.actors ≡ false → (l m : Here) → w.locals ≡ l ∷ [] → n.locals ≡ m ∷ [] → Ages g w l → Ages g n m
 
 swept : (g : Begin) (w : State DiskHeld) (l : Here) → IsOnly g w l → IsSwept g w l
 swept g w l o = record { still = o.still; calm = o.calm; sweeps = o.sweeps }
 
-only_of : (g : Begin) (w : State DiskHeld) (l : Here) → IsSwept g w l → Ages g w l → IsOnly g w l
+only_of : (g : Begin) (w : State DiskHeld) (l : Here) → IsSwept g w l
+    → (may_write g.given.backed g.given.actors ≡ false → Ages g w l) → IsOnly g w l
 only_of g w l o ages = record { still = o.still; calm = o.calm; ages = ages; sweeps = o.sweeps }
 
 -- ---- operations
@@ -53,6 +60,7 @@ no_write (Write start count stuff) i e = cc
 no_write (Read start count) i e = i
 no_write (Discard start count) i e = i
 no_write (Idle age) i e = i
+no_write (Writeback mode) i e = i
 no_write Compact i e = i
 
 no_change : (op : Op) → Changes op → is_read op ≡ true → ⊥
@@ -60,6 +68,7 @@ no_change (Write start count stuff) i e = cc
 no_change (Read start count) i e = i
 no_change (Discard start count) i e = cc
 no_change (Idle age) i e = i
+no_change (Writeback mode) i e = i
 no_change Compact i e = i
 
 -- what is beyond the disk is no compaction
@@ -68,6 +77,8 @@ beyond_other size (Write start count stuff) e = refl
 beyond_other size (Read start count) e = refl
 beyond_other size (Discard start count) e = refl
 beyond_other size (Idle age) e = absurd (let z = ltb-true (8 * size) (0 + 0) e in
+    let no : ⊥ = omega arith in no)
+beyond_other size (Writeback mode) e = absurd (let z = ltb-true (8 * size) (0 + 0) e in
     let no : ⊥ = omega arith in no)
 beyond_other size Compact e = absurd (let z = ltb-true (8 * size) (0 + 0) e in
     let no : ⊥ = omega arith in no)
@@ -86,6 +97,7 @@ refused_still g p (Write start count stuff) (Whole end) f = absurd f
 refused_still g p (Read start count) (Whole end) f = absurd f
 refused_still g p (Discard start count) (Whole end) f = absurd f
 refused_still g p (Idle age) (Whole end) f = absurd f
+refused_still g p (Writeback mode) (Whole end) f = absurd f
 refused_still g p Compact (Whole end) f = absurd f
 
 fault_still : (g : Begin) (p : Part) (x : PartEnd) → IsFault g p (Some x) → MovesNone (op_end x 0)
@@ -124,7 +136,7 @@ module _ (g : Begin) (ok : Known g) (w : State DiskHeld) (j : Joint g w) (a : �
       let left : slice_set w.locals a m ≡ m ∷ [] = e ∙ ap (λ (i : Here). i ∷ []) s.1 in
       subst (IsOnly g next) (sym s.1)
       (only_of g next m (only_take g ok w a l who (swept g w l (r l s.0)) k v what there)
-      (up l m s.0 left (r l s.0).ages))
+      (λ none. up none l m s.0 left ((r l s.0).ages none)))
 
   -- ---- givings
 
@@ -168,7 +180,35 @@ module _ (g : Begin) (ok : Known g) (w : State DiskHeld) (j : Joint g w) (a : �
         (ap (λ (i : Here). i.done) is ∙ done) (ap (λ (i : Here). i.todo) is ∙ same)
         (ap (λ (i : Here). i.at) is ∙ at') h
 
+    trip_still : (end : OpEnd) → IsTripEnd end → MovesNone end
+    trip_still (ends.Written wrote lost) i = tt
+    trip_still (ends.Budget wrote lost) i = tt
+    trip_still (ends.NoBlock wrote lost) i = tt
+    trip_still (ends.WriteEio fault wrote lost) i = tt
+    trip_still end i = absurd i
+
+    visit_alone : IsCourse g l v m → Kept
+    visit_alone c = by_course c.course where
+      on_trip : (s : Step) (y : Trip) → m.done ≡ l.done → m.todo ≡ l.todo → m.at ≡ Visiting s y
+          → Kept
+      on_trip s y done left at = goes_on g ok w a l who o k v m there c.p c.rest c.todo
+          (Visiting c.s c.x) c.at (refl, λ op. refl) (Visiting s y) (refl, λ op. refl) done left at
+          (λ read. absurd (never_read g ok w a l who o k v m there c.p c.rest c.wb read))
+
+      over_so : (end : OpEnd) → IsTripEnd end → m ≡ piece_over l c.p (Whole end) [] c.rest → Kept
+      over_so end i m_is =
+          visit_is_over g ok w a l who o k v m there c.p c.rest c.wb end (trip_still end i) m_is
+
+      by_course : Course l v c.p c.rest m → Kept
+      by_course (course.goes s y done left at fail) = on_trip s y done left at
+      by_course (course.halts s y end done left at well fail i) = on_trip s y done left at
+      by_course (course.errs s y d d' b fault wrote lost done left at well fail held v_is failed) =
+          on_trip s y done left at
+      by_course (course.tells wrote lost well m_is) = over_so (ends.Written wrote lost) tt m_is
+      by_course (course.closes end i fail m_is) = over_so end i m_is
+
     pub alone_event : Event g l v m → Kept
+    alone_event (event.visits t) = visit_alone (course_of g ok w j a l who v m t)
     alone_event (event.refuses p rest c todo at held v_is m_is) =
         let st = stage g ok w j a l who p rest todo _ Refusing held at in
         is_over g ok w a l who o k v m there p rest todo Refusing at (refl, λ op. refl)
@@ -310,4 +350,4 @@ module _ (g : Begin) (ok : Known g) (w : State DiskHeld) (j : Joint g w) (a : �
       let left : slice_set w.locals a m ≡ m ∷ [] = e ∙ ap (λ (i : Here). i ∷ []) s.1 in
       subst (IsOnly g next) (sym s.1)
       (only_of g next m (alone_event m what there s.0 left (swept g w l (r l s.0)) ev)
-      (up l m s.0 left (r l s.0).ages))
+      (λ none. up none l m s.0 left ((r l s.0).ages none)))

@@ -1,16 +1,16 @@
 -- No piece of a program comes twice.
-use Rattle.std.proofs.Common.{◌≡◌, ◌+◌, ◌≤◌, ◌<◌, ◌∷◌, ◌++◌, ℕ, zero, suc, eqb, List, [], refl, sym, subst, arith, inl, inr}
-use Rattle.call_history.specs.Parts.{Follows, is_carried, is_on, left_by, noted_on, parts, parts_from, program, without, stands_so}
+use Rattle.std.proofs.Common.{◌≡◌, ◌+◌, ◌≤◌, ◌<◌, ◌∷◌, ◌++◌, ℕ, zero, suc, eqb, List, [], refl, sym, subst, arith, inl, inr, Bool}
+use Rattle.call_history.specs.Parts.{Follows, is_carried, is_on, left_by, noted_on, parts, parts_from, program, without, stands_so, parts_of}
 use Rattle.call_history.specs.declared.part.Done.{Done}
 use Rattle.call_history.specs.declared.part.Part.{Part}
 use Rattle.call_history.specs.declared.part.PartEnd.{PartEnd}
-use Rattle.joint_rule.proofs.Finds.{Lacks}
+use Rattle.joint_rule.proofs.Tagged.{Lacks}
 use Rattle.joint_rule.proofs.Stages.{Every, every_append, every_left, every_todo, every_without}
 use Rattle.plain_disk.specs.Ends.{is_single}
 use Rattle.std.proofs.lemmas.Bool.{and_parts, cases_Bool, eqb-true}
 use Rattle.std.specs.List.{AllByRecursion}
 use Rattle.zr_base.specs.Pieces.{first_page, pages_of}
-use Rattle.zr_base.specs.Plain.{has_event}
+use Rattle.zr_base.specs.Plain.{has_event, is_void}
 use Rattle.zr_base.specs.declared.op.Op.{Op}
 
 every_map : (P Q : Part → Type 0) → ((p : Part) → P p → Q p) → (ps : List Part) → Every P ps
@@ -73,36 +73,46 @@ module _ (size nr : ℕ) (op : Op) where
         | inr off ↦ rw off more
       ]
 
-  parts_rising : Rising (parts size nr op)
+  parts_rising : Rising (parts_of size nr op)
   parts_rising = elim (cases_Bool (is_single size op)) [
     | inl on ↦ rw on (tt, tt)
     | inr off ↦ rw off (from_rising (first_page op) (pages_of op))
   ]
 
-  parts_of : Every (λ p. p.nr ≡ nr) (parts size nr op)
-  parts_of = elim (cases_Bool (is_single size op)) [
+  parts_are : Every (λ p. p.nr ≡ nr) (parts_of size nr op)
+  parts_are = elim (cases_Bool (is_single size op)) [
     | inl on ↦ rw on (refl, tt)
     | inr off ↦ rw off (every_map (From nr (first_page op)) (λ p. p.nr ≡ nr) (λ p f. f.0)
         (parts_from nr op (first_page op) (pages_of op)) (from_page (first_page op) (pages_of op)))
   ]
 
-program_from : (size nr : ℕ) (ops : List Op) → Every (λ p. nr ≤ p.nr) (program size nr ops)
-program_from size nr [] = tt
-program_from size nr (op ∷ ops) = every_append (λ p. nr ≤ p.nr) (parts size nr op)
-    (program size (nr + 1) ops)
-    (every_map (λ p. p.nr ≡ nr) (λ p. nr ≤ p.nr) (λ p e. omega arith) (parts size nr op)
-    (parts_of size nr op))
-    (every_map (λ p. nr + 1 ≤ p.nr) (λ p. nr ≤ p.nr) (λ p le. omega arith)
-    (program size (nr + 1) ops) (program_from size (nr + 1) ops))
+module _ (size : ℕ) (backed : Bool) where
+  some_rising : (nr : ℕ) (op : Op) → Rising (parts size backed nr op)
+  some_rising nr op = elim (cases_Bool (is_void backed op))
+      [ inl on ↦ rw on tt | inr off ↦ rw off (parts_rising size nr op) ]
 
-program_rising : (size nr : ℕ) (ops : List Op) → Rising (program size nr ops)
-program_rising size nr [] = tt
-program_rising size nr (op ∷ ops) = rising_append (parts size nr op) (program size (nr + 1) ops)
-    (parts_rising size nr op) (program_rising size (nr + 1) ops)
-    (every_map (λ p. p.nr ≡ nr) (λ p. Every (Later p) (program size (nr + 1) ops))
-    (λ p e. every_map (λ q. nr + 1 ≤ q.nr) (Later p) (λ q le s. absurd (omega arith))
-    (program size (nr + 1) ops) (program_from size (nr + 1) ops)) (parts size nr op)
-    (parts_of size nr op))
+  some_are : (nr : ℕ) (op : Op) → Every (λ p. p.nr ≡ nr) (parts size backed nr op)
+  some_are nr op = elim (cases_Bool (is_void backed op))
+      [ inl on ↦ rw on tt | inr off ↦ rw off (parts_are size nr op) ]
+
+  program_from : (nr : ℕ) (ops : List Op) → Every (λ p. nr ≤ p.nr) (program size backed nr ops)
+  program_from nr [] = tt
+  program_from nr (op ∷ ops) = every_append (λ p. nr ≤ p.nr) (parts size backed nr op)
+      (program size backed (nr + 1) ops)
+      (every_map (λ p. p.nr ≡ nr) (λ p. nr ≤ p.nr) (λ p e. omega arith) (parts size backed nr op)
+      (some_are nr op))
+      (every_map (λ p. nr + 1 ≤ p.nr) (λ p. nr ≤ p.nr) (λ p le. omega arith)
+      (program size backed (nr + 1) ops) (program_from (nr + 1) ops))
+
+  program_rising : (nr : ℕ) (ops : List Op) → Rising (program size backed nr ops)
+  program_rising nr [] = tt
+  program_rising nr (op ∷ ops) = rising_append (parts size backed nr op)
+      (program size backed (nr + 1) ops)
+      (some_rising nr op) (program_rising (nr + 1) ops)
+      (every_map (λ p. p.nr ≡ nr) (λ p. Every (Later p) (program size backed (nr + 1) ops))
+      (λ p e. every_map (λ q. nr + 1 ≤ q.nr) (Later p) (λ q le s. absurd (omega arith))
+      (program size backed (nr + 1) ops) (program_from (nr + 1) ops)) (parts size backed nr op)
+      (some_are nr op))
 
 -- ---- what is over
 
@@ -133,8 +143,9 @@ earlier_lacks p (d ∷ ds) all = let more = earlier_lacks p ds all.1 in
     ]
 
 -- the piece in work stands in no order of its page
-pub piece_lacks : (So : Part → PartEnd → Type 0) (size : ℕ) (ops : List Op) (ds : List Done)
-    (p : Part) (rest : List Part) → Follows So (program size 0 ops) ds (p ∷ rest)
+pub piece_lacks : (So : Part → PartEnd → Type 0) (size : ℕ) (backed : Bool) (ops : List Op)
+    (ds : List Done) (p : Part) (rest : List Part)
+    → Follows So (program size backed 0 ops) ds (p ∷ rest)
     → Lacks p.nr (noted_on p.page ds)
-piece_lacks So size ops ds p rest f = earlier_lacks p ds
-    (over_earlier So p rest (program size 0 ops) ds f (program_rising size 0 ops))
+piece_lacks So size backed ops ds p rest f = earlier_lacks p ds
+    (over_earlier So p rest (program size backed 0 ops) ds f (program_rising size backed 0 ops))

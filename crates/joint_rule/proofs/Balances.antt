@@ -5,7 +5,7 @@ use Rattle.class_pool.specs.Pool.{PoolState, used_cells}
 use Rattle.joint_rule.proofs.Events.{BackBy}
 use Rattle.joint_rule.proofs.Pools.{Alike, Allocates, GivesUp, Shifts, Swaps, fits_swap}
 use Rattle.joint_rule.specs.Joint.{PoolFits}
-use Rattle.joint_rule.specs.Stages.{Bears, IsForm, NoneOf, is_wb}
+use Rattle.joint_rule.specs.Stages.{Bears, IsForm, NoneOf}
 use Rattle.joint_rule.specs.Weights.{Backs, Count, FailedReads, FailedWrites, Fixed, Huges, Limit, OutOfRange, PackedBytes, Packs, PinWeigh, Refusal, Sames, Weigh, cell_weight, claim_by, counter, fixed_count, measure, object_weight, out_weight, pin_in, refusal_count}
 use Rattle.lock_row.specs.Totals.{by_option}
 use Rattle.lock_row.specs.declared.names.Object.{Object}
@@ -14,10 +14,10 @@ use Rattle.mem_account.specs.Counters.{Counters, charged, counted, with_one, wit
 use Rattle.mem_account.specs.declared.weight.Weight.{Weight}
 use Rattle.page_steps.specs.Compactions.{repaid}
 use Rattle.page_steps.specs.Givings.{fails_by, kept_by, settled, tells}
-use Rattle.slot_entry.specs.Entries.{weight_of}
+use Rattle.slot_entry.specs.Entries.{weight_of, is_wb}
 use Rattle.slot_entry.specs.Forms.{Blank, PageForm, Pooled, Word, bytes_in, form_weight}
 use Rattle.zr_base.specs.declared.op.Op.{Op}
-use Rattle.zr_base.specs.declared.op.Op.TheVariants.{Compact, Discard, Idle, Read, Write}
+use Rattle.zr_base.specs.declared.op.Op.TheVariants.{Compact, Discard, Idle, Read, Write, Writeback}
 use Rattle.zspage.specs.Cells.{UsedCell}
 use Rattle.mem_account.specs.declared.weight.Weight.TheVariants as weight
 use Rattle.mem_account.specs.declared.weight.Delta.TheVariants as delta
@@ -227,6 +227,7 @@ told_rest (Write start count stuff) c = refl
 told_rest (Read start count) c = refl
 told_rest (Discard start count) c = refl
 told_rest (Idle age) c = refl
+told_rest (Writeback mode) c = refl
 told_rest Compact c = refl
 
 less_pages : (c : Counters) (w : Weight) → (without_one c w).pages ≡ c.pages
@@ -248,12 +249,14 @@ told_pages (Write start count stuff) c = refl
 told_pages (Read start count) c = refl
 told_pages (Discard start count) c = refl
 told_pages (Idle age) c = refl
+told_pages (Writeback mode) c = refl
 told_pages Compact c = refl
 
 told_count : (op : Op) (q : Count) (c : Counters) → counter q (tells op c) ≡ counter q c
 told_count (Write start count stuff) q c = refl
 told_count (Read start count) q c = refl
 told_count (Idle age) q c = refl
+told_count (Writeback mode) q c = refl
 told_count Compact q c = refl
 told_count (Discard start count) Sames c = refl
 told_count (Discard start count) Packs c = refl
@@ -329,6 +332,7 @@ fails_count (Write start count stuff) q c = failed_count q c
 fails_count (Read start count) q c = read_failed_count q c
 fails_count (Discard start count) q c = failed_count q c
 fails_count (Idle age) q c = failed_count q c
+fails_count (Writeback mode) q c = failed_count q c
 fails_count Compact q c = failed_count q c
 
 fails_rest : (op : Op) (c : Counters) → ((fails_by op c).pages ≡ c.pages)
@@ -337,6 +341,7 @@ fails_rest (Write start count stuff) c = (refl, refl, refl)
 fails_rest (Read start count) c = (refl, refl, refl)
 fails_rest (Discard start count) c = (refl, refl, refl)
 fails_rest (Idle age) c = (refl, refl, refl)
+fails_rest (Writeback mode) c = (refl, refl, refl)
 fails_rest Compact c = (refl, refl, refl)
 
 pub fails_pages : (op : Op) (c : Counters) → (fails_by op c).pages ≡ c.pages

@@ -12,14 +12,13 @@ use Rattle.joint_rule.proofs.Pools.{bit, list_self, pick, same_is, same_lists, s
 use Rattle.joint_rule.proofs.Sums.{Under, locals_le, total_mono}
 use Rattle.joint_rule.specs.Begins.{Begin, content}
 use Rattle.joint_rule.specs.Joint.{Joint, Sound}
-use Rattle.joint_rule.specs.Stages.{is_wb}
-use Rattle.joint_rule.specs.Weights.{BlockWeigh, at_place, block_by, block_claims, device_size, has_block, lies_at, lies_by, map_size, none, on_blocks, on_device, same, same_bytes, stored_at, use_by, used_blocks, used_from}
+use Rattle.joint_rule.specs.Weights.{BlockWeigh, at_place, block_by, block_claims, device_size, has_block, lies_at, lies_by, map_size, none, on_blocks, on_device, same, same_bytes, stored_at, use_by, used_blocks, used_from, mark_at, shows_at, block_uses, written_at}
 use Rattle.lock_row.specs.Totals.{by_option, held_sum, mass, total}
 use Rattle.lock_row.specs.declared.names.LockNo.{LockNo}
 use Rattle.lock_row.specs.declared.names.State.{State}
 use Rattle.mem_account.specs.Counters.{Counters}
 use Rattle.page_steps.specs.Steps.{DiskHeld, Here, slot, spot}
-use Rattle.slot_entry.specs.Entries.{EntryState}
+use Rattle.slot_entry.specs.Entries.{EntryState, is_wb}
 use Rattle.slot_entry.specs.Forms.{same_list}
 use Rattle.slot_entry.specs.declared.kept.Kept.{Kept}
 use Rattle.std.proofs.lemmas.Bool.{eq-eqb}
@@ -169,7 +168,8 @@ module _ (g : Begin) (w : State DiskHeld) (j : Joint g w) (a : ℕ) (l : Here)
         → m ≤ total (spot n) (used_blocks (owning m b)) none w
     claimed k v held m =
         let x = j.blocks (owning m b) in
-        let y = locals_le n (mass (spot n) (block_claims (owning m b)) none) w.locals a l who in
+        let y = locals_le n (mass (spot n) (block_claims (owning m b)) (block_uses (owning m b)))
+        w.locals a l who in
         let z = ap (held_sum (spot n) (block_claims (owning m b))) held in
         let u : block_by (owning m b) e.kept ≡ m = ap (block_by (owning m b)) is
         ∙ pick_self b b m refl in omega arith
@@ -207,8 +207,8 @@ module _ (g : Begin) (w : State DiskHeld) (j : Joint g w) (a : ℕ) (l : Here)
           → (page ≡ content g s e.order) ⊎ (d.contents ≡ None)
       page_is page has =
           let c = content g s e.order in
-          let y = locals_le n (mass (spot n) (lies_at g b (content g s e.order)) none) w.locals a l
-          who in
+          let y = locals_le n (mass (spot n) (lies_at g b (content g s e.order))
+          (written_at b (content g s e.order))) w.locals a l who in
           let z = ap (held_sum (spot n) (lies_at g b (content g s e.order))) held in
           let u : lies_by b (content g s e.order) e.kept (content g s e.order) ≡ 1 =
           ap (λ (k : Kept). lies_by b (content g s e.order) k (content g s e.order)) is
@@ -229,14 +229,14 @@ module _ (g : Begin) where
       (spot g.given.size) f' h' l ≡ mass (spot g.given.size) f' h' m + f' (spot g.given.size k) v
       + mass (spot g.given.size) f h l
 
-  module _ (l : Here) (k : LockNo) (v : DiskHeld) (m : Here) where
+  module _ (a : ℕ) (l : Here) (k : LockNo) (v : DiskHeld) (m : Here) where
     -- a weight of values is as before
     abbrev pub Same : (ℕ → DiskHeld → ℕ) → Type 0
     Same f = mass (spot g.given.size) f none m + f (spot g.given.size k) v
         ≡ mass (spot g.given.size) f none l
 
-    -- what a giving does to blocks and the device
-    pub record Storage : Type 0 where
+    -- what a giving does to blocks, marks and the device where it is none of a writeback
+    pub record Still : Type 0 where
       pub blocks : (f : BlockWeigh) → Balanced l k v m (block_claims f) none (used_blocks f) none
       pub maps : Same map_size
       pub devices : Same device_size
@@ -245,13 +245,19 @@ module _ (g : Begin) where
           + lies_at g b bytes (spot g.given.size k) v
           ≤ mass (spot g.given.size) (lies_at g b bytes) none l
       pub stored : (b : ℕ) (bytes : List ℕ) → Same (stored_at b bytes)
+      -- no more pages are marked, and none shows less of another actor's writeback
+      pub marks : (s b : ℕ) (bytes : List ℕ) → mass (spot g.given.size) (mark_at g s b bytes) none m
+          + mark_at g s b bytes (spot g.given.size k) v
+          ≤ mass (spot g.given.size) (mark_at g s b bytes) none l
+      pub shows : (i s b : ℕ) → i ≢ a → mass (spot g.given.size) (shows_at i s b) none l
+          ≤ mass (spot g.given.size) (shows_at i s b) none m + shows_at i s b (spot g.given.size k) v
 
     -- what weighs nothing in pools and in the account is as before
     abbrev pub IsApart : Type 0
     IsApart = (f : ℕ → DiskHeld → ℕ) → ((i : ℕ) (q : PoolState) → f i (holds.Class q) ≡ 0)
         → ((i : ℕ) (c : Counters) → f i (holds.Account c) ≡ 0) → Same f
 
-    pub apart : IsApart → Storage
+    pub apart : IsApart → Still
     apart h = record {
       blocks = λ f. let x = h (block_claims f) (λ i q. refl) (λ i c. refl) in
           let y = h (used_blocks f) (λ i q. refl) (λ i c. refl) in omega arith;
@@ -259,14 +265,24 @@ module _ (g : Begin) where
       devices = h device_size (λ i q. refl) (λ i c. refl);
       lies = λ b bytes. let x = h (lies_at g b bytes) (λ i q. refl) (λ i c. refl) in omega arith;
       stored = λ b bytes. h (stored_at b bytes) (λ i q. refl) (λ i c. refl);
+      marks = λ s b bytes. let x = h (mark_at g s b bytes) (λ i q. refl) (λ i c. refl) in omega arith;
+      shows = λ i s b ne. let x = h (shows_at i s b) (λ i q. refl) (λ i c. refl) in omega arith;
     }
 
+  -- the entry has no other mark than before, and shows no less of other actors' writebacks
+  pub record MarksLess (a s : ℕ) (e f : EntryState) : Type 0 where
+    pub marks : (i b : ℕ) (bytes : List ℕ) → mark_at g i b bytes s (holds.Slot f)
+        ≤ mark_at g i b bytes s (holds.Slot e)
+    pub shows : (c i b : ℕ) → c ≢ a → shows_at c i b s (holds.Slot e)
+        ≤ shows_at c i b s (holds.Slot f)
+
   -- an entry goes back, kept in the block where it was or in none
-  pub entry_back : (l m : Here) (s : ℕ) (e f : EntryState) → l.held ≡ (slot s, holds.Slot e) ∷ []
+  pub entry_back : (a : ℕ) (l m : Here) (s : ℕ) (e f : EntryState) → l.held ≡ (slot s, holds.Slot e) ∷ []
       → m.held ≡ [] → ((h : BlockWeigh) → block_by h f.kept ≡ block_by h e.kept)
       → ((b : ℕ) (bytes : List ℕ) → lies_at g b bytes s (holds.Slot f)
-      ≤ lies_at g b bytes s (holds.Slot e)) → Storage l (slot s) (holds.Slot f) m
-  entry_back l m s e f held after same fewer = record {
+      ≤ lies_at g b bytes s (holds.Slot e)) → MarksLess a s e f
+      → Still a l (slot s) (holds.Slot f) m
+  entry_back a l m s e f held after same fewer less = record {
     blocks = λ h. let r = ap (held_sum (spot g.given.size) (block_claims h)) held in
         let x = ap (held_sum (spot g.given.size) (used_blocks h)) held in
         let y = ap (held_sum (spot g.given.size) (block_claims h)) after in
@@ -281,14 +297,20 @@ module _ (g : Begin) where
         let u = fewer b bytes in omega arith;
     stored = λ b bytes. let r = ap (held_sum (spot g.given.size) (stored_at b bytes)) held in
         let x = ap (held_sum (spot g.given.size) (stored_at b bytes)) after in omega arith;
+    marks = λ i b bytes. let r = ap (held_sum (spot g.given.size) (mark_at g i b bytes)) held in
+        let x = ap (held_sum (spot g.given.size) (mark_at g i b bytes)) after in
+        let u = less.marks i b bytes in omega arith;
+    shows = λ c i b ne. let r = ap (held_sum (spot g.given.size) (shows_at c i b)) held in
+        let x = ap (held_sum (spot g.given.size) (shows_at c i b)) after in
+        let u = less.shows c i b ne in omega arith;
   }
 
   -- a call of the device leaves what it has
-  pub called_storage : (l m : Here) (s : ℕ) (d d' : DeviceState) (e : EntryState)
+  pub called_storage : (a : ℕ) (l m : Here) (s : ℕ) (d d' : DeviceState) (e : EntryState)
       → l.held ≡ (lock.Device, holds.Device d) ∷ (slot s, holds.Slot e) ∷ []
       → m.held ≡ (slot s, holds.Slot e) ∷ [] → IsCalled d d' → d'.contents ≡ d.contents
-      → Storage l lock.Device (holds.Device d') m
-  called_storage l m s d d' e held after called same = record {
+      → Still a l lock.Device (holds.Device d') m
+  called_storage a l m s d d' e held after called same = record {
     blocks = λ h. let r = ap (held_sum (spot g.given.size) (block_claims h)) held in
         let x = ap (held_sum (spot g.given.size) (used_blocks h)) held in
         let y = ap (held_sum (spot g.given.size) (block_claims h)) after in
@@ -303,6 +325,10 @@ module _ (g : Begin) where
     stored = λ b bytes. let r = ap (held_sum (spot g.given.size) (stored_at b bytes)) held in
         let x = ap (held_sum (spot g.given.size) (stored_at b bytes)) after in
         let u = ap (has_block b bytes) same in omega arith;
+    marks = λ i b bytes. let r = ap (held_sum (spot g.given.size) (mark_at g i b bytes)) held in
+        let x = ap (held_sum (spot g.given.size) (mark_at g i b bytes)) after in omega arith;
+    shows = λ c i b ne. let r = ap (held_sum (spot g.given.size) (shows_at c i b)) held in
+        let x = ap (held_sum (spot g.given.size) (shows_at c i b)) after in omega arith;
   }
 
 -- what is not kept in a block

@@ -1,5 +1,5 @@
 -- The account is within what pages and actors can have made, and so is its maximum.
-use Rattle.std.proofs.Common.{◌≡◌, ◌+◌, ◌*◌, ◌≤◌, ◌∷◌, ℕ, zero, suc, max, List, [], sum_by, Option, Some, None, slice_get, refl, ap, arith, ⊎_elim}
+use Rattle.std.proofs.Common.{◌≡◌, ◌+◌, ◌*◌, ◌≤◌, ◌∷◌, ℕ, zero, suc, max, List, [], sum_by, Option, Some, None, slice_get, refl, ap, arith, ⊎_elim, Bool, true, false}
 use Rattle.call_history.specs.declared.part.Part.{Part}
 use Rattle.call_history.specs.declared.part.PartEnd.{PartEnd}
 use Rattle.class_pool.specs.Pool.{used_cells, used_cells_in}
@@ -15,11 +15,11 @@ use Rattle.joint_rule.proofs.Zspages.{one_of, ones_are}
 use Rattle.joint_rule.specs.Begins.{Begin, terms}
 use Rattle.joint_rule.specs.Joint.{AtHome, Joint, Sound}
 use Rattle.joint_rule.specs.Rule.{Most, owed}
-use Rattle.joint_rule.specs.Stages.{OweAt, StageBy}
+use Rattle.joint_rule.specs.Stages.{OweAt, StageBy, OweBy, is_owing}
 use Rattle.joint_rule.specs.Weights.{Limit, cell_weight, chains, claims, each_one, ever_at, fixed, fixed_count, fresh_claim, leaning, mosts, none, one, owing, pages, some_of, stored}
 use Rattle.lock_row.specs.Totals.{held_sum, locals_sum, mass, row_sum, total}
 use Rattle.lock_row.specs.declared.names.At.{At}
-use Rattle.lock_row.specs.declared.names.At.TheVariants.{Away, Backed, Both, Counting, Failing, Fetching, Freeing, Giving, Inside, Leaving, Made, Missed, Old, Owing, Pinned, Pinning, Ready, Refusing, Releasing, Seen, Start, Unpinning, Wanting, Sweeping, Moving, Shrunk, Shrinking, Scanning, Marking}
+use Rattle.lock_row.specs.declared.names.At.TheVariants.{Away, Backed, Both, Counting, Failing, Fetching, Freeing, Giving, Inside, Leaving, Made, Missed, Old, Owing, Pinned, Pinning, Ready, Refusing, Releasing, Seen, Start, Unpinning, Wanting, Sweeping, Moving, Shrunk, Shrinking, Scanning, Marking, Visiting}
 use Rattle.lock_row.specs.declared.names.LockNo.{LockNo}
 use Rattle.lock_row.specs.declared.names.Object.{Object}
 use Rattle.lock_row.specs.declared.names.Pin.{Pin}
@@ -118,6 +118,10 @@ module _ (g : Begin) (ok : Known g) where
   owed_some zero le = omega arith
   owed_some (suc n) le = omega arith
 
+  owed_visit : (b : Bool) (n : ℕ) → OweBy b g.chain n → n ≤ g.chain * some_of n
+  owed_visit true n o = owed_some n o
+  owed_visit false n o = owed_none n o
+
   owed_at : (at : At) (n : ℕ) → OweAt g.chain at n → n ≤ g.chain * some_of n
   owed_at Owing n o = owed_some n o
   owed_at Giving n o = owed_some n o
@@ -144,6 +148,7 @@ module _ (g : Begin) (ok : Known g) where
   owed_at Ready n o = owed_none n o
   owed_at (Scanning x) n o = owed_none n o
   owed_at (Marking x) n o = owed_none n o
+  owed_at (Visiting s x) n o = owed_visit (is_owing s) n o
   owed_at (Sweeping x) n o = owed_none n o
   owed_at (Moving x) n o = owed_none n o
   owed_at (Shrunk x) n o = owed_some n o
@@ -236,7 +241,7 @@ module _ (g : Begin) (ok : Known g) (w : State DiskHeld) (j : Joint g w) (a : �
       let up = same (ever_at g) one refl in let p = same pages none refl in
       most_up _ (same mosts none refl) (omega arith) (omega arith) most
 
-  module _ (m : Here) (there : slice_get w.row (spot n k) ≡ Some None) (x : Gift g a l k v m) where
+  module _ (m : Here) (there : slice_get w.row (spot n k) ≡ Some None) (x : Gift g w a l k v m) where
     abbrev after : State DiskHeld
     after = gone n w a l who k (Some v) m
 

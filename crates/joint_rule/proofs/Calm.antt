@@ -1,4 +1,9 @@
 -- What is known of a phase's only actor while it is at no compaction.
+use Rattle.std.proofs.lemmas.Bool.{cases_Bool}
+use Rattle.lock_row.specs.declared.names.Trip.{Trip}
+use Rattle.lock_row.specs.declared.names.Step.{Step}
+use Rattle.lock_row.specs.declared.names.Step.TheVariants as step
+use Rattle.slot_entry.specs.Entries.{EntryState, is_eligible}
 use Rattle.std.proofs.Common.{◌≡◌, ◌+◌, ◌≤◌, ◌∷◌, ◌++◌, ◌∙◌, ◌⊎◌, ℕ, zero, suc, Bool, true, false, List, [], Option, Some, None, slice_get, slice_set, refl, sym, ap, subst, arith, inl, inr, ⊎_elim}
 use Rattle.call_history.specs.declared.part.PartEnd.TheVariants.{Whole}
 use Rattle.lock_row.specs.declared.names.Scan.{Scan}
@@ -15,20 +20,20 @@ use Rattle.joint_rule.specs.Begins.{Begin, terms}
 use Rattle.joint_rule.specs.Weights.{each_one, loose_pools, none, stored}
 use Rattle.lock_row.specs.Totals.{mass, total}
 use Rattle.lock_row.specs.declared.names.At.{At}
-use Rattle.lock_row.specs.declared.names.At.TheVariants.{Away, Backed, Both, Counting, Failing, Fetching, Freeing, Giving, Inside, Leaving, Made, Missed, Moving, Old, Owing, Pinned, Pinning, Ready, Refusing, Releasing, Seen, Shrinking, Shrunk, Start, Sweeping, Unpinning, Wanting, Scanning, Marking}
+use Rattle.lock_row.specs.declared.names.At.TheVariants.{Away, Backed, Both, Counting, Failing, Fetching, Freeing, Giving, Inside, Leaving, Made, Missed, Moving, Old, Owing, Pinned, Pinning, Ready, Refusing, Releasing, Seen, Shrinking, Shrunk, Start, Sweeping, Unpinning, Wanting, Scanning, Marking, Visiting}
 use Rattle.lock_row.specs.declared.names.Compaction.{Compaction}
 use Rattle.lock_row.specs.declared.names.LockNo.{LockNo}
 use Rattle.lock_row.specs.declared.names.Pin.{Pin}
 use Rattle.lock_row.specs.declared.names.Plan.TheVariants.{Take}
 use Rattle.lock_row.specs.declared.names.State.{State}
 use Rattle.page_steps.specs.Pages.{next_form}
-use Rattle.page_steps.specs.Steps.{DiskHeld, Here, after_take, begun_at, discard_at, entered_at, entry_in, entry_or, fetched_at, first_class, lock_of, made_at, part_at, piece_over, pinned_at, plan, quit_at, seen_at, settle_at, spot, taken_at, took, write_at, first_at}
+use Rattle.page_steps.specs.Steps.{DiskHeld, Here, after_take, begun_at, discard_at, entered_at, entry_in, entry_or, fetched_at, first_class, lock_of, made_at, part_at, piece_over, pinned_at, plan, quit_at, seen_at, settle_at, spot, taken_at, took, write_at, first_at, arrived_at, first_trip, is_mark_of, landed_at, mode_of, visited_at}
 use Rattle.plain_disk.specs.Compactions.{MovesNone, moves_by, tight_by}
 use Rattle.slot_entry.specs.Forms.{Blank, PageForm, Pooled, Word}
 use Rattle.slot_entry.specs.declared.kept.Kept.{Kept}
-use Rattle.zr_base.specs.Plain.{has_whole, is_beyond, is_maintenance}
+use Rattle.zr_base.specs.Plain.{has_whole, is_beyond, is_maintenance, is_writeback}
 use Rattle.zr_base.specs.declared.op.Op.{Op}
-use Rattle.zr_base.specs.declared.op.Op.TheVariants.{Compact, Discard, Idle, Read, Write}
+use Rattle.zr_base.specs.declared.op.Op.TheVariants.{Compact, Discard, Idle, Read, Write, Writeback}
 use Rattle.zr_base.specs.declared.op.OpEnd.{OpEnd}
 use Rattle.lock_row.specs.declared.names.LockNo.TheVariants as lock
 use Rattle.lock_row.specs.declared.names.Held.TheVariants as holds
@@ -79,6 +84,7 @@ plain_entered (Write start count stuff) page f k = plain_write (has_whole start 
 plain_entered (Read start count) page f k = plain_seen k
 plain_entered (Discard start count) page f k = plain_discard k
 plain_entered (Idle age) page f k = (refl, λ op. refl)
+plain_entered (Writeback mode) page f k = (refl, λ op. refl)
 plain_entered Compact page f k = (refl, λ op. refl)
 
 pub plain_pinned : (op : Op) (f : PageForm) (k : Kept) → IsPlain (pinned_at op f k)
@@ -86,6 +92,7 @@ plain_pinned (Write start count stuff) f k = plain_made f k
 plain_pinned (Read start count) f k = (refl, λ op. refl)
 plain_pinned (Discard start count) f k = (refl, λ op. refl)
 plain_pinned (Idle age) f k = (refl, λ op. refl)
+plain_pinned (Writeback mode) f k = (refl, λ op. refl)
 plain_pinned Compact f k = (refl, λ op. refl)
 
 pub plain_fetched : (op : Op) (f : PageForm) (k : Kept) → IsPlain (fetched_at op f k)
@@ -93,102 +100,126 @@ plain_fetched (Write start count stuff) f k = plain_made f k
 plain_fetched (Read start count) f k = (refl, λ op. refl)
 plain_fetched (Discard start count) f k = (refl, λ op. refl)
 plain_fetched (Idle age) f k = (refl, λ op. refl)
+plain_fetched (Writeback mode) f k = (refl, λ op. refl)
 plain_fetched Compact f k = (refl, λ op. refl)
 
 pub plain_quit : (x : Option Pin) → IsPlain (quit_at x)
 plain_quit None = (refl, λ op. refl)
 plain_quit (Some x) = (refl, λ op. refl)
 
+plain_arrived : (b : Bool) (x : Trip) → IsPlain (arrived_at b x)
+plain_arrived true x = (refl, λ op. refl)
+plain_arrived false x = (refl, λ op. refl)
+
+plain_landed : (fail : Option PartEnd) (x : Trip) (e : EntryState) → IsPlain (landed_at fail x e)
+plain_landed None x e = elim (cases_Bool (is_mark_of x.block e.under))
+    [ inl on ↦ rw on (refl, λ op. refl) | inr off ↦ rw off (refl, λ op. refl) ]
+plain_landed (Some end) x e = (refl, λ op. refl)
+
+plain_visited : (s : Step) (x : Trip) (op : Op) (e : EntryState) (fail : Option PartEnd)
+    → IsPlain (visited_at s x op e fail)
+plain_visited step.Arriving x op e fail = plain_arrived (is_eligible (mode_of op) e) x
+plain_visited step.Landing x op e fail = plain_landed fail x e
+plain_visited s x op e fail = (refl, λ i. refl)
+
 -- a taking begins no compaction but at class 0
-first_of : (op : Op) (x : Compaction) → compacting_at (first_at op) ≡ Some x → x ≡ first_class
-first_of (Idle age) x e = absurd (cc)
-first_of (Write start count stuff) x e = let q : first_class ≡ x = cc in sym q
-first_of (Read start count) x e = let q : first_class ≡ x = cc in sym q
-first_of (Discard start count) x e = let q : first_class ≡ x = cc in sym q
-first_of Compact x e = let q : first_class ≡ x = cc in sym q
+first_of : (op : Op) (y : EntryState) (x : Compaction) → compacting_at (first_at op y) ≡ Some x
+    → x ≡ first_class
+first_of (Idle age) y x e = absurd (cc)
+first_of (Writeback mode) y x e =
+    absurd (let z = (plain_arrived (is_eligible mode y) first_trip).0 in cc)
+first_of (Write start count stuff) y x e = let q : first_class ≡ x = cc in sym q
+first_of (Read start count) y x e = let q : first_class ≡ x = cc in sym q
+first_of (Discard start count) y x e = let q : first_class ≡ x = cc in sym q
+first_of Compact y x e = let q : first_class ≡ x = cc in sym q
 
-first_begun : (a b : Bool) (p : Part) (f : PageForm) (k : Kept) (x : Compaction)
-    → compacting_at (begun_at a b p f k) ≡ Some x → x ≡ first_class
-first_begun true b p f k x e = first_of p.op x e
-first_begun false true p f k x e = absurd (cc)
-first_begun false false p f k x e = absurd (let z = (plain_entered p.op p.page f k).0 in cc)
+first_begun : (a b : Bool) (p : Part) (f : PageForm) (y : EntryState) (x : Compaction)
+    → compacting_at (begun_at a b p f y) ≡ Some x → x ≡ first_class
+first_begun true b p f y x e = first_of p.op y x e
+first_begun false true p f y x e = absurd (cc)
+first_begun false false p f y x e = absurd (let z = (plain_entered p.op p.page f y.kept).0 in cc)
 
-same_after : (size : ℕ) (at : At) (p : Part) (f : PageForm) (k : Kept) (x : Compaction)
-    → compacting_at (after_take size at p f k) ≡ Some x
+same_after : (size : ℕ) (at : At) (p : Part) (f : PageForm) (k : EntryState)
+    (fail : Option PartEnd) (x : Compaction) → compacting_at (after_take size at p f k fail) ≡ Some x
     → (compacting_at at ≡ Some x) ⊎ (x ≡ first_class)
-same_after size Start p f k x e =
+same_after size Start p f k fail x e =
     inr (first_begun (is_maintenance p.op) (is_beyond size p.op) p f k x e)
-same_after size Refusing p f k x e = inl e
-same_after size Seen p f k x e = inl e
-same_after size Pinning p f k x e = inl e
-same_after size Pinned p f k x e = inl e
-same_after size Unpinning p f k x e = inl e
-same_after size Leaving p f k x e = inl e
-same_after size Away p f k x e = inl e
-same_after size Fetching p f k x e = inl e
-same_after size Failing p f k x e = inl e
-same_after size Counting p f k x e = inl e
-same_after size Missed p f k x e = inl e
-same_after size Wanting p f k x e = inl e
-same_after size Inside p f k x e = inl e
-same_after size Both p f k x e = inl e
-same_after size Made p f k x e = inl e
-same_after size Old p f k x e = inl e
-same_after size Freeing p f k x e = inl e
-same_after size Backed p f k x e = inl e
-same_after size Releasing p f k x e = inl e
-same_after size Owing p f k x e = inl e
-same_after size Giving p f k x e = inl e
-same_after size Ready p f k x e = inl e
-same_after size (Scanning y) p f k x e = inl e
-same_after size (Marking y) p f k x e = inl e
-same_after size (Sweeping y) p f k x e = inl e
-same_after size (Moving y) p f k x e = inl e
-same_after size (Shrunk y) p f k x e = inl e
-same_after size (Shrinking y) p f k x e = inl e
+same_after size Refusing p f k fail x e = inl e
+same_after size Seen p f k fail x e = inl e
+same_after size Pinning p f k fail x e = inl e
+same_after size Pinned p f k fail x e = inl e
+same_after size Unpinning p f k fail x e = inl e
+same_after size Leaving p f k fail x e = inl e
+same_after size Away p f k fail x e = inl e
+same_after size Fetching p f k fail x e = inl e
+same_after size Failing p f k fail x e = inl e
+same_after size Counting p f k fail x e = inl e
+same_after size Missed p f k fail x e = inl e
+same_after size Wanting p f k fail x e = inl e
+same_after size Inside p f k fail x e = inl e
+same_after size Both p f k fail x e = inl e
+same_after size Made p f k fail x e = inl e
+same_after size Old p f k fail x e = inl e
+same_after size Freeing p f k fail x e = inl e
+same_after size Backed p f k fail x e = inl e
+same_after size Releasing p f k fail x e = inl e
+same_after size Owing p f k fail x e = inl e
+same_after size Giving p f k fail x e = inl e
+same_after size Ready p f k fail x e = inl e
+same_after size (Scanning y) p f k fail x e = inl e
+same_after size (Marking y) p f k fail x e = inl e
+same_after size (Visiting s y) p f k fail x e =
+    absurd (let z = (plain_visited s y p.op k fail).0 in cc)
+same_after size (Sweeping y) p f k fail x e = inl e
+same_after size (Moving y) p f k fail x e = inl e
+same_after size (Shrunk y) p f k fail x e = inl e
+same_after size (Shrinking y) p f k fail x e = inl e
 
-same_taken : (size : ℕ) (ps : List Part) (at : At) (page : Option (List ℕ)) (k : Kept)
-    (x : Compaction) → compacting ps (taken_at size ps at page k) ≡ Some x
+same_taken : (size : ℕ) (ps : List Part) (at : At) (page : Option (List ℕ)) (k : EntryState)
+    (fail : Option PartEnd) (x : Compaction) → compacting ps (taken_at size ps at page k fail) ≡ Some x
     → (compacting ps at ≡ Some x) ⊎ (x ≡ first_class)
-same_taken size [] at page k x e = inl e
-same_taken size (p ∷ ps) at page k x e = same_after size at p (next_form p page k) k x e
+same_taken size [] at page k fail x e = inl e
+same_taken size (p ∷ ps) at page k fail x e =
+    same_after size at p (next_form p page k.kept) k fail x e
 
-calm_after : (size : ℕ) (at : At) (p : Part) (f : PageForm) (k : Kept)
-    → is_calm_at (after_take size at p f k) p.op ≡ true → is_calm_at at p.op ≡ true
-calm_after size Start p f k e = refl
-calm_after size Refusing p f k e = e
-calm_after size Seen p f k e = e
-calm_after size Pinning p f k e = e
-calm_after size Pinned p f k e = e
-calm_after size Unpinning p f k e = e
-calm_after size Leaving p f k e = e
-calm_after size Away p f k e = e
-calm_after size Fetching p f k e = e
-calm_after size Failing p f k e = e
-calm_after size Counting p f k e = e
-calm_after size Missed p f k e = e
-calm_after size Wanting p f k e = e
-calm_after size Inside p f k e = e
-calm_after size Both p f k e = e
-calm_after size Made p f k e = e
-calm_after size Old p f k e = e
-calm_after size Freeing p f k e = e
-calm_after size Backed p f k e = e
-calm_after size Releasing p f k e = e
-calm_after size Owing p f k e = e
-calm_after size Giving p f k e = e
-calm_after size Ready p f k e = e
-calm_after size (Scanning x) p f k e = e
-calm_after size (Marking x) p f k e = e
-calm_after size (Sweeping x) p f k e = e
-calm_after size (Moving x) p f k e = e
-calm_after size (Shrunk x) p f k e = e
-calm_after size (Shrinking x) p f k e = e
+calm_after : (size : ℕ) (at : At) (p : Part) (f : PageForm) (k : EntryState)
+    (fail : Option PartEnd) → is_calm_at (after_take size at p f k fail) p.op ≡ true → is_calm_at at p.op ≡ true
+calm_after size Start p f k fail e = refl
+calm_after size Refusing p f k fail e = e
+calm_after size Seen p f k fail e = e
+calm_after size Pinning p f k fail e = e
+calm_after size Pinned p f k fail e = e
+calm_after size Unpinning p f k fail e = e
+calm_after size Leaving p f k fail e = e
+calm_after size Away p f k fail e = e
+calm_after size Fetching p f k fail e = e
+calm_after size Failing p f k fail e = e
+calm_after size Counting p f k fail e = e
+calm_after size Missed p f k fail e = e
+calm_after size Wanting p f k fail e = e
+calm_after size Inside p f k fail e = e
+calm_after size Both p f k fail e = e
+calm_after size Made p f k fail e = e
+calm_after size Old p f k fail e = e
+calm_after size Freeing p f k fail e = e
+calm_after size Backed p f k fail e = e
+calm_after size Releasing p f k fail e = e
+calm_after size Owing p f k fail e = e
+calm_after size Giving p f k fail e = e
+calm_after size Ready p f k fail e = e
+calm_after size (Scanning x) p f k fail e = e
+calm_after size (Marking x) p f k fail e = e
+calm_after size (Visiting s x) p f k fail e = sym ((plain_visited s x p.op k fail).1 p.op) ∙ e
+calm_after size (Sweeping x) p f k fail e = e
+calm_after size (Moving x) p f k fail e = e
+calm_after size (Shrunk x) p f k fail e = e
+calm_after size (Shrinking x) p f k fail e = e
 
-calm_taken : (size : ℕ) (ps : List Part) (at : At) (page : Option (List ℕ)) (k : Kept)
-    → is_calm ps (taken_at size ps at page k) ≡ true → is_calm ps at ≡ true
-calm_taken size [] at page k e = e
-calm_taken size (p ∷ ps) at page k e = calm_after size at p (next_form p page k) k e
+calm_taken : (size : ℕ) (ps : List Part) (at : At) (page : Option (List ℕ)) (k : EntryState)
+    (fail : Option PartEnd) → is_calm ps (taken_at size ps at page k fail) ≡ true → is_calm ps at ≡ true
+calm_taken size [] at page k fail e = e
+calm_taken size (p ∷ ps) at page k fail e =
+    calm_after size at p (next_form p page k.kept) k fail e
 
 pub no_compaction : (ps : List Part) → compacting ps Start ≡ None
 no_compaction [] = refl
@@ -219,6 +250,7 @@ plain_push (Write start count stuff) end t n loose objects e h = ((λ f. absurd 
 plain_push (Read start count) end t n loose objects e h = h refl
 plain_push (Discard start count) end t n loose objects e h = ((λ f. absurd (cc)), omega arith)
 plain_push (Idle age) end t n loose objects e h = absurd (cc)
+plain_push (Writeback mode) end t n loose objects e h = absurd (cc)
 plain_push Compact end t n loose objects e h = absurd (cc)
 
 -- ---- an actor alone
@@ -297,17 +329,17 @@ module _ (g : Begin) (ok : Known g) (w : State DiskHeld) (a : ℕ) (l : Here)
 
     pub only_take : IsSwept g taken taker
     only_take =
-        let kept : Kept = (entry_or v (entry_in l.held)).kept in record {
+        let kept : EntryState = entry_or v (entry_in l.held) in record {
           still = o.still;
           calm = λ c.
-              let c' = o.calm (calm_taken n l.todo l.at l.page kept c) in record {
+              let c' = o.calm (calm_taken n l.todo l.at l.page kept l.fail c) in record {
                 tight = λ t. keeps loose_pools ∙ c'.tight t;
                 few = let r = keeps (stored each_one) in let z = c'.few in omega arith;
               };
           sweeps = λ x e. ⊎_elim
               (λ s. sweeps_take x (o.sweeps x s))
               (λ f. subst (Sweeps g taken taker) (sym f) (first_sweeps g taken taker))
-              (same_taken n l.todo l.at l.page kept x e);
+              (same_taken n l.todo l.at l.page kept l.fail x e);
         }
 
   -- ---- givings of a piece on a page
@@ -410,3 +442,52 @@ module _ (g : Begin) (ok : Known g) (w : State DiskHeld) (a : ℕ) (l : Here)
                 ap (λ (y : Here). compacting y.todo y.at) m_is
                 ∙ no_compaction (left_by (Whole (ends.Marked n)) p.nr rest) in cc);
           }
+
+    -- ---- givings of a writeback
+
+    module _ (p : Part) (rest : List Part) (wb : is_writeback p.op ≡ true) where
+      pub never_read : is_read p.op ≡ true → ⊥
+      never_read = by_op p.op wb where
+        by_op : (op : Op) → is_writeback op ≡ true → is_read op ≡ true → ⊥
+        by_op (Write start count stuff) i e = cc
+        by_op (Read start count) i e = cc
+        by_op (Discard start count) i e = cc
+        by_op (Idle age) i e = cc
+        by_op (Writeback mode) i e = cc
+        by_op Compact i e = cc
+
+      pub visit_is_over : (end : OpEnd) → MovesNone end
+          → m ≡ piece_over l p (Whole end) [] rest → IsSwept g given m
+      visit_is_over end still m_is =
+          let d : Done = record { part = p; end = Whole end; got = [] } in
+          let calm : IsCalm g given (l.done ++ d ∷ []) = record {
+            tight = λ t. absurd (let q : tight_by p.op (tight_over g.tight l.done) ≡ true =
+                sym (tight_push g.tight l.done d) ∙ t in loosens p.op wb (tight_over g.tight l.done) q);
+            few = let e = moves_push 0 l.done d in
+                let f = moves_gone p.op wb end (moves_over 0 l.done) in omega arith;
+          } in
+          record {
+            still = subst (λ (y : Here). MoveNoneOver g.tight y.done) (sym m_is)
+                (still_push g.tight l.done d o.still (λ t. still));
+            calm = λ c. subst (λ (y : Here). IsCalm g given y.done) (sym m_is) calm;
+            sweeps = λ z e. absurd (
+                let q : compacting m.todo m.at ≡ None =
+                ap (λ (y : Here). compacting y.todo y.at) m_is
+                ∙ no_compaction (left_by (Whole end) p.nr rest) in cc);
+          } where
+            loosens : (op : Op) → is_writeback op ≡ true → (t : Bool) → tight_by op t ≡ true → ⊥
+            loosens (Write start count stuff) i t e = cc
+            loosens (Read start count) i t e = cc
+            loosens (Discard start count) i t e = cc
+            loosens (Idle age) i t e = cc
+            loosens (Writeback mode) i t e = cc
+            loosens Compact i t e = cc
+
+            moves_gone : (op : Op) → is_writeback op ≡ true → (x : OpEnd) (n : ℕ)
+                → moves_by op x n ≡ 0
+            moves_gone (Write start count stuff) i x n = refl
+            moves_gone (Read start count) i x n = absurd (cc)
+            moves_gone (Discard start count) i x n = refl
+            moves_gone (Idle age) i x n = absurd (cc)
+            moves_gone (Writeback mode) i x n = refl
+            moves_gone Compact i x n = absurd (cc)

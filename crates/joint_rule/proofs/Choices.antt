@@ -1,4 +1,5 @@
 -- What the call that a giving notes has found, chosen by the page that its piece sees.
+use Rattle.plain_disk.specs.Idles.{may_write}
 use Rattle.std.proofs.Common.{◌≡◌, ◌+◌, ◌*◌, ◌-◌, ◌/◌, ◌<◌, ◌∷◌, ◌++◌, ◌∙◌, ℕ, Bool, true, false, cond, eqb, List, [], Some, None, slice_get, refl, sym, ap, subst, arith, inl, inr, ⊎_elim}
 use Rattle.backing_dev.specs.Dev.{IsHonestDevice}
 use Rattle.bdi_page.specs.Packing.{IsPage}
@@ -10,7 +11,8 @@ use Rattle.joint_rule.proofs.Apart.{piece_lacks}
 use Rattle.joint_rule.proofs.Chosen.{Chosen, FindsSo}
 use Rattle.joint_rule.proofs.Events.{Event}
 use Rattle.joint_rule.proofs.Facts.{Known, known_finding}
-use Rattle.joint_rule.proofs.Finds.{Alike, Lacks, changed, changed_here, content_alike, held_alike, ruled_changed, shown_lacks}
+use Rattle.joint_rule.proofs.Finds.{Alike, content_alike, held_alike}
+use Rattle.joint_rule.proofs.Tagged.{Lacks, changed, changed_here, ruled_changed, shown_lacks}
 use Rattle.joint_rule.proofs.Gifts.{fit, is_named, stage}
 use Rattle.joint_rule.proofs.Pages.{LeavesSo, content_on, content_sector, sector_of, whole_same}
 use Rattle.joint_rule.specs.Begins.{Begin, back_at, content, finding, ground_of}
@@ -28,7 +30,7 @@ use Rattle.std.specs.Prelude.{⊤}
 use Rattle.zr_base.specs.Plain.{Finds, IsSector, Look, named, start_from}
 use Rattle.zr_base.specs.Sectors.{page_sector}
 use Rattle.zr_base.specs.declared.op.Op.{Op}
-use Rattle.zr_base.specs.declared.op.Op.TheVariants.{Compact, Discard, Idle, Read, Write}
+use Rattle.zr_base.specs.declared.op.Op.TheVariants.{Compact, Discard, Idle, Read, Write, Writeback}
 use Rattle.zr_base.specs.declared.op.Tag.{Tag}
 use Rattle.joint_rule.proofs.Events as event
 use Rattle.lock_row.specs.declared.names.Held.TheVariants as holds
@@ -59,7 +61,8 @@ module _ (g : Begin) (p : ℕ) (order : List Tag) where
     pub look : Look
     pub sectors : (s : ℕ) (old : List ℕ) → IsSector old → IsSector (look s old)
     pub honest : IsHonestDevice g.device → (s : ℕ) (old : List ℕ) → look s old ≡ old
-    pub held : back_at g p order ≡ false → (s : ℕ) (old : List ℕ) → look s old ≡ old
+    pub held : may_write g.given.backed g.given.actors ≡ false → back_at g p order ≡ false
+        → (s : ℕ) (old : List ℕ) → look s old ≡ old
     pub sees : Sees look p (content g p order) page
 
   -- it sees the page that is held
@@ -68,7 +71,7 @@ module _ (g : Begin) (p : ℕ) (order : List Tag) where
     look = λ s old. old;
     sectors = λ s old i. i;
     honest = λ is s old. refl;
-    held = λ off s old. refl;
+    held = λ none off s old. refl;
     sees = record { each = λ k lt. ap (λ (b : List ℕ). page_sector b k) same };
   }
 
@@ -78,7 +81,8 @@ module _ (g : Begin) (p : ℕ) (order : List Tag) where
     look = look_at p page;
     sectors = λ s old i. look_sector p page s old is i;
     honest = λ on. absurd (may.0 on);
-    held = λ off. absurd (let q : true ≡ false = sym may.1 ∙ off in cc);
+    held = λ none off. absurd (⊎_elim (λ on. let q : true ≡ false = sym on ∙ off in cc)
+        (λ on. let q : true ≡ false = sym on ∙ none in cc) may.1);
     sees = record { each = λ k lt. look_here p page k (page_sector (content g p order) k) lt };
   }
 
@@ -92,6 +96,7 @@ read_seen other g q (Write start count stuff) p page was k f r = absurd f
 read_seen other g q (Read start count) p page was k f r = r
 read_seen other g q (Discard start count) p page was k f r = absurd k
 read_seen other g q (Idle age) p page was k f r = absurd k
+read_seen other g q (Writeback mode) p page was k f r = absurd k
 read_seen other g q Compact p page was k f r = absurd k
 
 -- a write of this page leaves what one of that page leaves
@@ -115,6 +120,8 @@ change_sight g p order page (Read start count) e r =
 change_sight g p order page (Discard start count) e r =
     (content g p.page order, plain_sight g p.page order (content g p.page order) refl, tt)
 change_sight g p order page (Idle age) e r =
+    (content g p.page order, plain_sight g p.page order (content g p.page order) refl, tt)
+change_sight g p order page (Writeback mode) e r =
     (content g p.page order, plain_sight g p.page order (content g p.page order) refl, tt)
 change_sight g p order page Compact e r =
     (content g p.page order, plain_sight g p.page order (content g p.page order) refl, tt)
@@ -144,8 +151,8 @@ module _ (g : Begin) (ok : Known g) (w : State DiskHeld) (r : Ruled g w) (a : �
         let f = fit g ok w r.joint a l who p rest todo in
         subst (λ (ds : List Done). Lacks p.nr (noted_on p.page ds))
         (sym (ap (dones w.locals) f.who ∙ ap done_by who))
-        (piece_lacks (EndsSo (ground_of g)) g.given.size f.ops l.done p rest
-        (subst (λ (ps : List Part). Follows (EndsSo (ground_of g)) (program g.given.size 0 f.ops)
+        (piece_lacks (EndsSo (ground_of g)) g.given.size g.given.backed f.ops l.done p rest
+        (subst (λ (ps : List Part). Follows (EndsSo (ground_of g)) (program g.given.size g.given.backed 0 f.ops)
         l.done ps) todo f.follows))
 
     module _ (seen : List ℕ) (s : Sight g p.page e.order seen) where
@@ -170,8 +177,8 @@ module _ (g : Begin) (ok : Known g) (w : State DiskHeld) (r : Ruled g w) (a : �
 
       -- where the page isn't on the device, the call finds what is held
       finds_so : FindsSo h p e.order t
-      finds_so off sector old = (λ i. changed_here g p.page t s.look i sector old)
-          ∙ s.held off sector old
+      finds_so none off sector old = (λ i. changed_here g p.page t s.look i sector old)
+          ∙ s.held none off sector old
 
       -- the sector from which a write starts
       write_from : (k : ℕ) → k < 8 → h.given.finds p.page t (8 * p.page + k)
@@ -193,6 +200,7 @@ module _ (g : Begin) (ok : Known g) (w : State DiskHeld) (r : Ruled g w) (a : �
       leaves_so page (Read start count) op_is same = tt
       leaves_so page (Discard start count) op_is same = tt
       leaves_so page (Idle age) op_is same = tt
+      leaves_so page (Writeback mode) op_is same = tt
       leaves_so page Compact op_is same = tt
 
       sees : Sees (h.given.finds p.page t) p.page (content h p.page e.order) seen
@@ -206,6 +214,7 @@ module _ (g : Begin) (ok : Known g) (w : State DiskHeld) (r : Ruled g w) (a : �
       sees_so (Read start count) = sees
       sees_so (Discard start count) = tt
       sees_so (Idle age) = tt
+      sees_so (Writeback mode) = tt
       sees_so Compact = tt
 
   pub choice : (v : DiskHeld) (m : Here) → Event g l v m → Choice g w l v m

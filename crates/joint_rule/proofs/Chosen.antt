@@ -1,4 +1,5 @@
 -- What a giving that notes a call on its page needs of what the call finds there.
+use Rattle.plain_disk.specs.Idles.{may_write}
 use Rattle.std.proofs.Common.{◌≡◌, ◌∷◌, ◌++◌, ℕ, false, List, []}
 use Rattle.std.specs.Prelude.{⊤}
 use Rattle.zr_base.specs.declared.op.Tag.{Tag}
@@ -11,10 +12,10 @@ use Rattle.page_steps.specs.Pages.{page_in}
 use Rattle.page_steps.specs.Steps.{DiskHeld, Here}
 use Rattle.joint_rule.proofs.Events as event
 
--- where the page isn't on the device, the call finds what is held
+-- where the page isn't on the device and nothing is written back, the call finds what is held
 abbrev pub FindsSo : Begin → Part → List Tag → Tag → Type 0
-FindsSo g p order t = back_at g p.page order ≡ false → (s : ℕ) (old : List ℕ)
-    → g.given.finds p.page t s old ≡ old
+FindsSo g p order t = may_write g.given.backed g.given.actors ≡ false
+    → back_at g p.page order ≡ false → (s : ℕ) (old : List ℕ) → g.given.finds p.page t s old ≡ old
 
 -- A call that changes its page leaves what its piece leaves of the page that it sees.
 pub record PutsSo (g : Begin) (p : Part) (order : List Tag) (t : Tag) (page : List ℕ)

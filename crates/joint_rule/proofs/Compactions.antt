@@ -1,4 +1,5 @@
 -- What each giving of a compaction does.
+use Rattle.joint_rule.proofs.Trips.{quiet_storage, NoTrip}
 use Rattle.std.proofs.Common.{◌≡◌, ◌+◌, ◌-◌, ◌*◌, ◌≤◌, ◌∷◌, ℕ, zero, suc, List, [], Some, slice_get, refl, ap, arith, inl, true}
 use Rattle.call_history.specs.declared.part.Part.{Part}
 use Rattle.call_history.specs.declared.part.PartEnd.TheVariants.{Whole}
@@ -31,6 +32,10 @@ use Rattle.zr_base.specs.declared.op.Op.TheVariants.{Compact}
 use Rattle.lock_row.specs.declared.names.LockNo.TheVariants as lock
 use Rattle.lock_row.specs.declared.names.Held.TheVariants as holds
 use Rattle.zr_base.specs.declared.op.OpEnd.TheVariants as ends
+
+pub plain_moved : (m : ℕ) (x : Compaction) → NoTrip (moved_at m x)
+plain_moved zero x = tt
+plain_moved (suc m) x = tt
 
 compaction_single : (size : ℕ) (op : Op) → op ≡ Compact → is_single size op ≡ true
 compaction_single size op e = ap (is_single size) e
@@ -86,6 +91,7 @@ module _ (g : Begin) (ok : Known g) (w : State DiskHeld) (j : Joint g w) (a : �
         fails = st.fails;
         begun = st.begun;
         scans = tt;
+        visits = tt;
         compacts = record { class = st.compacts.class; frames = within };
       }
       moved_stage (suc m) le within = record {
@@ -103,10 +109,11 @@ module _ (g : Begin) (ok : Known g) (w : State DiskHeld) (j : Joint g w) (a : �
         fails = st.fails;
         begun = st.begun;
         scans = tt;
+        visits = tt;
         compacts = record { class = st.compacts.class; frames = within };
       }
 
-      pub give_moves : Gift g a l (lock.Class x.class) (holds.Class q')
+      pub give_moves : Gift g w a l (lock.Class x.class) (holds.Class q')
           (on l (moved_at frames (with_move x budget)) [] l.fresh l.pin frames l.ahead l.behind
           l.page l.fail)
       give_moves = record {
@@ -128,8 +135,9 @@ module _ (g : Begin) (ok : Known g) (w : State DiskHeld) (j : Joint g w) (a : �
         owners = λ f. let r = ap (held_sum (spot n) (claims g f)) held in
             let t = ap (held_sum (spot n) (stored f)) held in
             let s = shift_stored q q' u u' frames sh f in omega arith;
-        storage = apart g l _ _ _ (λ f z y. let r = ap (held_sum (spot n) f) held in
-            let s = z (n + x.class) q in let t = z (n + x.class) q' in omega arith);
+        storage = quiet_storage g w a l _ _ _ j who (Moving x) at tt (plain_moved frames (with_move x budget))
+            (apart g a l _ _ _ (λ f z y. let r = ap (held_sum (spot n) f) held in
+            let s = z (n + x.class) q in let t = z (n + x.class) q' in omega arith));
         pins = λ f. let r = ap (held_sum (spot n) (outs f)) held in
             let t = ap (held_sum (spot n) nothing) held in
             let s = shift_outs q q' u u' frames sh f in omega arith;
@@ -146,7 +154,7 @@ module _ (g : Begin) (ok : Known g) (w : State DiskHeld) (j : Joint g w) (a : �
         );
       }
 
-    pub give_sweeps : Gift g a l (lock.Class x.class) (holds.Class q)
+    pub give_sweeps : Gift g w a l (lock.Class x.class) (holds.Class q)
         (on l (Sweeping (with_next g.chain x)) [] l.fresh l.pin l.owed l.ahead l.behind l.page
         l.fail)
     give_sweeps = record {
@@ -168,6 +176,7 @@ module _ (g : Begin) (ok : Known g) (w : State DiskHeld) (j : Joint g w) (a : �
             fails = st.fails;
             begun = st.begun;
             scans = tt;
+            visits = tt;
             compacts = record {
               class = stands_low g.chain (254 - (x.class + 1));
               frames = st.compacts.frames;
@@ -177,8 +186,9 @@ module _ (g : Begin) (ok : Known g) (w : State DiskHeld) (j : Joint g w) (a : �
       alone = λ i. let r = ap (held_sum (spot n) (at_place i)) held in omega arith;
       owners = λ f. let r = ap (held_sum (spot n) (claims g f)) held in
           let t = ap (held_sum (spot n) (stored f)) held in omega arith;
-      storage = apart g l _ _ _ (λ f z y. let r = ap (held_sum (spot n) f) held in
-          let s = z (n + x.class) q in omega arith);
+      storage = quiet_storage g w a l _ _ _ j who (Moving x) at tt tt
+          (apart g a l _ _ _ (λ f z y. let r = ap (held_sum (spot n) f) held in
+          let s = z (n + x.class) q in omega arith));
       pins = λ f. let r = ap (held_sum (spot n) (outs f)) held in
           let t = ap (held_sum (spot n) nothing) held in omega arith;
       frames = let r = ap (held_sum (spot n) pages) held in
@@ -197,7 +207,7 @@ module _ (g : Begin) (ok : Known g) (w : State DiskHeld) (j : Joint g w) (a : �
     may_end : MayBeSingle (ground_of g) p.op (ends.Compacted x.moves x.frames)
     may_end = (ap is_compaction st.begun, (let y = st.compacts.frames in omega arith))
 
-    pub give_closes : Gift g a l (lock.Class x.class) (holds.Class q)
+    pub give_closes : Gift g w a l (lock.Class x.class) (holds.Class q)
         (piece_over l p (Whole (ends.Compacted x.moves x.frames)) [] rest)
     give_closes = record {
       home = record { sound = sound; stands = tt; backs = tt; marks = tt };
@@ -207,8 +217,9 @@ module _ (g : Begin) (ok : Known g) (w : State DiskHeld) (j : Joint g w) (a : �
       owners = λ f. let r = ap (held_sum (spot n) (claims g f)) held in
           let t = ap (held_sum (spot n) (stored f)) held in
           let y = none_fresh f l.fresh st.made in omega arith;
-      storage = apart g l _ _ _ (λ f z y. let r = ap (held_sum (spot n) f) held in
-          let s = z (n + x.class) q in omega arith);
+      storage = quiet_storage g w a l _ _ _ j who (Moving x) at tt tt
+          (apart g a l _ _ _ (λ f z y. let r = ap (held_sum (spot n) f) held in
+          let s = z (n + x.class) q in omega arith));
       pins = λ f. let r = ap (held_sum (spot n) (outs f)) held in
           let t = ap (held_sum (spot n) nothing) held in let y = none_pin f l.pin st.pins in
           omega arith;
@@ -236,7 +247,7 @@ module _ (g : Begin) (ok : Known g) (w : State DiskHeld) (j : Joint g w) (a : �
     pays : l.owed ≤ c.pages
     pays = can_repay g w j a l who c [] held refl
 
-    pub give_shrinks : Gift g a l lock.Account (holds.Account (shrunk l.owed c))
+    pub give_shrinks : Gift g w a l lock.Account (holds.Account (shrunk l.owed c))
         (on l (Sweeping (with_frames x l.owed)) [] l.fresh l.pin 0 l.ahead l.behind l.page l.fail)
     give_shrinks = record {
       home = record { sound = refl; stands = tt; backs = tt; marks = tt };
@@ -257,6 +268,7 @@ module _ (g : Begin) (ok : Known g) (w : State DiskHeld) (j : Joint g w) (a : �
             fails = ss.fails;
             begun = ss.begun;
             scans = tt;
+            visits = tt;
             compacts = record {
               class = ss.compacts.class;
               frames = (let y = ss.compacts.frames in omega arith);
@@ -266,8 +278,9 @@ module _ (g : Begin) (ok : Known g) (w : State DiskHeld) (j : Joint g w) (a : �
       alone = λ i. let r = ap (held_sum (spot n) (at_place i)) held in omega arith;
       owners = λ f. let r = ap (held_sum (spot n) (claims g f)) held in
           let t = ap (held_sum (spot n) (stored f)) held in omega arith;
-      storage = apart g l _ _ _ (λ f z y. let r = ap (held_sum (spot n) f) held in
-          let s = y (n + 255) c in let t = y (n + 255) (shrunk l.owed c) in omega arith);
+      storage = quiet_storage g w a l _ _ _ j who (Shrinking x) at tt tt
+          (apart g a l _ _ _ (λ f z y. let r = ap (held_sum (spot n) f) held in
+          let s = y (n + 255) c in let t = y (n + 255) (shrunk l.owed c) in omega arith));
       pins = λ f. let r = ap (held_sum (spot n) (outs f)) held in
           let t = ap (held_sum (spot n) nothing) held in omega arith;
       frames = let r = ap (held_sum (spot n) pages) held in

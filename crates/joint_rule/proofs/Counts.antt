@@ -1,6 +1,12 @@
 -- The account's counters of refusals: each giving raises them by what its actor tells then.
-use Rattle.std.proofs.Common.{◌≡◌, ◌+◌, ◌≤◌, ◌∷◌, ◌∙◌, ℕ, zero, suc, List, [], Option, Some, None, slice_get, slice_set, refl, sym, ap, subst, arith}
-use Rattle.slot_entry.specs.Entries.{is_new_mark}
+use Rattle.mem_account.specs.declared.weight.Weight.TheVariants.{Back}
+use Rattle.lock_row.specs.declared.names.Trip.{Trip}
+use Rattle.lock_row.specs.declared.names.Step.{Step}
+use Rattle.joint_rule.proofs.Rounds.{no_one}
+use Rattle.joint_rule.proofs.Courses.{Course, IsCourse, IsTripEnd, Weighs, course_of, refused_trip, weighs_of}
+use Rattle.joint_rule.proofs.Alikes.{visited_is}
+use Rattle.std.proofs.Common.{◌≡◌, ◌+◌, ◌≤◌, ◌∷◌, ◌∙◌, ℕ, zero, suc, List, [], Option, Some, None, slice_get, slice_set, refl, sym, ap, subst, arith, true}
+use Rattle.slot_entry.specs.Entries.{is_new_mark, EntryState}
 use Rattle.page_steps.specs.Scans.{with_page}
 use Rattle.call_history.specs.Parts.{done_sum, left_by, piece_gives}
 use Rattle.call_history.specs.declared.part.Part.{Part}
@@ -19,27 +25,28 @@ use Rattle.joint_rule.specs.Stages.{FailAt, IsFault, IsWrite, Looks, NoneOf, Sta
 use Rattle.joint_rule.specs.Weights.{FailedReads, FailedWrites, OutOfRange, Refusal, fails_so, none, on_account, refusal_count, refusal_counter, refusal_of, refusals, refused_by}
 use Rattle.lock_row.specs.Totals.{by_option, held_sum, locals_sum, mass, total}
 use Rattle.lock_row.specs.declared.names.At.{At}
-use Rattle.lock_row.specs.declared.names.At.TheVariants.{Both, Counting, Failing, Fetching, Freeing, Giving, Leaving, Made, Missed, Moving, Pinning, Ready, Refusing, Releasing, Shrinking, Start, Unpinning, Marking}
+use Rattle.lock_row.specs.declared.names.At.TheVariants.{Both, Counting, Failing, Fetching, Freeing, Giving, Leaving, Made, Missed, Moving, Pinning, Ready, Refusing, Releasing, Shrinking, Start, Unpinning, Marking, Visiting}
 use Rattle.lock_row.specs.declared.names.Compaction.{Compaction}
 use Rattle.lock_row.specs.declared.names.LockNo.{LockNo}
 use Rattle.lock_row.specs.declared.names.Object.{Object}
 use Rattle.lock_row.specs.declared.names.Pin.{Pin}
-use Rattle.lock_row.specs.declared.names.Plan.TheVariants.{Take}
+use Rattle.lock_row.specs.declared.names.Plan.TheVariants.{Take, Give}
 use Rattle.lock_row.specs.declared.names.State.{State}
 use Rattle.mem_account.specs.Counters.{Counters, at_most_end, charged, counted}
 use Rattle.mem_account.specs.declared.weight.Weight.{Weight}
-use Rattle.page_steps.specs.Compactions.{moved_at, with_move}
+use Rattle.page_steps.specs.Compactions.{moved_at, with_move, repaid}
 use Rattle.page_steps.specs.Givings.{fails_by, old_weight}
 use Rattle.page_steps.specs.Pages.{next_form}
 use Rattle.page_steps.specs.Steps.{DiskHeld, Here, after_take, begun_at, entry_in, entry_or, fetched_at, lock_of, made_at, on, piece_over, pinned_at, plan, quit_at, settle_at, slot, spot, taken_at, took}
 use Rattle.slot_entry.specs.Forms.{Blank, PageForm, Pooled, Word, form_weight}
 use Rattle.slot_entry.specs.declared.kept.Kept.{Kept}
 use Rattle.std.specs.Prelude.{⊤}
-use Rattle.zr_base.specs.Plain.{is_beyond, is_maintenance}
+use Rattle.zr_base.specs.Plain.{is_beyond, is_maintenance, is_writeback}
 use Rattle.zr_base.specs.declared.op.Op.{Op}
-use Rattle.zr_base.specs.declared.op.Op.TheVariants.{Compact, Discard, Idle, Read, Write}
+use Rattle.zr_base.specs.declared.op.Op.TheVariants.{Compact, Discard, Idle, Read, Write, Writeback}
 use Rattle.zr_base.specs.declared.op.OpEnd.{OpEnd}
 use Rattle.joint_rule.proofs.Events as event
+use Rattle.joint_rule.proofs.Courses as course
 use Rattle.lock_row.specs.declared.names.LockNo.TheVariants as lock
 use Rattle.lock_row.specs.declared.names.Held.TheVariants as holds
 use Rattle.mem_account.specs.declared.weight.Delta.TheVariants as delta
@@ -147,6 +154,7 @@ speaks_pinned (Write start count stuff) f k = speaks_made f k
 speaks_pinned (Read start count) f k = tt
 speaks_pinned (Discard start count) f k = tt
 speaks_pinned (Idle age) f k = tt
+speaks_pinned (Writeback mode) f k = tt
 speaks_pinned Compact f k = tt
 
 speaks_fetched : (op : Op) (f : PageForm) (k : Kept) → Speaks (fetched_at op f k)
@@ -154,6 +162,7 @@ speaks_fetched (Write start count stuff) f k = speaks_made f k
 speaks_fetched (Read start count) f k = tt
 speaks_fetched (Discard start count) f k = tt
 speaks_fetched (Idle age) f k = tt
+speaks_fetched (Writeback mode) f k = tt
 speaks_fetched Compact f k = tt
 
 speaks_quit : (x : Option Pin) → Speaks (quit_at x)
@@ -166,16 +175,18 @@ speaks_moved (suc n) x = tt
 
 -- a taking tells nothing
 refused_after : (g : Begin) (q : Refusal) (at : At) (p : Part) (ps : List Part) (f : PageForm)
-    (k : Kept) (x : Option PartEnd) → FailAt g p at p.op x
-    → refused_by q (after_take g.given.size at p f k) (p ∷ ps) x ≡ refused_by q at (p ∷ ps) x
+    (k : EntryState) (x : Option PartEnd) → FailAt g p at p.op x
+    → refused_by q (after_take g.given.size at p f k x) (p ∷ ps) x ≡ refused_by q at (p ∷ ps) x
 refused_after g q Start p ps f k x i =
     refused_no q (begun_at (is_maintenance p.op) (is_beyond g.given.size p.op) p f k) (p ∷ ps) x i
     ∙ sym (refused_no q Start (p ∷ ps) x i)
+refused_after g q (Visiting s y) p ps f k x i =
+    ap (λ (at : At). refused_by q at (p ∷ ps) x) (visited_is s y p.op k x).2
 refused_after g q at p ps f k x i = refl
 
 refused_taken : (g : Begin) (q : Refusal) (l : Here) (v : DiskHeld) (ps : List Part)
     → StageBy g ps (entry_in l.held) l.at l.fresh l.pin l.owed l.ahead l.behind l.page l.fail
-    → refused_by q (taken_at g.given.size ps l.at l.page (entry_or v (entry_in l.held)).kept) ps
+    → refused_by q (taken_at g.given.size ps l.at l.page (entry_or v (entry_in l.held)) l.fail) ps
     l.fail ≡ refused_by q l.at ps l.fail
 refused_taken g q l v [] s = refl
 refused_taken g q l v (p ∷ ps) s = refused_after g q l.at p ps _ _ l.fail s.fails
@@ -366,106 +377,169 @@ module _ (g : Begin) (ok : Known g) (w : State DiskHeld) (j : Joint g w) (a : �
       let s : fails_so (refusal_of q) l.todo l.fail ≡ piece_gives (refusal_of q) p.op (Eio fault) =
       (λ i. fails_so (refusal_of q) (todo i) (fail i)) in omega arith
 
-  pub refuses_of : (q : Refusal) → Event g l v m → Refuses q v m
-  refuses_of q (event.pins p rest e o x x' u u' cell todo at held is sw named_u free outside is_cell
+  -- an end of a writeback is no refusal
+  trip_gives : (q : Refusal) (op : Op) → is_writeback op ≡ true → (end : OpEnd) → IsTripEnd end
+      → piece_gives (refusal_of q) op (Whole end) ≡ 0
+  trip_gives q (Write start count stuff) wb end i = absurd (cc)
+  trip_gives q (Read start count) wb end i = absurd (cc)
+  trip_gives q (Discard start count) wb end i = absurd (cc)
+  trip_gives q (Idle age) wb end i = absurd (cc)
+  trip_gives q Compact wb end i = absurd (cc)
+  trip_gives FailedReads (Writeback mode) wb end i = refl
+  trip_gives FailedWrites (Writeback mode) wb end i = refl
+  trip_gives OutOfRange (Writeback mode) wb (ends.Written wrote lost) i = refl
+  trip_gives OutOfRange (Writeback mode) wb (ends.Budget wrote lost) i = refl
+  trip_gives OutOfRange (Writeback mode) wb (ends.NoBlock wrote lost) i = refl
+  trip_gives OutOfRange (Writeback mode) wb (ends.WriteEio fault wrote lost) i = refl
+  trip_gives OutOfRange (Writeback mode) wb end i = absurd i
+
+  -- a giving of a writeback tells no refusal
+  visit_refuses : (q : Refusal) (c : IsCourse g l v m) → Weighs g ok w j a l who v m k
+      → Refuses q v m
+  visit_refuses q c x = still_so q v m (told c.course)
+      (x.account (refusal_count q) (kept_refusals q)) where
+        kept_refusals : (r : Refusal) (y : Counters) (owed : ℕ) (was : Weight)
+            → refusal_count r (counted (repaid y owed) (delta.Kept was Back)) ≡ refusal_count r y
+        kept_refusals r y owed was = settled_refusals Compact owed was Back y r
+
+        goes_on : (s : Step) (y : Trip) (fail : Option PartEnd) → m.done ≡ l.done
+            → m.todo ≡ l.todo → m.at ≡ Visiting s y → m.fail ≡ fail
+            → fails_so (refusal_of q) l.todo fail ≡ fails_so (refusal_of q) l.todo l.fail
+            → refusals q m ≡ refusals q l
+        goes_on s y fail done todo at is same =
+            let d = ap (done_sum (refusal_of q)) done in
+            let r : refused_by q m.at m.todo m.fail ≡ fails_so (refusal_of q) l.todo fail =
+            (λ i. refused_by q (at i) (todo i) (is i)) in
+            let t : refused_by q l.at l.todo l.fail ≡ fails_so (refusal_of q) l.todo l.fail =
+            ap (λ (i : At). refused_by q i l.todo l.fail) c.at in omega arith
+
+        no_more : (end : OpEnd) → IsTripEnd end → NoneOf l.fail
+            → fails_so (refusal_of q) l.todo (Some (Whole end))
+            ≡ fails_so (refusal_of q) l.todo l.fail
+        no_more end i well =
+            let r : fails_so (refusal_of q) l.todo (Some (Whole end))
+            ≡ piece_gives (refusal_of q) c.p.op (Whole end) =
+            ap (λ (ps : List Part). fails_so (refusal_of q) ps (Some (Whole end))) c.todo in
+            let z = trip_gives q c.p.op c.wb end i in
+            let y = ap (fails_so (refusal_of q) l.todo) (no_one l.fail well) in
+            let u = fails_none (refusal_of q) l.todo in omega arith
+
+        told : Course l v c.p c.rest m → refusals q m ≡ refusals q l
+        told (course.goes s y done todo at fail) = goes_on s y l.fail done todo at fail refl
+        told (course.halts s y end done todo at well fail i) =
+            goes_on s y (Some (Whole end)) done todo at fail (no_more end (refused_trip end i) well)
+        told (course.errs s y d d' b fault wrote lost done todo at well fail held v_is failed) =
+            goes_on s y (Some (Whole (ends.WriteEio fault wrote lost))) done todo at fail
+            (no_more (ends.WriteEio fault wrote lost) tt well)
+        told (course.tells wrote lost well m_is) =
+            ap (refusals q) m_is ∙ (let s = over_told q c.p (Whole (ends.Written wrote lost)) [] c.rest in
+            let z = trip_gives q c.p.op c.wb (ends.Written wrote lost) tt in
+            let t = none_told q well in omega arith)
+        told (course.closes end i fail m_is) = ap (refusals q) m_is
+            ∙ failed_over q c.p c.rest (Whole end) (Visiting c.s c.x) c.todo c.at tt fail
+
+  pub refuses_of : (q : Refusal) → plan (terms g) l ≡ Give k → Event g l v m → Refuses q v m
+  refuses_of q what (event.visits t) = visit_refuses q (course_of g ok w j a l who v m t)
+      (weighs_of g ok w j a l who v m k what t)
+  refuses_of q what (event.pins p rest e o x x' u u' cell todo at held is sw named_u free outside is_cell
       in_cell lk v_is m_is) = same_refuses q _ _ v_is m_is
       (stays_so q Pinning _ at tt (speaks_pinned p.op _ e.kept)
       (let r = ap (held_sum (spot n) (refusal_counter q)) held in omega arith))
-  refuses_of q (event.unpins p rest e o x x' u u' todo at held is sw named_u outside free lk v_is
+  refuses_of q what (event.unpins p rest e o x x' u u' todo at held is sw named_u outside free lk v_is
       m_is) = same_refuses q _ _ v_is m_is (stays_so q Unpinning _ at tt tt
       (let r = ap (held_sum (spot n) (refusal_counter q)) held in omega arith))
-  refuses_of q (event.charges p rest e c x x' cl h need bytes huge todo at held is_form is_class
+  refuses_of q what (event.charges p rest e c x x' cl h need bytes huge todo at held is_form is_class
       within al v_is m_is) = same_refuses q _ _ v_is m_is
       (stays_so q Both _ at tt tt (let r = ap (held_sum (spot n) (refusal_counter q)) held in
       let s = charged_refusals q c need in omega arith))
-  refuses_of q (event.stows p rest e x cl todo at held well v_is m_is) =
+  refuses_of q what (event.stows p rest e x cl todo at held well v_is m_is) =
       same_refuses q _ _ v_is m_is (stays_so q Made _ at tt (speaks_settle e.kept)
       (let r = ap (held_sum (spot n) (refusal_counter q)) held in omega arith))
-  refuses_of q (event.quits p rest e x cl y todo at held bad v_is m_is) =
+  refuses_of q what (event.quits p rest e x cl y todo at held bad v_is m_is) =
       same_refuses q _ _ v_is m_is (stays_so q Made _ at tt (speaks_quit l.pin)
       (let r = ap (held_sum (spot n) (refusal_counter q)) held in omega arith))
-  refuses_of q (event.frees p rest e o x x' frames todo at held is fp v_is m_is) =
+  refuses_of q what (event.frees p rest e o x x' frames todo at held is fp v_is m_is) =
       same_refuses q _ _ v_is m_is (stays_so q Freeing _ at tt tt
       (let r = ap (held_sum (spot n) (refusal_counter q)) held in omega arith))
-  refuses_of q (event.repays p rest e c todo at held v_is m_is) =
+  refuses_of q what (event.repays p rest e c todo at held v_is m_is) =
       same_refuses q _ _ v_is m_is (stays_so q Giving _ at tt tt
       (let r = ap (held_sum (spot n) (refusal_counter q)) held in
       let s = settled_refusals p.op l.owed (old_weight l.ahead e.kept)
       (form_weight (next_form p l.page e.kept)) c q in omega arith))
-  refuses_of q (event.puts p rest e f todo at held notes v_is m_is) =
+  refuses_of q what (event.puts p rest e f todo at held notes v_is m_is) =
       let st = stage g ok w j a l who p rest todo _ Ready held at in
       same_refuses q _ _ v_is m_is (still_so q _ _ (quiet_over q p rest [] st.fails)
       (let r = ap (held_sum (spot n) (refusal_counter q)) held in omega arith))
-  refuses_of q (event.reads p rest e f todo at held well notes v_is m_is) =
+  refuses_of q what (event.reads p rest e f todo at held well notes v_is m_is) =
       same_refuses q _ _ v_is m_is (still_so q _ _
       (quiet_over q p rest _ (subst NoneOf (sym well) tt))
       (let r = ap (held_sum (spot n) (refusal_counter q)) held in omega arith))
-  refuses_of q (event.fails p rest e x todo at held bad v_is m_is) =
+  refuses_of q what (event.fails p rest e x todo at held bad v_is m_is) =
       same_refuses q _ _ v_is m_is (still_so q _ _ (failed_over q p rest x Leaving todo at tt bad)
       (let r = ap (held_sum (spot n) (refusal_counter q)) held in omega arith))
-  refuses_of q (event.fetches p rest e b d d' page todo at held is read is_page v_is m_is) =
+  refuses_of q what (event.fetches p rest e b d d' page todo at held is read is_page v_is m_is) =
       same_refuses q _ _ v_is m_is (stays_so q Fetching _ at tt (speaks_fetched p.op _ e.kept)
       (let r = ap (held_sum (spot n) (refusal_counter q)) held in omega arith))
-  refuses_of q (event.misses p rest e b d d' fault todo at held is failed v_is m_is) =
+  refuses_of q what (event.misses p rest e b d d' fault todo at held is failed v_is m_is) =
       let st = stage g ok w j a l who p rest todo _ Fetching held at in
       same_refuses q _ _ v_is m_is (still_so q _ _
       (let r = none_told q st.fails in omega arith)
       (let r = ap (held_sum (spot n) (refusal_counter q)) held in omega arith))
-  refuses_of q (event.counts p rest e c todo at held v_is m_is) =
+  refuses_of q what (event.counts p rest e c todo at held v_is m_is) =
       let st = stage g ok w j a l who p rest todo _ Counting held at in
       let x = fault_of g p l.fail st.fails in
       same_refuses q _ _ v_is m_is (rises_so q _ _ p.op (Eio x.0) c _ _
       (fault_rises q p.op x.0 c st.kind.0) held refl refl refl
       (counted_now q p rest x.0 ((slot p.page, holds.Slot e) ∷ []) todo at x.1))
-  refuses_of q (event.errs p rest e f x todo at held bad read notes v_is m_is) =
+  refuses_of q what (event.errs p rest e f x todo at held bad read notes v_is m_is) =
       same_refuses q _ _ v_is m_is (still_so q _ _ (failed_over q p rest x Missed todo at tt bad)
       (let r = ap (held_sum (spot n) (refusal_counter q)) held in omega arith))
-  refuses_of q (event.leaves p rest e x todo at held bad other v_is m_is) =
+  refuses_of q what (event.leaves p rest e x todo at held bad other v_is m_is) =
       same_refuses q _ _ v_is m_is (still_so q _ _ (failed_over q p rest x Missed todo at tt bad)
       (let r = ap (held_sum (spot n) (refusal_counter q)) held in omega arith))
-  refuses_of q (event.releases p rest e b x todo at held is v_is m_is) =
+  refuses_of q what (event.releases p rest e b x todo at held is v_is m_is) =
       same_refuses q _ _ v_is m_is (stays_so q Releasing _ at tt tt
       (let r = ap (held_sum (spot n) (refusal_counter q)) held in omega arith))
-  refuses_of q (event.scans p rest age x e todo op at held other v_is m_is) =
+  refuses_of q what (event.scans p rest age x e todo op at held other v_is m_is) =
       same_refuses q _ _ v_is m_is (stays_so q (Marking x) _ at tt tt
       (let r = ap (held_sum (spot n) (refusal_counter q)) held in omega arith))
-  refuses_of q (event.stops p rest age x e todo op at held last v_is m_is) =
+  refuses_of q what (event.stops p rest age x e todo op at held last v_is m_is) =
       let st = stage g ok w j a l who p rest todo _ (Marking x) held at in
       let pages = (with_page x (is_new_mark g.clock age e)).marked in
       same_refuses q _ _ v_is m_is (still_so q _ _
       (let s = over_told q p (Whole (ends.Marked pages)) [] rest in
       let z = marked_gives q p.op pages in let t = none_told q st.fails in omega arith)
       (let r = ap (held_sum (spot n) (refusal_counter q)) held in omega arith))
-  refuses_of q (event.moves p rest y x x' u u' budget frames todo at held sh some one v_is m_is) =
+  refuses_of q what (event.moves p rest y x x' u u' budget frames todo at held sh some one v_is m_is) =
       same_refuses q _ _ v_is m_is (stays_so q (Moving y) _ at tt
       (speaks_moved frames (with_move y budget))
       (let r = ap (held_sum (spot n) (refusal_counter q)) held in omega arith))
-  refuses_of q (event.sweeps p rest y x todo at held stuck other v_is m_is) =
+  refuses_of q what (event.sweeps p rest y x todo at held stuck other v_is m_is) =
       same_refuses q _ _ v_is m_is (stays_so q (Moving y) _ at tt tt
       (let r = ap (held_sum (spot n) (refusal_counter q)) held in omega arith))
-  refuses_of q (event.closes p rest y x todo at held stuck last v_is m_is) =
+  refuses_of q what (event.closes p rest y x todo at held stuck last v_is m_is) =
       let st = stage g ok w j a l who p rest todo _ (Moving y) held at in
       same_refuses q _ _ v_is m_is (still_so q _ _
       (let s = over_told q p (Whole (ends.Compacted y.moves y.frames)) [] rest in
       let z = compacted_gives q p.op y.moves y.frames in let t = none_told q st.fails in omega arith)
       (let r = ap (held_sum (spot n) (refusal_counter q)) held in omega arith))
-  refuses_of q (event.shrinks p rest y c todo at held v_is m_is) =
+  refuses_of q what (event.shrinks p rest y c todo at held v_is m_is) =
       same_refuses q _ _ v_is m_is (stays_so q (Shrinking y) _ at tt tt
       (let r = ap (held_sum (spot n) (refusal_counter q)) held in
       let s = shrunk_refusals q c l.owed in omega arith))
-  refuses_of q (event.refuses p rest c todo at held v_is m_is) =
+  refuses_of q what (event.refuses p rest c todo at held v_is m_is) =
       let st = stage g ok w j a l who p rest todo _ Refusing held at in
       same_refuses q _ _ v_is m_is (rises_so q _ _ p.op (Whole ends.Range) c _ _
       (range_rises q p.op c) held refl refl refl
       (let x = over_told q p (Whole ends.Range) [] rest in
       let y = none_told q st.fails in omega arith))
-  refuses_of q (event.limits p rest e c x cl need todo at held is_need past v_is m_is) =
+  refuses_of q what (event.limits p rest e c x cl need todo at held is_need past v_is m_is) =
       let st = stage g ok w j a l who p rest todo _ Both held at in
       same_refuses q _ _ v_is m_is (rises_so q _ _ p.op (AtLimit c.pages need c.limit) c _ _
       (denial_rises q p.op (AtLimit c.pages need c.limit) c st.kind.0 tt) held refl refl refl
       (denied q p rest (AtLimit c.pages need c.limit)
       ((lock.Class cl, holds.Class x) ∷ (slot p.page, holds.Slot e) ∷ []) todo st.fails))
-  refuses_of q (event.starves p rest e c x cl todo at held v_is m_is) =
+  refuses_of q what (event.starves p rest e c x cl todo at held v_is m_is) =
       let st = stage g ok w j a l who p rest todo _ Both held at in
       same_refuses q _ _ v_is m_is (rises_so q _ _ p.op NoMemory c _ _
       (denial_rises q p.op NoMemory c st.kind.0 tt) held refl refl refl

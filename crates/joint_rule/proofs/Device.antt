@@ -1,7 +1,9 @@
 -- What each giving does that has to do with the device and its blocks.
+use Rattle.plain_disk.specs.Idles.{may_write}
+use Rattle.joint_rule.proofs.Trips.{NoTrip, plain_fetched, quiet_storage}
 use Rattle.bdi_page.specs.Packing.{IsPage}
 use Rattle.backing_dev.specs.Contents.{IsHonest}
-use Rattle.std.proofs.Common.{◌≡◌, ◌∷◌, ◌∙◌, ℕ, true, List, [], Option, Some, None, slice_get, refl, sym, ap, subst, arith, inl, inr, length-set, ⊎_elim}
+use Rattle.std.proofs.Common.{◌≡◌, ◌∷◌, ◌∙◌, ℕ, true, List, [], Option, Some, None, slice_get, refl, sym, ap, subst, arith, inl, inr, length-set, ⊎_elim, ◌⊎◌}
 use Rattle.backing_dev.specs.Dev.{DeviceState, FailsToRead, ReadsBlock, IsHonestDevice}
 use Rattle.block_map.specs.BlockMap.{BlockMap, with_state}
 use Rattle.block_map.specs.declared.state.BlockState.TheVariants.{Free, Owned}
@@ -16,10 +18,10 @@ use Rattle.joint_rule.proofs.Gifts.{Gift, IsBare, all, fit, give_left, give_note
 use Rattle.joint_rule.proofs.Lookups.{none_weight, nothing_shown}
 use Rattle.joint_rule.proofs.Pages.{kept_small}
 use Rattle.joint_rule.proofs.Stages.{made_locks, made_stage, may_none, write_blank}
-use Rattle.joint_rule.specs.Begins.{Begin, content, ground_of, image}
+use Rattle.joint_rule.specs.Begins.{Begin, content, ground_of, image, back_at}
 use Rattle.joint_rule.specs.Joint.{EntryFits, Joint, KeepsDevice, Sound}
-use Rattle.joint_rule.specs.Stages.{Bears, FailBy, IsFault, IsPartly, IsRight, IsSmall, IsWrite, Looks, Stage, is_wb, locks_at, MaySeeOther, IsSeen}
-use Rattle.joint_rule.specs.Weights.{HeldAll, at_place, block_by, block_claims, chains, claim_by, claims, counters, device_size, each_one, ever_at, fixed, lies_at, map_size, mosts, nothing, outs, pages, shown, stored, stored_at, used_blocks}
+use Rattle.joint_rule.specs.Stages.{Bears, FailBy, IsFault, IsPartly, IsRight, IsSmall, IsWrite, Looks, Stage, locks_at, MaySeeOther, IsSeen}
+use Rattle.joint_rule.specs.Weights.{HeldAll, at_place, block_by, block_claims, chains, claim_by, claims, counters, device_size, each_one, ever_at, fixed, lies_at, map_size, mosts, nothing, outs, pages, shown, stored, stored_at, used_blocks, mark_at, shows_at}
 use Rattle.lock_row.specs.Totals.{held_sum}
 use Rattle.lock_row.specs.declared.names.At.TheVariants.{Failing, Fetching, Missed, Owing, Releasing}
 use Rattle.lock_row.specs.declared.names.State.{State}
@@ -28,12 +30,12 @@ use Rattle.page_steps.specs.Nexts.{emptied}
 use Rattle.page_steps.specs.Pages.{next_by, next_form, page_in}
 use Rattle.page_steps.specs.Steps.{DiskHeld, Here, fetched_at, on, piece_over, slot, spot}
 use Rattle.plain_disk.specs.Ends.{IsFaultAt, MayFault}
-use Rattle.slot_entry.specs.Entries.{EntryState, weight_of}
+use Rattle.slot_entry.specs.Entries.{EntryState, weight_of, is_wb}
 use Rattle.slot_entry.specs.Forms.{PageForm}
 use Rattle.slot_entry.specs.declared.kept.Kept.{Kept}
-use Rattle.std.proofs.lemmas.Bool.{and_parts}
+use Rattle.std.proofs.lemmas.Bool.{and_parts, cases_Bool, or_left, or_right}
 use Rattle.zr_base.specs.declared.op.Op.{Op}
-use Rattle.zr_base.specs.declared.op.Op.TheVariants.{Compact, Discard, Idle, Read, Write}
+use Rattle.zr_base.specs.declared.op.Op.TheVariants.{Compact, Discard, Idle, Read, Write, Writeback}
 use Rattle.lock_row.specs.declared.names.LockNo.TheVariants as lock
 use Rattle.lock_row.specs.declared.names.Held.TheVariants as holds
 use Rattle.slot_entry.specs.declared.kept.Kept.TheVariants as kept
@@ -50,7 +52,7 @@ module _ (c d e : DeviceState) (k : KeepsDevice c d) where
     faults = let x = r.faults in let y = k.faults in omega arith;
     reads = let x = r.reads in let y = k.reads in let z = k.end in omega arith;
     end = let x = r.reads in let z = k.end in omega arith;
-    writes = r.writes ∙ k.writes;
+    writes = let x = r.writes in let z = k.writes in omega arith;
   }
 
   -- one that failed
@@ -62,7 +64,7 @@ module _ (c d e : DeviceState) (k : KeepsDevice c d) where
     faults = let x = r.rose in let y = k.faults in omega arith;
     reads = let x = r.reads in let y = k.reads in omega arith;
     end = let x = r.reads in let z = k.end in omega arith;
-    writes = r.writes ∙ k.writes;
+    writes = let x = r.writes in let z = k.writes in omega arith;
   }
 
 -- ---- an entry in hand
@@ -89,9 +91,17 @@ module _ (g : Begin) (ok : Known g) (w : State DiskHeld) (j : Joint g w) (a : �
       not_honest none honest = subst (λ (c : Option (List (List ℕ))). IsHonest c d.blocks) none
           (sounds.0.1.honest honest)
 
+      -- the page may be on the device
+      there : (back_at g p.page e.order ≡ true)
+          ⊎ (may_write g.given.backed g.given.actors ≡ true)
+      there = elim (cases_Bool (may_write g.given.backed g.given.actors)) [
+        | inl on ↦ inr on
+        | inr off ↦ inl (sym (st.backs.only off) ∙ ap is_wb is)
+      ]
+
       is_content : IsSeen (MaySeeOther g p.page e.order) page (content g p.page e.order)
       is_content = ⊎_elim (λ same. inl same)
-          (λ none. inr ((not_honest none, sym st.backs ∙ ap is_wb is), whole))
+          (λ none. inr ((not_honest none, there), whole))
           (page_is g w j a l who b p.page e is d held page r.bytes)
 
       fetched_stage : (op : Op) → p.op ≡ op → Stage g p e
@@ -121,10 +131,12 @@ module _ (g : Begin) (ok : Known g) (w : State DiskHeld) (j : Joint g w) (a : �
         fails = subst (λ (x : Op). FailBy g p x l.fail) (sym e_op) st.fails;
         begun = st.begun;
         scans = tt;
+        visits = tt;
         compacts = tt;
       }
       fetched_stage (Discard start count) e_op = absurd (subst Looks e_op st.kind.0)
       fetched_stage (Idle age) e_op = absurd (subst Looks e_op st.kind.0)
+      fetched_stage (Writeback mode) e_op = absurd (subst Looks e_op st.kind.0)
       fetched_stage Compact e_op = absurd (subst Looks e_op st.kind.0)
 
       fetched_locks : (op : Op) (f : PageForm) (c d : ℕ)
@@ -133,9 +145,10 @@ module _ (g : Begin) (ok : Known g) (w : State DiskHeld) (j : Joint g w) (a : �
       fetched_locks (Read start count) f c d = refl
       fetched_locks (Discard start count) f c d = refl
       fetched_locks (Idle age) f c d = refl
+      fetched_locks (Writeback mode) f c d = refl
       fetched_locks Compact f c d = refl
 
-      pub give_fetches : Gift g a l lock.Device (holds.Device d')
+      pub give_fetches : Gift g w a l lock.Device (holds.Device d')
           (on l (fetched_at p.op (next_form p (Some page) e.kept) e.kept)
           ((slot p.page, holds.Slot e) ∷ []) l.fresh l.pin l.owed l.ahead l.behind (Some page)
           l.fail)
@@ -157,7 +170,8 @@ module _ (g : Begin) (ok : Known g) (w : State DiskHeld) (j : Joint g w) (a : �
         alone = λ i. let r = ap (held_sum (spot n) (at_place i)) held in omega arith;
         owners = λ f. let r = ap (held_sum (spot n) (claims g f)) held in
             let x = ap (held_sum (spot n) (stored f)) held in omega arith;
-        storage = called_storage g l _ p.page d d' e held refl r.called r.contents;
+        storage = quiet_storage g w a l _ _ _ j who Fetching at tt (plain_fetched p.op (next_form p (Some page) e.kept) e.kept)
+            (called_storage g a l _ p.page d d' e held refl r.called r.contents);
         pins = λ f. let r = ap (held_sum (spot n) (outs f)) held in
             let x = ap (held_sum (spot n) nothing) held in omega arith;
         frames = let r = ap (held_sum (spot n) pages) held in
@@ -176,7 +190,11 @@ module _ (g : Begin) (ok : Known g) (w : State DiskHeld) (j : Joint g w) (a : �
       -- the page was there at the phase's start, and the count has risen
       fault_at : IsFaultAt (ground_of g) p.page fault
       fault_at = record {
-        back = (and_parts (g.back p.page) _ (sym st.backs ∙ ap is_wb is)).0;
+        back = elim (cases_Bool (may_write g.given.backed g.given.actors)) [
+          | inl on ↦ or_right (g.back p.page) (may_write g.given.backed g.given.actors) on
+          | inr off ↦ or_left (g.back p.page) (may_write g.given.backed g.given.actors)
+              (and_parts (g.back p.page) _ (sym (st.backs.only off) ∙ ap is_wb is)).0
+        ];
         rose = let x = r.count in let y = r.rose in let z = sounds.0.1.faults in omega arith;
       }
 
@@ -186,6 +204,7 @@ module _ (g : Begin) (ok : Known g) (w : State DiskHeld) (j : Joint g w) (a : �
       may_fault (Read start count) looks part = fault_at
       may_fault (Discard start count) looks part = absurd looks
       may_fault (Idle age) looks part = absurd looks
+      may_fault (Writeback mode) looks part = absurd looks
       may_fault Compact looks part = absurd looks
 
       missed_stage : Stage g p e Failing l.fresh l.pin l.owed l.ahead l.behind l.page
@@ -205,10 +224,11 @@ module _ (g : Begin) (ok : Known g) (w : State DiskHeld) (j : Joint g w) (a : �
         fails = (st.begun, may_fault p.op st.kind.0 st.partly);
         begun = st.begun;
         scans = tt;
+        visits = tt;
         compacts = tt;
       }
 
-      pub give_misses : Gift g a l lock.Device (holds.Device d')
+      pub give_misses : Gift g w a l lock.Device (holds.Device d')
           (on l Failing ((slot p.page, holds.Slot e) ∷ []) l.fresh l.pin l.owed l.ahead l.behind
           l.page (Some (Eio fault)))
       give_misses = record {
@@ -227,7 +247,8 @@ module _ (g : Begin) (ok : Known g) (w : State DiskHeld) (j : Joint g w) (a : �
         alone = λ i. let r = ap (held_sum (spot n) (at_place i)) held in omega arith;
         owners = λ f. let r = ap (held_sum (spot n) (claims g f)) held in
             let x = ap (held_sum (spot n) (stored f)) held in omega arith;
-        storage = called_storage g l _ p.page d d' e held refl r.called r.contents;
+        storage = quiet_storage g w a l _ _ _ j who Fetching at tt tt
+            (called_storage g a l _ p.page d d' e held refl r.called r.contents);
         pins = λ f. let r = ap (held_sum (spot n) (outs f)) held in
             let x = ap (held_sum (spot n) nothing) held in omega arith;
         frames = let r = ap (held_sum (spot n) pages) held in
@@ -261,6 +282,7 @@ module _ (g : Begin) (ok : Known g) (w : State DiskHeld) (j : Joint g w) (a : �
       less = sm.counts.1;
       fits = (all g ok w j a l who p rest todo _ Missed held at).0;
       begun = sm.begun;
+      plain = subst NoTrip (sym at) tt;
     }
 
     fault_ends : (x : PartEnd) → IsFault g p (Some x) → EndsSo (ground_of g) p x
@@ -272,19 +294,20 @@ module _ (g : Begin) (ok : Known g) (w : State DiskHeld) (j : Joint g w) (a : �
 
     pub give_errs : (x : PartEnd) → l.fail ≡ Some x → is_read p.op ≡ true
         → Notes g.clock e f e.kept (tag_by l.actor p)
-        → Gift g a l (slot p.page) (holds.Slot f) (piece_over l p x [] rest)
+        → Gift g w a l (slot p.page) (holds.Slot f) (piece_over l p x [] rest)
     give_errs x bad reads notes = by_op p.op refl reads where
       by_op : (op : Op) → p.op ≡ op → is_read op ≡ true
-          → Gift g a l (slot p.page) (holds.Slot f) (piece_over l p x [] rest)
+          → Gift g w a l (slot p.page) (holds.Slot f) (piece_over l p x [] rest)
       by_op (Write start count stuff) is r = absurd (cc)
       by_op (Read start count) is r = give_noted g ok w j a l who p rest todo e f held bare_missed x
           [] (ends x bad) start count is notes
       by_op (Discard start count) is r = absurd (cc)
       by_op (Idle age) is r = absurd (cc)
+      by_op (Writeback mode) is r = absurd (cc)
       by_op Compact is r = absurd (cc)
 
     pub give_leaves : (x : PartEnd) → l.fail ≡ Some x
-        → Gift g a l (slot p.page) (holds.Slot e) (piece_over l p x [] rest)
+        → Gift g w a l (slot p.page) (holds.Slot e) (piece_over l p x [] rest)
     give_leaves x bad = give_left g ok w j a l who p rest todo e f held bare_missed x (ends x bad)
 
   -- ---- the map of blocks
@@ -326,6 +349,7 @@ module _ (g : Begin) (ok : Known g) (w : State DiskHeld) (j : Joint g w) (a : �
       fails = sr.fails;
       begun = sr.begun;
       scans = tt;
+      visits = tt;
       compacts = tt;
     }
 
@@ -334,11 +358,11 @@ module _ (g : Begin) (ok : Known g) (w : State DiskHeld) (j : Joint g w) (a : �
       page = y.page;
       calls = y.calls;
       touched = y.touched;
-      mark = record { under = y.mark.under; stays = y.mark.stays; only = y.mark.only };
+      mark = y.mark;
       small = omega arith;
     }
 
-    pub give_releases : Gift g a l lock.Blocks (holds.Blocks (with_state x b Free))
+    pub give_releases : Gift g w a l lock.Blocks (holds.Blocks (with_state x b Free))
         (on l Owing ((slot p.page, holds.Slot (emptied e)) ∷ []) l.fresh None 0
         (Some (weight_of e.kept)) l.behind l.page l.fail)
     give_releases = record {
@@ -356,7 +380,7 @@ module _ (g : Begin) (ok : Known g) (w : State DiskHeld) (j : Joint g w) (a : �
           let y = ap (held_sum (spot n) (stored f)) held in
           let c : claim_by f e.kept (image g p.page e.order) ≡ 0 =
           ap (λ (k : Kept). claim_by f k (image g p.page e.order)) is in omega arith;
-      storage = record {
+      storage = quiet_storage g w a l _ _ _ j who Releasing at tt tt (record {
         blocks = λ f. let r = ap (held_sum (spot n) (block_claims f)) held in
             let y = ap (held_sum (spot n) (used_blocks f)) held in
             let z : block_by f e.kept ≡ f 1 b = ap (block_by f) is in
@@ -367,7 +391,10 @@ module _ (g : Begin) (ok : Known g) (w : State DiskHeld) (j : Joint g w) (a : �
         devices = let r = ap (held_sum (spot n) device_size) held in omega arith;
         lies = λ i bytes. let r = ap (held_sum (spot n) (lies_at g i bytes)) held in omega arith;
         stored = λ i bytes. let r = ap (held_sum (spot n) (stored_at i bytes)) held in omega arith;
-      };
+        marks = λ i c bytes. let r = ap (held_sum (spot n) (mark_at g i c bytes)) held in
+            omega arith;
+        shows = λ c i d ne. let r = ap (held_sum (spot n) (shows_at c i d)) held in omega arith;
+      });
       pins = λ f. let r = ap (held_sum (spot n) (outs f)) held in
           let y = ap (held_sum (spot n) nothing) held in let z = none_pin f l.pin sr.pins in
           omega arith;

@@ -1,6 +1,7 @@
 -- What a finished phase tells: its histories agree with its orders, and the account with the rest.
-use Rattle.std.proofs.Common.{◌≡◌, ◌+◌, ◌*◌, ◌-◌, ◌/◌, ◌≤◌, ◌<◌, ◌∷◌, ◌++◌, ◌∙◌, ℕ, zero, suc, Bool, true, false, cond, eqb, List, [], length, take, sum_by, Option, Some, None, slice_get, refl, sym, ap, subst, arith, inl, inr, zero-add}
-use Rattle.plain_disk.specs.Idles.{KeepsMark, is_marked_in}
+use Rattle.joint_rule.proofs.Written.{plain_writes, plain_wrote}
+use Rattle.std.proofs.Common.{◌≡◌, ◌+◌, ◌*◌, ◌-◌, ◌/◌, ◌≤◌, ◌<◌, ◌∷◌, ◌++◌, ◌∙◌, ℕ, zero, suc, Bool, true, false, cond, eqb, List, [], length, take, sum_by, Option, Some, None, slice_get, refl, sym, ap, subst, arith, inl, inr, zero-add, ◌&&◌, not}
+use Rattle.plain_disk.specs.Idles.{KeepsMark, is_marked_in, may_write}
 use Rattle.zr_base.specs.Plain.{Finds}
 use Rattle.joint_rule.proofs.Idles.{ages_end}
 use Rattle.backing_dev.specs.Dev.{DeviceState}
@@ -16,21 +17,21 @@ use Rattle.call_history.specs.declared.part.PartEnd.{PartEnd}
 use Rattle.class_pool.specs.Pool.{PoolState, used_cells}
 use Rattle.joint_rule.proofs.Facts.{Known}
 use Rattle.joint_rule.proofs.Gets.{count_locals}
-use Rattle.joint_rule.proofs.Pages.{holds_after, kept_is}
+use Rattle.joint_rule.proofs.Pages.{holds_after, kept_is, pooled_weight}
 use Rattle.joint_rule.proofs.Pools.{some_cell, sum_zero}
 use Rattle.joint_rule.proofs.Ranges.{range_by, range_lone, range_map, range_sum, row_part, weight_at}
-use Rattle.joint_rule.proofs.Rests.{at_rest, left, over}
+use Rattle.joint_rule.proofs.Rests.{at_rest, left, over, at_start}
 use Rattle.joint_rule.proofs.Starts.{account_at, account_sum, device_at, device_sum}
 use Rattle.joint_rule.proofs.Sums.{row_le, total_split}
 use Rattle.joint_rule.proofs.Places.{IsEntry, IsPoolOf, class_kind, entry_kind}
 use Rattle.joint_rule.proofs.Zspages.{each_used, free_most, tight_least, used_length, used_sum}
 use Rattle.joint_rule.specs.Alone.{is_calm}
 use Rattle.joint_rule.specs.Begins.{finding, Begin, back_at, ever, form_at, found_after, ground_of, image}
-use Rattle.joint_rule.specs.Ends.{AllFinished, account_in, account_of, begin_at, device_in, histories, order_in, orders_of, rest_after, used_in, value_at, idle_in}
-use Rattle.joint_rule.specs.Weights.{used_each}
+use Rattle.joint_rule.specs.Ends.{AllFinished, account_in, account_of, begin_at, device_in, histories, order_in, orders_of, rest_after, used_in, value_at, idle_in, back_in}
+use Rattle.joint_rule.specs.Weights.{used_each, device_writes, writes_told, wrote_told, new_back_at}
 use Rattle.joint_rule.specs.Joint.{AtHome, KeepsDevice}
 use Rattle.joint_rule.specs.Rule.{OfOrder, Ruled, ShowsOrder, done_by, dones, reach_at}
-use Rattle.joint_rule.specs.Stages.{IsForm, is_wb}
+use Rattle.joint_rule.specs.Stages.{IsForm}
 use Rattle.joint_rule.specs.Starts.{AtRest}
 use Rattle.joint_rule.specs.Weights.{Backs, Count, FailedReads, FailedWrites, Fixed, FreedPages, HugeWrites, Huges, Limit, News, OutOfRange, PackedBytes, Packs, Refusal, Sames, Weigh, cell_weight, claim_by, compactions, counter, device_faults, device_reads, each_one, ever_at, fails_so, faults_told, fetched_now, fetches_noted, fetches_told, fixed, fixed_count, freed_at, freed_by, loose_pools, measure, mosts, news_count, news_counter, news_of, none, noted, on_account, on_device, on_entry, on_pool, one, order_news, pages, refusal_count, refusal_counter, refusal_of, refusals, refused_by, stored, told_ahead, told_at}
 use Rattle.lock_row.specs.Totals.{by_option, locals_sum, row_sum, total}
@@ -42,12 +43,12 @@ use Rattle.mem_account.specs.declared.weight.Weight.{Weight}
 use Rattle.page_steps.specs.Steps.{DiskHeld, Here, spot}
 use Rattle.plain_disk.specs.Calls.{after_all, calls_sum, ever_pooled, kept_as, may_fetch}
 use Rattle.plain_disk.specs.Compactions.{IsLeast, pooled_pages, with_free}
-use Rattle.plain_disk.specs.Ends.{compacted, starved, tells_fault}
+use Rattle.plain_disk.specs.Ends.{compacted, starved, tells_fault, left_back, written}
 use Rattle.plain_disk.specs.Forms.{is_pooled, of_class}
-use Rattle.plain_disk.specs.Phases.{FindsHeld, IsMost, LeavesDevice, bounds, calls_on, held_after, nth_order, phase_sum, reach}
+use Rattle.plain_disk.specs.Phases.{FindsHeld, IsMost, LeavesDevice, bounds, calls_on, held_after, nth_order, phase_sum, reach, KeepsBack, back_after, new_back}
 use Rattle.plain_disk.specs.Rests.{AreUsed, Rest, frames_of, kept_at, kept_pages, page_of}
 use Rattle.size_class.specs.Classes.{chain_of, per_of, stands_of}
-use Rattle.slot_entry.specs.Entries.{EntryState, weight_of, is_obj}
+use Rattle.slot_entry.specs.Entries.{EntryState, weight_of, is_obj, is_wb}
 use Rattle.slot_entry.specs.Forms.{Blank, PageForm, Pooled, Word, class_for, form_weight, object_class, page_weight}
 use Rattle.slot_entry.specs.declared.kept.Kept.{Kept}
 use Rattle.std.proofs.lemmas.Bool.{and_from, cases_Bool, cases_eq, cases_lt, eq-eqb, ne_eqb}
@@ -157,6 +158,16 @@ obj_pooled kept.Empty e = absurd (cc)
 obj_pooled (kept.Same w) e = absurd (cc)
 obj_pooled (kept.Obj o) e = elim (cases_Bool o.huge) [ inl on ↦ rw on refl | inr off ↦ rw off refl ]
 obj_pooled (kept.Wb n) e = absurd (cc)
+
+-- so is one in a block
+wb_pooled : (chain : ℕ) (f : PageForm) (k : Kept) → IsForm chain f k → is_wb k ≡ true
+    → is_pooled (form_weight f) ≡ true
+wb_pooled chain Blank (kept.Wb b) i e = absurd i
+wb_pooled chain (Word w) (kept.Wb b) i e = absurd i
+wb_pooled chain (Pooled bytes huge) (kept.Wb b) i e = pooled_weight (Pooled bytes huge) tt
+wb_pooled chain f kept.Empty i e = absurd (cc)
+wb_pooled chain f (kept.Same w) i e = absurd (cc)
+wb_pooled chain f (kept.Obj o) i e = absurd (cc)
 
 bytes_same : (f h : ℕ → List ℕ) (a n : ℕ) → ((s : ℕ) → a ≤ s → s < a + n → f s ≡ h s)
     → flat_map f (range_with_len a n) ≡ flat_map h (range_with_len a n)
@@ -280,9 +291,9 @@ module _ (r : Rest) (actors : List (List Op)) (finds : ℕ → Finds)
   finds_held = record {
     sectors = rule.finds.sectors;
     honest = rule.finds.honest;
-    pooled = λ p at t lt is off s old.
+    pooled = λ none p at t lt is off s old.
         let o = order_is p lt in
-        (shows p lt).finds at t (ap (λ (ts : List Tag). slice_get ts at) (sym o) ∙ is)
+        (shows p lt).finds none at t (ap (λ (ts : List Tag). slice_get ts at) (sym o) ∙ is)
         (ap (λ (ts : List Tag). back_at g p (take at ts)) (sym o) ∙ off) s old;
   }
 
@@ -366,7 +377,7 @@ module _ (r : Rest) (actors : List (List Op)) (finds : ℕ → Finds)
 
   weight_is : (p : ℕ) (lt : p < size) → weight_of (entries p lt).0.kept ≡ kept_at page_weight m p
   weight_is p lt = kept_weight (entries p lt).0.kept (m.back p) (kept_as page_weight p (page_of m p))
-      ((entries p lt).2.backs ∙ sym (ap (back_at g p) (order_is p lt)))
+      (sym (ap back_in (entries p lt).1))
       (λ off. form_weight_is g.chain (form_at g p (entries p lt).0.order) (entries p lt).0.kept
       (entries p lt).2.stands off ∙ form_weighs p lt)
 
@@ -418,7 +429,7 @@ module _ (r : Rest) (actors : List (List Op)) (finds : ℕ → Finds)
         let same_ops : f.ops ≡ ops = (let q : Some f.ops ≡ Some ops = sym f.named ∙ named_ops in
         cc) in
         subst (λ (x : List Op × List Done × List Part).
-        Follows (EndsSo (ground_of g)) (program size 0 x.0) x.1 x.2)
+        Follows (EndsSo (ground_of g)) (program size g.given.backed 0 x.0) x.1 x.2)
         (λ i. (same_ops i, l.2 i, over g w rule fin a l.0 l.1 i)) f.follows;
     every_page = length-map-range_with_len (λ p. order_in (value_at row p)) 0 size;
     turns = λ p a lt. ap (ops_of a) (order_is p lt) ∙ (shows p lt).shows.turns a
@@ -563,9 +574,14 @@ module _ (r : Rest) (actors : List (List Op)) (finds : ℕ → Finds)
   keeps_device = subst (KeepsDevice r.device) (sym device_is)
       (rest.home (size + 257) (holds.Device device.0) device.1).sound.1
 
+  written_are : locals_sum writes_told w.locals ≡ dones_sum written (histories w.locals)
+  written_are = locals_same writes_told (λ l. done_sum written l.done) w.locals
+      (λ a l e. let z = plain_writes l.at l.fail (at_start g w rule fin a l e) in omega arith)
+      ∙ sym (dones_are written w.locals)
+
   leaves_device : LeavesDevice r.device m.device
       (phase_sum (λ p. calls_sum may_fetch (calls_on g.given p)) r orders
-      + dones_sum starved (histories w.locals))
+      + dones_sum starved (histories w.locals)) (dones_sum written (histories w.locals))
   leaves_device = let k = keeps_device in record {
     same = k.same;
     blocks = k.blocks;
@@ -577,8 +593,33 @@ module _ (r : Rest) (actors : List (List Op)) (finds : ℕ → Finds)
         let s = total_split size (fetches_noted g) fetches_told w in
         let t = left_over (fetches_noted g) none (λ a l e. refl) in let u = fetches_are in
         let v = starved_are in omega arith);
-    writes = k.writes;
+    writes = sym (device_weighs (λ d. d.writes))
+        ∙ sym (left_over device_writes none (λ a l e. refl)) ∙ rule.writes
+        ∙ ap (λ (n : ℕ). at_most_end (g.device.writes + n)) written_are;
   }
+
+  wrote_are : locals_sum wrote_told w.locals ≡ dones_sum left_back (histories w.locals)
+  wrote_are = locals_same wrote_told (λ l. done_sum left_back l.done) w.locals
+      (λ a l e. let z = plain_wrote l.at (at_start g w rule fin a l e) in omega arith)
+      ∙ sym (dones_are left_back w.locals)
+
+  back_here : (p : ℕ) (lt : p < size) → m.back p ≡ is_wb (entries p lt).0.kept
+  back_here p lt = ap back_in (entries p lt).1
+
+  backs_there : (p : ℕ) (lt : p < size) → back_at g p (entries p lt).0.order
+      ≡ back_after r actors p (nth_order orders p)
+  backs_there p lt = ap (back_at g p) (sym (order_is p lt))
+
+  new_are : row_sum (new_back_at g) row ≡ new_back r actors orders m
+  new_are = slots_sum (λ p k order. cond (is_wb k && not (back_at g p order)) 1 0)
+      (λ p. cond (m.back p && not (back_after r actors p (nth_order orders p))) 1 0)
+      (λ p lt. λ i. cond {A = ℕ} (sym (back_here p lt) i && not (backs_there p lt i)) 1 0)
+      ∙ sym (range_by (λ p. cond {A = ℕ} (m.back p
+      && not (back_after r actors p (nth_order orders p))) 1 0) 0 size)
+
+  few_new : new_back r actors orders m ≤ dones_sum left_back (histories w.locals)
+  few_new = let x = left_over (new_back_at g) none (λ a l e. refl) in let y = rule.back in
+      let z = new_are in let s = wrote_are in omega arith
 
   -- ---- the account's maximum
 
@@ -642,31 +683,45 @@ module _ (r : Rest) (actors : List (List Op)) (finds : ℕ → Finds)
       ∙ sym (range_map pooled_one (kept_at page_weight m) 0 size)
 
   alone_is : (done : List Done) → histories w.locals ≡ done ∷ []
-      → IsAloneOver page_weight r finds done m
+      → IsAloneOver page_weight r finds (may_write g.given.backed actors) done m
   alone_is done is =
       let l = lone_history w.locals done is in
       let who : slice_get w.locals 0 ≡ Some l.0 = ap (λ (ls : List Here). slice_get ls 0) l.1 in
       let o = rule.alone l.0 l.1 in
       let c = o.calm (ap (λ (ps : List Part). is_calm ps l.0.at) (over g w rule fin 0 l.0 who)) in
-      subst (λ (ds : List Done). IsAloneOver page_weight r finds ds m) l.2 (record {
+      subst (λ (ds : List Done). IsAloneOver page_weight r finds (may_write g.given.backed actors) ds m)
+      l.2 (record {
         still = o.still;
-        marks = o.ages.marks;
-        idle = λ p lt. ages_end g w rule fin l.0 l.1 p lt;
+        marks = λ none. (o.ages none).marks;
+        idle = λ none p lt. ages_end g w rule fin l.0 l.1 none p lt;
         least = λ t. class_least (c.tight t);
         few = let e = objects_are in let z = c.few in omega arith;
       })
 
   -- what a page's mark is
   marks_are : (p : ℕ) → p < size → KeepsMark (is_pooled (kept_at page_weight m p)) (r.idle p)
-      (is_marked_in actors) (nth_order orders p) (m.idle p)
+      (is_marked_in actors) (m.back p) (nth_order orders p) (m.idle p)
   marks_are p lt =
       let e = entries p lt in let mark = e.2.sound.mark in
       let is : m.idle p ≡ e.0.idle = ap idle_in e.1 in
       let order = order_is p lt in record {
         pooled_one = λ idle. ap is_pooled (sym (weight_is p lt))
-            ∙ obj_pooled e.0.kept (e.2.marks (sym is ∙ idle));
-        stays = λ none was. is ∙ mark.stays (sym order ∙ none) was;
-        only = λ none idle. let z = mark.only none (sym is ∙ idle) in (order ∙ z.0, z.1);
+            ∙ obj_pooled e.0.kept (e.2.marks.idle_one (sym is ∙ idle));
+        stays = λ none was off. is
+            ∙ e.2.marks.stays (sym order ∙ none) was (sym (back_here p lt) ∙ off);
+        only = λ none idle. let z = mark none (sym is ∙ idle) in (order ∙ z.0, z.1);
+      }
+
+  -- which page is on the device
+  backs_are : (p : ℕ) → p < size → KeepsBack (back_after r actors p (nth_order orders p))
+      (may_write g.given.backed actors) (is_pooled (kept_as page_weight p (page_of m p))) (m.back p)
+  backs_are p lt =
+      let e = entries p lt in record {
+        there = λ on. back_here p lt ∙ e.2.backs.there (backs_there p lt ∙ on);
+        only = λ off. back_here p lt ∙ e.2.backs.only off ∙ backs_there p lt;
+        pooled_one = λ on. ap is_pooled (sym (form_weighs p lt))
+            ∙ wb_pooled g.chain (form_at g p e.0.order) e.0.kept e.2.stands
+            (sym (back_here p lt) ∙ on);
       }
 
   pub tallies : Tallies page_weight r g.given (histories w.locals) orders c m
@@ -675,7 +730,7 @@ module _ (r : Rest) (actors : List (List Op)) (finds : ℕ → Finds)
       size = refl;
       holds = λ s lt. refl;
       blank = λ p lt. refl;
-      back = λ p lt. refl;
+      back = backs_are;
       idle = marks_are;
       touched = λ p lt. refl;
       used = used_right;
@@ -700,5 +755,6 @@ module _ (r : Rest) (actors : List (List Op)) (finds : ℕ → Finds)
     invalid_io = refusals_are OutOfRange;
     notify_free = news_are FreedPages;
     device = leaves_device;
+    few_back = few_new;
     alone = alone_is;
   }

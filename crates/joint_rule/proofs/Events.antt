@@ -1,4 +1,5 @@
 -- The givings of an actor, by what they do to sums over pools.
+use Rattle.joint_rule.proofs.Visits.{VisitEvent, visit_of}
 use Rattle.std.proofs.Common.{◌≡◌, ◌∷◌, ◌∙◌, ◌==◌, ◌⊎◌, ℕ, suc, Bool, true, false, List, [], Option, Some, None, refl, ap, subst, ◌+◌}
 use Rattle.zr_base.specs.declared.op.Op.TheVariants.{Idle}
 use Rattle.lock_row.specs.declared.names.Scan.{Scan}
@@ -238,6 +239,8 @@ pub data Event (g : Begin) (l : Here) (v : DiskHeld) (m : Here) : Type 0 where
       → v ≡ holds.Account (counted (repaid c l.owed) (delta.Compacted l.owed))
       → m ≡ on l (Sweeping (with_frames x l.owed)) [] l.fresh l.pin 0 l.ahead l.behind l.page l.fail
       → Event g l v m
+  -- it is a giving of a writeback
+  visits : VisitEvent g l v m → Event g l v m
 
 module _ (facts : Facts) where
   back_by : (pin : Option Pin) (p q : PoolState) → ReturnsBy pin p q → BackBy pin p q
@@ -401,4 +404,5 @@ module _ (g : Begin) (ok : Known g) (l : Here) (sound : HeldAll g.given.size (So
       (m_is ∙ (λ i. on l Owing (slot_by (todo i) (emptied (entry_in (held i)))) l.fresh None 0
       (Some (weight_of (entry_in (held i)).kept)) l.behind l.page l.fail))
   event_of (work.marks c) = scan_of c
+  event_of (work.visits c) = visits (visit_of g ok l v m c)
   event_of (work.compacts c) = compact_of c

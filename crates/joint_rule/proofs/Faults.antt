@@ -1,6 +1,12 @@
 -- The device's counts of faults: a failure's is above all that were told before, so each is told
 -- once.
-use Rattle.std.proofs.Common.{◌≡◌, ◌+◌, ◌≤◌, ◌<◌, ◌∷◌, ℕ, zero, suc, Bool, cond, eqb, List, [], Option, Some, None, slice_get, refl, sym, ap, subst, arith, inl, inr}
+use Rattle.joint_rule.proofs.Rounds.{quit_ends}
+use Rattle.lock_row.specs.declared.names.Plan.TheVariants.{Give}
+use Rattle.lock_row.specs.declared.names.Trip.{Trip}
+use Rattle.lock_row.specs.declared.names.Step.{Step}
+use Rattle.lock_row.specs.declared.names.Step.TheVariants as step
+use Rattle.joint_rule.proofs.Courses.{Course, IsCourse, IsRefused, Weighs, course_of, weighs_of}
+use Rattle.std.proofs.Common.{◌≡◌, ◌+◌, ◌≤◌, ◌<◌, ◌∷◌, ℕ, zero, suc, Bool, cond, eqb, List, [], Option, Some, None, slice_get, refl, sym, ap, subst, arith, inl, inr, ◌∙◌}
 use Rattle.backing_dev.specs.Dev.{DeviceState}
 use Rattle.call_history.specs.Parts.{EndsSo, Follows, KeepsTo, done_sum, left_by, piece_gives, program}
 use Rattle.call_history.specs.declared.part.Done.{Done}
@@ -18,20 +24,21 @@ use Rattle.joint_rule.proofs.Sums.{gone}
 use Rattle.joint_rule.specs.Begins.{Begin, ground_of, terms}
 use Rattle.joint_rule.specs.Joint.{Joint}
 use Rattle.joint_rule.specs.Rule.{FailKeeps, FaultsDiffer, KeepsLimits, Limits, reach_at}
-use Rattle.joint_rule.specs.Stages.{FailAt, FailBy, IsFault, IsRefusal, NoneOf, StageBy}
+use Rattle.joint_rule.specs.Stages.{FailAt, FailBy, IsFault, IsRefusal, NoneOf, StageBy, QuitAt}
 use Rattle.joint_rule.specs.Weights.{at_place, device_faults, fails_so, faults_told, none, on_device}
 use Rattle.lock_row.specs.Totals.{held_sum, locals_sum, mass, total}
 use Rattle.lock_row.specs.declared.names.At.{At}
-use Rattle.lock_row.specs.declared.names.At.TheVariants.{Both, Counting, Failing, Fetching, Leaving, Made, Missed, Moving, Pinned, Ready, Refusing, Unpinning, Marking}
+use Rattle.lock_row.specs.declared.names.At.TheVariants.{Both, Counting, Failing, Fetching, Leaving, Made, Missed, Moving, Pinned, Ready, Refusing, Unpinning, Marking, Visiting}
 use Rattle.lock_row.specs.declared.names.LockNo.{LockNo}
 use Rattle.lock_row.specs.declared.names.State.{State}
-use Rattle.page_steps.specs.Steps.{DiskHeld, Here, entry_in, on, piece_over, slot, spot, took}
+use Rattle.page_steps.specs.Steps.{DiskHeld, Here, entry_in, on, piece_over, slot, spot, took, plan}
 use Rattle.plain_disk.specs.Ends.{Bounds, Ground, MayBeSingle, tells_fault}
 use Rattle.std.proofs.lemmas.Bool.{cases_eq, eq-eqb, ne_eqb}
 use Rattle.zr_base.specs.declared.op.Op.{Op}
-use Rattle.zr_base.specs.declared.op.Op.TheVariants.{Compact, Discard, Idle, Read, Write}
+use Rattle.zr_base.specs.declared.op.Op.TheVariants.{Compact, Discard, Idle, Read, Write, Writeback}
 use Rattle.zr_base.specs.declared.op.OpEnd.{OpEnd}
 use Rattle.joint_rule.proofs.Events as event
+use Rattle.joint_rule.proofs.Courses as course
 use Rattle.lock_row.specs.declared.names.LockNo.TheVariants as lock
 use Rattle.lock_row.specs.declared.names.Held.TheVariants as holds
 use Rattle.zr_base.specs.declared.op.OpEnd.TheVariants as ends
@@ -84,7 +91,17 @@ module _ (g : Begin) (p : Part) where
   write_ends (Read start count) x i = absurd i
   write_ends (Discard start count) x i = absurd i
   write_ends (Idle age) x i = absurd i
+  write_ends (Writeback mode) x i = absurd i
   write_ends Compact x i = absurd i
+
+  step_ends : (s : Step) (y : Trip) (x : PartEnd) → QuitAt g p s y (Some x)
+      → EndsSo (ground_of g) p x
+  step_ends step.Quitting y x i = quit_ends g p y x i
+  step_ends step.Landing y x i = quit_ends g p y x i
+  step_ends step.Losing y x i = quit_ends g p y x i
+  step_ends step.Undoing y x i = quit_ends g p y x i
+  step_ends step.Releasing y x i = quit_ends g p y x i
+  step_ends s y x i = absurd i
 
   -- so did the piece in work, where it is refused
   fail_ends : (at : At) (op : Op) (x : PartEnd) → FailAt g p at op (Some x)
@@ -96,13 +113,17 @@ module _ (g : Begin) (p : Part) where
   fail_ends Counting op x i = fault_ends x i
   fail_ends Missed op x i = fault_ends x i
   fail_ends Made op x i = refusal_ends x i
+  fail_ends (Visiting s y) op x i = step_ends s y x i
   fail_ends at op x i = absurd i
 
 -- a count above all bounds was told by no end
-whole_tells : (t : Ground) (op : Op) (end : OpEnd) (n : ℕ) → MayBeSingle t op end
-    → tells_fault n op end ≡ 0
-whole_tells t op (ends.Eio fault done) n i = absurd i
-whole_tells t op end n i = refl
+whole_tells : (t : Ground) (b : Bounds) (op : Op) (end : OpEnd) (n : ℕ) → MayBeSingle t op end
+    → KeepsTo t b (Whole end) → b.faults < n → tells_fault n op end ≡ 0
+whole_tells t b op (ends.Eio fault done) n i k lt = absurd i
+whole_tells t b op (ends.WriteEio fault wrote lost) n i k lt =
+    ap (λ (y : Bool). cond {A = ℕ} y 1 0)
+    (ne_eqb fault n (λ e. let no : ⊥ = omega arith in no))
+whole_tells t b op end n i k lt = refl
 
 end_tells : (t : Ground) (b : Bounds) (p : Part) (x : PartEnd) (n : ℕ) → EndsSo t p x
     → KeepsTo t b x → b.faults < n → piece_gives (tells_fault n) p.op x ≡ 0
@@ -111,7 +132,7 @@ end_tells t b p (AtLimit c m l) n i k lt = refl
 end_tells t b p NoMemory n i k lt = refl
 end_tells t b p (Eio fault) n i k lt = ap (λ (y : Bool). cond {A = ℕ} y 1 0)
     (ne_eqb fault n (λ e. let no : ⊥ = omega arith in no))
-end_tells t b p (Whole end) n i k lt = whole_tells t p.op end n i.1
+end_tells t b p (Whole end) n i k lt = whole_tells t b p.op end n i.1 k lt
 
 dones_tell : (t : Ground) (b : Bounds) (n : ℕ) (ds : List Done) → b.faults < n
     → ((i : ℕ) (d : Done) → slice_get ds i ≡ Some d → EndsSo t d.part d.end)
@@ -143,7 +164,7 @@ module _ (g : Begin) (w : State DiskHeld) (j : Joint g w) (lim : Limits g w) (n 
   actor_tells a l who =
       let f = j.each.in_local a l who in let k = lim a l who in
       let x = dones_tell (ground_of g) (reach_at g w) n l.done lt
-      (ends_over (EndsSo (ground_of g)) (program g.given.size 0 f.ops) l.done l.todo f.follows)
+      (ends_over (EndsSo (ground_of g)) (program g.given.size g.given.backed 0 f.ops) l.done l.todo f.follows)
       k.over in
       let y = now_tells l l.todo l.fail f.stage k refl in omega arith
 
@@ -215,58 +236,99 @@ module _ (g : Begin) (ok : Known g) (w : State DiskHeld) (j : Joint g w) (a : �
       let r : fails_so (tells_fault n) l.todo (Some x) ≡ piece_gives (tells_fault n) p.op x =
       ap (λ (ps : List Part). fails_so (tells_fault n) ps (Some x)) todo in omega arith
 
-  pub blames_of : (v : DiskHeld) (m : Here) → Event g l v m → Blames v m
-  blames_of v m (event.pins p rest e o x x' u u' cell todo at held is sw named_u free outside
+  -- an end of a writeback but for one of the device tells none
+  refused_tells : (op : Op) (end : OpEnd) → IsRefused end → (n : ℕ) → tells_fault n op end ≡ 0
+  refused_tells op (ends.Budget wrote lost) i n = refl
+  refused_tells op (ends.NoBlock wrote lost) i n = refl
+  refused_tells op end i n = absurd i
+
+  visit_blames : (v : DiskHeld) (m : Here) (c : IsCourse g l v m)
+      → Weighs g ok w j a l who v m k → Blames v m
+  visit_blames v m c x = by_course c.course where
+    now_told : (n : ℕ) (end : OpEnd) → fails_so (tells_fault n) l.todo (Some (Whole end))
+        ≡ tells_fault n c.p.op end
+    now_told n end = ap (λ (ps : List Part). fails_so (tells_fault n) ps (Some (Whole end))) c.todo
+
+    told_so : (n : ℕ) (fail : Option PartEnd) → m.done ≡ l.done → m.todo ≡ l.todo → m.fail ≡ fail
+        → faults_told n m ≡ done_sum (tells_fault n) l.done + fails_so (tells_fault n) l.todo fail
+    told_so n fail done todo is =
+        λ i. done_sum (tells_fault n) (done i) + fails_so (tells_fault n) (todo i) (is i)
+
+    by_course : Course l v c.p c.rest m → Blames v m
+    by_course (course.goes s y done todo at fail) =
+        same (λ n. told_so n l.fail done todo fail) x.faults
+    by_course (course.halts s y end done todo at well fail i) = same
+        (λ n. let t = told_so n (Some (Whole end)) done todo fail in
+        let y = none_told n l.fail refl well in let z = refused_tells c.p.op end i n in
+        let u = now_told n end in omega arith) x.faults
+    by_course (course.errs s y d d' b fault wrote lost done todo at well fail held v_is failed) =
+        let now = device_here g w j a l who d _ held (λ y. y.faults) refl in
+        let up = failed.rose in let same_count = failed.count in
+        blames fault
+        (λ n. let t = told_so n (Some (Whole (ends.WriteEio fault wrote lost))) done todo fail in
+        let y = none_told n l.fail refl well in
+        let u = now_told n (ends.WriteEio fault wrote lost) in omega arith) (omega arith) x.faults
+    by_course (course.tells wrote lost well m_is) = same
+        (λ n. ap (faults_told n) m_is
+        ∙ quiet_over c.p (Whole (ends.Written wrote lost)) [] c.rest well (λ i. refl) n) x.faults
+    by_course (course.closes end i fail m_is) = same
+        (λ n. ap (faults_told n) m_is ∙ failed_over c.p c.rest (Whole end) c.todo fail n) x.faults
+
+  pub blames_of : (v : DiskHeld) (m : Here) → plan (terms g) l ≡ Give k → Event g l v m
+      → Blames v m
+  blames_of v m what (event.visits t) = visit_blames v m (course_of g ok w j a l who v m t)
+      (weighs_of g ok w j a l who v m k what t)
+  blames_of v m what (event.pins p rest e o x x' u u' cell todo at held is sw named_u free outside
       is_cell in_cell lk v_is m_is) =
       same_blames v _ m _ v_is m_is (same (λ n. refl)
       (let r = ap (held_sum (spot size) device_faults) held in omega arith))
-  blames_of v m (event.unpins p rest e o x x' u u' todo at held is sw named_u outside free lk v_is
+  blames_of v m what (event.unpins p rest e o x x' u u' todo at held is sw named_u outside free lk v_is
       m_is) =
       same_blames v _ m _ v_is m_is (same (λ n. refl)
       (let r = ap (held_sum (spot size) device_faults) held in omega arith))
-  blames_of v m (event.charges p rest e c x x' cl h need bytes huge todo at held is_form is_class
+  blames_of v m what (event.charges p rest e c x x' cl h need bytes huge todo at held is_form is_class
       within al v_is m_is) =
       same_blames v _ m _ v_is m_is (same (λ n. refl)
       (let r = ap (held_sum (spot size) device_faults) held in omega arith))
-  blames_of v m (event.stows p rest e x cl todo at held well v_is m_is) =
+  blames_of v m what (event.stows p rest e x cl todo at held well v_is m_is) =
       same_blames v _ m _ v_is m_is (same (λ n. refl)
       (let r = ap (held_sum (spot size) device_faults) held in omega arith))
-  blames_of v m (event.quits p rest e x cl y todo at held bad v_is m_is) =
+  blames_of v m what (event.quits p rest e x cl y todo at held bad v_is m_is) =
       same_blames v _ m _ v_is m_is (same (λ n. refl)
       (let r = ap (held_sum (spot size) device_faults) held in omega arith))
-  blames_of v m (event.frees p rest e o x x' frames todo at held is fp v_is m_is) =
+  blames_of v m what (event.frees p rest e o x x' frames todo at held is fp v_is m_is) =
       same_blames v _ m _ v_is m_is (same (λ n. refl)
       (let r = ap (held_sum (spot size) device_faults) held in omega arith))
-  blames_of v m (event.repays p rest e c todo at held v_is m_is) =
+  blames_of v m what (event.repays p rest e c todo at held v_is m_is) =
       same_blames v _ m _ v_is m_is (same (λ n. refl)
       (let r = ap (held_sum (spot size) device_faults) held in omega arith))
-  blames_of v m (event.fetches p rest e b d d' page todo at held is read is_page v_is m_is) =
+  blames_of v m what (event.fetches p rest e b d d' page todo at held is read is_page v_is m_is) =
       same_blames v _ m _ v_is m_is (same (λ n. refl)
       (let r = ap (held_sum (spot size) device_faults) held in let s = read.faults in omega arith))
-  blames_of v m (event.counts p rest e c todo at held v_is m_is) =
+  blames_of v m what (event.counts p rest e c todo at held v_is m_is) =
       same_blames v _ m _ v_is m_is (same (λ n. refl)
       (let r = ap (held_sum (spot size) device_faults) held in omega arith))
-  blames_of v m (event.releases p rest e b x todo at held is v_is m_is) =
+  blames_of v m what (event.releases p rest e b x todo at held is v_is m_is) =
       same_blames v _ m _ v_is m_is (same (λ n. refl)
       (let r = ap (held_sum (spot size) device_faults) held in omega arith))
-  blames_of v m (event.scans p rest age x e todo op at held other v_is m_is) =
+  blames_of v m what (event.scans p rest age x e todo op at held other v_is m_is) =
       same_blames v _ m _ v_is m_is (same (λ n. refl)
       (let r = ap (held_sum (spot size) device_faults) held in omega arith))
-  blames_of v m (event.stops p rest age x e todo op at held last v_is m_is) =
+  blames_of v m what (event.stops p rest age x e todo op at held last v_is m_is) =
       let st = stage g ok w j a l who p rest todo _ (Marking x) held at in
       same_blames v _ m _ v_is m_is (same (quiet_over p (Whole (ends.Marked _)) [] rest st.fails
       (λ n. refl))
       (let r = ap (held_sum (spot size) device_faults) held in omega arith))
-  blames_of v m (event.moves p rest y x x' u u' budget frames todo at held sh some one v_is m_is) =
+  blames_of v m what (event.moves p rest y x x' u u' budget frames todo at held sh some one v_is m_is) =
       same_blames v _ m _ v_is m_is (same (λ n. refl)
       (let r = ap (held_sum (spot size) device_faults) held in omega arith))
-  blames_of v m (event.sweeps p rest y x todo at held stuck other v_is m_is) =
+  blames_of v m what (event.sweeps p rest y x todo at held stuck other v_is m_is) =
       same_blames v _ m _ v_is m_is (same (λ n. refl)
       (let r = ap (held_sum (spot size) device_faults) held in omega arith))
-  blames_of v m (event.shrinks p rest y c todo at held v_is m_is) =
+  blames_of v m what (event.shrinks p rest y c todo at held v_is m_is) =
       same_blames v _ m _ v_is m_is (same (λ n. refl)
       (let r = ap (held_sum (spot size) device_faults) held in omega arith))
-  blames_of v m (event.misses p rest e b d d' fault todo at held is failed v_is m_is) =
+  blames_of v m what (event.misses p rest e b d d' fault todo at held is failed v_is m_is) =
       let st = stage g ok w j a l who p rest todo _ Fetching held at in
       let now = device_here g w j a l who d _ held (λ x. x.faults) refl in
       let up = failed.rose in let same_count = failed.count in
@@ -275,41 +337,41 @@ module _ (g : Begin) (ok : Known g) (w : State DiskHeld) (j : Joint g w) (a : �
       let r : fails_so (tells_fault n) l.todo (Some (Eio fault)) ≡ cond (eqb fault n) 1 0 =
       ap (λ (ps : List Part). fails_so (tells_fault n) ps (Some (Eio fault))) todo in omega arith)
       (omega arith) (let r = ap (held_sum (spot size) device_faults) held in omega arith))
-  blames_of v m (event.limits p rest e c x cl need todo at held is_need past v_is m_is) =
+  blames_of v m what (event.limits p rest e c x cl need todo at held is_need past v_is m_is) =
       let st = stage g ok w j a l who p rest todo _ Both held at in
       same_blames v _ m _ v_is m_is (same (denied p rest (AtLimit c.pages need c.limit)
       ((lock.Class cl, holds.Class x) ∷ (slot p.page, holds.Slot e) ∷ []) todo st.fails (λ n. refl))
       (let r = ap (held_sum (spot size) device_faults) held in omega arith))
-  blames_of v m (event.starves p rest e c x cl todo at held v_is m_is) =
+  blames_of v m what (event.starves p rest e c x cl todo at held v_is m_is) =
       let st = stage g ok w j a l who p rest todo _ Both held at in
       same_blames v _ m _ v_is m_is (same (denied p rest NoMemory
       ((lock.Class cl, holds.Class x) ∷ (slot p.page, holds.Slot e) ∷ []) todo st.fails (λ n. refl))
       (let r = ap (held_sum (spot size) device_faults) held in omega arith))
-  blames_of v m (event.refuses p rest c todo at held v_is m_is) =
+  blames_of v m what (event.refuses p rest c todo at held v_is m_is) =
       let st = stage g ok w j a l who p rest todo _ Refusing held at in
       same_blames v _ m _ v_is m_is (same (quiet_over p (Whole ends.Range) [] rest st.fails
       (λ n. refl))
       (let r = ap (held_sum (spot size) device_faults) held in omega arith))
-  blames_of v m (event.closes p rest y x todo at held stuck last v_is m_is) =
+  blames_of v m what (event.closes p rest y x todo at held stuck last v_is m_is) =
       let st = stage g ok w j a l who p rest todo _ (Moving y) held at in
       same_blames v _ m _ v_is m_is (same (quiet_over p (Whole (ends.Compacted y.moves y.frames)) []
       rest st.fails (λ n. refl))
       (let r = ap (held_sum (spot size) device_faults) held in omega arith))
-  blames_of v m (event.puts p rest e f todo at held notes v_is m_is) =
+  blames_of v m what (event.puts p rest e f todo at held notes v_is m_is) =
       let st = stage g ok w j a l who p rest todo _ Ready held at in
       same_blames v _ m _ v_is m_is (same (quiet_over p Carried [] rest st.fails (λ n. refl))
       (let r = ap (held_sum (spot size) device_faults) held in omega arith))
-  blames_of v m (event.reads p rest e f todo at held well notes v_is m_is) =
+  blames_of v m what (event.reads p rest e f todo at held well notes v_is m_is) =
       same_blames v _ m _ v_is m_is (same (quiet_over p Carried _ rest (subst NoneOf (sym well) tt)
       (λ n. refl))
       (let r = ap (held_sum (spot size) device_faults) held in omega arith))
-  blames_of v m (event.fails p rest e x todo at held bad v_is m_is) =
+  blames_of v m what (event.fails p rest e x todo at held bad v_is m_is) =
       same_blames v _ m _ v_is m_is (same (failed_over p rest x todo bad)
       (let r = ap (held_sum (spot size) device_faults) held in omega arith))
-  blames_of v m (event.errs p rest e f x todo at held bad read notes v_is m_is) =
+  blames_of v m what (event.errs p rest e f x todo at held bad read notes v_is m_is) =
       same_blames v _ m _ v_is m_is (same (failed_over p rest x todo bad)
       (let r = ap (held_sum (spot size) device_faults) held in omega arith))
-  blames_of v m (event.leaves p rest e x todo at held bad other v_is m_is) =
+  blames_of v m what (event.leaves p rest e x todo at held bad other v_is m_is) =
       same_blames v _ m _ v_is m_is (same (failed_over p rest x todo bad)
       (let r = ap (held_sum (spot size) device_faults) held in omega arith))
 

@@ -1,5 +1,8 @@
 -- The reads of the device: a giving raises their count by one at most, and then for a piece that
 -- hasn't read it before; a piece that is over tells that in its page's order or by its end.
+use Rattle.lock_row.specs.declared.names.Trip.{Trip}
+use Rattle.lock_row.specs.declared.names.Step.{Step}
+use Rattle.joint_rule.proofs.Courses.{Course, IsCourse, Weighs, course_of, weighs_of}
 use Rattle.std.proofs.Common.{◌≡◌, ◌+◌, ◌≤◌, ◌∷◌, ◌++◌, ℕ, List, [], Option, Some, None, slice_get, refl, sym, ap, subst, arith}
 use Rattle.lock_row.specs.declared.names.Scan.{Scan}
 use Rattle.call_history.specs.Parts.{done_sum, left_by, piece_gives}
@@ -21,7 +24,7 @@ use Rattle.joint_rule.specs.Stages.{FailBy, Looks}
 use Rattle.joint_rule.specs.Weights.{device_reads, fetched_by, fetched_now, fetches_noted, fetches_told, looks, none}
 use Rattle.lock_row.specs.Totals.{held_sum, mass}
 use Rattle.lock_row.specs.declared.names.At.{At}
-use Rattle.lock_row.specs.declared.names.At.TheVariants.{Both, Counting, Fetching, Freeing, Giving, Leaving, Made, Missed, Moving, Pinning, Ready, Refusing, Releasing, Shrinking, Start, Unpinning, Marking}
+use Rattle.lock_row.specs.declared.names.At.TheVariants.{Both, Counting, Fetching, Freeing, Giving, Leaving, Made, Missed, Moving, Pinning, Ready, Refusing, Releasing, Shrinking, Start, Unpinning, Marking, Visiting}
 use Rattle.lock_row.specs.declared.names.LockNo.{LockNo}
 use Rattle.lock_row.specs.declared.names.Object.{Object}
 use Rattle.lock_row.specs.declared.names.Pin.{Pin}
@@ -37,9 +40,10 @@ use Rattle.slot_entry.specs.Forms.{Blank, PageForm, Pooled, Word}
 use Rattle.slot_entry.specs.declared.kept.Kept.{Kept}
 use Rattle.zr_base.specs.Plain.{named}
 use Rattle.zr_base.specs.declared.op.Op.{Op}
-use Rattle.zr_base.specs.declared.op.Op.TheVariants.{Compact, Discard, Idle, Read, Write}
+use Rattle.zr_base.specs.declared.op.Op.TheVariants.{Compact, Discard, Idle, Read, Write, Writeback}
 use Rattle.zr_base.specs.declared.op.Tag.{Tag}
 use Rattle.joint_rule.proofs.Events as event
+use Rattle.joint_rule.proofs.Courses as course
 use Rattle.lock_row.specs.declared.names.Held.TheVariants as holds
 use Rattle.slot_entry.specs.declared.kept.Kept.TheVariants as kept
 use Rattle.zr_base.specs.declared.op.OpEnd.TheVariants as ends
@@ -63,6 +67,7 @@ looks_pinned (Write start count stuff) f k op = looks_made f k op
 looks_pinned (Read start count) f k op = refl
 looks_pinned (Discard start count) f k op = refl
 looks_pinned (Idle age) f k op = refl
+looks_pinned (Writeback mode) f k op = refl
 looks_pinned Compact f k op = refl
 
 looks_fetched : (o : Op) (f : PageForm) (k : Kept) (op : Op)
@@ -71,6 +76,7 @@ looks_fetched (Write start count stuff) f k op = looks_made f k op
 looks_fetched (Read start count) f k op = refl
 looks_fetched (Discard start count) f k op = refl
 looks_fetched (Idle age) f k op = refl
+looks_fetched (Writeback mode) f k op = refl
 looks_fetched Compact f k op = refl
 
 looks_quit : (x : Option Pin) (op : Op) → fetched_by (quit_at x) op ≡ looks op
@@ -83,18 +89,20 @@ looks_one (Write start count stuff) i = refl
 looks_one (Read start count) i = refl
 looks_one (Discard start count) i = absurd i
 looks_one (Idle age) i = absurd i
+looks_one (Writeback mode) i = absurd i
 looks_one Compact i = absurd i
 
 -- a taking loses nothing
-fetched_after : (size : ℕ) (at : At) (p : Part) (f : PageForm) (k : Kept)
-    → fetched_by at p.op ≤ fetched_by (after_take size at p f k) p.op
-fetched_after size Start p f k = omega arith
-fetched_after size at p f k = omega arith
+fetched_after : (size : ℕ) (at : At) (p : Part) (f : PageForm) (e : EntryState)
+    (fail : Option PartEnd) → fetched_by at p.op ≤ fetched_by (after_take size at p f e fail) p.op
+fetched_after size Start p f e fail = omega arith
+fetched_after size at p f e fail = omega arith
 
-fetched_taken : (size : ℕ) (ps : List Part) (at : At) (page : Option (List ℕ)) (k : Kept)
-    → fetched_now ps at ≤ fetched_now ps (taken_at size ps at page k)
-fetched_taken size [] at page k = omega arith
-fetched_taken size (p ∷ ps) at page k = fetched_after size at p (next_form p page k) k
+fetched_taken : (size : ℕ) (ps : List Part) (at : At) (page : Option (List ℕ)) (e : EntryState)
+    (fail : Option PartEnd) → fetched_now ps at ≤ fetched_now ps (taken_at size ps at page e fail)
+fetched_taken size [] at page e fail = omega arith
+fetched_taken size (p ∷ ps) at page e fail =
+    fetched_after size at p (next_form p page e.kept) e fail
 
 pub fetched_start : (ps : List Part) → fetched_now ps Start ≡ 0
 fetched_start [] = refl
@@ -211,7 +219,41 @@ module _ (g : Begin) (ok : Known g) (w : State DiskHeld) (j : Joint g w) (a : �
         v m what (slot x.page) (event_is g ok w j a l who k v m what p rest _ (Marking x) todo held
         at))
 
+    -- the stages of a writeback haven't read the device
+    now_none : (s : Step) (x : Trip) (ps : List Part) → fetched_now ps (Visiting s x) ≡ 0
+    now_none s x [] = refl
+    now_none s x (p ∷ ps) = refl
+
+    -- a giving of a writeback reads nothing, and notes nothing
+    visit_reads : IsCourse g l v m → Weighs g ok w j a l who v m k → Reads v m
+    visit_reads c x = record {
+      few = (let r = x.reads in
+          let s = x.orders (λ i o. calls_sum may_fetch (calls_on g.given i) (found g i) o) in
+          let t = told_less c.course in omega arith);
+    } where
+      was : fetches_told l ≡ done_sum starved l.done
+      was = let z = ap (fetched_now l.todo) c.at in let y = now_none c.s c.x l.todo in omega arith
+
+      goes_on : (s : Step) (y : Trip) → m.done ≡ l.done → m.at ≡ Visiting s y
+          → fetches_told l ≤ fetches_told m
+      goes_on s y done at = let d = ap (done_sum starved) done in let z = was in omega arith
+
+      ends_it : (end : PartEnd) → m ≡ piece_over l c.p end [] c.rest
+          → fetches_told l ≤ fetches_told m
+      ends_it end m_is = let q = ap fetches_told m_is in
+          let r = over_told c.p end [] c.rest in let z = was in omega arith
+
+      told_less : Course l v c.p c.rest m → fetches_told l ≤ fetches_told m
+      told_less (course.goes s y done todo at fail) = goes_on s y done at
+      told_less (course.halts s y end done todo at well fail i) = goes_on s y done at
+      told_less (course.errs s y d d' b fault wrote lost done todo at well fail held v_is failed) =
+          goes_on s y done at
+      told_less (course.tells wrote lost well m_is) = ends_it _ m_is
+      told_less (course.closes end i fail m_is) = ends_it _ m_is
+
     pub reads_of : Event g l v m → Reads v m
+    reads_of (event.visits t) = visit_reads (course_of g ok w j a l who v m t)
+        (weighs_of g ok w j a l who v m k what t)
     reads_of (event.pins p rest e o x x' u u' cell todo at held is sw named_u free outside is_cell
         in_cell lk v_is m_is) =
         same_reads _ _ v_is m_is (goes_so p rest todo Pinning _ at
@@ -359,5 +401,5 @@ module _ (g : Begin) (ok : Known g) (w : State DiskHeld) (a : ℕ) (l : Here)
       let y = total_split g.given.size (fetches_noted g) fetches_told
       (gone g.given.size w a l who k None m) in
       let z = ok.facts.moves fetches_told w.locals a l m who in
-      let u = fetched_taken g.given.size l.todo l.at l.page (entry_or v (entry_in l.held)).kept in
+      let u = fetched_taken g.given.size l.todo l.at l.page (entry_or v (entry_in l.held)) l.fail in
       omega arith

@@ -1,8 +1,10 @@
 -- The rule of a phase where its calls find something else at tags that stand in no order.
-use Rattle.std.proofs.Common.{◌≡◌, ◌+◌, ◌*◌, ◌≤◌, ◌∷◌, ◌∙◌, ◌&&◌, ◌||◌, ℕ, zero, suc, Bool, true, false, cond, eqb, List, [], map, take, Option, Some, None, slice_get, refl, sym, ap, subst, arith, inl, inr}
-use Rattle.backing_dev.specs.Dev.{IsHonestDevice}
+use Rattle.lock_row.specs.declared.names.Step.{Step}
+use Rattle.lock_row.specs.declared.names.Step.TheVariants as step
+use Rattle.lock_row.specs.declared.names.Trip.{Trip}
+use Rattle.std.proofs.Common.{◌≡◌, ◌+◌, ◌*◌, ◌≤◌, ◌∷◌, ◌∙◌, ◌||◌, ℕ, zero, suc, Bool, true, cond, eqb, List, [], map, take, Option, Some, None, slice_get, refl, sym, ap, subst, arith, inl, inr}
 use Rattle.call_history.specs.Alone.{AreMarkedOver, aged_over, each_over, pages_over}
-use Rattle.call_history.specs.Parts.{got_by, is_carried, is_on, noted_on, ops_of, stands_so}
+use Rattle.call_history.specs.Parts.{got_by, is_carried, is_on, stands_so}
 use Rattle.call_history.specs.Shows.{IsTold, ShowsPage, tag_by}
 use Rattle.call_history.specs.declared.part.Done.{Done}
 use Rattle.call_history.specs.declared.part.Part.{Part}
@@ -10,13 +12,13 @@ use Rattle.call_history.specs.declared.part.PartEnd.{PartEnd}
 use Rattle.call_history.specs.declared.part.PartEnd.TheVariants.{AtLimit, Carried, Eio, NoMemory, Whole}
 use Rattle.joint_rule.specs.Alone.{CountsSo, IsAged, IsOnly, aged_at, aged_done, aged_now, scanned_by}
 use Rattle.joint_rule.specs.Begins.{Begin, FindsRight, back_at, content, ever, finding, form_at, form_by, found, found_after, image}
-use Rattle.joint_rule.specs.Joint.{AtHome, EntryFits, IsActor, Backs, Joint, Sound, Stands}
+use Rattle.joint_rule.specs.Joint.{AtHome, EntryFits, IsActor, Backs, Joint, Sound, Stands, Marks}
 use Rattle.joint_rule.specs.Rule.{FailKeeps, KeepsLimits, Most, OfOrder, Ruled, ShowsOrder, dones, reach_at}
-use Rattle.joint_rule.specs.Stages.{FailAt, FailBy, IsFault, IsForm, IsRefusal, MaySeeOther, MayFail, RightAt, ScanAt, Stage, StageBy, StandAt, BlankAt, locks_at, locks_by}
-use Rattle.joint_rule.specs.Weights.{Each, HeldAll, Weigh, claim_by, claims, each_one, ever_at, fetches_noted, lies_at, lies_by, News, news_of, device_faults, fetches_told, fresh_claim, mosts, news_count, none, noted, on_entry, one, told_ahead}
+use Rattle.joint_rule.specs.Stages.{FailAt, FailBy, IsFault, IsForm, IsRefusal, MaySeeOther, MayFail, RightAt, ScanAt, Stage, StageBy, StandAt, BlankAt, locks_at, locks_by, BackAt, HasEvicted, HasMarks, HasWon, IsBack, IsCopied, IsPooled, IsQuit, MarkAt, MayQuit, QuitAt, StepAt, VisitAt, VisitsObject, VisitsPage, visit_locks}
+use Rattle.joint_rule.specs.Weights.{Each, HeldAll, Weigh, claim_by, claims, each_one, ever_at, fetches_noted, lies_at, lies_by, News, news_of, device_faults, fetches_told, fresh_claim, mosts, news_count, none, noted, on_entry, one, told_ahead, mark_at, mark_by, written_at}
 use Rattle.lock_row.specs.Totals.{held_sum, locals_sum, mass, row_sum, total}
 use Rattle.lock_row.specs.declared.names.At.{At}
-use Rattle.lock_row.specs.declared.names.At.TheVariants.{Counting, Failing, Leaving, Made, Marking, Missed, Pinned, Unpinning}
+use Rattle.lock_row.specs.declared.names.At.TheVariants.{Counting, Failing, Leaving, Made, Marking, Missed, Pinned, Unpinning, Start, Refusing, Owing, Giving, Ready, Scanning, Visiting, Sweeping, Moving, Shrunk, Shrinking}
 use Rattle.lock_row.specs.declared.names.LockNo.{LockNo}
 use Rattle.lock_row.specs.declared.names.Object.{Object}
 use Rattle.lock_row.specs.declared.names.Pin.{Pin}
@@ -33,12 +35,12 @@ use Rattle.plain_disk.specs.Phases.{calls_on, found_in, held_after}
 use Rattle.slot_entry.specs.Entries.{EntryState}
 use Rattle.slot_entry.specs.Forms.{PageForm, bytes_in, form_of, page_weight}
 use Rattle.slot_entry.specs.declared.kept.Kept.{Kept}
-use Rattle.std.proofs.lemmas.Bool.{and_from, and_parts, cases_Bool, eq-eqb, eqb-true}
+use Rattle.std.proofs.lemmas.Bool.{and_parts, cases_Bool, eqb-true}
 use Rattle.std.specs.List.{AllByRecursion}
 use Rattle.std.specs.Prelude.{⊤}
-use Rattle.zr_base.specs.Plain.{Finds, IsSector, Look, content as sectors, named, same_tag, sector_after_named}
+use Rattle.zr_base.specs.Plain.{Finds, Look, content as sectors, named, sector_after_named}
 use Rattle.zr_base.specs.declared.op.Op.{Op}
-use Rattle.zr_base.specs.declared.op.Op.TheVariants.{Compact, Discard, Idle, Read, Write}
+use Rattle.zr_base.specs.declared.op.Op.TheVariants.{Compact, Discard, Idle, Read, Write, Writeback}
 use Rattle.zr_base.specs.declared.op.OpEnd.TheVariants as ends
 use Rattle.zr_base.specs.declared.op.Tag.{Tag}
 use Rattle.lock_row.specs.declared.names.Held.TheVariants as holds
@@ -48,7 +50,7 @@ use mathlib.Core.Path.{fun_ext}
 -- ---- sums and all values
 
 module _ (size : ℕ) where
-  held_map : (P Q : ℕ → DiskHeld → Type 0) → ((j : ℕ) (v : DiskHeld) → P j v → Q j v)
+  pub held_map : (P Q : ℕ → DiskHeld → Type 0) → ((j : ℕ) (v : DiskHeld) → P j v → Q j v)
       → (xs : List (LockNo × DiskHeld)) → HeldAll size P xs → HeldAll size Q xs
   held_map P Q f [] all = tt
   held_map P Q f (x ∷ xs) all = (f (spot size x.0) x.1 all.0, held_map P Q f xs all.1)
@@ -200,6 +202,15 @@ module _ (g : Begin) (finds : ℕ → Finds) where
   lies_alike b bytes = entry_alike _ _
       (λ p k order a. ap (lies_by b bytes k) (content_alike p order a))
 
+  mark_alike : (s b : ℕ) (bytes : List ℕ) (p : ℕ) (v : DiskHeld) → Own p v
+      → mark_at g s b bytes p v ≡ mark_at h s b bytes p v
+  mark_alike s b bytes p (holds.Slot x) a =
+      ap (mark_by s b bytes p x.under) (content_alike p x.order a)
+  mark_alike s b bytes p (holds.Class x) a = refl
+  mark_alike s b bytes p (holds.Account x) a = refl
+  mark_alike s b bytes p (holds.Blocks x) a = refl
+  mark_alike s b bytes p (holds.Device x) a = refl
+
   evers_alike : (p : ℕ) (v : DiskHeld) → Own p v → ever_at g p v ≡ ever_at h p v
   evers_alike = entry_alike _ _ (λ p k order a. ever_alike p order a)
 
@@ -214,7 +225,7 @@ module _ (g : Begin) (finds : ℕ → Finds) where
     page = f.page;
     calls = f.calls;
     touched = f.touched;
-    mark = record { under = f.mark.under; stays = f.mark.stays; only = f.mark.only };
+    mark = f.mark;
     small = f.small;
   }
 
@@ -233,19 +244,33 @@ module _ (g : Begin) (finds : ℕ → Finds) where
   stands_alike p (holds.Blocks x) a s = tt
   stands_alike p (holds.Device x) a s = tt
 
+  back_alike : (k : Kept) (back : Bool) → IsBack g k back → IsBack h k back
+  back_alike k back s = record { there = s.there; only = s.only }
+
+  has_alike : (p : ℕ) (e : EntryState) → HasMarks g p e → HasMarks h p e
+  has_alike p e s =
+      record { idle_one = s.idle_one; under_one = s.under_one; stays = s.stays }
+
   home_alike : (p : ℕ) (v : DiskHeld) → Own p v → AtHome g p v → AtHome h p v
   home_alike p v a x = record {
     sound = sound_alike p v x.sound;
     stands = stands_alike p v a x.stands;
     backs = backs_alike p v x.backs;
-    marks = x.marks;
+    marks = marked_alike p v x.marks;
   } where
     backs_alike : (p : ℕ) (v : DiskHeld) → Backs g p v → Backs h p v
-    backs_alike p (holds.Slot e) s = s
+    backs_alike p (holds.Slot e) s = back_alike e.kept (back_at g p e.order) s
     backs_alike p (holds.Class x) s = s
     backs_alike p (holds.Account x) s = s
     backs_alike p (holds.Blocks x) s = s
     backs_alike p (holds.Device x) s = s
+
+    marked_alike : (p : ℕ) (v : DiskHeld) → Marks g p v → Marks h p v
+    marked_alike p (holds.Slot e) s = has_alike p e s
+    marked_alike p (holds.Class x) s = s
+    marked_alike p (holds.Account x) s = s
+    marked_alike p (holds.Blocks x) s = s
+    marked_alike p (holds.Device x) s = s
 
   -- ---- actors
 
@@ -262,6 +287,7 @@ module _ (g : Begin) (finds : ℕ → Finds) where
   by_alike p (Read start count) x f = f
   by_alike p (Discard start count) x f = f
   by_alike p (Idle age) x f = f
+  by_alike p (Writeback mode) x f = f
   by_alike p Compact x f = f
 
   may_alike : (p : Part) (x : Option PartEnd) → MayFail g p x → MayFail h p x
@@ -272,6 +298,23 @@ module _ (g : Begin) (finds : ℕ → Finds) where
   fault_alike p (Some (Eio fault)) f = f
   fault_alike p x f = f
 
+  is_quit_alike : (p : Part) (y : Trip) (x : Option PartEnd) → IsQuit g p y x → IsQuit h p y x
+  is_quit_alike p y (Some (Whole end)) f = f
+  is_quit_alike p y x f = f
+
+  may_quit_alike : (p : Part) (y : Trip) (x : Option PartEnd) → MayQuit g p y x → MayQuit h p y x
+  may_quit_alike p y None f = f
+  may_quit_alike p y (Some x) f = is_quit_alike p y (Some x) f
+
+  quit_alike : (p : Part) (s : Step) (y : Trip) (x : Option PartEnd) → QuitAt g p s y x
+      → QuitAt h p s y x
+  quit_alike p step.Quitting y x f = is_quit_alike p y x f
+  quit_alike p step.Landing y x f = may_quit_alike p y x f
+  quit_alike p step.Losing y x f = may_quit_alike p y x f
+  quit_alike p step.Undoing y x f = may_quit_alike p y x f
+  quit_alike p step.Releasing y x f = may_quit_alike p y x f
+  quit_alike p s y x f = f
+
   fail_alike : (p : Part) (at : At) (op : Op) (x : Option PartEnd) → FailAt g p at op x
       → FailAt h p at op x
   fail_alike p Pinned op x f = by_alike p op x f
@@ -281,11 +324,13 @@ module _ (g : Begin) (finds : ℕ → Finds) where
   fail_alike p Counting op x f = fault_alike p x f
   fail_alike p Missed op x f = fault_alike p x f
   fail_alike p Made op x f = may_alike p x f
+  fail_alike p (Visiting s y) op x f = quit_alike p s y x f
   fail_alike p at op x f = f
 
   -- the page at which a stage is
   abbrev page_of : Part → At → ℕ
   page_of p (Marking x) = x.page
+  page_of p (Visiting s x) = x.page
   page_of p at = p.page
 
   scan_alike : (p : Part) (at : At) (e : EntryState) → Alike (page_of p at) e.order → ScanAt g at e
@@ -293,15 +338,106 @@ module _ (g : Begin) (finds : ℕ → Finds) where
   scan_alike p (Marking x) e a s = record {
     scan = s.scan;
     stands = subst (λ (f : PageForm). IsForm g.chain f e.kept) (form_alike x.page e.order a) s.stands;
-    backs = s.backs;
-    marks = s.marks;
+    backs = back_alike e.kept (back_at g x.page e.order) s.backs;
+    marks = has_alike x.page e s.marks;
   }
   scan_alike p at e a s = s
+
+  page_alike : (x : Trip) (e : EntryState) → Alike x.page e.order → VisitsPage g x e
+      → VisitsPage h x e
+  page_alike x e a s = record {
+    stands = subst (λ (f : PageForm). IsForm g.chain f e.kept) (form_alike x.page e.order a) s.stands;
+    backs = back_alike e.kept (back_at g x.page e.order) s.backs;
+    marks = has_alike x.page e s.marks;
+  }
+
+  object_alike : (x : Trip) (e : EntryState) → Alike x.page e.order → VisitsObject g x e
+      → VisitsObject h x e
+  object_alike x e a s =
+      record { page = page_alike x e a s.page; object = s.object; clear = s.clear }
+
+  copied_alike : (x : Trip) (e : EntryState) (page : Option (List ℕ)) → Alike x.page e.order
+      → IsCopied page (content g x.page e.order) → IsCopied page (content h x.page e.order)
+  copied_alike x e page a s = subst (IsCopied page) (content_alike x.page e.order a) s
+
+  won_alike : (x : Trip) (e : EntryState) → Alike x.page e.order → HasWon g x e → HasWon h x e
+  won_alike x e a s = record { page = page_alike x e a s.page; object = s.object; mark = s.mark }
+
+  evicted_alike : (x : Trip) (e : EntryState) → Alike x.page e.order → HasEvicted g x e
+      → HasEvicted h x e
+  evicted_alike x e a s = record {
+    gone = s.gone;
+    pooled = subst IsPooled (form_alike x.page e.order a) s.pooled;
+    mark = s.mark;
+  }
+
+  module _ (x : Trip) (e : EntryState) (page : Option (List ℕ)) (fail : Option PartEnd)
+      (a : Alike x.page e.order) where
+    step_alike : (s : Step) → StepAt g s x e page fail → StepAt h s x e page fail
+    step_alike step.Passing i = (page_alike x e a i.0, i.1, i.2)
+    step_alike step.Asking i = (object_alike x e a i.0, i.1, i.2)
+    step_alike step.Reserving i = (object_alike x e a i.0, i.1, i.2)
+    step_alike step.Quitting i = (object_alike x e a i.0, i.1, i.2)
+    step_alike step.Seen i = (object_alike x e a i.0, i.1, i.2)
+    step_alike step.Pinning i = (object_alike x e a i.0, i.1, i.2)
+    step_alike step.Pinned i = (object_alike x e a i.0, i.1, copied_alike x e page a i.2)
+    step_alike step.Unpinning i = (object_alike x e a i.0, i.1, copied_alike x e page a i.2)
+    step_alike step.Marking i = (object_alike x e a i.0, i.1, copied_alike x e page a i.2)
+    step_alike step.Won i = (won_alike x e a i.0, i.1, i.2)
+    step_alike step.Freeing i = (won_alike x e a i.0, i.1, i.2)
+    step_alike step.Backing i = (evicted_alike x e a i.0, i.1, i.2)
+    step_alike step.Committing i = (evicted_alike x e a i.0, i.1, i.2)
+    step_alike step.Owing i = (evicted_alike x e a i.0, i.1, i.2)
+    step_alike step.Paying i = (evicted_alike x e a i.0, i.1, i.2)
+    step_alike step.Putting i = (evicted_alike x e a i.0, i.1, i.2)
+    step_alike step.Losing i =
+        (record { page = page_alike x e a i.0.page; gone = i.0.gone }, i.1, i.2)
+    step_alike s i = i
+
+  visit_alike : (p : Part) (at : At) (e : EntryState) (page : Option (List ℕ))
+      (fail : Option PartEnd) → Alike (page_of p at) e.order → VisitAt g at e page fail
+      → VisitAt h at e page fail
+  visit_alike p (Visiting s x) e page fail a i = record {
+    trip = record { page = i.trip.page; few = i.trip.few };
+    step = step_alike x e page fail a s i.step;
+  }
+  visit_alike p at e page fail a i = i
+
+  backs_by : (at : At) (k : Kept) (back : Bool) → BackAt g at k back → BackAt h at k back
+  backs_by Start k back s = tt
+  backs_by Refusing k back s = tt
+  backs_by Owing k back s = tt
+  backs_by Giving k back s = tt
+  backs_by Ready k back s = tt
+  backs_by (Scanning x) k back s = tt
+  backs_by (Marking x) k back s = tt
+  backs_by (Visiting t x) k back s = tt
+  backs_by (Sweeping x) k back s = tt
+  backs_by (Moving x) k back s = tt
+  backs_by (Shrunk x) k back s = tt
+  backs_by (Shrinking x) k back s = tt
+  backs_by at k back s = back_alike k back s
+
+  marks_by : (at : At) (p : ℕ) (e : EntryState) → MarkAt g at p e → MarkAt h at p e
+  marks_by Start p e s = tt
+  marks_by Refusing p e s = tt
+  marks_by Owing p e s = tt
+  marks_by Giving p e s = tt
+  marks_by Ready p e s = tt
+  marks_by (Scanning x) p e s = tt
+  marks_by (Marking x) p e s = tt
+  marks_by (Visiting t x) p e s = tt
+  marks_by (Sweeping x) p e s = tt
+  marks_by (Moving x) p e s = tt
+  marks_by (Shrunk x) p e s = tt
+  marks_by (Shrinking x) p e s = tt
+  marks_by at p e s = has_alike p e s
 
   stands_by : (p : Part) (at : At) (e : EntryState) → Alike (page_of p at) e.order
       → StandAt g.chain at (form_at g p.page e.order) e.kept
       → StandAt h.chain at (form_at h p.page e.order) e.kept
   stands_by p (Marking x) e a s = tt
+  stands_by p (Visiting t x) e a s = tt
   stands_by p at e a s = subst (λ (f : PageForm). StandAt g.chain at f e.kept)
       (form_alike p.page e.order a) s
 
@@ -310,6 +446,7 @@ module _ (g : Begin) (finds : ℕ → Finds) where
       → BlankAt at p.op x (found_after g p.page e.order).blank
       → BlankAt at p.op x (found_after h p.page e.order).blank
   blank_by p (Marking x) e y a s = tt
+  blank_by p (Visiting t x) e y a s = tt
   blank_by p at e y a s = subst (λ (f : Found). BlankAt at p.op y f.blank)
       (found_alike p.page e.order a) s
 
@@ -318,6 +455,7 @@ module _ (g : Begin) (finds : ℕ → Finds) where
       → RightAt (MaySeeOther g p.page e.order) at p.op p.page x page (content g p.page e.order)
       → RightAt (MaySeeOther h p.page e.order) at p.op p.page x page (content h p.page e.order)
   right_by p (Marking y) e x page a r = r
+  right_by p (Visiting t y) e x page a r = r
   right_by p at e x page a r =
       subst (λ (was : List ℕ). RightAt (MaySeeOther g p.page e.order) at p.op p.page x page was)
       (content_alike p.page e.order a) r
@@ -334,8 +472,8 @@ module _ (g : Begin) (finds : ℕ → Finds) where
         pins = s.pins;
         owes = s.owes;
         stands = stands_by p at e a s.stands;
-        backs = s.backs;
-        marks = s.marks;
+        backs = backs_by at e.kept _ s.backs;
+        marks = marks_by at p.page e s.marks;
         partly = s.partly;
         right = right_by p at e page _ a s.right;
         counts = s.counts;
@@ -343,6 +481,7 @@ module _ (g : Begin) (finds : ℕ → Finds) where
         fails = fail_alike p at p.op fail s.fails;
         begun = s.begun;
         scans = scan_alike p at e a s.scans;
+        visits = visit_alike p at e page fail a s.visits;
         compacts = s.compacts;
       }
 
@@ -351,9 +490,25 @@ module _ (g : Begin) (finds : ℕ → Finds) where
   SlotIs q (lock.Slot s) = s.0 ≡ q
   SlotIs q k = ⊤
 
+  visit_slots : (s : Step) (x : Trip) (c : ℕ) → AllByRecursion (SlotIs x.page) (visit_locks s x c)
+  visit_slots step.Arriving x c = tt
+  visit_slots step.Reserving x c = (tt, (refl, tt))
+  visit_slots step.Pinning x c = (tt, (refl, tt))
+  visit_slots step.Unpinning x c = (tt, (refl, tt))
+  visit_slots step.Flying x c = tt
+  visit_slots step.Storing x c = (tt, tt)
+  visit_slots step.Landing x c = tt
+  visit_slots step.Freeing x c = (tt, (refl, tt))
+  visit_slots step.Committing x c = (tt, (refl, tt))
+  visit_slots step.Paying x c = (tt, (refl, tt))
+  visit_slots step.Undoing x c = tt
+  visit_slots step.Releasing x c = (tt, tt)
+  visit_slots s x c = (refl, tt)
+
   slots_are : (p : Part) (at : At) (c d : ℕ)
       → AllByRecursion (SlotIs (page_of p at)) (locks_at at p c d)
   slots_are p (Marking x) c d = (refl, tt)
+  slots_are p (Visiting s x) c d = visit_slots s x c
   slots_are p at c d = search
 
   one_alike : (q : ℕ) (k : LockNo) (v : DiskHeld) (d : EntryState) → SlotIs q k
@@ -435,8 +590,8 @@ module _ (g : Begin) (finds : ℕ → Finds) where
     shows = subst (λ (page : List ℕ). ShowsPage h.given (dones ls) p page order)
         (content_alike p order al)
         (shows_alike (dones ls) p (content g p order) order al s.shows);
-    finds = λ at t e back sector old.
-        sym (λ i. alike_at p order at t e al i sector old) ∙ s.finds at t e back sector old;
+    finds = λ none at t e back sector old.
+        sym (λ i. alike_at p order at t e al i sector old) ∙ s.finds none at t e back sector old;
     spare = s.spare;
     few = s.few;
   }
@@ -533,12 +688,12 @@ module _ (g : Begin) (finds : ℕ → Finds) where
   only_alike w l own who all o = record {
     still = o.still;
     calm = λ is. let c = o.calm is in record { tight = c.tight; few = c.few };
-    ages = record {
-      marks = marks_alike l.done (aged_at g) all o.ages.marks;
-      counts = counts_alike l.todo l.at l.done all o.ages.counts;
-      home = λ p v e. aged_alike l all p v (own.in_row p v e) (o.ages.home p v e);
+    ages = λ none. let ages = o.ages none in record {
+      marks = marks_alike l.done (aged_at g) all ages.marks;
+      counts = counts_alike l.todo l.at l.done all ages.counts;
+      home = λ p v e. aged_alike l all p v (own.in_row p v e) (ages.home p v e);
       hand = held_both g.given.size Own (IsAged g l) (IsAged h l) (aged_alike l all) l.held
-          (own.in_local 0 l who) o.ages.hand;
+          (own.in_local 0 l who) ages.hand;
     };
     sweeps = λ x e. let s = o.sweeps x e in record {
       tight = s.tight;
@@ -577,8 +732,11 @@ module _ (g : Begin) (finds : ℕ → Finds) where
           ∙ j.owners f;
       blocks = j.blocks;
       size = j.size;
-      disk = λ b bytes some. let e = sums (lies_at g b bytes) (lies_at h b bytes) none
-          (lies_alike b bytes) in j.disk b bytes (omega arith);
+      disk = λ b bytes some. let e = sums (lies_at g b bytes) (lies_at h b bytes)
+          (written_at b bytes) (lies_alike b bytes) in j.disk b bytes (omega arith);
+      marks = λ s b bytes. let e = sums (mark_at g s b bytes) (mark_at h s b bytes) none
+          (mark_alike s b bytes) in let r = j.marks s b bytes in omega arith;
+      carriers = j.carriers;
       pins = j.pins;
       frames = j.frames;
       stays = j.stays;
@@ -619,112 +777,8 @@ module _ (g : Begin) (finds : ℕ → Finds) where
       faults = r.faults;
       fetches = let e = sums (fetches_noted g) (fetches_noted h) fetches_told fetches_alike in
           let f = r.fetches in omega arith;
+      writes = r.writes;
+      back = r.back;
       alone = λ l e. only_alike w l own (ap (λ (ls : List Here). slice_get ls 0) e) (over l e)
           (r.alone l e);
     }
-
--- ---- one tag
-
--- the operation isn't among these
-abbrev pub Lacks : ℕ → List ℕ → Type 0
-Lacks n ns = AllByRecursion (λ m. m ≡ n → ⊥) ns
-
-lacks_more : (n : ℕ) (b : Bool) (m : ℕ) (ns : List ℕ) → Lacks n (cond b (m ∷ ns) ns) → Lacks n ns
-lacks_more n true m ns all = all.1
-lacks_more n false m ns all = all
-
-lacks_one : (n : ℕ) (b : Bool) (m : ℕ) (ns : List ℕ) → Lacks n (cond b (m ∷ ns) ns) → b ≡ true
-    → m ≡ n → ⊥
-lacks_one n true m ns all on e = all.0 e
-lacks_one n false m ns all on e = cc
-
-pick : (P : Look → Type 0) (b : Bool) (x y : Look) → P x → P y → P (cond b x y)
-pick P true x y at_x at_y = at_x
-pick P false x y at_x at_y = at_y
-
-module _ (g : Begin) (page : ℕ) (t : Tag) (look : Look) where
-  -- whether it is the call of this tag on this page
-  abbrev is_one : ℕ → Tag → Bool
-  is_one p u = eqb p page && same_tag t u
-
-  -- what calls find where the one of this tag finds this on this page
-  abbrev pub changed : ℕ → Finds
-  changed p u = cond (is_one p u) look (g.given.finds p u)
-
-  pub changed_here : changed page t ≡ look
-  changed_here = ap (λ (b : Bool). cond b look (g.given.finds page t))
-      (and_from (eqb page page) (same_tag t t) (eq-eqb page page refl)
-      (and_from (eqb t.actor t.actor) (eqb t.op t.op) (eq-eqb t.actor t.actor refl)
-      (eq-eqb t.op t.op refl)))
-
-  right_changed : FindsRight g → ((s : ℕ) (old : List ℕ) → IsSector old → IsSector (look s old))
-      → (IsHonestDevice g.device → (s : ℕ) (old : List ℕ) → look s old ≡ old)
-      → FindsRight (finding g changed)
-  right_changed right keeps honest = record {
-    sectors = λ p u s old is. pick (λ (f : Look). IsSector (f s old)) (is_one p u) look
-        (g.given.finds p u) (keeps s old is) (right.sectors p u s old is);
-    honest = λ is p u s old. pick (λ (f : Look). f s old ≡ old) (is_one p u) look
-        (g.given.finds p u) (honest is s old) (right.honest is p u s old);
-  }
-
-  same_else : (p : ℕ) (u : Tag) → is_one p u ≡ false → g.given.finds p u ≡ changed p u
-  same_else p u off = sym (ap (λ (b : Bool). cond b look (g.given.finds p u)) off)
-
-  -- what is the same where it isn't this call
-  same_unless : (p : ℕ) (u : Tag) → (p ≡ page → u.actor ≡ t.actor → u.op ≡ t.op → ⊥)
-      → g.given.finds p u ≡ changed p u
-  same_unless p u lack = elim (cases_Bool (is_one p u)) [
-    | inl on ↦ absurd (let x = and_parts (eqb p page) (same_tag t u) on in
-        let y = and_parts (eqb t.actor u.actor) (eqb t.op u.op) x.1 in
-        lack (eqb-true p page x.0) (sym (eqb-true t.actor u.actor y.0))
-        (sym (eqb-true t.op u.op y.1)))
-    | inr off ↦ same_else p u off
-  ]
-
-  order_lacks : (p : ℕ) (order : List Tag) → (p ≡ page → Lacks t.op (ops_of t.actor order))
-      → Alike g changed p order
-  order_lacks p [] lack = tt
-  order_lacks p (u ∷ us) lack = (
-    same_unless p u (λ on who op. lacks_one t.op (eqb u.actor t.actor) u.op (ops_of t.actor us)
-        (lack on) (eq-eqb u.actor t.actor who) op),
-    order_lacks p us (λ on. lacks_more t.op (eqb u.actor t.actor) u.op (ops_of t.actor us) (lack on)),
-  )
-
-  pub shown_lacks : (D : ℕ → List Done) (p : ℕ) (bytes : List ℕ) (order : List Tag)
-      → Lacks t.op (noted_on page (D t.actor)) → ShowsPage g.given D p bytes order
-      → Alike g changed p order
-  shown_lacks D p bytes order lack s = order_lacks p order (λ on. subst (Lacks t.op)
-      (ap (λ (q : ℕ). noted_on q (D t.actor)) (sym on) ∙ sym (s.turns t.actor)) lack)
-
-  value_lacks : (ls : List Here) → Lacks t.op (noted_on page (dones ls t.actor)) → (p : ℕ)
-      (v : DiskHeld) → OfOrder (ShowsOrder g ls) p v → Own g changed p v
-  value_lacks ls lack p (holds.Slot e) s = shown_lacks (dones ls) p _ e.order lack s.shows
-  value_lacks ls lack p (holds.Class x) s = tt
-  value_lacks ls lack p (holds.Account x) s = tt
-  value_lacks ls lack p (holds.Blocks x) s = tt
-  value_lacks ls lack p (holds.Device x) s = tt
-
-  over_lacks : (ds : List Done) → (t.actor ≡ 0 → Lacks t.op (noted_on page ds))
-      → AllByRecursion (SameOver g changed) ds
-  over_lacks [] lack = tt
-  over_lacks (d ∷ ds) lack = (
-    λ p is. same_unless p (only_tag d.part.nr) (λ on who op. lacks_one t.op (is_on page d)
-        d.part.nr (noted_on page ds) (lack (sym who))
-        (subst (λ (q : ℕ). is_on q d ≡ true) on is) op),
-    over_lacks ds (λ z. lacks_more t.op (is_on page d) d.part.nr (noted_on page ds) (lack z)),
-  )
-
-  -- Where the tag stands in lack order of its page, the rule goes on if its call finds this there.
-  pub ruled_changed : (w : State DiskHeld) → Lacks t.op (noted_on page (dones w.locals t.actor))
-      → ((s : ℕ) (old : List ℕ) → IsSector old → IsSector (look s old))
-      → (IsHonestDevice g.device → (s : ℕ) (old : List ℕ) → look s old ≡ old)
-      → Ruled g w → Ruled (finding g changed) w
-  ruled_changed w lack keeps honest r = ruled_alike g changed w
-      (right_changed r.finds keeps honest)
-      (record {
-        in_row = λ k v e. value_lacks w.locals lack k v (r.told.in_row k v e);
-        in_local = λ a l e. held_map g.given.size (OfOrder (ShowsOrder g w.locals))
-            (Own g changed) (value_lacks w.locals lack) l.held (r.told.in_local a l e);
-      })
-      (λ l e. over_lacks l.done (λ z. subst (λ (ds : List Done). Lacks t.op (noted_on page ds))
-      (ap (dones w.locals) z ∙ ap (λ (ls : List Here). dones ls 0) e) lack)) r

@@ -1,58 +1,62 @@
 -- What an actor takes fits it.
+use Rattle.joint_rule.proofs.Few.{counts_few, is_counted, measure_small, pages_few}
+use Rattle.lock_row.specs.declared.names.Trip.{Trip}
+use Rattle.lock_row.specs.declared.names.Step.{Step}
+use Rattle.joint_rule.proofs.Trips.{holding}
+use Rattle.joint_rule.proofs.Blockings.{held_is, held_there}
+use Rattle.joint_rule.proofs.Arrivals.{some_mark}
+use Rattle.joint_rule.proofs.Evictions.{gone_by}
 use Rattle.bdi_page.specs.Packing.{IsPage}
 use Rattle.std.proofs.Common.{◌≡◌, ◌+◌, ◌*◌, ◌-◌, ◌/◌, ◌≤◌, ◌<◌, ◌∷◌, ◌∙◌, ℕ, zero, suc, Bool, true, false, cond, eqb, List, [], map, length, sum_by, Option, Some, None, get_or, slice_get, refl, sym, ap, subst, arith, inl, inr}
-use Rattle.zr_base.specs.declared.op.Op.TheVariants.{Compact, Discard, Idle, Read, Write}
+use Rattle.zr_base.specs.declared.op.Op.TheVariants.{Compact, Discard, Idle, Read, Write, Writeback}
 use Rattle.zr_base.specs.declared.op.Op.{Op}
 use Rattle.plain_disk.specs.Phases.{touched_by}
 use Rattle.joint_rule.proofs.Takes.{some_actor}
 use Rattle.backing_dev.specs.Dev.{DeviceState}
 use Rattle.block_map.specs.BlockMap.{BlockMap}
-use Rattle.block_map.specs.declared.state.BlockState.TheVariants.{Owned}
+use Rattle.block_map.specs.declared.state.BlockState.TheVariants.{Owned, Held}
 use Rattle.call_history.specs.Parts.{EndsSo, Follows, program}
 use Rattle.call_history.specs.Shows.{tag_by}
 use Rattle.call_history.specs.declared.part.Part.{Part}
-use Rattle.call_history.specs.declared.part.PartEnd.{PartEnd}
 use Rattle.class_pool.specs.Pool.{IsAtHome, IsLent, PoolState, objects, used_cells}
 use Rattle.joint_rule.proofs.Balances.{counted_count, same_repaid}
 use Rattle.joint_rule.proofs.Blocks.{block_there, owned_is}
-use Rattle.joint_rule.proofs.Bounds.{bounded, scaled, times_both, times_le, total_scaled}
 use Rattle.joint_rule.proofs.Classes.{stands_high}
 use Rattle.joint_rule.proofs.Facts.{Known}
-use Rattle.joint_rule.proofs.Gets.{at_home, count_locals, few_objects, is_lower, low_at, some_use, total_low}
+use Rattle.joint_rule.proofs.Gets.{at_home, few_objects, some_use}
 use Rattle.joint_rule.proofs.Gifts.{all, is_named, next_small, old_is, stage}
 use Rattle.joint_rule.proofs.Keeps.{take_keeps}
-use Rattle.joint_rule.proofs.Lookups.{can_repay, has_counted, none_weight, object_is, pin_out}
-use Rattle.joint_rule.proofs.Pages.{content_page, ever_one, form_low, next_whole, image_form, image_len}
+use Rattle.joint_rule.proofs.Lookups.{can_repay, has_counted, object_is, pin_out}
+use Rattle.joint_rule.proofs.Pages.{content_page, form_low, next_whole, image_form, image_len}
 use Rattle.joint_rule.proofs.Pools.{bit, chain_low, ones, same_pin_is}
 use Rattle.joint_rule.proofs.Rests.{no_held}
 use Rattle.joint_rule.proofs.Stages.{OnDisk, old_low, on_disk, write_changes}
-use Rattle.joint_rule.proofs.Sums.{get_here, gone, locals_le, locals_mono, row_le, total_mono, total_split}
+use Rattle.joint_rule.proofs.Sums.{get_here, gone, locals_le, row_le}
 use Rattle.joint_rule.proofs.Places.{IsAccount, IsDevice, IsEntry, IsMap, IsPoolOf, account_kind, class_kind, device_kind, entry_kind, map_kind}
 use Rattle.joint_rule.proofs.Tells.{once}
 use Rattle.joint_rule.specs.Begins.{Begin, content, form_at, ground_of, piece_on, pieces_on, terms}
 use Rattle.joint_rule.specs.Joint.{AtHome, IsActor, Joint, PoolFits, Sound}
-use Rattle.joint_rule.specs.Rule.{OfOrder, Ruled, ShowsOrder, owed, owed_by}
-use Rattle.joint_rule.specs.Stages.{Changes, CountAt, GoneBy, IsForm, IsPinned, IsRight, IsSmall, MayPin, Names, NoneOf, Stage, StageBy, locks_at, locks_by, MaySeeOther}
-use Rattle.joint_rule.specs.Weights.{Backs, Count, HeldAll, Huges, PackedBytes, Packs, Sames, ahead, behind, cell_weight, counter, counters, each_one, ever_at, measure, none, one, out_weight, pages, pin_in, same_pin, shown, stored}
-use Rattle.lock_row.specs.Totals.{by_option, held_sum, locals_sum, mass, total}
+use Rattle.joint_rule.specs.Rule.{OfOrder, Ruled, ShowsOrder, owed_by}
+use Rattle.joint_rule.specs.Stages.{Changes, GoneBy, IsForm, IsPinned, IsRight, IsSmall, MayPin, Names, NoneOf, Stage, StageBy, locks_at, locks_by, MaySeeOther}
+use Rattle.joint_rule.specs.Weights.{Backs, Count, HeldAll, Huges, PackedBytes, Packs, Sames, cell_weight, counter, counters, each_one, measure, none, out_weight, pages, pin_in, same_pin, shown, stored, BlockWeigh, device_size, on_blocks, use_at, used_from}
+use Rattle.lock_row.specs.Totals.{by_option, held_sum, mass, total}
 use Rattle.lock_row.specs.declared.names.At.{At}
-use Rattle.lock_row.specs.declared.names.At.TheVariants.{Away, Backed, Failing, Giving, Inside, Moving, Old, Owing, Pinned, Ready, Seen, Shrunk, Start, Sweeping, Wanting, Scanning}
+use Rattle.lock_row.specs.declared.names.At.TheVariants.{Away, Backed, Failing, Inside, Moving, Old, Owing, Pinned, Seen, Shrunk, Start, Sweeping, Wanting, Scanning, Visiting}
 use Rattle.lock_row.specs.declared.names.Compaction.{Compaction}
 use Rattle.lock_row.specs.declared.names.LockNo.{LockNo}
-use Rattle.lock_row.specs.declared.names.Object.{Object}
 use Rattle.lock_row.specs.declared.names.Pin.{Pin}
 use Rattle.lock_row.specs.declared.names.Plan.TheVariants.{Take}
 use Rattle.lock_row.specs.declared.names.State.{State}
-use Rattle.mem_account.specs.Counters.{Counters, IsCounted, counted}
+use Rattle.mem_account.specs.Counters.{Counters, counted}
 use Rattle.mem_account.specs.declared.weight.Weight.{Weight}
 use Rattle.page_steps.specs.Compactions.{repaid}
-use Rattle.page_steps.specs.Fits.{AsAccount, AsBlocks, AsDevice, AsPool, AsSlot, CanCharge, CanPay, CanPin, CanStore, FetchFits, FitsAt, FitsBy, FreeFits, HasPlace, IsKept, PinFits, PinnedFits, ReleaseFits, StageFits, StartFits, StoreFits, SweepFits, cell_of, FirstFits, ScanFits}
+use Rattle.page_steps.specs.Fits.{AsAccount, AsBlocks, AsDevice, AsPool, AsSlot, CanCharge, CanPay, CanPin, CanStore, FetchFits, FitsAt, FitsBy, FreeFits, HasPlace, IsKept, PinFits, PinnedFits, ReleaseFits, StageFits, StartFits, StoreFits, SweepFits, cell_of, FirstFits, ScanFits, HeldFits, LandFits, TripFits, VisitFits, WriteFits}
 use Rattle.page_steps.specs.Givings.{old_weight}
 use Rattle.page_steps.specs.Pages.{new_class, next_form, page_in, page_after}
-use Rattle.page_steps.specs.Steps.{DiskHeld, Here, class_by, entry_in, lock_of, on, plan, plan_at, plan_by, slot, spot, start_plan, took, first_lock}
+use Rattle.page_steps.specs.Steps.{DiskHeld, Here, class_by, entry_in, lock_of, on, plan, plan_at, plan_by, slot, spot, start_plan, took, first_lock, entry_or, is_mark_of, taken_at, visited_at}
 use Rattle.plain_disk.specs.Ends.{is_single}
 use Rattle.size_class.specs.Classes.{class_size}
-use Rattle.slot_entry.specs.Entries.{EntryState, weight_of}
+use Rattle.slot_entry.specs.Entries.{EntryState, is_obj}
 use Rattle.slot_entry.specs.Forms.{Blank, PageForm, Pooled, Word, class_for, class_in, form_of, form_weight, object_class}
 use Rattle.slot_entry.specs.declared.kept.Kept.{Kept}
 use Rattle.slot_entry.specs.declared.kept.Stored.{Stored}
@@ -65,6 +69,7 @@ use Rattle.zr_base.specs.declared.op.Tag.{Tag}
 use Rattle.zspage.specs.Cells.{UsedCell, header_size}
 use Rattle.zspage.specs.Cells.{Fits as CellFits}
 use Rattle.lock_row.specs.declared.names.LockNo.TheVariants as lock
+use Rattle.lock_row.specs.declared.names.Step.TheVariants as step
 use Rattle.lock_row.specs.declared.names.Held.TheVariants as holds
 use Rattle.slot_entry.specs.declared.kept.Kept.TheVariants as kept
 use Rattle.mem_account.specs.declared.weight.Weight.TheVariants as weight
@@ -149,122 +154,6 @@ header_small len = elim (cases_Bool (eqb len 4096)) [
   | inr off ↦ rw off (omega arith)
 ]
 
--- ---- numbers
-
-measure_small : (q : Count) (w : Weight) → IsSmall w → measure q w ≤ 4096
-measure_small Sames weight.Empty s = omega arith
-measure_small Sames weight.Same s = omega arith
-measure_small Sames (weight.Packed n) s = omega arith
-measure_small Sames weight.Huge s = omega arith
-measure_small Sames weight.Back s = omega arith
-measure_small Packs weight.Empty s = omega arith
-measure_small Packs weight.Same s = omega arith
-measure_small Packs (weight.Packed n) s = omega arith
-measure_small Packs weight.Huge s = omega arith
-measure_small Packs weight.Back s = omega arith
-measure_small PackedBytes weight.Empty s = omega arith
-measure_small PackedBytes weight.Same s = omega arith
-measure_small PackedBytes (weight.Packed n) s = omega arith
-measure_small PackedBytes weight.Huge s = omega arith
-measure_small PackedBytes weight.Back s = omega arith
-measure_small Huges weight.Empty s = omega arith
-measure_small Huges weight.Same s = omega arith
-measure_small Huges (weight.Packed n) s = omega arith
-measure_small Huges weight.Huge s = omega arith
-measure_small Huges weight.Back s = omega arith
-measure_small Backs weight.Empty s = omega arith
-measure_small Backs weight.Same s = omega arith
-measure_small Backs (weight.Packed n) s = omega arith
-measure_small Backs weight.Huge s = omega arith
-measure_small Backs weight.Back s = omega arith
-
-is_counted : (c : Counters) (w : Weight) → ((q : Count) → measure q w ≤ counter q c) → IsCounted c w
-is_counted c weight.Empty f = tt
-is_counted c weight.Same f = f Sames
-is_counted c (weight.Packed n) f = (f Packs, f PackedBytes)
-is_counted c weight.Huge f = f Huges
-is_counted c weight.Back f = f Backs
-
-times_same : (size : ℕ) (n : ℕ) (ls : List Here) → locals_sum (λ l. n) ls ≡ n * length ls
-times_same size n [] = omega arith
-times_same size n (l ∷ ls) = let r = times_same size n ls in omega arith
-
-module _ (g : Begin) where
-  ever_low : (j : ℕ) (v : DiskHeld) → Sound g j v → ever_at g j v ≤ low_at g.given.size j v
-  ever_low j (holds.Slot e) s = let r = ever_one g j e.order in
-      let q = is_lower g.given.size j s.page in omega arith
-  ever_low j (holds.Class e) s = omega arith
-  ever_low j (holds.Account e) s = omega arith
-  ever_low j (holds.Blocks e) s = omega arith
-  ever_low j (holds.Device e) s = omega arith
-
-  shown_low : (q : Count) (j : ℕ) (v : DiskHeld) → Sound g j v
-      → shown q j v ≤ 4096 * low_at g.given.size j v
-  shown_low q j (holds.Slot e) s = let r = measure_small q (weight_of e.kept) s.small in
-      let l = is_lower g.given.size j s.page in omega arith
-  shown_low q j (holds.Class e) s = omega arith
-  shown_low q j (holds.Account e) s = omega arith
-  shown_low q j (holds.Blocks e) s = omega arith
-  shown_low q j (holds.Device e) s = omega arith
-
-  ahead_none : (q : Count) (x : Option Weight) → NoneOf x → by_option (measure q) x ≤ 4096
-  ahead_none q x i = let r = none_weight q x i in omega arith
-
-  ahead_gone : (q : Count) (x : Option Weight) (k : Kept) → GoneBy x k
-      → by_option (measure q) x ≤ 4096
-  ahead_gone q None k i = omega arith
-  ahead_gone q (Some w) k i = measure_small q w i.1
-
-  ahead_at : (q : Count) (at : At) (x y : Option Weight) (f : PageForm) (k : Kept)
-      → CountAt at x y f k → by_option (measure q) x ≤ 4096
-  ahead_at q Owing x y f k c = ahead_gone q x k c.0
-  ahead_at q Giving x y f k c = ahead_gone q x k c.0
-  ahead_at q Ready x y f k c = let r = c.ahead q in let s =
-      measure_small q (form_weight f) c.small in omega arith
-  ahead_at q at x y f k c = ahead_none q x c.0
-
-  ahead_by : (q : Count) (ps : List Part) (e : EntryState) (at : At) (fresh : Option Object)
-      (pin : Option Pin) (owed : ℕ) (x y : Option Weight) (page : Option (List ℕ))
-      (fail : Option PartEnd)
-      → StageBy g ps e at fresh pin owed x y page fail → by_option (measure q) x ≤ 4096
-  ahead_by q [] e at fresh pin owed x y page fail s = ahead_none q x s.more
-  ahead_by q (p ∷ ps) e at fresh pin owed x y page fail s =
-      ahead_at q at x y (next_form p page e.kept) e.kept s.counts
-
-module _ (g : Begin) (ok : Known g) (w : State DiskHeld) (j : Joint g w) where
-  -- pages that were in the pool, and actors, are few
-  reach_few : total (spot g.given.size) (ever_at g) one w ≤ g.given.size + length w.locals
-  reach_few =
-      let a = total_split g.given.size (ever_at g) one w in
-      let b = total_mono g.given.size (Sound g) (ever_at g) (low_at g.given.size) (ever_low g) w
-      (λ i v e. (j.each.in_row i v e).sound) (λ i m e. (j.each.in_local i m e).sound) in
-      let c = total_low g.given.size w j.alone g.given.size in let d = count_locals w.locals in
-      omega arith
-
-  -- so are the account's frames, and its counters
-  pub pages_few : total (spot g.given.size) pages none w ≤ 16 * (g.given.size + length w.locals)
-  pages_few =
-      let a = bounded g ok w j in let b = reach_few in
-      let c = times_le g.chain _ _ b in
-      let d = times_both g.chain (g.given.size + length w.locals) 16
-      (g.given.size + length w.locals) ok.proper.most (omega arith) in omega arith
-
-  pub counts_few : (q : Count) → total (spot g.given.size) (counters q) none w
-      ≤ 4096 * (g.given.size + length w.locals)
-  counts_few q =
-      let a = total_split g.given.size (counters q) (behind q) w in
-      let b = total_split g.given.size (shown q) (ahead q) w in
-      let c = total_mono g.given.size (Sound g) (shown q)
-      (scaled 4096 g.given.size (low_at g.given.size)) (shown_low g q) w
-      (λ i v e. (j.each.in_row i v e).sound) (λ i m e. (j.each.in_local i m e).sound) in
-      let d = total_scaled 4096 g.given.size (low_at g.given.size) w in
-      let e = total_low g.given.size w j.alone g.given.size in
-      let f = locals_mono g.given.size (ahead q) (λ m. 4096) w.locals
-      (λ i m at. ahead_by g q m.todo (entry_in m.held) m.at m.fresh m.pin m.owed m.ahead
-      m.behind m.page m.fail (j.each.in_local i m at).stage) in
-      let h = times_same g.given.size 4096 w.locals in
-      let k = j.counts q in omega arith
-
 -- ---- what is taken
 
 module _ (g : Begin) (ok : Known g) (w : State DiskHeld) (r : Ruled g w) (a : ℕ) (l : Here)
@@ -304,8 +193,8 @@ module _ (g : Begin) (ok : Known g) (w : State DiskHeld) (r : Ruled g w) (a : �
 
   module _ (p : Part) (rest : List Part) (todo : l.todo ≡ p ∷ rest) where
     disk : OnDisk n p
-    disk = on_disk (EndsSo (ground_of g)) n fit.ops l.done p rest
-        (subst (Follows (EndsSo (ground_of g)) (program n 0 fit.ops) l.done) todo fit.follows)
+    disk = on_disk (EndsSo (ground_of g)) n g.given.backed fit.ops l.done p rest
+        (subst (Follows (EndsSo (ground_of g)) (program n g.given.backed 0 fit.ops) l.done) todo fit.follows)
 
     plan_is : (at : At) (held : List (LockNo × DiskHeld)) → l.at ≡ at → l.held ≡ held
         → plan_at n at p (class_by (entry_in held).kept)
@@ -355,9 +244,17 @@ module _ (g : Begin) (ok : Known g) (w : State DiskHeld) (r : Ruled g w) (a : �
         let t = touched_low e.order g.clock g.clock (g.touched page) (ok.proper.times page low)
         (omega arith) in omega arith)
 
+    -- the entry of a page that a writeback takes
+    trip_fits : (page : ℕ) → page < n → k ≡ slot page → TripFits v
+    trip_fits page low k_is = as_slot (λ e. ⊤) v
+        (entry_kind g page low v (subst (λ (i : LockNo). Sound g (spot n i) v) k_is home.sound))
+        (λ e v_is. tt)
+
     first_fits : (op : Op) → k ≡ first_lock op → FirstFits (terms g) op v
     first_fits (Idle age) k_is =
         scan_fits 0 (ok.proper.some (some_actor g.given.actors a fit.ops fit.named)) k_is
+    first_fits (Writeback mode) k_is =
+        trip_fits 0 (ok.proper.some (some_actor g.given.actors a fit.ops fit.named)) k_is
     first_fits (Write start count stuff) k_is = sweep_fits 0 (omega arith) k_is
     first_fits (Read start count) k_is = sweep_fits 0 (omega arith) k_is
     first_fits (Discard start count) k_is = sweep_fits 0 (omega arith) k_is
@@ -383,9 +280,9 @@ module _ (g : Begin) (ok : Known g) (w : State DiskHeld) (r : Ruled g w) (a : �
 
     -- ---- where the slot is held
 
-    module _ (at : At) (at_is : l.at ≡ at) (off : is_single n p.op ≡ false) (locks_is : (c d : ℕ)
-        → locks_at at p c d ≡ slot p.page ∷ []) where
-      names_slot : map (λ (x : LockNo × DiskHeld). x.0) l.held ≡ slot p.page ∷ []
+    module _ (at : At) (at_is : l.at ≡ at) (page : ℕ) (in_disk : page < n) (locks_is : (c d : ℕ)
+        → locks_at at p c d ≡ slot page ∷ []) where
+      names_slot : map (λ (x : LockNo × DiskHeld). x.0) l.held ≡ slot page ∷ []
       names_slot = subst (λ (x : List Part × At). map (λ (y : LockNo × DiskHeld). y.0) l.held
           ≡ locks_by x.0 x.1 (class_by (entry_in l.held).kept)
           (new_class g.chain x.0 l.page (entry_in l.held).kept)) (λ i. (todo i, at_is i)) fit.locks
@@ -393,29 +290,29 @@ module _ (g : Begin) (ok : Known g) (w : State DiskHeld) (r : Ruled g w) (a : �
           (entry_in l.held).kept)
 
       held_slot : (xs : List (LockNo × DiskHeld)) → map (λ (x : LockNo × DiskHeld). x.0) xs
-          ≡ slot p.page ∷ [] → HeldAll n (Sound g) xs
-          → (e : EntryState) × (xs ≡ (slot p.page, holds.Slot e) ∷ [])
+          ≡ slot page ∷ [] → HeldAll n (Sound g) xs
+          → (e : EntryState) × (xs ≡ (slot page, holds.Slot e) ∷ [])
       held_slot [] e all = absurd (cc)
       held_slot (x ∷ y ∷ ys) e all = absurd (cc)
       held_slot (x ∷ []) e all =
-          let x_is : x.0 ≡ slot p.page = cc in
-          let s = is_slot x.1 (entry_kind g p.page (disk off).0 x.1
+          let x_is : x.0 ≡ slot page = cc in
+          let s = is_slot x.1 (entry_kind g page in_disk x.1
           (subst (λ (i : LockNo). Sound g (spot n i) x.1) x_is all.0)) in
           (s.0, λ i. (x_is i, s.1 i) ∷ [])
 
       e : EntryState
       e = (held_slot l.held names_slot fit.sound).0
 
-      held : l.held ≡ (slot p.page, holds.Slot e) ∷ []
+      held : l.held ≡ (slot page, holds.Slot e) ∷ []
       unfolding e held_slot
       held = (held_slot l.held names_slot fit.sound).1
 
       st : Stage g p e at l.fresh l.pin l.owed l.ahead l.behind l.page l.fail
-      st = stage g ok w r.joint a l who p rest todo ((slot p.page, holds.Slot e) ∷ []) at held at_is
+      st = stage g ok w r.joint a l who p rest todo ((slot page, holds.Slot e) ∷ []) at held at_is
 
       next_plan : plan_at n at p (class_by e.kept) (class_in g.chain (next_form p l.page e.kept))
           ≡ Take k
-      next_plan = plan_is at ((slot p.page, holds.Slot e) ∷ []) at_is held
+      next_plan = plan_is at ((slot page, holds.Slot e) ∷ []) at_is held
 
       -- ---- a pool
 
@@ -429,39 +326,39 @@ module _ (g : Begin) (ok : Known g) (w : State DiskHeld) (r : Ruled g w) (a : �
           pool_sound = subst (λ (x : LockNo × DiskHeld). Sound g (spot n x.0) x.1)
               (λ i. (k_is i, v_is i)) home.sound
 
-          both_held : m.held ≡ (lock.Class c, holds.Class q) ∷ (slot p.page, holds.Slot e) ∷ []
+          both_held : m.held ≡ (lock.Class c, holds.Class q) ∷ (slot page, holds.Slot e) ∷ []
           both_held = held_after_it ∙ (λ i. (k_is i, v_is i) ∷ held i)
 
       -- the pool of the entry's object
       module _ (o : Stored) (is : e.kept ≡ kept.Obj o) (form : IsForm g.chain
-          (form_at g p.page e.order) e.kept) (k_is : k ≡ lock.Class o.class) (q : PoolState)
+          (form_at g page e.order) e.kept) (k_is : k ≡ lock.Class o.class) (q : PoolState)
           (v_is : v ≡ holds.Class q) where
         low : o.class < 255
-        low = let x = old_low g.chain (form_at g p.page e.order) e.kept form in
+        low = let x = old_low g.chain (form_at g page e.order) e.kept form in
             let y = ap class_by is in omega arith
 
-        two : m.held ≡ (lock.Class o.class, holds.Class q) ∷ (slot p.page, holds.Slot e) ∷ []
+        two : m.held ≡ (lock.Class o.class, holds.Class q) ∷ (slot page, holds.Slot e) ∷ []
         two = both_held o.class low k_is q v_is
 
         is_home : NoneOf l.pin → IsAtHome q o.handle.0
-        is_home free = at_home g after joint a m who_after p.page o q e two is free
+        is_home free = at_home g after joint a m who_after page o q e two is free
 
         is_kept : (u : UsedCell) → Contains (used_cells q.zspages) u → u.handle ≡ o.handle.0
             → IsKept o u.bytes
         is_kept u in_it named_u =
-            let b = object_is g after joint a m who_after p.page o q e two is u
+            let b = object_is g after joint a m who_after page o q e two is u
             (λ f. count_le (cell_weight f) (used_cells q.zspages) in_it.0 u u
             (omega (arith, in_it.1)) in_it.2) named_u in
-            let i = subst (IsForm g.chain (form_at g p.page e.order)) is form in record {
-              len = image_len g p.page e.order o i ∙ sym (ap length b);
-              page = content g p.page e.order;
-              is_page = content_page g ok p.page e.order;
-              form = image_form g p.page e.order o i ∙ ap (λ (x : List ℕ). Pooled x o.huge) (sym b);
+            let i = subst (IsForm g.chain (form_at g page e.order)) is form in record {
+              len = image_len g page e.order o i ∙ sym (ap length b);
+              page = content g page e.order;
+              is_page = content_page g ok page e.order;
+              form = image_form g page e.order o i ∙ ap (λ (x : List ℕ). Pooled x o.huge) (sym b);
             }
 
         is_lent : (x : Pin) → l.pin ≡ Some x → Names e.kept x → IsLent q x.handle (cell_of x)
         is_lent x e_pin of =
-            let lt = pin_out g after joint a m who_after p.page o q e two is x e_pin of in
+            let lt = pin_out g after joint a m who_after page o q e two is x e_pin of in
             let u = some_use (out_weight (λ y. bit (same_pin x y)) q.class)
             (used_cells q.zspages) lt in
             let out = out_of u.0.out (bit (same_pin x (pin_in q.class u.0))) u.2 in
@@ -483,9 +380,9 @@ module _ (g : Begin) (ok : Known g) (w : State DiskHeld) (r : Ruled g w) (a : �
 
       -- ---- by stages
 
-      module _ (form : IsForm g.chain (form_at g p.page e.order) e.kept) where
+      module _ (form : IsForm g.chain (form_at g page e.order) e.kept) where
         class_low : class_by e.kept < 255
-        class_low = old_low g.chain (form_at g p.page e.order) e.kept form
+        class_low = old_low g.chain (form_at g page e.order) e.kept form
 
         pin_fits : NoneOf l.pin → k ≡ lock.Class (class_by e.kept) → (x : Kept) → e.kept ≡ x
             → PinFits x v
@@ -590,7 +487,7 @@ module _ (g : Begin) (ok : Known g) (w : State DiskHeld) (r : Ruled g w) (a : �
       fetch_fits k_is (kept.Obj o) is = tt
       fetch_fits k_is (kept.Wb b) is = as_device (λ d. b < d.blocks) v
           (device_kind g v (subst (λ (i : LockNo). Sound g (spot n i) v) k_is home.sound))
-          (λ d v_is. block_there g after joint a m who_after b p.page e is d
+          (λ d v_is. block_there g after joint a m who_after b page e is d
           (held_after_it ∙ (λ i. (k_is i, v_is i) ∷ held i)))
 
       release_fits : k ≡ lock.Blocks → (x : Kept) → e.kept ≡ x → ReleaseFits x v
@@ -599,7 +496,7 @@ module _ (g : Begin) (ok : Known g) (w : State DiskHeld) (r : Ruled g w) (a : �
       release_fits k_is (kept.Obj o) is = tt
       release_fits k_is (kept.Wb b) is = as_map (λ x. slice_get x.states b ≡ Some Owned) v
           (map_kind g v (subst (λ (i : LockNo). Sound g (spot n i) v) k_is home.sound))
-          (λ x v_is. owned_is g after joint a m who_after b p.page e is x
+          (λ x v_is. owned_is g after joint a m who_after b page e is x
           (held_after_it ∙ (λ i. (k_is i, v_is i) ∷ held i)))
 
       -- ---- the account
@@ -610,7 +507,7 @@ module _ (g : Begin) (ok : Known g) (w : State DiskHeld) (r : Ruled g w) (a : �
 
         -- the account and the slot are held
         module _ (c : Counters) (v_is : v ≡ holds.Account c) where
-          with_account : m.held ≡ (lock.Account, holds.Account c) ∷ (slot p.page, holds.Slot e) ∷ []
+          with_account : m.held ≡ (lock.Account, holds.Account c) ∷ (slot page, holds.Slot e) ∷ []
           with_account = held_after_it ∙ (λ i. (k_is i, v_is i) ∷ held i)
 
           account_few : (q : Count) → counter q c ≤ 4096 * (n + length w.locals)
@@ -618,35 +515,40 @@ module _ (g : Begin) (ok : Known g) (w : State DiskHeld) (r : Ruled g w) (a : �
               let y = ap (counters q (spot n k)) v_is in let z = counts_few g ok w r.joint q in
               omega arith
 
-        pay_fits : Changes p.op → GoneBy l.ahead e.kept → NoneOf l.behind
-            → IsRight (MaySeeOther g p.page e.order) p.op p.page (page_in l.page e.kept)
-            (content g p.page e.order)
-            → AsAccount (CanPay l.owed (old_weight l.ahead e.kept)
-            (form_weight (next_form p l.page e.kept))) v
-        pay_fits changes gone_by quiet right = as_account _ v account_is (λ c v_is.
+        -- the account may count a page of such a weight
+        pay_any : (new : Weight) → IsSmall new → GoneBy l.ahead e.kept → NoneOf l.behind
+            → AsAccount (CanPay l.owed (old_weight l.ahead e.kept) new) v
+        pay_any new small gone_by quiet = as_account _ v account_is (λ c v_is.
             let two = with_account c v_is in
             let known : (q : Count) → measure q (old_weight l.ahead e.kept) ≤ counter q c = λ q.
             (let x = has_counted g after joint a m who_after c
-            ((slot p.page, holds.Slot e) ∷ []) two (λ i. refl) quiet q in
+            ((slot page, holds.Slot e) ∷ []) two (λ i. refl) quiet q in
             let y = ap (held_sum (spot n) (shown q)) two in
             let z = old_is e.kept l.ahead gone_by q in omega arith) in
             let acts = same_actors in let lim = ok.proper.few in
-            let small = next_small g ok w r.joint a l who p rest todo e changes right in
             let bound : (q : Count) → counter q (counted (repaid c l.owed)
-            (delta.Kept (old_weight l.ahead e.kept) (form_weight (next_form p l.page e.kept))))
+            (delta.Kept (old_weight l.ahead e.kept) new))
             ≤ 4096 * (n + length w.locals) + 4096 = λ q.
-            (let x = counted_count l.owed (old_weight l.ahead e.kept)
-            (form_weight (next_form p l.page e.kept)) c q (known q) in
-            let y = measure_small q (form_weight (next_form p l.page e.kept)) small in
+            (let x = counted_count l.owed (old_weight l.ahead e.kept) new c q (known q) in
+            let y = measure_small q new small in
             let z = account_few c v_is q in omega arith) in
             let b0 = bound Sames in let b1 = bound Packs in let b2 = bound PackedBytes in
             let b3 = bound Huges in let b4 = bound Backs in record {
               pays = can_repay g after joint a m who_after c
-                  ((slot p.page, holds.Slot e) ∷ []) two refl;
+                  ((slot page, holds.Slot e) ∷ []) two refl;
               old_one = is_counted (repaid c l.owed) (old_weight l.ahead e.kept)
                   (λ q. let x = known q in let y = same_repaid q c l.owed in omega arith);
               sizes = (omega arith, omega arith);
             })
+
+    pay_fits : (in_disk : p.page < n) (at_is : l.at ≡ Owing) → k ≡ lock.Account
+        → AsAccount (CanPay l.owed (old_weight l.ahead (e Owing at_is p.page in_disk (λ c d. refl)).kept)
+        (form_weight (next_form p l.page (e Owing at_is p.page in_disk (λ c d. refl)).kept))) v
+    pay_fits in_disk at_is k_is =
+        let s = st Owing at_is p.page in_disk (λ c d. refl) in
+        pay_any Owing at_is p.page in_disk (λ c d. refl) k_is _
+        (next_small g ok w r.joint a l who p rest todo (e Owing at_is p.page in_disk (λ c d. refl))
+        s.kind.0 s.right) s.counts.0 s.counts.1
 
     -- the account is taken beside a pool
     inside_fits : k ≡ lock.Account → AsAccount (CanCharge g.chain) v
@@ -662,6 +564,117 @@ module _ (g : Begin) (ok : Known g) (w : State DiskHeld) (r : Ruled g w) (a : �
       here : Stage g p (entry_in l.held) at l.fresh l.pin l.owed l.ahead l.behind l.page l.fail
       here = stage g ok w r.joint a l who p rest todo l.held at refl at_is
 
+    -- ---- writebacks
+
+    abbrev VisitsSo : Step → Trip → EntryState → Type 0
+    VisitsSo s x y = VisitFits s x y l.pin l.owed l.ahead v
+
+    none_pinned : (x : Option Pin) → NoneOf x → x ≡ None
+    none_pinned None i = refl
+    none_pinned (Some x) i = absurd i
+
+    -- the locks that a step has
+    step_locks : (s : Step) (x : Trip) (ks : List LockNo) → l.at ≡ Visiting s x
+        → ((c d : ℕ) → locks_at (Visiting s x) p c d ≡ ks)
+        → map (λ (y : LockNo × DiskHeld). y.0) l.held ≡ ks
+    step_locks s x ks i is = subst (λ (x : List Part × At). map (λ (y : LockNo × DiskHeld). y.0) l.held
+        ≡ locks_by x.0 x.1 (class_by (entry_in l.held).kept)
+        (new_class g.chain x.0 l.page (entry_in l.held).kept)) (λ k. (todo k, i k)) fit.locks
+        ∙ is (class_by (entry_in l.held).kept)
+        (new_class g.chain (p ∷ rest) l.page (entry_in l.held).kept)
+
+    -- the step after it
+    next_at : (s : Step) (x : Trip) → l.at ≡ Visiting s x
+        → m.at ≡ visited_at s x p.op (entry_or v (entry_in l.held)) l.fail
+    next_at s x i = λ t. taken_at n (todo t) (i t) l.page (entry_or v (entry_in l.held)) l.fail
+
+    -- the device to which a page is written has the block
+    write_fits : (x : Trip) → l.at ≡ Visiting step.Flying x → k ≡ lock.Device → (block : Option ℕ)
+        → x.block ≡ block → WriteFits block v
+    write_fits x i k_is None is = tt
+    write_fits x i k_is (Some b) is = as_device (λ d. b < d.blocks) v
+        (device_kind g v (subst (λ (i : LockNo). Sound g (spot n i) v) k_is home.sound))
+        (λ d v_is. held_there g after joint a m who_after step.Storing x (next_at step.Flying x i) b is
+        (λ f. refl) d l.held (held_after_it ∙ (λ t. (k_is t, v_is t) ∷ l.held))
+        (ap (held_sum (spot n) device_size)
+        (no_held l.held (step_locks step.Flying x [] i (λ c d. refl)))))
+
+    -- the map has the block as reserved
+    map_fits : (s t : Step) (x : Trip) → l.at ≡ Visiting s x
+        → m.at ≡ Visiting t x → ((f : BlockWeigh) → use_at f t x ≡ by_option (f 0) x.block)
+        → ((f : BlockMap → ℕ) → held_sum (spot n) (on_blocks f) l.held ≡ 0) → k ≡ lock.Blocks
+        → (block : Option ℕ) → x.block ≡ block → HeldFits block v
+    map_fits s t x i now uses none_else k_is None is = tt
+    map_fits s t x i now uses none_else k_is (Some b) is =
+        as_map (λ y. slice_get y.states b ≡ Some Held) v
+        (map_kind g v (subst (λ (i : LockNo). Sound g (spot n i) v) k_is home.sound))
+        (λ y v_is. held_is g after joint a m who_after t x now b is y l.held
+        (held_after_it ∙ (λ t. (k_is t, v_is t) ∷ l.held))
+        (none_else (λ z. used_from (holding 1 b) 0 z.states)) uses)
+
+    -- where its mark still stands, the page is in the pool
+    land_fits : (x : Trip) → x.page < n → k ≡ slot x.page → LandFits x.block v
+    land_fits x low k_is = as_slot (λ e. is_mark_of x.block e.under ≡ true → is_obj e.kept ≡ true) v
+        (entry_kind g x.page low v (subst (λ (i : LockNo). Sound g (spot n i) v) k_is home.sound))
+        (λ e v_is on. (subst (λ (y : LockNo × DiskHeld). AtHome g (spot n y.0) y.1)
+        (λ i. (k_is i, v_is i)) home).marks.under_one (some_mark x.block e.under on))
+
+    visit_fits : (x : Trip) (s : Step) → l.at ≡ Visiting s x → VisitsSo s x (entry_in l.held)
+    visit_fits x step.Arriving i = trip_fits x.page (here (Visiting step.Arriving x) i).visits.trip.page
+        (taken_lock (slot x.page) (plan_is (Visiting step.Arriving x) l.held i refl))
+    visit_fits x step.Asking i = as_map (λ y. ⊤) v
+        (map_kind g v (subst (λ (i : LockNo). Sound g (spot n i) v)
+        (taken_lock lock.Blocks (plan_is (Visiting step.Asking x) l.held i refl)) home.sound))
+        (λ y v_is. tt)
+    visit_fits x step.Seen i =
+        let low = (here (Visiting step.Seen x) i).visits.trip.page in
+        let s = st (Visiting step.Seen x) i x.page low (λ c d. refl) in
+        subst (λ (xs : List (LockNo × DiskHeld)). VisitsSo step.Seen x (entry_in xs))
+        (sym (held (Visiting step.Seen x) i x.page low (λ c d. refl)))
+        (pin_fits (Visiting step.Seen x) i x.page low (λ c d. refl) s.visits.step.0.page.stands s.pins
+        (taken_lock _ (next_plan (Visiting step.Seen x) i x.page low (λ c d. refl))) _ refl)
+    visit_fits x step.Pinned i =
+        let low = (here (Visiting step.Pinned x) i).visits.trip.page in
+        let s = st (Visiting step.Pinned x) i x.page low (λ c d. refl) in
+        subst (λ (xs : List (LockNo × DiskHeld)). VisitsSo step.Pinned x (entry_in xs))
+        (sym (held (Visiting step.Pinned x) i x.page low (λ c d. refl)))
+        (pinned_fits (Visiting step.Pinned x) i x.page low (λ c d. refl)
+        s.visits.step.0.page.stands
+        (taken_lock _ (next_plan (Visiting step.Pinned x) i x.page low (λ c d. refl))) l.pin refl
+        s.pins)
+    visit_fits x step.Flying i = write_fits x i
+        (taken_lock lock.Device (plan_is (Visiting step.Flying x) l.held i refl)) x.block refl
+    visit_fits x step.Landing i = land_fits x (here (Visiting step.Landing x) i).visits.trip.page
+        (taken_lock (slot x.page) (plan_is (Visiting step.Landing x) l.held i refl))
+    visit_fits x step.Won i =
+        let low = (here (Visiting step.Won x) i).visits.trip.page in
+        let s = st (Visiting step.Won x) i x.page low (λ c d. refl) in
+        subst (λ (xs : List (LockNo × DiskHeld)). VisitsSo step.Won x (entry_in xs))
+        (sym (held (Visiting step.Won x) i x.page low (λ c d. refl)))
+        (free_fits (Visiting step.Won x) i x.page low (λ c d. refl) s.visits.step.0.page.stands
+        (taken_lock _ (next_plan (Visiting step.Won x) i x.page low (λ c d. refl))) None
+        (none_pinned l.pin s.pins) tt _ refl)
+    visit_fits x step.Backing i =
+        let low = (here (Visiting step.Backing x) i).visits.trip.page in
+        map_fits step.Backing step.Committing x i (next_at step.Backing x i) (λ f. refl)
+        (λ f. ap (held_sum (spot n) (on_blocks f))
+        (held (Visiting step.Backing x) i x.page low (λ c d. refl)))
+        (taken_lock lock.Blocks (plan_is (Visiting step.Backing x) l.held i refl)) x.block refl
+    visit_fits x step.Undoing i =
+        map_fits step.Undoing step.Releasing x i (next_at step.Undoing x i) (λ f. refl)
+        (λ f. ap (held_sum (spot n) (on_blocks f))
+        (no_held l.held (step_locks step.Undoing x [] i (λ c d. refl))))
+        (taken_lock lock.Blocks (plan_is (Visiting step.Undoing x) l.held i refl)) x.block refl
+    visit_fits x step.Owing i =
+        let low = (here (Visiting step.Owing x) i).visits.trip.page in
+        let s = st (Visiting step.Owing x) i x.page low (λ c d. refl) in
+        subst (λ (xs : List (LockNo × DiskHeld)). VisitsSo step.Owing x (entry_in xs))
+        (sym (held (Visiting step.Owing x) i x.page low (λ c d. refl)))
+        (pay_any (Visiting step.Owing x) i x.page low (λ c d. refl)
+        (taken_lock lock.Account (next_plan (Visiting step.Owing x) i x.page low (λ c d. refl)))
+        weight.Back (omega arith) (gone_by l.ahead _ s.counts.0) s.counts.1)
+    visit_fits x s i = tt
+
     abbrev FitsAs : At → EntryState → Type 0
     FitsAs at x = FitsAt (terms g) at p x l.pin l.owed l.ahead l.page v
 
@@ -675,49 +688,49 @@ module _ (g : Begin) (ok : Known g) (w : State DiskHeld) (r : Ruled g w) (a : �
     fits_at (Shrunk x) i = shrunk_fits x i
         (taken_lock lock.Account (plan_is (Shrunk x) l.held i refl))
     fits_at Seen i =
-        let off = (here Seen i).begun in let s = st Seen i off (λ c d. refl) in
+        let off = (disk (here Seen i).begun).0 in let s = st Seen i p.page off (λ c d. refl) in
         subst (λ (xs : List (LockNo × DiskHeld)). FitsAs Seen (entry_in xs))
-        (sym (held Seen i off (λ c d. refl)))
-        (pin_fits Seen i off (λ c d. refl) s.stands s.pins
-        (taken_lock _ (next_plan Seen i off (λ c d. refl))) _ refl)
+        (sym (held Seen i p.page off (λ c d. refl)))
+        (pin_fits Seen i p.page off (λ c d. refl) s.stands s.pins
+        (taken_lock _ (next_plan Seen i p.page off (λ c d. refl))) _ refl)
     fits_at Pinned i =
-        let off = (here Pinned i).begun in let s = st Pinned i off (λ c d. refl) in
+        let off = (disk (here Pinned i).begun).0 in let s = st Pinned i p.page off (λ c d. refl) in
         subst (λ (xs : List (LockNo × DiskHeld)). FitsAs Pinned (entry_in xs))
-        (sym (held Pinned i off (λ c d. refl)))
-        (pinned_fits Pinned i off (λ c d. refl) s.stands
-        (taken_lock _ (next_plan Pinned i off (λ c d. refl))) l.pin refl s.pins)
+        (sym (held Pinned i p.page off (λ c d. refl)))
+        (pinned_fits Pinned i p.page off (λ c d. refl) s.stands
+        (taken_lock _ (next_plan Pinned i p.page off (λ c d. refl))) l.pin refl s.pins)
     fits_at Wanting i =
-        let off = (here Wanting i).begun in let s = st Wanting i off (λ c d. refl) in
+        let off = (disk (here Wanting i).begun).0 in let s = st Wanting i p.page off (λ c d. refl) in
         subst (λ (xs : List (LockNo × DiskHeld)). FitsAs Wanting (entry_in xs))
-        (sym (held Wanting i off (λ c d. refl)))
-        (store_fits Wanting i off (λ c d. refl) s.right (write_changes p.op s.kind.0) _ refl
-        (taken_lock _ (next_plan Wanting i off (λ c d. refl))))
+        (sym (held Wanting i p.page off (λ c d. refl)))
+        (store_fits Wanting i p.page off (λ c d. refl) s.right (write_changes p.op s.kind.0) _ refl
+        (taken_lock _ (next_plan Wanting i p.page off (λ c d. refl))))
     fits_at Inside i = inside_fits (taken_lock lock.Account (plan_is Inside l.held i refl))
     fits_at Old i =
-        let off = (here Old i).begun in let s = st Old i off (λ c d. refl) in
+        let off = (disk (here Old i).begun).0 in let s = st Old i p.page off (λ c d. refl) in
         subst (λ (xs : List (LockNo × DiskHeld)). FitsAs Old (entry_in xs))
-        (sym (held Old i off (λ c d. refl)))
-        (free_fits Old i off (λ c d. refl) s.stands (taken_lock _
-        (next_plan Old i off (λ c d. refl))) l.pin refl s.pins _ refl)
+        (sym (held Old i p.page off (λ c d. refl)))
+        (free_fits Old i p.page off (λ c d. refl) s.stands (taken_lock _
+        (next_plan Old i p.page off (λ c d. refl))) l.pin refl s.pins _ refl)
     fits_at Owing i =
-        let off = (here Owing i).begun in let s = st Owing i off (λ c d. refl) in
+        let off = (disk (here Owing i).begun).0 in
         subst (λ (xs : List (LockNo × DiskHeld)). FitsAs Owing (entry_in xs))
-        (sym (held Owing i off (λ c d. refl)))
-        (pay_fits Owing i off (λ c d. refl) (taken_lock lock.Account
-        (next_plan Owing i off (λ c d. refl))) s.kind.0 s.counts.0 s.counts.1 s.right)
+        (sym (held Owing i p.page off (λ c d. refl)))
+        (pay_fits off i (taken_lock lock.Account (next_plan Owing i p.page off (λ c d. refl))))
     fits_at Away i =
-        let off = (here Away i).begun in
+        let off = (disk (here Away i).begun).0 in
         subst (λ (xs : List (LockNo × DiskHeld)). FitsAs Away (entry_in xs))
-        (sym (held Away i off (λ c d. refl)))
-        (fetch_fits Away i off (λ c d. refl) (taken_lock lock.Device
-        (next_plan Away i off (λ c d. refl))) _ refl)
+        (sym (held Away i p.page off (λ c d. refl)))
+        (fetch_fits Away i p.page off (λ c d. refl) (taken_lock lock.Device
+        (next_plan Away i p.page off (λ c d. refl))) _ refl)
     fits_at Failing i = any_account (taken_lock lock.Account (plan_is Failing l.held i refl))
     fits_at Backed i =
-        let off = (here Backed i).begun in
+        let off = (disk (here Backed i).begun).0 in
         subst (λ (xs : List (LockNo × DiskHeld)). FitsAs Backed (entry_in xs))
-        (sym (held Backed i off (λ c d. refl)))
-        (release_fits Backed i off (λ c d. refl) (taken_lock lock.Blocks
-        (next_plan Backed i off (λ c d. refl))) _ refl)
+        (sym (held Backed i p.page off (λ c d. refl)))
+        (release_fits Backed i p.page off (λ c d. refl) (taken_lock lock.Blocks
+        (next_plan Backed i p.page off (λ c d. refl))) _ refl)
+    fits_at (Visiting s x) i = visit_fits x s i
     fits_at at i = tt
 
   fits_todo : (ps : List Part) → l.todo ≡ ps → FitsBy (terms g) l ps v

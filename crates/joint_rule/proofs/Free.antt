@@ -1,7 +1,10 @@
 -- Takings go from slots to classes, and last to the account, the blocks or the device, so some actor
 -- can always move.
+use Rattle.lock_row.specs.declared.names.Trip.{Trip}
+use Rattle.lock_row.specs.declared.names.Step.{Step}
+use Rattle.lock_row.specs.declared.names.Step.TheVariants as step
 use Rattle.std.proofs.Common.{◌≡◌, ◌+◌, ◌≤◌, ◌<◌, ◌∷◌, ◌∙◌, ℕ, zero, suc, Bool, true, false, List, [], map, length, Option, Some, None, slice_get, refl, sym, ap, subst, arith, ⊎_elim}
-use Rattle.zr_base.specs.declared.op.Op.TheVariants.{Compact, Discard, Idle, Read, Write}
+use Rattle.zr_base.specs.declared.op.Op.TheVariants.{Compact, Discard, Idle, Read, Write, Writeback}
 use Rattle.zr_base.specs.declared.op.Op.{Op}
 use Rattle.joint_rule.proofs.Takes.{some_actor}
 use Rattle.call_history.specs.Parts.{EndsSo, Follows, program}
@@ -17,17 +20,17 @@ use Rattle.joint_rule.proofs.Sums.{locals_le, row_le, some_local}
 use Rattle.joint_rule.specs.Begins.{Begin, finding, ground_of, terms}
 use Rattle.joint_rule.specs.Joint.{IsActor, Joint, Sound}
 use Rattle.joint_rule.specs.Laws.{CanMove, gives, takes, IsLock}
-use Rattle.joint_rule.specs.Stages.{Stage, locks_at, locks_by}
+use Rattle.joint_rule.specs.Stages.{Stage, locks_at, locks_by, visit_locks}
 use Rattle.joint_rule.specs.Weights.{HeldAll, at_place, none, same}
 use Rattle.lock_row.specs.Totals.{held_sum, locals_sum, mass, row_sum}
 use Rattle.lock_row.specs.declared.names.At.{At}
-use Rattle.lock_row.specs.declared.names.At.TheVariants.{Away, Backed, Both, Counting, Failing, Fetching, Freeing, Giving, Inside, Leaving, Made, Missed, Old, Owing, Pinned, Pinning, Ready, Refusing, Releasing, Seen, Start, Unpinning, Wanting, Sweeping, Moving, Shrunk, Shrinking, Scanning, Marking}
+use Rattle.lock_row.specs.declared.names.At.TheVariants.{Away, Backed, Both, Counting, Failing, Fetching, Freeing, Giving, Inside, Leaving, Made, Missed, Old, Owing, Pinned, Pinning, Ready, Refusing, Releasing, Seen, Start, Unpinning, Wanting, Sweeping, Moving, Shrunk, Shrinking, Scanning, Marking, Visiting}
 use Rattle.lock_row.specs.declared.names.LockNo.{LockNo}
 use Rattle.lock_row.specs.declared.names.Plan.{Plan}
 use Rattle.lock_row.specs.declared.names.Plan.TheVariants.{Finished, Give, Take}
 use Rattle.lock_row.specs.declared.names.State.{State}
 use Rattle.page_steps.specs.Pages.{new_class, next_form}
-use Rattle.page_steps.specs.Steps.{DiskHeld, Here, class_by, entry_in, plan, plan_at, plan_by, slot, spot, start_plan, first_lock}
+use Rattle.page_steps.specs.Steps.{DiskHeld, Here, class_by, entry_in, plan, plan_at, plan_by, slot, spot, start_plan, first_lock, visit_plan}
 use Rattle.slot_entry.specs.Forms.{class_in}
 use Rattle.std.proofs.lemmas.Bool.{or_from}
 use Rattle.zr_base.specs.Plain.{Finds, is_beyond, is_maintenance}
@@ -83,6 +86,49 @@ no_start_gives p k false false e = cc
 taken_first : (k m : LockNo) → Take m ≡ Take k → m ≡ k
 taken_first k m e = cc
 
+-- what a writeback gives it took last
+visit_gives : (s : Step) (x : Trip) (c : ℕ) (k : LockNo) → visit_plan s x c ≡ Give k
+    → (ks : List LockNo) × (visit_locks s x c ≡ k ∷ ks)
+visit_gives step.Passing x c k e =
+    ([], (let q : slot x.page ≡ k = cc in ap (λ (y : LockNo). y ∷ []) q))
+visit_gives step.Reserving x c k e = (
+  slot x.page ∷ [],
+  (let q : lock.Blocks ≡ k = cc in ap (λ (y : LockNo). y ∷ slot x.page ∷ []) q),
+)
+visit_gives step.Quitting x c k e =
+    ([], (let q : slot x.page ≡ k = cc in ap (λ (y : LockNo). y ∷ []) q))
+visit_gives step.Pinning x c k e = (
+  slot x.page ∷ [],
+  (let q : lock.Class c ≡ k = cc in ap (λ (y : LockNo). y ∷ slot x.page ∷ []) q),
+)
+visit_gives step.Unpinning x c k e = (
+  slot x.page ∷ [],
+  (let q : lock.Class c ≡ k = cc in ap (λ (y : LockNo). y ∷ slot x.page ∷ []) q),
+)
+visit_gives step.Marking x c k e =
+    ([], (let q : slot x.page ≡ k = cc in ap (λ (y : LockNo). y ∷ []) q))
+visit_gives step.Storing x c k e =
+    ([], (let q : lock.Device ≡ k = cc in ap (λ (y : LockNo). y ∷ []) q))
+visit_gives step.Freeing x c k e = (
+  slot x.page ∷ [],
+  (let q : lock.Class c ≡ k = cc in ap (λ (y : LockNo). y ∷ slot x.page ∷ []) q),
+)
+visit_gives step.Committing x c k e = (
+  slot x.page ∷ [],
+  (let q : lock.Blocks ≡ k = cc in ap (λ (y : LockNo). y ∷ slot x.page ∷ []) q),
+)
+visit_gives step.Paying x c k e = (
+  slot x.page ∷ [],
+  (let q : lock.Account ≡ k = cc in ap (λ (y : LockNo). y ∷ slot x.page ∷ []) q),
+)
+visit_gives step.Putting x c k e =
+    ([], (let q : slot x.page ≡ k = cc in ap (λ (y : LockNo). y ∷ []) q))
+visit_gives step.Losing x c k e =
+    ([], (let q : slot x.page ≡ k = cc in ap (λ (y : LockNo). y ∷ []) q))
+visit_gives step.Releasing x c k e =
+    ([], (let q : lock.Blocks ≡ k = cc in ap (λ (y : LockNo). y ∷ []) q))
+visit_gives s x c k e = absurd (cc)
+
 -- what an actor gives it took last
 gives_last : (size : ℕ) (at : At) (p : Part) (c d : ℕ) (k : LockNo) → plan_at size at p c d ≡ Give k
     → (ks : List LockNo) × (locks_at at p c d ≡ k ∷ ks)
@@ -94,6 +140,7 @@ gives_last size (Marking x) p c d k e = (
   (let q : slot x.page ≡ k = cc in
       ap (λ (y : LockNo). y ∷ []) q),
 )
+gives_last size (Visiting s x) p c d k e = visit_gives s x c k e
 gives_last size (Sweeping x) p c d k e = absurd (cc)
 gives_last size (Moving x) p c d k e = (
   [],
@@ -185,23 +232,23 @@ module _ (size : ℕ) (p : Part) (c d : ℕ) (k : LockNo) where
   IsAbove at = (spot size k < size + 258) × ((j : ℕ) → 1 ≤ places_sum size j (locks_at at p c d)
       → j < spot size k)
 
-  above_class : (at : At) (x : ℕ) → lock.Class x ≡ k → x < 255 → p.page < size
-      → locks_at at p c d ≡ slot p.page ∷ [] → IsAbove at
-  above_class at x e low lt is =
+  above_class : (at : At) (x s : ℕ) → lock.Class x ≡ k → x < 255 → s < size
+      → locks_at at p c d ≡ slot s ∷ [] → IsAbove at
+  above_class at x s e low lt is =
       let q : size + x ≡ spot size k = ap (spot size) e in (
         omega arith,
-        (λ j le. let s = ap (places_sum size j) is in
-            let r = same_one j p.page (omega arith) in omega arith),
+        (λ j le. let t = ap (places_sum size j) is in
+            let r = same_one j s (omega arith) in omega arith),
       )
 
   -- the account, the blocks and the device
-  above_last : (at : At) (m : LockNo) → m ≡ k → size + 255 ≤ spot size m → spot size m < size + 258
-      → p.page < size → locks_at at p c d ≡ slot p.page ∷ [] → IsAbove at
-  above_last at m e high low lt is =
+  above_last : (at : At) (m : LockNo) (s : ℕ) → m ≡ k → size + 255 ≤ spot size m
+      → spot size m < size + 258 → s < size → locks_at at p c d ≡ slot s ∷ [] → IsAbove at
+  above_last at m s e high low lt is =
       let q : spot size m ≡ spot size k = ap (spot size) e in (
         omega arith,
-        (λ j le. let s = ap (places_sum size j) is in
-            let r = same_one j p.page (omega arith) in omega arith),
+        (λ j le. let t = ap (places_sum size j) is in
+            let r = same_one j s (omega arith) in omega arith),
       )
 
   above_none : (at : At) (m : LockNo) → m ≡ k → spot size m < size + 258 → locks_at at p c d ≡ []
@@ -232,8 +279,8 @@ module _ (g : Begin) (ok : Known g) (w : State DiskHeld) (j : Joint g w) where
 
     module _ (p : Part) (rest : List Part) (todo : l.todo ≡ p ∷ rest) where
       disk : OnDisk n p
-      disk = on_disk (EndsSo (ground_of g)) n fit.ops l.done p rest
-          (subst (Follows (EndsSo (ground_of g)) (program n 0 fit.ops) l.done) todo fit.follows)
+      disk = on_disk (EndsSo (ground_of g)) n g.given.backed fit.ops l.done p rest
+          (subst (Follows (EndsSo (ground_of g)) (program n g.given.backed 0 fit.ops) l.done) todo fit.follows)
 
       abbrev c : ℕ
       c = class_by (entry_in l.held).kept
@@ -260,6 +307,7 @@ module _ (g : Begin) (ok : Known g) (w : State DiskHeld) (j : Joint g w) where
       -- the first lock of what is no request is one of the disk
       first_is : (op : Op) → IsLock n (first_lock op)
       first_is (Idle age) = some
+      first_is (Writeback mode) = some
       first_is (Write start count stuff) = omega arith
       first_is (Read start count) = omega arith
       first_is (Discard start count) = omega arith
@@ -282,6 +330,90 @@ module _ (g : Begin) (ok : Known g) (w : State DiskHeld) (j : Joint g w) where
           let lt = (disk (or_from _ _ a b)).0 in above_none n p c d k Start (slot p.page)
           (let z : slot p.page ≡ k = cc in z) (omega arith) refl
 
+      -- the steps of a writeback
+      module _ (k : LockNo) where
+        trip_low : (s : Step) (x : Trip) → l.at ≡ Visiting s x → x.page < n
+        trip_low s x is = (here (Visiting s x) is).visits.trip.page
+
+        above_visit : (s : Step) (x : Trip) → l.at ≡ Visiting s x → visit_plan s x c ≡ Take k
+            → IsAbove n p c d k (Visiting s x)
+        above_visit step.Arriving x is e = let low = trip_low step.Arriving x is in
+            above_none n p c d k (Visiting step.Arriving x) (slot x.page)
+            (let q : slot x.page ≡ k = cc in q) (omega arith) refl
+        above_visit step.Asking x is e = above_last n p c d k (Visiting step.Asking x) lock.Blocks
+            x.page (let q : lock.Blocks ≡ k = cc in q) (omega arith) (omega arith)
+            (trip_low step.Asking x is) refl
+        above_visit step.Seen x is e = above_class n p c d k (Visiting step.Seen x) c x.page
+            (let q : lock.Class c ≡ k = cc in q)
+            (old_low g.chain _ _ (here (Visiting step.Seen x) is).visits.step.0.page.stands)
+            (trip_low step.Seen x is) refl
+        above_visit step.Pinned x is e = above_class n p c d k (Visiting step.Pinned x) c x.page
+            (let q : lock.Class c ≡ k = cc in q)
+            (old_low g.chain _ _ (here (Visiting step.Pinned x) is).visits.step.0.page.stands)
+            (trip_low step.Pinned x is) refl
+        above_visit step.Flying x is e = above_none n p c d k (Visiting step.Flying x) lock.Device
+            (let q : lock.Device ≡ k = cc in q) (omega arith) refl
+        above_visit step.Landing x is e = let low = trip_low step.Landing x is in
+            above_none n p c d k (Visiting step.Landing x) (slot x.page)
+            (let q : slot x.page ≡ k = cc in q) (omega arith) refl
+        above_visit step.Won x is e = above_class n p c d k (Visiting step.Won x) c x.page
+            (let q : lock.Class c ≡ k = cc in q)
+            (old_low g.chain _ _ (here (Visiting step.Won x) is).visits.step.0.page.stands)
+            (trip_low step.Won x is) refl
+        above_visit step.Backing x is e = above_last n p c d k (Visiting step.Backing x) lock.Blocks
+            x.page (let q : lock.Blocks ≡ k = cc in q) (omega arith) (omega arith)
+            (trip_low step.Backing x is) refl
+        above_visit step.Owing x is e = above_last n p c d k (Visiting step.Owing x) lock.Account
+            x.page (let q : lock.Account ≡ k = cc in q) (omega arith) (omega arith)
+            (trip_low step.Owing x is) refl
+        above_visit step.Undoing x is e = above_none n p c d k (Visiting step.Undoing x) lock.Blocks
+            (let q : lock.Blocks ≡ k = cc in q) (omega arith) refl
+        above_visit s x is e = absurd (cc)
+
+        visit_takes : (s : Step) (x : Trip) → l.at ≡ Visiting s x → visit_plan s x c ≡ Take k
+            → IsLock n k
+        visit_takes step.Arriving x is e = subst (IsLock n) (let q : slot x.page ≡ k = cc in q)
+            (trip_low step.Arriving x is)
+        visit_takes step.Asking x is e = subst (IsLock n) (let q : lock.Blocks ≡ k = cc in q) tt
+        visit_takes step.Seen x is e = subst (IsLock n) (let q : lock.Class c ≡ k = cc in q)
+            (old_low g.chain _ _ (here (Visiting step.Seen x) is).visits.step.0.page.stands)
+        visit_takes step.Pinned x is e = subst (IsLock n) (let q : lock.Class c ≡ k = cc in q)
+            (old_low g.chain _ _ (here (Visiting step.Pinned x) is).visits.step.0.page.stands)
+        visit_takes step.Flying x is e = subst (IsLock n) (let q : lock.Device ≡ k = cc in q) tt
+        visit_takes step.Landing x is e = subst (IsLock n) (let q : slot x.page ≡ k = cc in q)
+            (trip_low step.Landing x is)
+        visit_takes step.Won x is e = subst (IsLock n) (let q : lock.Class c ≡ k = cc in q)
+            (old_low g.chain _ _ (here (Visiting step.Won x) is).visits.step.0.page.stands)
+        visit_takes step.Backing x is e = subst (IsLock n) (let q : lock.Blocks ≡ k = cc in q) tt
+        visit_takes step.Owing x is e = subst (IsLock n) (let q : lock.Account ≡ k = cc in q) tt
+        visit_takes step.Undoing x is e = subst (IsLock n) (let q : lock.Blocks ≡ k = cc in q) tt
+        visit_takes s x is e = absurd (cc)
+
+        visit_lock : (s : Step) (x : Trip) → l.at ≡ Visiting s x → visit_plan s x c ≡ Give k
+            → IsLock n k
+        visit_lock step.Passing x is e = subst (IsLock n) (let q : slot x.page ≡ k = cc in q)
+            (trip_low step.Passing x is)
+        visit_lock step.Reserving x is e = subst (IsLock n) (let q : lock.Blocks ≡ k = cc in q) tt
+        visit_lock step.Quitting x is e = subst (IsLock n) (let q : slot x.page ≡ k = cc in q)
+            (trip_low step.Quitting x is)
+        visit_lock step.Pinning x is e = subst (IsLock n) (let q : lock.Class c ≡ k = cc in q)
+            (old_low g.chain _ _ (here (Visiting step.Pinning x) is).visits.step.0.page.stands)
+        visit_lock step.Unpinning x is e = subst (IsLock n) (let q : lock.Class c ≡ k = cc in q)
+            (old_low g.chain _ _ (here (Visiting step.Unpinning x) is).visits.step.0.page.stands)
+        visit_lock step.Marking x is e = subst (IsLock n) (let q : slot x.page ≡ k = cc in q)
+            (trip_low step.Marking x is)
+        visit_lock step.Storing x is e = subst (IsLock n) (let q : lock.Device ≡ k = cc in q) tt
+        visit_lock step.Freeing x is e = subst (IsLock n) (let q : lock.Class c ≡ k = cc in q)
+            (old_low g.chain _ _ (here (Visiting step.Freeing x) is).visits.step.0.page.stands)
+        visit_lock step.Committing x is e = subst (IsLock n) (let q : lock.Blocks ≡ k = cc in q) tt
+        visit_lock step.Paying x is e = subst (IsLock n) (let q : lock.Account ≡ k = cc in q) tt
+        visit_lock step.Putting x is e = subst (IsLock n) (let q : slot x.page ≡ k = cc in q)
+            (trip_low step.Putting x is)
+        visit_lock step.Losing x is e = subst (IsLock n) (let q : slot x.page ≡ k = cc in q)
+            (trip_low step.Losing x is)
+        visit_lock step.Releasing x is e = subst (IsLock n) (let q : lock.Blocks ≡ k = cc in q) tt
+        visit_lock s x is e = absurd (cc)
+
       above : (k : LockNo) (at : At) → l.at ≡ at → plan_at n at p c d ≡ Take k
           → IsAbove n p c d k at
       above k Start is e = above_start k (is_maintenance p.op) (is_beyond n p.op) refl refl e
@@ -293,24 +425,24 @@ module _ (g : Begin) (ok : Known g) (w : State DiskHeld) (j : Joint g w) where
           (let q : lock.Class x.class ≡ k = cc in q) (omega arith) refl
       above k (Shrunk x) is e = above_none n p c d k (Shrunk x) lock.Account
           (let q : lock.Account ≡ k = cc in q) (omega arith) refl
-      above k Seen is e = let s = here Seen is in above_class n p c d k Seen c
+      above k Seen is e = let s = here Seen is in above_class n p c d k Seen c p.page
           (let q : lock.Class c ≡ k = cc in q) (old_low g.chain _ _ s.stands) (disk s.begun).0 refl
-      above k Pinned is e = let s = here Pinned is in above_class n p c d k Pinned c
+      above k Pinned is e = let s = here Pinned is in above_class n p c d k Pinned c p.page
           (let q : lock.Class c ≡ k = cc in q) (old_low g.chain _ _ s.stands) (disk s.begun).0 refl
       above k Wanting is e = let s = here Wanting is in
-          above_class n p c d k Wanting d (let q : lock.Class d ≡ k = cc in
+          above_class n p c d k Wanting d p.page (let q : lock.Class d ≡ k = cc in
           q) (form_low g.chain _) (disk s.begun).0 refl
       above k Inside is e = let s = here Inside is in above_both n p c d k
           (let q : lock.Account ≡ k = cc in q) (disk s.begun).0 (form_low g.chain _)
-      above k Old is e = let s = here Old is in above_class n p c d k Old c
+      above k Old is e = let s = here Old is in above_class n p c d k Old c p.page
           (let q : lock.Class c ≡ k = cc in q) (old_low g.chain _ _ s.stands) (disk s.begun).0 refl
-      above k Owing is e = let s = here Owing is in above_last n p c d k Owing lock.Account
+      above k Owing is e = let s = here Owing is in above_last n p c d k Owing lock.Account p.page
           (let q : lock.Account ≡ k = cc in q) (omega arith) (omega arith) (disk s.begun).0 refl
-      above k Away is e = let s = here Away is in above_last n p c d k Away lock.Device
+      above k Away is e = let s = here Away is in above_last n p c d k Away lock.Device p.page
           (let q : lock.Device ≡ k = cc in q) (omega arith) (omega arith) (disk s.begun).0 refl
-      above k Failing is e = let s = here Failing is in above_last n p c d k Failing lock.Account
+      above k Failing is e = let s = here Failing is in above_last n p c d k Failing lock.Account p.page
           (let q : lock.Account ≡ k = cc in q) (omega arith) (omega arith) (disk s.begun).0 refl
-      above k Backed is e = let s = here Backed is in above_last n p c d k Backed lock.Blocks
+      above k Backed is e = let s = here Backed is in above_last n p c d k Backed lock.Blocks p.page
           (let q : lock.Blocks ≡ k = cc in q) (omega arith) (omega arith) (disk s.begun).0 refl
       above k Fetching is e = absurd (cc)
       above k Counting is e = absurd (cc)
@@ -326,6 +458,7 @@ module _ (g : Begin) (ok : Known g) (w : State DiskHeld) (j : Joint g w) where
       above k Giving is e = absurd (cc)
       above k Ready is e = absurd (cc)
       above k (Marking x) is e = absurd (cc)
+      above k (Visiting s x) is e = above_visit k s x is e
       above k (Moving x) is e = absurd (cc)
       above k (Shrinking x) is e = absurd (cc)
 
@@ -374,6 +507,7 @@ module _ (g : Begin) (ok : Known g) (w : State DiskHeld) (j : Joint g w) where
       take_lock k Giving is e = absurd (cc)
       take_lock k Ready is e = absurd (cc)
       take_lock k (Marking x) is e = absurd (cc)
+      take_lock k (Visiting s x) is e = visit_takes k s x is e
       take_lock k (Moving x) is e = absurd (cc)
       take_lock k (Shrinking x) is e = absurd (cc)
 
@@ -383,6 +517,7 @@ module _ (g : Begin) (ok : Known g) (w : State DiskHeld) (j : Joint g w) where
           (is_beyond n p.op) e)
       give_lock k (Marking x) is e = subst (IsLock n) (let q : slot x.page ≡ k = cc in q)
           (here (Marking x) is).scans.scan.page
+      give_lock k (Visiting s x) is e = visit_lock k s x is e
       give_lock k (Moving x) is e = subst (IsLock n) (let q : lock.Class x.class ≡ k = cc in q)
           (here (Moving x) is).compacts.class
       give_lock k (Shrinking x) is e = subst (IsLock n) (let q : lock.Account ≡ k = cc in q) tt

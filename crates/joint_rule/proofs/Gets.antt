@@ -1,4 +1,5 @@
 -- What the joint rule tells of the pool that an actor holds, beside its entry.
+use Rattle.lock_row.specs.declared.names.Step.{Step}
 use Rattle.std.proofs.Common.{◌≡◌, ◌+◌, ◌≤◌, ◌<◌, ◌∷◌, ◌∙◌, ℕ, zero, suc, Bool, true, false, cond, List, [], length, sum_by, Option, Some, None, slice_get, refl, sym, ap, arith, ⊎_elim}
 use Rattle.call_history.specs.declared.part.Part.{Part}
 use Rattle.call_history.specs.declared.part.PartEnd.{PartEnd}
@@ -9,11 +10,11 @@ use Rattle.joint_rule.proofs.Sums.{held_nothing, locals_le, locals_mono, locals_
 use Rattle.joint_rule.specs.Begins.{Begin, image}
 use Rattle.joint_rule.specs.Joint.{IsActor, Joint, Sound}
 use Rattle.joint_rule.specs.Rule.{owed}
-use Rattle.joint_rule.specs.Stages.{IsPinned, MayPin, Names, NoneOf, PinAt, StageBy}
+use Rattle.joint_rule.specs.Stages.{IsPinned, MayPin, Names, NoneOf, PinAt, StageBy, VisitPin}
 use Rattle.joint_rule.specs.Weights.{PinWeigh, at_place, cell_weight, claim_by, claims, each_one, fresh_claim, none, nothing, object_weight, one, out_weight, outs, pinned, same, stored}
 use Rattle.lock_row.specs.Totals.{by_option, held_sum, locals_sum, mass, row_sum, total}
 use Rattle.lock_row.specs.declared.names.At.{At}
-use Rattle.lock_row.specs.declared.names.At.TheVariants.{Both, Freeing, Inside, Made, Old, Pinned, Unpinning, Wanting}
+use Rattle.lock_row.specs.declared.names.At.TheVariants.{Both, Freeing, Inside, Made, Old, Pinned, Unpinning, Wanting, Visiting}
 use Rattle.lock_row.specs.declared.names.LockNo.{LockNo}
 use Rattle.lock_row.specs.declared.names.Object.{Object}
 use Rattle.lock_row.specs.declared.names.Pin.{Pin}
@@ -28,6 +29,7 @@ use Rattle.std.proofs.lemmas.List.Sums.{sum_by-cons}
 use Rattle.std.specs.Prelude.{Contains}
 use Rattle.zspage.specs.Cells.{UsedCell}
 use Rattle.lock_row.specs.declared.names.LockNo.TheVariants as lock
+use Rattle.lock_row.specs.declared.names.Step.TheVariants as step
 use Rattle.lock_row.specs.declared.names.Held.TheVariants as holds
 use Rattle.slot_entry.specs.declared.kept.Kept.TheVariants as kept
 
@@ -71,6 +73,12 @@ may_claim : (c h : ℕ) (k : Kept) (b : List ℕ) (x : Option Pin) → MayPin k 
 may_claim c h k b None i = omega arith
 may_claim c h k b (Some x) i = names_claim c h k b x i
 
+visit_pin : (c h : ℕ) (s : Step) (k : Kept) (b : List ℕ) (x : Option Pin) → VisitPin s k x
+    → by_option (cell_at c h) x ≤ claim_by (name_at c h) k b
+visit_pin c h step.Pinned k b x i = is_claim c h k b x i
+visit_pin c h step.Unpinning k b x i = is_claim c h k b x i
+visit_pin c h s k b x i = let r = none_pins (cell_at c h) x i in omega arith
+
 pin_at : (c h : ℕ) (at : At) (k : Kept) (b : List ℕ) (x : Option Pin) → PinAt at k x
     → by_option (cell_at c h) x ≤ claim_by (name_at c h) k b
 pin_at c h Pinned k b x i = is_claim c h k b x i
@@ -81,6 +89,7 @@ pin_at c h Both k b x i = may_claim c h k b x i
 pin_at c h Made k b x i = may_claim c h k b x i
 pin_at c h Old k b x i = may_claim c h k b x i
 pin_at c h Freeing k b x i = may_claim c h k b x i
+pin_at c h (Visiting s y) k b x i = visit_pin c h s k b x i
 pin_at c h at k b x i = let r = none_pins (cell_at c h) x i in omega arith
 
 any_bytes : (c h : ℕ) (k : Kept) (b d : List ℕ) → claim_by (name_at c h) k b

@@ -1,12 +1,13 @@
 -- What each giving does, whatever else there is.
-use Rattle.std.proofs.Common.{◌≡◌, ◌+◌, ◌≤◌, ◌<◌, ◌∷◌, ◌++◌, ◌∙◌, ◌⊎◌, ℕ, zero, suc, true, false, List, [], map, Option, Some, None, option_and_then, slice_get, refl, sym, ap, subst, arith, inl, inr, Bool, length, length-append}
+use Rattle.joint_rule.proofs.Trips.{NoTrip, Storage, noted_marks, quiet_storage, same_marks, still_storage}
+use Rattle.std.proofs.Common.{◌≡◌, ◌+◌, ◌≤◌, ◌<◌, ◌∷◌, ◌++◌, ◌∙◌, ◌⊎◌, ℕ, zero, suc, true, false, List, [], map, Option, Some, None, option_and_then, slice_get, refl, sym, ap, subst, arith, inl, inr, Bool, length, length-append, is_some}
 use Rattle.call_history.specs.Parts.{EndsSo, Follows, left_by, program}
 use Rattle.call_history.specs.Shows.{got_from, tag_by}
 use Rattle.call_history.specs.declared.part.Part.{Part}
 use Rattle.call_history.specs.declared.part.PartEnd.{PartEnd}
 use Rattle.call_history.specs.declared.part.PartEnd.TheVariants.{AtLimit, Carried, Eio, NoMemory, Whole}
 use Rattle.joint_rule.proofs.Balances.{invalid_count, invalid_fixed, none_fresh, put_claim, put_form, put_plain, put_weight}
-use Rattle.joint_rule.proofs.Blocks.{Balanced, Storage, apart, entry_back, no_block, no_lies}
+use Rattle.joint_rule.proofs.Blocks.{Balanced, apart, entry_back, no_block, no_lies, MarksLess}
 use Rattle.joint_rule.proofs.Facts.{Known}
 use Rattle.joint_rule.proofs.Lookups.{none_weight, nothing_shown, sound}
 use Rattle.joint_rule.proofs.Pages.{back_change, back_read, content_read, ever_up, form_next, form_read, next_light, content_page, LeavesSo}
@@ -14,7 +15,7 @@ use Rattle.joint_rule.proofs.Stages.{on_disk}
 use Rattle.joint_rule.specs.Begins.{AreCarried, Begin, HasEvent, back_at, content, ever, form_at, ground_of, image}
 use Rattle.joint_rule.specs.Joint.{AtHome, EntryFits, IsActor, Joint, Sound}
 use Rattle.joint_rule.specs.Rule.{owed}
-use Rattle.joint_rule.specs.Stages.{Changes, FailBy, GoneBy, IsForm, IsRight, IsSmall, Looks, NoObj, NoneOf, Stage, StageBy, is_wb, locks_at, locks_by, MayIdle, MaySeeOther}
+use Rattle.joint_rule.specs.Stages.{Changes, FailBy, GoneBy, IsForm, IsRight, IsSmall, Looks, NoObj, NoneOf, Stage, StageBy, locks_at, locks_by, MaySeeOther, IsBack, HasMarks}
 use Rattle.joint_rule.specs.Weights.{Count, Fixed, HeldAll, Limit, PackedBytes, PinWeigh, Weigh, ahead, at_place, behind, block_by, chains, claim_by, claims, counters, each_one, ever_at, fixed, fresh_claim, lies_by, measure, mosts, none, nothing, object_weight, one, outs, owing, pages, pinned, shown, some_of, stored}
 use Rattle.lock_row.specs.Totals.{by_option, held_sum, mass}
 use Rattle.lock_row.specs.declared.names.At.{At}
@@ -30,13 +31,13 @@ use Rattle.page_steps.specs.Pages.{new_class, next_form, page_in}
 use Rattle.page_steps.specs.Steps.{DiskHeld, Here, class_by, entry_in, on, piece_over, slot, spot}
 use Rattle.plain_disk.specs.Ends.{is_single}
 use Rattle.plain_disk.specs.Phases.{begun, touched_by}
-use Rattle.slot_entry.specs.Entries.{EntryState, weight_of}
+use Rattle.slot_entry.specs.Entries.{EntryState, weight_of, is_wb}
 use Rattle.slot_entry.specs.Forms.{PageForm, bytes_in, class_in, form_weight}
 use Rattle.slot_entry.specs.declared.kept.Kept.{Kept}
 use Rattle.std.proofs.lemmas.Bool.{cases_Bool}
 use Rattle.zr_base.specs.Plain.{has_event, is_beyond, is_maintenance, named}
 use Rattle.zr_base.specs.declared.op.Op.{Op}
-use Rattle.zr_base.specs.declared.op.Op.TheVariants.{Compact, Discard, Idle, Read, Write}
+use Rattle.zr_base.specs.declared.op.Op.TheVariants.{Compact, Discard, Idle, Read, Write, Writeback}
 use Rattle.zr_base.specs.declared.op.Tag.{Tag}
 use Rattle.lock_row.specs.declared.names.LockNo.TheVariants as lock
 use Rattle.lock_row.specs.declared.names.Held.TheVariants as holds
@@ -59,13 +60,14 @@ module _ (g : Begin) where
     pub after_most : mass (spot g.given.size) mosts none m ≡ 0
     pub after_pages : mass (spot g.given.size) pages none m ≡ 0
 
-  pub record Gift (a : ℕ) (l : Here) (k : LockNo) (v : DiskHeld) (m : Here) : Type 0 where
+  pub record Gift (w : State DiskHeld) (a : ℕ) (l : Here) (k : LockNo) (v : DiskHeld) (m : Here)
+      : Type 0 where
     pub home : AtHome g (spot g.given.size k) v
     pub fits : IsActor g a m
     pub alone : (i : ℕ) → mass (spot g.given.size) (at_place i) none m + at_place i
         (spot g.given.size k) v ≡ mass (spot g.given.size) (at_place i) none l
     pub owners : (f : Weigh) → Balanced g l k v m (claims g f) (fresh_claim f) (stored f) none
-    pub storage : Storage g l k v m
+    pub storage : Storage g w a l k v m
     pub pins : (f : PinWeigh) → Balanced g l k v m (outs f) none nothing (pinned f)
     pub frames : Balanced g l k v m pages none chains owing
     pub counts : (q : Count) → Balanced g l k v m (counters q) (behind q) (shown q) (ahead q)
@@ -109,6 +111,7 @@ ends_badly g p (Write start count stuff) NoMemory f = f
 ends_badly g p (Read start count) x f = absurd f
 ends_badly g p (Discard start count) x f = absurd f
 ends_badly g p (Idle age) x f = absurd f
+ends_badly g p (Writeback mode) x f = absurd f
 ends_badly g p Compact x f = absurd f
 
 -- what was counted of the page is what the entry and the actor tell
@@ -128,6 +131,7 @@ start_locks (p ∷ ps) c d = refl
 pub start_stage : (g : Begin) (ps : List Part) (e : EntryState)
     → StageBy g ps e Start None None 0 None None None None
 start_stage g [] e = record {
+  begun = refl;
   made = tt;
   pins = tt;
   owes = refl;
@@ -151,6 +155,7 @@ start_stage g (p ∷ ps) e = record {
   fails = tt;
   begun = tt;
   scans = tt;
+  visits = tt;
   compacts = tt;
 }
 
@@ -208,8 +213,8 @@ module _ (g : Begin) (ok : Known g) (w : State DiskHeld) (j : Joint g w) (a : �
     lean = lean;
   }
 
-  pub next : Follows (EndsSo (ground_of g)) (program n 0 fit.ops) l.done (p ∷ rest)
-  next = subst (Follows (EndsSo (ground_of g)) (program n 0 fit.ops) l.done) todo fit.follows
+  pub next : Follows (EndsSo (ground_of g)) (program n g.given.backed 0 fit.ops) l.done (p ∷ rest)
+  next = subst (Follows (EndsSo (ground_of g)) (program n g.given.backed 0 fit.ops) l.done) todo fit.follows
 
   -- the piece is over
   pub is_over : (end : PartEnd) (got : List (List ℕ)) → EndsSo (ground_of g) p end
@@ -218,7 +223,7 @@ module _ (g : Begin) (ok : Known g) (w : State DiskHeld) (j : Joint g w) (a : �
     who = fit.who;
     ops = fit.ops;
     named = fit.named;
-    follows = ok.facts.follows (ground_of g) (program n 0 fit.ops) l.done p rest
+    follows = ok.facts.follows (ground_of g) (program n g.given.backed 0 fit.ops) l.done p rest
         (record { part = p; end = end; got = got }) next refl so;
     locks = start_locks (left_by end p.nr rest) _ _;
     sound = tt;
@@ -231,7 +236,7 @@ module _ (g : Begin) (ok : Known g) (w : State DiskHeld) (j : Joint g w) (a : �
 
   pub is_named : named g.given.actors (tag_by l.actor p) ≡ Some p.op
   is_named = ap (λ (b : ℕ). named g.given.actors (tag_by b p)) fit.who ∙ ap named_in fit.named
-      ∙ ok.facts.named (ground_of g) n fit.ops l.done p rest next
+      ∙ ok.facts.named (ground_of g) n g.given.backed fit.ops l.done p rest next
 
   -- what the piece leaves weighs little
   pub next_small : (e : EntryState) → Changes p.op
@@ -245,7 +250,7 @@ module _ (g : Begin) (ok : Known g) (w : State DiskHeld) (j : Joint g w) (a : �
 
   pub give_refuses : (c : Counters) → l.at ≡ Refusing → l.held
       ≡ (lock.Account, holds.Account c) ∷ []
-      → Gift g a l lock.Account (holds.Account (counted c delta.InvalidIo))
+      → Gift g w a l lock.Account (holds.Account (counted c delta.InvalidIo))
       (piece_over l p (Whole ends.Range) [] rest)
   give_refuses c at held =
       let q = stage _ Refusing held at in record {
@@ -255,8 +260,10 @@ module _ (g : Begin) (ok : Known g) (w : State DiskHeld) (j : Joint g w) (a : �
         owners = λ f. let r = ap (held_sum (spot n) (claims g f)) held in
             let x = ap (held_sum (spot n) (stored f)) held in let y = none_fresh f l.fresh q.made in
             omega arith;
-        storage = apart g l _ _ _ (λ f z y. let r = ap (held_sum (spot n) f) held in
-            let s = y (n + 255) c in let t = y (n + 255) (counted c delta.InvalidIo) in omega arith);
+        storage = quiet_storage g w a l _ _ _ j who Refusing at tt tt (apart g a l _ _ _ (λ f z y.
+            let r = ap (held_sum (spot n) f) held in
+            let s = y (n + 255) c in let t = y (n + 255) (counted c delta.InvalidIo) in
+            omega arith));
         pins = λ f. let r = ap (held_sum (spot n) (outs f)) held in
             let x = ap (held_sum (spot n) nothing) held in let y = none_pin f l.pin q.pins in
             omega arith;
@@ -279,7 +286,7 @@ module _ (g : Begin) (ok : Known g) (w : State DiskHeld) (j : Joint g w) (a : �
 
   module _ (e f : EntryState) (held : l.held ≡ (slot p.page, holds.Slot e) ∷ []) where
     place : is_single n p.op ≡ false → (p.page < n) × (has_event p.op p.page ≡ true)
-    place b = on_disk (EndsSo (ground_of g)) n fit.ops l.done p rest next b
+    place b = on_disk (EndsSo (ground_of g)) n g.given.backed fit.ops l.done p rest next b
 
     calls_on : (order : List Tag) (t : Tag) → AreCarried g p.page order
         → HasEvent p.page (named g.given.actors t) → AreCarried g p.page (order ++ t ∷ [])
@@ -303,13 +310,23 @@ module _ (g : Begin) (ok : Known g) (w : State DiskHeld) (j : Joint g w) (a : �
       touched = notes.touched ∙ sym (ap (λ (ts : List Tag).
           touched_by ts g.clock (g.touched p.page)) notes.order
           ∙ touched_now x.order (tag_by l.actor p) (g.touched p.page));
-      mark = record {
-        under = notes.under;
-        stays = λ none. absurd (let e = ap length (sym notes.order ∙ none) in
-            let s = length-append x.order (tag_by l.actor p ∷ []) in let no : ⊥ = omega arith in no);
-        only = λ none idle. absurd (unmarked y.idle notes.idle idle);
-      };
+      mark = λ none idle. absurd (unmarked y.idle notes.idle idle);
     }
+
+    -- an access leaves no mark
+    noted_free : (x y : EntryState) (k : Kept) → Notes g.clock x y k (tag_by l.actor p)
+        → HasMarks g p.page y
+    noted_free x y k notes = record {
+      idle_one = λ idle. absurd (unmarked y.idle notes.idle idle);
+      under_one = λ some. absurd (let q : is_some y.under ≡ false = ap is_some notes.under in
+          unmarked (is_some y.under) q some);
+      stays = λ none. absurd (let e = ap length (sym notes.order ∙ none) in
+          let s = length-append x.order (tag_by l.actor p ∷ []) in let no : ⊥ = omega arith in no);
+    }
+
+    -- the tag is this actor's
+    tag_mine : (tag_by l.actor p).actor ≡ a
+    tag_mine = fit.who
 
     module _ (at : l.at ≡ Ready) (notes : Notes g.clock e f
         (kept_by (next_form p l.page e.kept) l.fresh) (tag_by l.actor p))
@@ -343,9 +360,15 @@ module _ (g : Begin) (ok : Known g) (w : State DiskHeld) (j : Joint g w) (a : �
       now_plain : is_wb f.kept ≡ false
       now_plain = ap is_wb notes.kept ∙ put_plain form l.fresh
 
-      put_backs : is_wb f.kept ≡ back_at g p.page f.order
-      put_backs = now_plain ∙ sym (ap (back_at g p.page) notes.order
-          ∙ back_change g p e.order (tag_by l.actor p) is_named sr.kind.0)
+      now_off : back_at g p.page f.order ≡ false
+      now_off = ap (back_at g p.page) notes.order
+          ∙ back_change g p e.order (tag_by l.actor p) is_named sr.kind.0
+
+      put_backs : IsBack g f.kept (back_at g p.page f.order)
+      put_backs = record {
+        there = λ on. absurd (unmarked (back_at g p.page f.order) now_off on);
+        only = λ none. now_plain ∙ sym now_off;
+      }
 
       now_claim : (h : Weigh) → claim_by h f.kept (image g p.page f.order) ≡ fresh_claim h l
       now_claim h = (λ i. claim_by h (notes.kept i) (bytes_in (form_now i)))
@@ -359,24 +382,26 @@ module _ (g : Begin) (ok : Known g) (w : State DiskHeld) (j : Joint g w) (a : �
       put_rises = let r = ever_up g p.page e.order (tag_by l.actor p) in
           let q = ap (ever g p.page) notes.order in omega arith
 
-      pub give_puts : Gift g a l (slot p.page) (holds.Slot f) (piece_over l p Carried [] rest)
+      pub give_puts : Gift g w a l (slot p.page) (holds.Slot f) (piece_over l p Carried [] rest)
       give_puts = record {
         home = record {
           sound = noted_fits e f (kept_by form l.fresh) sr.begun
               (all _ Ready held at).0 notes put_small;
           stands = put_stands;
           backs = put_backs;
-          marks = λ idle. absurd (unmarked f.idle notes.idle idle);
+          marks = noted_free e f (kept_by form l.fresh) notes;
         };
         fits = is_over Carried [] sr.begun;
         alone = λ i. let r = ap (held_sum (spot n) (at_place i)) held in omega arith;
         owners = λ h. let r = ap (held_sum (spot n) (claims g h)) held in
             let x = ap (held_sum (spot n) (stored h)) held in let y = now_claim h in
             let z = gone_claim h e.kept (image g p.page e.order) sr.kind.1 in omega arith;
-        storage = entry_back g l _ p.page e f held refl
+        storage = quiet_storage g w a l _ _ _ j who Ready at tt tt (entry_back g a l _ p.page e f
+            held refl
             (λ h. no_block h f.kept now_plain ∙ sym (no_block h e.kept (gone_plain e.kept sr.kind.1)))
             (λ b bytes. let y = no_lies b bytes f.kept (content g p.page f.order) now_plain in
-            omega arith);
+            omega arith)
+            (noted_marks g a p.page e f (tag_by l.actor p) tag_mine notes.under notes.order));
         pins = λ h. let r = ap (held_sum (spot n) (outs h)) held in
             let x = ap (held_sum (spot n) nothing) held in let y = none_pin h l.pin sr.pins in
             omega arith;
@@ -401,12 +426,13 @@ module _ (g : Begin) (ok : Known g) (w : State DiskHeld) (j : Joint g w) (a : �
       pub pins : NoneOf l.pin
       pub owes : l.owed ≡ 0
       pub stands : IsForm g.chain (form_at g p.page e.order) e.kept
-      pub backs : is_wb e.kept ≡ back_at g p.page e.order
-      pub marks : MayIdle e.kept e.idle
+      pub backs : IsBack g e.kept (back_at g p.page e.order)
+      pub marks : HasMarks g p.page e
       pub more : NoneOf l.ahead
       pub less : NoneOf l.behind
       pub fits : EntryFits g p.page e
       pub begun : is_single n p.op ≡ false
+      pub plain : NoTrip l.at
 
     -- the entry goes back, has the page as before, and is marked as it has to be
     pub record IsSame (v : EntryState) : Type 0 where
@@ -414,19 +440,21 @@ module _ (g : Begin) (ok : Known g) (w : State DiskHeld) (j : Joint g w) (a : �
       pub form : form_at g p.page v.order ≡ form_at g p.page e.order
       pub content : content g p.page v.order ≡ content g p.page e.order
       pub back : back_at g p.page v.order ≡ back_at g p.page e.order
-      pub marks : MayIdle v.kept v.idle
+      pub marks : HasMarks g p.page v
+      pub less : MarksLess g a p.page e v
       pub up : ever g p.page e.order ≤ ever g p.page v.order
 
     module _ (bare : IsBare) where
       give_back : (end : PartEnd) (got : List (List ℕ)) → EndsSo (ground_of g) p end
           → (v : EntryState) → EntryFits g p.page v → IsSame v
-          → Gift g a l (slot p.page) (holds.Slot v) (piece_over l p end got rest)
+          → Gift g w a l (slot p.page) (holds.Slot v) (piece_over l p end got rest)
       give_back end got so v fits_v same = record {
         home = record {
           sound = fits_v;
           stands = subst (λ (x : PageForm × Kept).
               IsForm g.chain x.0 x.1) (λ i. (sym same.form i, sym same.kept i)) bare.stands;
-          backs = ap is_wb same.kept ∙ bare.backs ∙ sym same.back;
+          backs = subst (λ (x : Kept × Bool). IsBack g x.0 x.1)
+              (λ i. (sym same.kept i, sym same.back i)) bare.backs;
           marks = same.marks;
         };
         fits = is_over end got so;
@@ -436,10 +464,12 @@ module _ (g : Begin) (ok : Known g) (w : State DiskHeld) (j : Joint g w) (a : �
             let y = none_fresh h l.fresh bare.made in let z : claim_by h v.kept
             (image g p.page v.order) ≡ claim_by h e.kept (image g p.page e.order) =
             (λ i. claim_by h (same.kept i) (bytes_in (same.form i))) in omega arith;
-        storage = entry_back g l _ p.page e v held refl (λ h. ap (block_by h) same.kept)
+        storage = still_storage g w a l _ _ _ j who (entry_back g a l _ p.page e v held refl
+            (λ h. ap (block_by h) same.kept)
             (λ b bytes. let y : lies_by b bytes v.kept (content g p.page v.order)
             ≡ lies_by b bytes e.kept (content g p.page e.order) =
-            (λ i. lies_by b bytes (same.kept i) (same.content i)) in omega arith);
+            (λ i. lies_by b bytes (same.kept i) (same.content i)) in omega arith) same.less)
+            bare.plain tt;
         pins = λ h. let r = ap (held_sum (spot n) (outs h)) held in
             let x = ap (held_sum (spot n) nothing) held in let y = none_pin h l.pin bare.pins in
             omega arith;
@@ -460,13 +490,14 @@ module _ (g : Begin) (ok : Known g) (w : State DiskHeld) (j : Joint g w) (a : �
 
       -- the piece leaves its entry
       pub give_left : (end : PartEnd) → EndsSo (ground_of g) p end
-          → Gift g a l (slot p.page) (holds.Slot e) (piece_over l p end [] rest)
+          → Gift g w a l (slot p.page) (holds.Slot e) (piece_over l p end [] rest)
       give_left end so = give_back end [] so e bare.fits (record {
         kept = refl;
         form = refl;
         content = refl;
         back = refl;
         marks = bare.marks;
+        less = same_marks g a p.page e e refl refl;
         up = omega arith;
       })
 
@@ -474,7 +505,7 @@ module _ (g : Begin) (ok : Known g) (w : State DiskHeld) (j : Joint g w) (a : �
       pub give_noted : (end : PartEnd) (got : List (List ℕ)) → EndsSo (ground_of g) p end
           → (start count : ℕ) → p.op ≡ Read start count
           → Notes g.clock e f e.kept (tag_by l.actor p)
-          → Gift g a l (slot p.page) (holds.Slot f) (piece_over l p end got rest)
+          → Gift g w a l (slot p.page) (holds.Slot f) (piece_over l p end got rest)
       give_noted end got so start count is notes =
           give_back end got so f (noted_fits e f e.kept bare.begun bare.fits notes bare.fits.small)
           (record {
@@ -485,7 +516,8 @@ module _ (g : Begin) (ok : Known g) (w : State DiskHeld) (j : Joint g w) (a : �
                 ∙ content_read g ok p e.order (tag_by l.actor p) is_named start count is;
             back = ap (back_at g p.page) notes.order
                 ∙ back_read g p e.order (tag_by l.actor p) is_named start count is;
-            marks = λ idle. absurd (unmarked f.idle notes.idle idle);
+            marks = noted_free e f e.kept notes;
+            less = noted_marks g a p.page e f (tag_by l.actor p) tag_mine notes.under notes.order;
             up = let r = ever_up g p.page e.order (tag_by l.actor p) in
                 let q = ap (ever g p.page) notes.order in omega arith;
           })
@@ -506,23 +538,25 @@ module _ (g : Begin) (ok : Known g) (w : State DiskHeld) (j : Joint g w) (a : �
         less = sl.counts.1;
         fits = (all _ Leaving held at).0;
         begun = sl.begun;
+        plain = subst NoTrip (sym at) tt;
       }
 
       pub give_reads : l.fail ≡ None → Notes g.clock e f e.kept (tag_by l.actor p)
-          → Gift g a l (slot p.page) (holds.Slot f) (piece_over l p Carried
+          → Gift g w a l (slot p.page) (holds.Slot f) (piece_over l p Carried
           (got_from (page_in l.page e.kept) p) rest)
       give_reads well notes = by_op p.op refl sl.kind (subst (FailBy g p p.op) well sl.fails) where
         by_op : (op : Op) → p.op ≡ op → Looks op → FailBy g p op None
-            → Gift g a l (slot p.page) (holds.Slot f) (piece_over l p Carried
+            → Gift g w a l (slot p.page) (holds.Slot f) (piece_over l p Carried
             (got_from (page_in l.page e.kept) p) rest)
         by_op (Write start count stuff) is k b = absurd b
         by_op (Read start count) is k b = give_noted bare_leaving Carried
             (got_from (page_in l.page e.kept) p) sl.begun start count is notes
         by_op (Discard start count) is k b = absurd b
         by_op (Idle age) is k b = absurd b
+        by_op (Writeback mode) is k b = absurd b
         by_op Compact is k b = absurd b
 
-      pub give_fails : (x : PartEnd) → l.fail ≡ Some x → Gift g a l (slot p.page) (holds.Slot e)
+      pub give_fails : (x : PartEnd) → l.fail ≡ Some x → Gift g w a l (slot p.page) (holds.Slot e)
           (piece_over l p x [] rest)
       give_fails x bad = give_left bare_leaving x
           (ends_badly g p p.op x (subst (FailBy g p p.op) bad sl.fails))

@@ -1,5 +1,7 @@
 -- What each giving does: the law of its event.
-use Rattle.std.proofs.Common.{◌≡◌, ◌∷◌, ◌∙◌, ℕ, List, Some, slice_get, sym, ap, subst}
+use Rattle.joint_rule.proofs.Visits.{VisitEvent}
+use Rattle.joint_rule.proofs.Evictions.{visit_frees, visit_pays, visit_pins, visit_unpins}
+use Rattle.std.proofs.Common.{◌≡◌, ◌∷◌, ◌∙◌, ℕ, List, Some, slice_get, sym, ap, subst, refl}
 use Rattle.joint_rule.proofs.Scans.{give_scans, give_stops}
 use Rattle.call_history.specs.declared.part.Part.{Part}
 use Rattle.call_history.specs.declared.part.PartEnd.TheVariants.{AtLimit, NoMemory}
@@ -9,12 +11,12 @@ use Rattle.joint_rule.proofs.Device.{give_errs, give_fetches, give_leaves, give_
 use Rattle.joint_rule.proofs.Events.{Event}
 use Rattle.joint_rule.proofs.Chosen.{Chosen}
 use Rattle.joint_rule.proofs.Facts.{Known}
-use Rattle.joint_rule.proofs.Gifts.{Gift, give_fails, give_puts, give_reads, give_refuses, locks}
+use Rattle.joint_rule.proofs.Gifts.{Gift, give_fails, give_puts, give_reads, give_refuses, locks, stage}
 use Rattle.joint_rule.proofs.Objects.{give_charges, give_frees, give_pins, give_quits, give_refused, give_stows, give_unpins, limit_refusal, memory_refusal}
 use Rattle.joint_rule.specs.Begins.{Begin, terms}
 use Rattle.joint_rule.specs.Joint.{Joint}
 use Rattle.lock_row.specs.declared.names.At.{At}
-use Rattle.lock_row.specs.declared.names.At.TheVariants.{Both, Counting, Fetching, Freeing, Giving, Leaving, Made, Missed, Pinning, Ready, Refusing, Releasing, Unpinning, Moving, Shrinking, Marking}
+use Rattle.lock_row.specs.declared.names.At.TheVariants.{Both, Counting, Fetching, Freeing, Giving, Leaving, Made, Missed, Pinning, Ready, Refusing, Releasing, Unpinning, Moving, Shrinking, Marking, Visiting}
 use Rattle.lock_row.specs.declared.names.LockNo.{LockNo}
 use Rattle.lock_row.specs.declared.names.Plan.TheVariants.{Give}
 use Rattle.lock_row.specs.declared.names.State.{State}
@@ -24,6 +26,10 @@ use Rattle.slot_entry.specs.Forms.{class_in}
 use Rattle.slot_entry.specs.declared.kept.Kept.{Kept}
 use Rattle.slot_entry.specs.declared.kept.Stored.{Stored}
 use Rattle.joint_rule.proofs.Events as event
+use Rattle.joint_rule.proofs.VisitGifts as gifts
+use Rattle.joint_rule.proofs.Reservations as blocks
+use Rattle.joint_rule.proofs.Visits as visit
+use Rattle.lock_row.specs.declared.names.Step.TheVariants as step
 use Rattle.lock_row.specs.declared.names.LockNo.TheVariants as lock
 use Rattle.slot_entry.specs.declared.kept.Kept.TheVariants as kept
 
@@ -31,8 +37,8 @@ module _ (g : Begin) (ok : Known g) (w : State DiskHeld) (j : Joint g w) (a : �
     (who : slice_get w.locals a ≡ Some l) (k : LockNo) (v : DiskHeld) (m : Here)
     (what : plan (terms g) l ≡ Give k) where
   at_lock : (m₀ : Here) (k₀ : LockNo) (v₀ : DiskHeld) → k₀ ≡ k → v ≡ v₀ → m ≡ m₀
-      → Gift g a l k₀ v₀ m₀ → Gift g a l k v m
-  at_lock m₀ k₀ v₀ e f h t = subst (λ (x : LockNo × DiskHeld × Here). Gift g a l x.0 x.1 x.2)
+      → Gift g w a l k₀ v₀ m₀ → Gift g w a l k v m
+  at_lock m₀ k₀ v₀ e f h t = subst (λ (x : LockNo × DiskHeld × Here). Gift g w a l x.0 x.1 x.2)
       (λ i. (e i, sym f i, sym h i)) t
 
   pub event_is : (p : Part) (rest : List Part) (held : List (LockNo × DiskHeld)) (at : At)
@@ -57,7 +63,79 @@ module _ (g : Begin) (ok : Known g) (w : State DiskHeld) (j : Joint g w) (a : �
   new_lock c d xs ys e f = (let q : lock.Class c ≡ lock.Class d = cc in q)
       ∙ given_lock (lock.Class d) f
 
-  pub gift : (ev : Event g l v m) → Chosen g l v m ev → Gift g a l k v m
+  -- a giving of a writeback
+  visit_gift : VisitEvent g l v m → Gift g w a l k v m
+  visit_gift (visit.passes p rest x e todo at held v_is on) =
+      at_lock _ (slot x.page) _ (given_lock (slot x.page)
+      (event_is p rest _ (Visiting step.Passing x) todo held at)) v_is refl
+      (gifts.give_passes g ok w j a l who p rest todo x e held at m on)
+  visit_gift (visit.reserves p rest x e y b todo at held answer v_is m_is) =
+      at_lock _ lock.Blocks _ (given_lock lock.Blocks
+      (event_is p rest _ (Visiting step.Reserving x) todo held at)) v_is m_is
+      (blocks.give_reserves g ok w j a l who p rest todo x e y held at b answer)
+  visit_gift (visit.refrains p rest x e y r end todo at held is v_is m_is) =
+      at_lock _ lock.Blocks _ (given_lock lock.Blocks
+      (event_is p rest _ (Visiting step.Reserving x) todo held at)) v_is m_is
+      (blocks.give_refrains g ok w j a l who p rest todo x e y held at r end is)
+  visit_gift (visit.quits p rest x e end todo at held bad v_is m_is) =
+      at_lock _ (slot x.page) _ (given_lock (slot x.page)
+      (event_is p rest _ (Visiting step.Quitting x) todo held at)) v_is refl
+      (gifts.give_quits g ok w j a l who p rest todo x e held at m end bad m_is)
+  visit_gift (visit.pins p rest x e o q q' u u' cell todo at held is sw named_u free taken is_cell
+      in_cell v_is m_is) =
+      at_lock _ (lock.Class o.class) _ (old_lock e.kept o is
+      (event_is p rest _ (Visiting step.Pinning x) todo held at)) v_is m_is
+      (visit_pins g ok w j a l who p rest todo x e o q held is q' u u' sw named_u cell at free taken
+      is_cell in_cell)
+  visit_gift (visit.unpins p rest x e o q q' u u' todo at held is sw named_u taken free v_is m_is) =
+      at_lock _ (lock.Class o.class) _ (old_lock e.kept o is
+      (event_is p rest _ (Visiting step.Unpinning x) todo held at)) v_is m_is
+      (visit_unpins g ok w j a l who p rest todo x e o q held is q' u u' sw named_u at taken free)
+  visit_gift (visit.marks p rest x e b todo at held block v_is m_is) =
+      at_lock _ (slot x.page) _ (given_lock (slot x.page)
+      (event_is p rest _ (Visiting step.Marking x) todo held at)) v_is m_is
+      (gifts.give_marks g ok w j a l who p rest todo x e held at b block)
+  visit_gift (visit.stores p rest x b page d d' todo at held block is write v_is m_is) =
+      at_lock _ lock.Device _ (given_lock lock.Device
+      (event_is p rest _ (Visiting step.Storing x) todo held at)) v_is m_is
+      (blocks.give_stores g ok w j a l who p rest todo x d d' held b block at page is write)
+  visit_gift (visit.spoils p rest x b d d' fault todo at held block failed v_is m_is) =
+      at_lock _ lock.Device _ (given_lock lock.Device
+      (event_is p rest _ (Visiting step.Storing x) todo held at)) v_is m_is
+      (blocks.give_spoils g ok w j a l who p rest todo x d d' held b block at fault failed)
+  visit_gift (visit.frees p rest x e o q q' u frames todo at held is up named_u home v_is m_is) =
+      at_lock _ (lock.Class o.class) _ (old_lock e.kept o is
+      (event_is p rest _ (Visiting step.Freeing x) todo held at)) v_is m_is
+      (visit_frees g ok w j a l who p rest todo x e o q held is q' u frames up named_u home at)
+  visit_gift (visit.commits p rest x e b y todo at held block v_is m_is) =
+      at_lock _ lock.Blocks _ (given_lock lock.Blocks
+      (event_is p rest _ (Visiting step.Committing x) todo held at)) v_is m_is
+      (blocks.give_commits g ok w j a l who p rest todo x e y held at b block)
+  visit_gift (visit.pays p rest x e c was todo at held is v_is m_is) =
+      at_lock _ lock.Account _ (given_lock lock.Account
+      (event_is p rest _ (Visiting step.Paying x) todo held at)) v_is m_is
+      (visit_pays g ok w j a l who p rest todo x e c was at held is)
+  visit_gift (visit.puts p rest x e b todo at held block v_is on) =
+      at_lock _ (slot x.page) _ (given_lock (slot x.page)
+      (event_is p rest _ (Visiting step.Putting x) todo held at)) v_is refl
+      (gifts.give_puts g ok w j a l who p rest todo x e held at b block m on)
+  visit_gift (visit.loses p rest x e todo at held v_is m_is) =
+      let st = stage g ok w j a l who p rest todo _ (Visiting step.Losing x) held at in
+      let b = gifts.some_block x.block st.visits.step.1 in
+      at_lock _ (slot x.page) _ (given_lock (slot x.page)
+      (event_is p rest _ (Visiting step.Losing x) todo held at)) v_is m_is
+      (gifts.give_loses g ok w j a l who p rest todo x e held at b.0 b.1)
+  visit_gift (visit.releases p rest x b y todo at held block well v_is on) =
+      at_lock _ lock.Blocks _ (given_lock lock.Blocks
+      (event_is p rest _ (Visiting step.Releasing x) todo held at)) v_is refl
+      (blocks.give_releases g ok w j a l who p rest todo x y held b block at m on)
+  visit_gift (visit.stops p rest x b y end todo at held block bad v_is m_is) =
+      at_lock _ lock.Blocks _ (given_lock lock.Blocks
+      (event_is p rest _ (Visiting step.Releasing x) todo held at)) v_is refl
+      (blocks.give_stops g ok w j a l who p rest todo x y held b block at m end bad m_is)
+
+  pub gift : (ev : Event g l v m) → Chosen g l v m ev → Gift g w a l k v m
+  gift (event.visits t) chosen = visit_gift t
   gift (event.refuses p rest c todo at held v_is m_is) chosen =
       at_lock _ lock.Account _ (given_lock lock.Account (event_is p rest _ Refusing todo held at))
       v_is m_is (give_refuses g ok w j a l who p rest todo c at held)

@@ -1,4 +1,6 @@
 -- What the joint rule tells of the values that an actor holds.
+use Rattle.lock_row.specs.declared.names.Step.{Step}
+use Rattle.lock_row.specs.declared.names.Step.TheVariants as step
 use Rattle.std.proofs.Common.{◌≡◌, ◌+◌, ◌≤◌, ◌∷◌, ◌∙◌, ℕ, Bool, true, false, cond, not, List, [], sum_by, Option, Some, None, slice_get, refl, sym, ap, subst, arith, inl, inr, ⊎_elim}
 use Rattle.call_history.specs.declared.part.Part.{Part}
 use Rattle.call_history.specs.declared.part.PartEnd.{PartEnd}
@@ -8,11 +10,11 @@ use Rattle.joint_rule.proofs.Sums.{Under, locals_le, locals_over, total_lone, to
 use Rattle.joint_rule.specs.Begins.{Begin, image}
 use Rattle.joint_rule.specs.Joint.{IsActor, Joint, Sound}
 use Rattle.joint_rule.specs.Rule.{owed}
-use Rattle.joint_rule.specs.Stages.{CountAt, Names, NoneOf, StageBy}
+use Rattle.joint_rule.specs.Stages.{CountAt, Names, NoneOf, StageBy, VisitCount}
 use Rattle.joint_rule.specs.Weights.{Backs, Count, HeldAll, Huges, PackedBytes, Packs, PinWeigh, Sames, Weigh, ahead, at_place, behind, cell_weight, chains, claim_by, claims, counter, counters, fresh_claim, measure, none, nothing, on_account, out_weight, outs, owing, pages, pin_in, pinned, same, same_pin, shown, stored}
 use Rattle.lock_row.specs.Totals.{by_option, held_sum, mass, total}
 use Rattle.lock_row.specs.declared.names.At.{At}
-use Rattle.lock_row.specs.declared.names.At.TheVariants.{Away, Backed, Both, Counting, Failing, Fetching, Freeing, Giving, Inside, Leaving, Made, Missed, Old, Owing, Pinned, Pinning, Ready, Refusing, Releasing, Seen, Start, Unpinning, Wanting, Sweeping, Moving, Shrunk, Shrinking, Scanning, Marking}
+use Rattle.lock_row.specs.declared.names.At.TheVariants.{Away, Backed, Both, Counting, Failing, Fetching, Freeing, Giving, Inside, Leaving, Made, Missed, Old, Owing, Pinned, Pinning, Ready, Refusing, Releasing, Seen, Start, Unpinning, Wanting, Sweeping, Moving, Shrunk, Shrinking, Scanning, Marking, Visiting}
 use Rattle.lock_row.specs.declared.names.LockNo.{LockNo}
 use Rattle.lock_row.specs.declared.names.Object.{Object}
 use Rattle.lock_row.specs.declared.names.Pin.{Pin}
@@ -122,6 +124,11 @@ held_shown size q [] = let r = nothing_shown q in omega arith
 held_shown size q (x ∷ xs) = entry_shown size q (spot size x.0)
     (held_sum (spot size) (shown q) xs) x.1 (entry_in xs) (held_shown size q xs)
 
+behind_visit : (q : Count) (s : Step) (x y : Option Weight) (k : Kept) → VisitCount s x y k
+    → by_option (measure q) y ≤ measure q (weight_of k)
+behind_visit q step.Putting x y k c = let r = c.behind q in omega arith
+behind_visit q s x y k c = let r = none_weight q y c.1 in omega arith
+
 behind_at : (q : Count) (at : At) (x y : Option Weight) (f : PageForm) (k : Kept)
     → CountAt at x y f k → by_option (measure q) y ≤ measure q (weight_of k)
 behind_at q Start x y f k c = let r = none_weight q y c.1 in omega arith
@@ -148,6 +155,7 @@ behind_at q Owing x y f k c = let r = none_weight q y c.1 in omega arith
 behind_at q Giving x y f k c = let r = none_weight q y c.1 in omega arith
 behind_at q (Scanning z) x y f k c = let r = none_weight q y c.1 in omega arith
 behind_at q (Marking z) x y f k c = let r = none_weight q y c.1 in omega arith
+behind_at q (Visiting s z) x y f k c = behind_visit q s x y k c
 behind_at q (Sweeping z) x y f k c = let r = none_weight q y c.1 in omega arith
 behind_at q (Moving z) x y f k c = let r = none_weight q y c.1 in omega arith
 behind_at q (Shrunk z) x y f k c = let r = none_weight q y c.1 in omega arith

@@ -1,5 +1,5 @@
 -- A disk on which nothing was ever written is at rest.
-use Rattle.std.proofs.Common.{◌≡◌, ◌+◌, ◌*◌, ◌<◌, ◌≤◌, ◌&&◌, ◌∷◌, ◌∙◌, ℕ, suc, Bool, true, List, [], length, sum_by, Option, Some, slice_get, refl, sym, ap, subst, arith}
+use Rattle.std.proofs.Common.{◌≡◌, ◌+◌, ◌*◌, ◌<◌, ◌≤◌, ◌&&◌, ◌∷◌, ◌∙◌, ℕ, suc, Bool, true, List, [], length, sum_by, Option, Some, slice_get, refl, sym, ap, subst, arith, is_some, false}
 use Rattle.joint_rule.proofs.Gifts.{unmarked}
 use Rattle.backing_dev.specs.Dev.{DeviceState}
 use Rattle.block_map.specs.declared.state.BlockState.{BlockState}
@@ -8,9 +8,9 @@ use Rattle.class_pool.specs.Zspages.{Cells, use_at}
 use Rattle.joint_rule.proofs.Lookups.{nothing_shown}
 use Rattle.joint_rule.proofs.Starts.{device_at, device_sum, keeps_self, map_at, map_sum}
 use Rattle.joint_rule.proofs.Sums.{row_none}
-use Rattle.joint_rule.specs.Begins.{AreCarried, Begin, content, form_at, form_by, found_after, image}
+use Rattle.joint_rule.specs.Begins.{AreCarried, Begin, content, form_at, form_by, found_after, image, back_at}
 use Rattle.joint_rule.specs.Joint.{AtHome, KeepsDevice}
-use Rattle.joint_rule.specs.Stages.{IsForm, IsSmall, is_wb}
+use Rattle.joint_rule.specs.Stages.{IsForm, IsSmall}
 use Rattle.joint_rule.specs.Starts.{AreFree, AtRest, IsNew}
 use Rattle.joint_rule.specs.Weights.{Backs, BlockWeigh, Count, FailedReads, FailedWrites, FreedPages, HugeWrites, Huges, News, OutOfRange, PackedBytes, Packs, PinWeigh, Refusal, Sames, Weigh, block_by, block_claims, cell_weight, chains, claim_by, claims, compactions, counter, counters, device_size, lies_at, lies_by, map_size, measure, names, news_count, news_counter, on_account, out_weight, outs, pages, refusal_count, refusal_counter, shown, stored, use_by, used_blocks, used_from}
 use Rattle.lock_row.specs.Totals.{row_sum}
@@ -19,7 +19,7 @@ use Rattle.page_steps.specs.Steps.{DiskHeld}
 use Rattle.plain_disk.specs.Calls.{leave_page}
 use Rattle.plain_disk.specs.Phases.{touched_by}
 use Rattle.size_class.specs.Classes.{chain_of, class_size, per_of}
-use Rattle.slot_entry.specs.Entries.{weight_of}
+use Rattle.slot_entry.specs.Entries.{weight_of, is_wb}
 use Rattle.slot_entry.specs.Forms.{Blank, PageForm, form_of}
 use Rattle.slot_entry.specs.declared.kept.Kept.{Kept}
 use Rattle.zr_base.specs.declared.op.Tag.{Tag}
@@ -66,18 +66,23 @@ module _ (g : Begin) where
       page = h.0;
       calls = subst (AreCarried g j) (sym h.2) tt;
       touched = h.5 ∙ sym (ap (λ (ts : List Tag). touched_by ts g.clock (g.touched j)) h.2);
-      mark = record {
-        under = h.3;
-        stays = λ none was. absurd (unmarked (g.idle j) h.8 was);
-        only = λ none idle. absurd (unmarked e.idle h.4 idle);
-      };
+      mark = λ none idle. absurd (unmarked e.idle h.4 idle);
       small = subst (λ (k : Kept). IsSmall (weight_of k)) (sym h.1) (omega arith);
     };
     stands = subst (λ (x : PageForm × Kept). IsForm g.chain x.0 x.1)
         (λ i. (sym (blank_form g j e.order h.2 h.6) i, sym h.1 i)) tt;
-    backs = ap is_wb h.1 ∙ sym (ap (λ (b : Bool). b && leave_page g.given.actors e.order) h.7);
-    marks = λ idle. absurd (unmarked e.idle h.4 idle);
-  }
+    backs = record {
+      there = λ on. absurd (unmarked (back_at g j e.order) off_before on);
+      only = λ none. ap is_wb h.1 ∙ sym off_before;
+    };
+    marks = record {
+      idle_one = λ idle. absurd (unmarked e.idle h.4 idle);
+      under_one = λ some. absurd (unmarked (is_some e.under) (ap is_some h.3) some);
+      stays = λ none was off. absurd (unmarked (g.idle j) h.8 was);
+    };
+  } where
+    off_before : back_at g j e.order ≡ false
+    off_before = ap (λ (b : Bool). b && leave_page g.given.actors e.order) h.7
   new_home j (holds.Class p) h = record {
     sound = (
       h.0,
@@ -98,7 +103,7 @@ module _ (g : Begin) where
   new_home j (holds.Account c) h = record { sound = h.0; stands = tt; backs = tt; marks = tt }
   new_home j (holds.Blocks x) h = record { sound = h.0; stands = tt; backs = tt; marks = tt }
   new_home j (holds.Device d) h = record {
-    sound = (h.0, subst (λ (x : DeviceState). KeepsDevice x d) h.1 (keeps_self d h.2));
+    sound = (h.0, subst (λ (x : DeviceState). KeepsDevice x d) h.1 (keeps_self d h.2 h.3));
     stands = tt;
     backs = tt;
     marks = tt;
@@ -225,6 +230,7 @@ module _ (g : Begin) where
             omega arith);
         owners = λ f. zero_sum (claims g f) (no_claim f) ∙ sym (zero_sum (stored f) (no_stored f));
         pins = λ f. zero_sum (outs f) (no_outs f);
+        unmarked = λ k e at. (new k (holds.Slot e) at).3;
         frames = zero_sum pages (no_account (λ c. c.pages) (λ limit. refl))
             ∙ sym (zero_sum chains no_chains);
         counts = λ q. zero_sum (counters q) (no_account (counter q) (no_count q))

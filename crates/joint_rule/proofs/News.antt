@@ -1,6 +1,11 @@
 -- The account's counters of calls: each giving raises them by what its piece gives, and a piece
 -- that
 -- is noted gives that to its order.
+use Rattle.mem_account.specs.declared.weight.Weight.TheVariants.{Back}
+use Rattle.lock_row.specs.declared.names.Trip.{Trip}
+use Rattle.lock_row.specs.declared.names.Step.{Step}
+use Rattle.joint_rule.proofs.Alikes.{visited_is}
+use Rattle.joint_rule.proofs.Courses.{Course, IsCourse, Weighs, course_of, weighs_of}
 use Rattle.std.proofs.Common.{◌≡◌, ◌+◌, ◌≤◌, ◌∷◌, ◌++◌, ◌∙◌, ℕ, zero, suc, Bool, true, cond, List, [], Option, Some, None, slice_get, refl, sym, ap, subst, arith}
 use Rattle.lock_row.specs.declared.names.Scan.{Scan}
 use Rattle.page_steps.specs.Scans.{with_page}
@@ -25,7 +30,7 @@ use Rattle.joint_rule.specs.Stages.{BlankBy, Changes, FailBy, Looks, NoneOf, Sta
 use Rattle.joint_rule.specs.Weights.{FreedPages, HugeWrites, Huges, News, news_count, news_counter, news_of, none, noted, order_news, same, told_ahead, told_at, told_by}
 use Rattle.lock_row.specs.Totals.{by_option, held_sum, mass, total}
 use Rattle.lock_row.specs.declared.names.At.{At}
-use Rattle.lock_row.specs.declared.names.At.TheVariants.{Both, Counting, Fetching, Freeing, Giving, Leaving, Made, Missed, Pinning, Ready, Refusing, Releasing, Start, Unpinning, Moving, Shrinking, Marking}
+use Rattle.lock_row.specs.declared.names.At.TheVariants.{Both, Counting, Fetching, Freeing, Giving, Leaving, Made, Missed, Pinning, Ready, Refusing, Releasing, Start, Unpinning, Moving, Shrinking, Marking, Visiting}
 use Rattle.lock_row.specs.declared.names.Compaction.{Compaction}
 use Rattle.lock_row.specs.declared.names.LockNo.{LockNo}
 use Rattle.lock_row.specs.declared.names.Object.{Object}
@@ -47,9 +52,10 @@ use Rattle.slot_entry.specs.declared.kept.Kept.{Kept}
 use Rattle.zr_base.specs.Plain.{PageCalls, is_beyond, is_maintenance, named}
 use Rattle.plain_disk.specs.Phases.{calls_on}
 use Rattle.zr_base.specs.declared.op.Op.{Op}
-use Rattle.zr_base.specs.declared.op.Op.TheVariants.{Compact, Discard, Idle, Read, Write}
+use Rattle.zr_base.specs.declared.op.Op.TheVariants.{Compact, Discard, Idle, Read, Write, Writeback}
 use Rattle.zr_base.specs.declared.op.Tag.{Tag}
 use Rattle.joint_rule.proofs.Events as event
+use Rattle.joint_rule.proofs.Courses as course
 use Rattle.lock_row.specs.declared.names.Held.TheVariants as holds
 use Rattle.slot_entry.specs.declared.kept.Kept.TheVariants as kept
 use Rattle.mem_account.specs.declared.weight.Weight.TheVariants as weight
@@ -99,6 +105,7 @@ only_read g p (Write start count stuff) i f = absurd f
 only_read g p (Read start count) i f = refl
 only_read g p (Discard start count) i f = absurd f
 only_read g p (Idle age) i f = absurd f
+only_read g p (Writeback mode) i f = absurd f
 only_read g p Compact i f = absurd f
 
 told_none : (q : News) (op : Op) → told_by q op None ≡ 0
@@ -107,6 +114,7 @@ told_none FreedPages (Write start count stuff) = refl
 told_none FreedPages (Read start count) = refl
 told_none FreedPages (Discard start count) = refl
 told_none FreedPages (Idle age) = refl
+told_none FreedPages (Writeback mode) = refl
 told_none FreedPages Compact = refl
 
 told_quiet : (q : News) (at : At) (ps : List Part) → told_at q at ps None ≡ 0
@@ -138,6 +146,7 @@ told_pinned q (Write start count stuff) f k ps x = told_made q f k ps x
 told_pinned q (Read start count) f k ps x = refl
 told_pinned q (Discard start count) f k ps x = refl
 told_pinned q (Idle age) f k ps x = refl
+told_pinned q (Writeback mode) f k ps x = refl
 told_pinned q Compact f k ps x = refl
 
 told_fetched : (q : News) (op : Op) (f : PageForm) (k : Kept) (ps : List Part) (x : Option Weight)
@@ -146,6 +155,7 @@ told_fetched q (Write start count stuff) f k ps x = told_made q f k ps x
 told_fetched q (Read start count) f k ps x = refl
 told_fetched q (Discard start count) f k ps x = refl
 told_fetched q (Idle age) f k ps x = refl
+told_fetched q (Writeback mode) f k ps x = refl
 told_fetched q Compact f k ps x = refl
 
 told_quit : (q : News) (y : Option Pin) (ps : List Part) (x : Option Weight)
@@ -161,17 +171,20 @@ told_moved q (suc frames) y ps x = refl
 -- a taking tells nothing
 told_after : (g : Begin) (q : News) (at : At) (p : Part) (ps : List Part) (e e' : EntryState)
     (fresh : Option Object) (pin : Option Pin) (owed : ℕ) (x y : Option Weight)
-    (page : Option (List ℕ)) (fail : Option PartEnd) (f : PageForm) (k : Kept)
-    → Stage g p e at fresh pin owed x y page fail → told_at q (after_take g.given.size at p f k)
+    (page : Option (List ℕ)) (fail : Option PartEnd) (f : PageForm) (k : EntryState)
+    → Stage g p e at fresh pin owed x y page fail
+    → told_at q (after_take g.given.size at p f k fail)
     (p ∷ ps) x ≡ told_at q at (p ∷ ps) x
 told_after g q Start p ps e e' fresh pin owed x y page fail f k s =
     told_free q (begun_at (is_maintenance p.op) (is_beyond g.given.size p.op) p f k) (p ∷ ps) x
     s.counts.0
+told_after g q (Visiting t z) p ps e e' fresh pin owed x y page fail f k s =
+    ap (λ (at : At). told_at q at (p ∷ ps) x) (visited_is t z p.op k fail).2
 told_after g q at p ps e e' fresh pin owed x y page fail f k s = refl
 
 told_taken : (g : Begin) (q : News) (l : Here) (v : DiskHeld) (ps : List Part)
     → StageBy g ps (entry_in l.held) l.at l.fresh l.pin l.owed l.ahead l.behind l.page l.fail
-    → told_at q (taken_at g.given.size ps l.at l.page (entry_or v (entry_in l.held)).kept) ps
+    → told_at q (taken_at g.given.size ps l.at l.page (entry_or v (entry_in l.held)) l.fail) ps
     l.ahead ≡ told_at q l.at ps l.ahead
 told_taken g q l v [] s = refl
 told_taken g q l v (p ∷ ps) s = told_after g q l.at p ps (entry_in l.held)
@@ -211,6 +224,7 @@ tells_huge (Write start count stuff) c = refl
 tells_huge (Read start count) c = refl
 tells_huge (Discard start count) c = refl
 tells_huge (Idle age) c = refl
+tells_huge (Writeback mode) c = refl
 tells_huge Compact c = refl
 
 tells_freed : (op : Op) (c : Counters) (w : Weight) → (tells op c).notify_free
@@ -219,6 +233,7 @@ tells_freed (Write start count stuff) c w = refl
 tells_freed (Read start count) c w = refl
 tells_freed (Discard start count) c w = refl
 tells_freed (Idle age) c w = refl
+tells_freed (Writeback mode) c w = refl
 tells_freed Compact c w = refl
 
 settled_news : (q : News) (op : Op) (n : ℕ) (old new : Weight) (c : Counters)
@@ -238,6 +253,7 @@ told_one FreedPages (Write start count stuff) w = omega arith
 told_one FreedPages (Read start count) w = omega arith
 told_one FreedPages (Discard start count) w = omega arith
 told_one FreedPages (Idle age) w = omega arith
+told_one FreedPages (Writeback mode) w = omega arith
 told_one FreedPages Compact w = omega arith
 
 same_failed : (q : News) (c : Counters) → news_count q (counted c delta.FailedWrite)
@@ -254,11 +270,13 @@ same_fault HugeWrites (Write start count stuff) c = refl
 same_fault HugeWrites (Read start count) c = refl
 same_fault HugeWrites (Discard start count) c = refl
 same_fault HugeWrites (Idle age) c = refl
+same_fault HugeWrites (Writeback mode) c = refl
 same_fault HugeWrites Compact c = refl
 same_fault FreedPages (Write start count stuff) c = refl
 same_fault FreedPages (Read start count) c = refl
 same_fault FreedPages (Discard start count) c = refl
 same_fault FreedPages (Idle age) c = refl
+same_fault FreedPages (Writeback mode) c = refl
 same_fault FreedPages Compact c = refl
 
 same_shrunk : (q : News) (c : Counters) (n : ℕ) → news_count q (shrunk n c) ≡ news_count q c
@@ -334,6 +352,7 @@ module _ (g : Begin) (ok : Known g) (w : State DiskHeld) (j : Joint g w) (a : �
           ∙ huge_bit (form_weight (next_form p l.page e.kept)) ∙ sym (st.counts.ahead Huges)
       huge_told (Read start count) is c = absurd c
       huge_told (Idle age) is c = absurd c
+      huge_told (Writeback mode) is c = absurd c
       huge_told Compact is c = absurd c
       huge_told (Discard start count) is c = sym (st.counts.ahead Huges
           ∙ ap (λ (o : Op). huge_of (form_weight (next_by o p (page_in l.page e.kept)))) is)
@@ -344,6 +363,7 @@ module _ (g : Begin) (ok : Known g) (w : State DiskHeld) (j : Joint g w) (a : �
       blank_told (Write start count stuff) x b c i = refl
       blank_told (Read start count) x b c i = absurd c
       blank_told (Idle age) x b c i = absurd c
+      blank_told (Writeback mode) x b c i = absurd c
       blank_told Compact x b c i = absurd c
       blank_told (Discard start count) None b c i = ap (λ (y : Bool). cond {A = ℕ} y 0 1) i
       blank_told (Discard start count) (Some x) b c i = ap (λ (y : Bool). cond {A = ℕ} y 0 1) i
@@ -374,6 +394,7 @@ module _ (g : Begin) (ok : Known g) (w : State DiskHeld) (j : Joint g w) (a : �
     read_order q (Write start count stuff) is i notes = absurd (cc)
     read_order q (Discard start count) is i notes = absurd (cc)
     read_order q (Idle age) is i notes = absurd (cc)
+    read_order q (Writeback mode) is i notes = absurd (cc)
     read_order q Compact is i notes = absurd (cc)
     read_order q (Read start count) is i notes =
         let s = ap (order_news g q p.page) notes.order in let o = order_more q p e.order is_op in
@@ -405,7 +426,42 @@ module _ (g : Begin) (ok : Known g) (w : State DiskHeld) (j : Joint g w) (a : �
         (sym (given_lock g ok w j a l who k v m what (slot x.page)
         (event_is g ok w j a l who k v m what p rest _ (Marking x) todo held at)))
 
+    visit_news : (q : News) (c : IsCourse g l v m) → Weighs g ok w j a l who v m k → Announces q v m
+    visit_news q c x = quietly q v m
+        (let r = x.orders (λ i o. order_news g q i o) in
+        let y = silent q (Visiting c.s c.x) c.at refl in let z = now_silent c.course in omega arith)
+        (x.account (news_count q) (λ y owed was. kept_news q y owed was)) where
+          kept_news : (r : News) (y : Counters) (owed : ℕ) (was : Weight)
+              → news_count r (counted (repaid y owed) (delta.Kept was Back)) ≡ news_count r y
+          kept_news HugeWrites y owed weight.Empty = refl
+          kept_news HugeWrites y owed weight.Same = refl
+          kept_news HugeWrites y owed (weight.Packed n) = refl
+          kept_news HugeWrites y owed weight.Huge = refl
+          kept_news HugeWrites y owed weight.Back = refl
+          kept_news FreedPages y owed weight.Empty = refl
+          kept_news FreedPages y owed weight.Same = refl
+          kept_news FreedPages y owed (weight.Packed n) = refl
+          kept_news FreedPages y owed weight.Huge = refl
+          kept_news FreedPages y owed weight.Back = refl
+
+          goes_on : (s : Step) (y : Trip) → m.at ≡ Visiting s y → told_ahead q m ≡ 0
+          goes_on s y at = ap (λ (i : At). told_at q i m.todo m.ahead) at
+
+          over_so : (end : PartEnd) → m ≡ piece_over l c.p end [] c.rest → told_ahead q m ≡ 0
+          over_so end m_is = ap (told_ahead q) m_is
+              ∙ told_quiet q Start (left_by end c.p.nr c.rest)
+
+          now_silent : Course l v c.p c.rest m → told_ahead q m ≡ 0
+          now_silent (course.goes s y done todo at fail) = goes_on s y at
+          now_silent (course.halts s y end done todo at well fail i) = goes_on s y at
+          now_silent (course.errs s y d d' b fault wrote lost done todo at well fail held v_is
+              failed) = goes_on s y at
+          now_silent (course.tells wrote lost well m_is) = over_so _ m_is
+          now_silent (course.closes end i fail m_is) = over_so _ m_is
+
     pub news_gives : (q : News) (ev : Event g l v m) → Chosen g l v m ev → Announces q v m
+    news_gives q (event.visits t) chosen = visit_news q (course_of g ok w j a l who v m t)
+        (weighs_of g ok w j a l who v m k what t)
     news_gives q (event.refuses p rest c todo at held v_is m_is) chosen =
         same_news q _ _ v_is m_is (quietly q _ _ (let x = ap (held_sum (spot n) (noted g q)) held in
         let y = silent q Refusing at refl in let z = told_quiet q Start

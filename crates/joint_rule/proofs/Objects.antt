@@ -1,4 +1,5 @@
 -- What each giving does that has to do with pools and the account.
+use Rattle.joint_rule.proofs.Trips.{quiet_storage, plain_pinned, plain_settle, plain_quit}
 use Rattle.std.proofs.Common.{◌≡◌, ◌+◌, ◌≤◌, ◌∷◌, ◌∙◌, ℕ, Bool, true, false, List, [], length, sum_by, Option, Some, None, slice_get, refl, sym, ap, subst, arith, inl, inr, ⊎_elim}
 use Rattle.call_history.specs.declared.part.Part.{Part}
 use Rattle.call_history.specs.declared.part.PartEnd.{PartEnd}
@@ -17,7 +18,7 @@ use Rattle.joint_rule.proofs.Places.{form_claim}
 use Rattle.joint_rule.specs.Begins.{Begin, content, form_at, ground_of, image}
 use Rattle.joint_rule.specs.Joint.{AtHome, EntryFits, Joint, PoolFits, Sound}
 use Rattle.joint_rule.specs.Stages.{Bears, Changes, FailBy, IsForm, IsObj, IsPinned, IsRefusal, IsRight, IsSmall, IsWrite, Looks, MadeBy, MayFail, MayPin, Names, NoneOf, Stage, locks_at, MaySeeOther}
-use Rattle.joint_rule.specs.Weights.{HeldAll, Limit, PinWeigh, at_place, block_by, block_claims, cell_weight, chains, claim_by, claims, counters, device_size, each_one, ever_at, fixed, fixed_count, lies_at, map_size, mosts, nothing, outs, pages, pin_in, shown, some_of, stored, stored_at, used_blocks}
+use Rattle.joint_rule.specs.Weights.{HeldAll, Limit, PinWeigh, at_place, block_by, block_claims, cell_weight, chains, claim_by, claims, counters, device_size, each_one, ever_at, fixed, fixed_count, lies_at, map_size, mosts, nothing, outs, pages, pin_in, shown, some_of, stored, stored_at, used_blocks, mark_at, shows_at}
 use Rattle.lock_row.specs.Totals.{by_option, held_sum}
 use Rattle.lock_row.specs.declared.names.At.TheVariants.{Both, Freeing, Leaving, Made, Owing, Pinning, Unpinning}
 use Rattle.lock_row.specs.declared.names.LockNo.{LockNo}
@@ -37,7 +38,7 @@ use Rattle.slot_entry.specs.declared.kept.Kept.{Kept}
 use Rattle.slot_entry.specs.declared.kept.Stored.{Stored}
 use Rattle.zr_base.specs.Plain.{has_whole}
 use Rattle.zr_base.specs.declared.op.Op.{Op}
-use Rattle.zr_base.specs.declared.op.Op.TheVariants.{Compact, Discard, Idle, Read, Write}
+use Rattle.zr_base.specs.declared.op.Op.TheVariants.{Compact, Discard, Idle, Read, Write, Writeback}
 use Rattle.zr_base.specs.declared.op.Stuff.{Stuff}
 use Rattle.zspage.specs.Cells.{CellState, IsStored, UsedCell, object_in}
 use Rattle.lock_row.specs.declared.names.LockNo.TheVariants as lock
@@ -140,10 +141,12 @@ module _ (g : Begin) (ok : Known g) (w : State DiskHeld) (j : Joint g w) (a : �
           fails = subst (λ (x : Op). FailBy g p x l.fail) (sym e_op) st.fails;
           begun = st.begun;
           scans = tt;
+          visits = tt;
           compacts = tt;
         }
         pinned_stage (Discard start count) e_op = absurd (subst Looks e_op st.kind.0)
         pinned_stage (Idle age) e_op = absurd (subst Looks e_op st.kind.0)
+        pinned_stage (Writeback mode) e_op = absurd (subst Looks e_op st.kind.0)
         pinned_stage Compact e_op = absurd (subst Looks e_op st.kind.0)
 
         is_pin : (y : UsedCell) → y.handle ≡ o.handle.0 → y.cell ≡ cell
@@ -163,9 +166,10 @@ module _ (g : Begin) (ok : Known g) (w : State DiskHeld) (j : Joint g w) (a : �
         pinned_locks (Read start count) f c d = refl
         pinned_locks (Discard start count) f c d = refl
         pinned_locks (Idle age) f c d = refl
+        pinned_locks (Writeback mode) f c d = refl
         pinned_locks Compact f c d = refl
 
-        pub give_pins : Gift g a l (lock.Class o.class) (holds.Class q')
+        pub give_pins : Gift g w a l (lock.Class o.class) (holds.Class q')
             (on l (pinned_at p.op (next_form p (Some page) e.kept) e.kept)
             ((slot p.page, holds.Slot e) ∷ []) l.fresh pinned_cell l.owed l.ahead l.behind
             (Some page) l.fail)
@@ -183,8 +187,9 @@ module _ (g : Begin) (ok : Known g) (w : State DiskHeld) (j : Joint g w) (a : �
           owners = λ f. let r = ap (held_sum (spot n) (claims g f)) held in
               let x = ap (held_sum (spot n) (stored f)) held in
               let s = swap_stored q q' u u' sw f in omega arith;
-          storage = apart g l _ _ _ (λ f z y. let r = ap (held_sum (spot n) f) held in
-              let s = z (n + o.class) q in let t = z (n + o.class) q' in omega arith);
+          storage = quiet_storage g w a l _ _ _ j who Pinning at tt (plain_pinned p.op (next_form p (Some page) e.kept) e.kept)
+              (apart g a l _ _ _ (λ f z y. let r = ap (held_sum (spot n) f) held in
+              let s = z (n + o.class) q in let t = z (n + o.class) q' in omega arith));
           pins = λ f. let r = ap (held_sum (spot n) (outs f)) held in
               let x = ap (held_sum (spot n) nothing) held in
               let s = swap_out q q' u u' sw free taken f in
@@ -213,7 +218,7 @@ module _ (g : Begin) (ok : Known g) (w : State DiskHeld) (j : Joint g w) (a : �
         unpinned f (Some x) e_pin i = ap f (pin_is g w j a l who p.page o q e held is x e_pin i u
             sw.there (named_u ∙ sym (subst (λ (k : Kept). Names k x) is i).1))
 
-        pub give_unpins : Gift g a l (lock.Class o.class) (holds.Class q')
+        pub give_unpins : Gift g w a l (lock.Class o.class) (holds.Class q')
             (on l Leaving ((slot p.page, holds.Slot e) ∷ []) l.fresh None l.owed l.ahead l.behind
             l.page l.fail)
         give_unpins = record {
@@ -236,6 +241,7 @@ module _ (g : Begin) (ok : Known g) (w : State DiskHeld) (j : Joint g w) (a : �
                 fails = su.fails;
                 begun = su.begun;
                 scans = tt;
+                visits = tt;
                 compacts = tt;
               }) (let lr =
               ap (held_sum (spot n) (claims g each_one)) held in
@@ -245,8 +251,9 @@ module _ (g : Begin) (ok : Known g) (w : State DiskHeld) (j : Joint g w) (a : �
           owners = λ f. let r = ap (held_sum (spot n) (claims g f)) held in
               let x = ap (held_sum (spot n) (stored f)) held in
               let s = swap_stored q q' u u' sw f in omega arith;
-          storage = apart g l _ _ _ (λ f z y. let r = ap (held_sum (spot n) f) held in
-              let s = z (n + o.class) q in let t = z (n + o.class) q' in omega arith);
+          storage = quiet_storage g w a l _ _ _ j who Unpinning at tt tt
+              (apart g a l _ _ _ (λ f z y. let r = ap (held_sum (spot n) f) held in
+              let s = z (n + o.class) q in let t = z (n + o.class) q' in omega arith));
           pins = λ f. let r = ap (held_sum (spot n) (outs f)) held in
               let x = ap (held_sum (spot n) nothing) held in
               let s = swap_home q q' u u' sw taken free f in
@@ -328,6 +335,7 @@ module _ (g : Begin) (ok : Known g) (w : State DiskHeld) (j : Joint g w) (a : �
         fails = sf.fails;
         begun = sf.begun;
         scans = tt;
+        visits = tt;
         compacts = tt;
       }
 
@@ -336,11 +344,11 @@ module _ (g : Begin) (ok : Known g) (w : State DiskHeld) (j : Joint g w) (a : �
         page = x.page;
         calls = x.calls;
         touched = x.touched;
-        mark = record { under = x.mark.under; stays = x.mark.stays; only = x.mark.only };
+        mark = x.mark;
         small = omega arith;
       }
 
-      pub give_frees : Gift g a l (lock.Class o.class) (holds.Class q')
+      pub give_frees : Gift g w a l (lock.Class o.class) (holds.Class q')
           (on l Owing ((slot p.page, holds.Slot (emptied e)) ∷ []) l.fresh None m
           (Some (weight_of e.kept)) l.behind l.page l.fail)
       give_frees = record {
@@ -364,7 +372,7 @@ module _ (g : Begin) (ok : Known g) (w : State DiskHeld) (j : Joint g w) (a : �
             ap (λ (k : Kept). claim_by f k (image g p.page e.order)) is
             ∙ (λ i. f (sym (back.class ∙ class) i) (sym fp.named i) (sym freed_bytes i)) in
             omega arith;
-        storage = record {
+        storage = quiet_storage g w a l _ _ _ j who Freeing at tt tt (record {
           blocks = λ f. let r = ap (held_sum (spot n) (block_claims f)) held in
               let x = ap (held_sum (spot n) (used_blocks f)) held in
               let z = ap (block_by f) is in omega arith;
@@ -372,7 +380,10 @@ module _ (g : Begin) (ok : Known g) (w : State DiskHeld) (j : Joint g w) (a : �
           devices = let r = ap (held_sum (spot n) device_size) held in omega arith;
           lies = λ b bytes. let r = ap (held_sum (spot n) (lies_at g b bytes)) held in omega arith;
           stored = λ b bytes. let r = ap (held_sum (spot n) (stored_at b bytes)) held in omega arith;
-        };
+          marks = λ i b bytes. let r = ap (held_sum (spot n) (mark_at g i b bytes)) held in
+              omega arith;
+          shows = λ c i b ne. let r = ap (held_sum (spot n) (shows_at c i b)) held in omega arith;
+        });
         pins = λ f. let r = ap (held_sum (spot n) (outs f)) held in
             let x = ap (held_sum (spot n) nothing) held in
             let s = less_outs mid q' u m fp.gone fp.home f in let c = back.outs f in omega arith;
@@ -431,6 +442,7 @@ module _ (g : Begin) (ok : Known g) (w : State DiskHeld) (j : Joint g w) (a : �
         fails = may_by l.fail sb.fails;
         begun = sb.begun;
         scans = tt;
+        visits = tt;
         compacts = tt;
       } where
         made_by : (x : Option PartEnd) → NoneOf x → MadeBy g.chain x (next_form p l.page e.kept)
@@ -443,7 +455,7 @@ module _ (g : Begin) (ok : Known g) (w : State DiskHeld) (j : Joint g w) (a : �
         may_by None i = tt
         may_by (Some x) i = absurd i
 
-      pub give_charges : Gift g a l lock.Account (holds.Account (charged c need))
+      pub give_charges : Gift g w a l lock.Account (holds.Account (charged c need))
           (on l Made ((lock.Class cl, holds.Class q') ∷ (slot p.page, holds.Slot e) ∷ [])
           (Some new_object) l.pin l.owed l.ahead l.behind l.page l.fail)
       give_charges = record {
@@ -471,9 +483,10 @@ module _ (g : Begin) (ok : Known g) (w : State DiskHeld) (j : Joint g w) (a : �
             let s = more_stored q q' h need bytes al f in let y = none_fresh f l.fresh sb.made in
             let z : f q.class h bytes ≡ f cl h bytes = ap (λ (k : ℕ). f k h bytes) class_q in
             omega arith;
-        storage = apart g l _ _ _ (λ f z y. let r = ap (held_sum (spot n) f) held in
+        storage = quiet_storage g w a l _ _ _ j who Both at tt tt
+            (apart g a l _ _ _ (λ f z y. let r = ap (held_sum (spot n) f) held in
             let s = z (n + cl) q in let t = z (n + cl) q' in let u = y (n + 255) c in
-            let v = y (n + 255) (charged c need) in omega arith);
+            let v = y (n + 255) (charged c need) in omega arith));
         pins = λ f. let r = ap (held_sum (spot n) (outs f)) held in
             let x = ap (held_sum (spot n) nothing) held in
             let s = more_outs q q' h need bytes al f in omega arith;
@@ -515,6 +528,7 @@ module _ (g : Begin) (ok : Known g) (w : State DiskHeld) (j : Joint g w) (a : �
     may_want (Read start count) e_op i = absurd i
     may_want (Discard start count) e_op i = absurd i
     may_want (Idle age) e_op i = absurd i
+    may_want (Writeback mode) e_op i = absurd i
     may_want Compact e_op i = absurd i
 
     class_num : cl ≡ class_in g.chain (next_form p l.page e.kept)
@@ -530,6 +544,7 @@ module _ (g : Begin) (ok : Known g) (w : State DiskHeld) (j : Joint g w) (a : �
     of_class_is (Read start count) e_op i = absurd i
     of_class_is (Discard start count) e_op i = absurd i
     of_class_is (Idle age) e_op i = absurd i
+    of_class_is (Writeback mode) e_op i = absurd i
     of_class_is Compact e_op i = absurd i
 
     pub memory_refusal : IsRefusal g p NoMemory
@@ -562,7 +577,7 @@ module _ (g : Begin) (ok : Known g) (w : State DiskHeld) (j : Joint g w) (a : �
       },
     )
 
-    pub give_refused : (x : PartEnd) → IsRefusal g p x → Gift g a l lock.Account
+    pub give_refused : (x : PartEnd) → IsRefusal g p x → Gift g w a l lock.Account
         (holds.Account (counted c delta.FailedWrite)) (on l Made
         ((lock.Class cl, holds.Class q) ∷ (slot p.page, holds.Slot e) ∷ []) l.fresh l.pin l.owed
         l.ahead l.behind l.page (Some x))
@@ -586,6 +601,7 @@ module _ (g : Begin) (ok : Known g) (w : State DiskHeld) (j : Joint g w) (a : �
             fails = is;
             begun = sb.begun;
             scans = tt;
+            visits = tt;
             compacts = tt;
           }) (let lr = ap (held_sum (spot n) (claims g each_one)) held in
           let lx = ap (held_sum (spot n) (ever_at g)) held in
@@ -593,8 +609,9 @@ module _ (g : Begin) (ok : Known g) (w : State DiskHeld) (j : Joint g w) (a : �
       alone = λ i. let r = ap (held_sum (spot n) (at_place i)) held in omega arith;
       owners = λ f. let r = ap (held_sum (spot n) (claims g f)) held in
           let x = ap (held_sum (spot n) (stored f)) held in omega arith;
-      storage = apart g l _ _ _ (λ f z y. let r = ap (held_sum (spot n) f) held in
-          let s = y (n + 255) c in let t = y (n + 255) (counted c delta.FailedWrite) in omega arith);
+      storage = quiet_storage g w a l _ _ _ j who Both at tt tt
+          (apart g a l _ _ _ (λ f z y. let r = ap (held_sum (spot n) f) held in
+          let s = y (n + 255) c in let t = y (n + 255) (counted c delta.FailedWrite) in omega arith));
       pins = λ f. let r = ap (held_sum (spot n) (outs f)) held in
           let x = ap (held_sum (spot n) nothing) held in omega arith;
       frames = let r = ap (held_sum (spot n) pages) held in
@@ -620,9 +637,10 @@ module _ (g : Begin) (ok : Known g) (w : State DiskHeld) (j : Joint g w) (a : �
     writes_change (Read start count) i = absurd i
     writes_change (Discard start count) i = absurd i
     writes_change (Idle age) i = absurd i
+    writes_change (Writeback mode) i = absurd i
     writes_change Compact i = absurd i
 
-    pub give_stows : l.fail ≡ None → Gift g a l (lock.Class cl) (holds.Class q)
+    pub give_stows : l.fail ≡ None → Gift g w a l (lock.Class cl) (holds.Class q)
         (on l (settle_at e.kept) ((slot p.page, holds.Slot e) ∷ []) l.fresh l.pin l.owed l.ahead
         l.behind l.page l.fail)
     give_stows well = record {
@@ -645,8 +663,9 @@ module _ (g : Begin) (ok : Known g) (w : State DiskHeld) (j : Joint g w) (a : �
       alone = λ i. let r = ap (held_sum (spot n) (at_place i)) held in omega arith;
       owners = λ f. let r = ap (held_sum (spot n) (claims g f)) held in
           let x = ap (held_sum (spot n) (stored f)) held in omega arith;
-      storage = apart g l _ _ _ (λ f z y. let r = ap (held_sum (spot n) f) held in
-          let s = z (n + cl) q in omega arith);
+      storage = quiet_storage g w a l _ _ _ j who Made at tt (plain_settle e.kept)
+          (apart g a l _ _ _ (λ f z y. let r = ap (held_sum (spot n) f) held in
+          let s = z (n + cl) q in omega arith));
       pins = λ f. let r = ap (held_sum (spot n) (outs f)) held in
           let x = ap (held_sum (spot n) nothing) held in omega arith;
       frames = let r = ap (held_sum (spot n) pages) held in
@@ -673,6 +692,7 @@ module _ (g : Begin) (ok : Known g) (w : State DiskHeld) (j : Joint g w) (a : �
       write_fails (Read start count) y i k f = absurd k
       write_fails (Discard start count) y i k f = absurd k
       write_fails (Idle age) y i k f = absurd k
+      write_fails (Writeback mode) y i k f = absurd k
       write_fails Compact y i k f = absurd k
 
       write_looks : (op : Op) → IsWrite op → Looks op
@@ -680,6 +700,7 @@ module _ (g : Begin) (ok : Known g) (w : State DiskHeld) (j : Joint g w) (a : �
       write_looks (Read start count) k = absurd k
       write_looks (Discard start count) k = absurd k
       write_looks (Idle age) k = absurd k
+      write_looks (Writeback mode) k = absurd k
       write_looks Compact k = absurd k
 
       named_obj : (k : Kept) (y : Pin) → Names k y → IsObj k
@@ -705,6 +726,7 @@ module _ (g : Begin) (ok : Known g) (w : State DiskHeld) (j : Joint g w) (a : �
         fails = write_fails p.op l.fail bad sm.kind.0 sm.fails;
         begun = sm.begun;
         scans = tt;
+        visits = tt;
         compacts = tt;
       }
       quit_stage (Some y) i = record {
@@ -722,6 +744,7 @@ module _ (g : Begin) (ok : Known g) (w : State DiskHeld) (j : Joint g w) (a : �
         fails = write_fails p.op l.fail bad sm.kind.0 sm.fails;
         begun = sm.begun;
         scans = tt;
+        visits = tt;
         compacts = tt;
       }
 
@@ -729,7 +752,7 @@ module _ (g : Begin) (ok : Known g) (w : State DiskHeld) (j : Joint g w) (a : �
       quit_locks None c d = refl
       quit_locks (Some y) c d = refl
 
-      pub give_quits : Gift g a l (lock.Class cl) (holds.Class q)
+      pub give_quits : Gift g w a l (lock.Class cl) (holds.Class q)
           (on l (quit_at l.pin) ((slot p.page, holds.Slot e) ∷ []) l.fresh l.pin l.owed l.ahead
           l.behind l.page l.fail)
       give_quits = record {
@@ -748,8 +771,9 @@ module _ (g : Begin) (ok : Known g) (w : State DiskHeld) (j : Joint g w) (a : �
         alone = λ i. let r = ap (held_sum (spot n) (at_place i)) held in omega arith;
         owners = λ f. let r = ap (held_sum (spot n) (claims g f)) held in
             let x = ap (held_sum (spot n) (stored f)) held in omega arith;
-        storage = apart g l _ _ _ (λ f z y. let r = ap (held_sum (spot n) f) held in
-            let s = z (n + cl) q in omega arith);
+        storage = quiet_storage g w a l _ _ _ j who Made at tt (plain_quit l.pin)
+            (apart g a l _ _ _ (λ f z y. let r = ap (held_sum (spot n) f) held in
+            let s = z (n + cl) q in omega arith));
         pins = λ f. let r = ap (held_sum (spot n) (outs f)) held in
             let x = ap (held_sum (spot n) nothing) held in omega arith;
         frames = let r = ap (held_sum (spot n) pages) held in

@@ -27,7 +27,7 @@ use Rattle.std.specs.Prelude.{All, ⊤}
 use Rattle.zr_base.specs.Plain.{PageCalls, content as sectors, covers, has_whole, named, sector_after, sector_after_named, stuff_sector, zero_sector, IsSector, Look, start_from}
 use Rattle.zr_base.specs.Sectors.{page_sector}
 use Rattle.zr_base.specs.declared.op.Op.{Op}
-use Rattle.zr_base.specs.declared.op.Op.TheVariants.{Compact, Discard, Idle, Read, Write}
+use Rattle.zr_base.specs.declared.op.Op.TheVariants.{Compact, Discard, Idle, Read, Write, Writeback}
 use Rattle.zr_base.specs.declared.op.Stuff.{Stuff}
 use Rattle.zr_base.specs.declared.op.Tag.{Tag}
 use Rattle.slot_entry.specs.declared.kept.Kept.TheVariants as kept
@@ -120,6 +120,7 @@ module _ (g : Begin) (ok : Known g) where
   call_sector p t (Some (Discard start count)) s old e i =
       ok.proper.puts t (Discard start count) s old e i
   call_sector p t (Some (Idle age)) s old e i = ok.proper.puts t (Idle age) s old e i
+  call_sector p t (Some (Writeback mode)) s old e i = ok.proper.puts t (Writeback mode) s old e i
   call_sector p t (Some Compact) s old e i = ok.proper.puts t Compact s old e i
 
   sectors_by : (p : ℕ) (order : List Tag) (s : ℕ) (old : List ℕ) → IsSector old
@@ -167,6 +168,7 @@ module _ (g : Begin) (ok : Known g) where
   sees_any (Read start count) p order t = sees_page p order t
   sees_any (Discard start count) p order t = tt
   sees_any (Idle age) p order t = tt
+  sees_any (Writeback mode) p order t = tt
   sees_any Compact p order t = tt
 
   held_on : (p : ℕ) (order : List Tag) (t : Tag) (s : ℕ)
@@ -228,6 +230,7 @@ module _ (g : Begin) (ok : Known g) where
   blank_step (Some (Read start count)) look p k lt ev b old zeros e = zeros e
   blank_step (Some (Write start count stuff)) look p k lt ev b old zeros e = absurd (cc)
   blank_step (Some (Idle age)) look p k lt ev b old zeros e = zeros e
+  blank_step (Some (Writeback mode)) look p k lt ev b old zeros e = zeros e
   blank_step (Some Compact) look p k lt ev b old zeros e = zeros e
   blank_step (Some (Discard start count)) look p k lt ev b old zeros e =
       let q : (8 * p + k) / 8 ≡ p = omega arith in
@@ -443,6 +446,7 @@ module _ (g : Begin) (ok : Known g) (p : Part) (order : List Tag) (t : Tag)
       ∙ ap (λ (o : Op). blank_by (Some o) (found_after g p.page order).blank) e in
       ap (λ (x : Bool). form_by x (form_of (content g p.page order_now))) b
   leaves_form (Idle age) page e c same = absurd c
+  leaves_form (Writeback mode) page e c same = absurd c
   leaves_form Compact page e c same = absurd c
 
   -- the form after a piece that changes its page
@@ -496,6 +500,7 @@ module _ (g : Begin) (ok : Known g) (p : Part) (t : Tag)
     next_page (Discard start count) e c r bytes huge f =
         absurd (let q : Blank ≡ Pooled bytes huge = f in cc)
     next_page (Idle age) e c r bytes huge f = absurd c
+    next_page (Writeback mode) e c r bytes huge f = absurd c
     next_page Compact e c r bytes huge f = absurd c
 
     -- an object that a piece leaves is that of a page
@@ -681,6 +686,7 @@ change_goes (Write start count stuff) c = refl
 change_goes (Read start count) c = absurd c
 change_goes (Discard start count) c = refl
 change_goes (Idle age) c = absurd c
+change_goes (Writeback mode) c = absurd c
 change_goes Compact c = absurd c
 
 module _ (g : Begin) (p : Part) (order : List Tag) (t : Tag)

@@ -7,8 +7,8 @@ use Rattle.joint_rule.proofs.Facts.{Known}
 use Rattle.joint_rule.proofs.Pages.{all_sectors, blank_zero, holds_after}
 use Rattle.joint_rule.proofs.Ranges.{range_by, range_map, range_none}
 use Rattle.joint_rule.proofs.Rests.{at_rest}
-use Rattle.joint_rule.specs.Begins.{finding, AreCarried, AreRequests, Begin, FindsRight, IsRoomy, Proper, back_at, found_after}
-use Rattle.joint_rule.specs.Ends.{AllFinished, begin_at, new_rest, order_in, orders_of, rest_after, value_at, idle_in}
+use Rattle.joint_rule.specs.Begins.{finding, AreCarried, AreRequests, Begin, FindsRight, IsRoomy, Proper, found_after}
+use Rattle.joint_rule.specs.Ends.{AllFinished, begin_at, new_rest, order_in, orders_of, rest_after, value_at, idle_in, back_in}
 use Rattle.joint_rule.specs.Rule.{Ruled}
 use Rattle.joint_rule.specs.Starts.{IsRenewed}
 use Rattle.lock_row.specs.declared.names.State.{State}
@@ -34,7 +34,7 @@ use Rattle.std.specs.List.{AllByRecursion}
 use Rattle.std.specs.Prelude.{All}
 use Rattle.zr_base.specs.Plain.{HasBytes, HasSectors, covers, has_whole, named, sector_after, stuff_sector, words_from, zero_sector, IsSector, Finds}
 use Rattle.zr_base.specs.declared.op.Op.{Op}
-use Rattle.zr_base.specs.declared.op.Op.TheVariants.{Compact, Discard, Idle, Read, Write}
+use Rattle.zr_base.specs.declared.op.Op.TheVariants.{Compact, Discard, Idle, Read, Write, Writeback}
 use Rattle.zr_base.specs.declared.op.Stuff.{Stuff}
 use Rattle.zr_base.specs.declared.op.Stuff.TheVariants.{Fill, Hex, Seq}
 use Rattle.zr_base.specs.declared.op.Tag.{Tag}
@@ -108,6 +108,7 @@ module _ (actors : List (List Op)) (requests : AreRequests actors) where
     | inr off ↦ rw off h
   ]
   put_by t (Idle age) s old e h = h
+  put_by t (Writeback mode) s old e h = h
   put_by t Compact s old e h = h
   put_by t (Discard start count) s old e h = elim
       (cases_Bool (has_whole start count (s / 8))) [ inl on ↦ rw on zero_is | inr off ↦ rw off h ]
@@ -201,7 +202,7 @@ module _ (r : Rest) (actors : List (List Op)) (finds : ℕ → Finds)
         time = ap (λ (o : List Tag). touched_by o r.set.clock (r.touched j)) order_e
             ∙ sym home.sound.touched;
         blank = ap (λ (o : List Tag). (found_after g j o).blank) order_e;
-        back = ap (back_at g j) order_e;
+        back = ap back_in (get_or_from_slice_get w.row j (Some (holds.Slot e)) None at);
         before = λ k lt8. ap (λ (q : ℕ). held_after g.given q
             (nth_order (orders_of r.size w.row) q) (8 * j + k))
             (let q : (8 * j + k) / 8 ≡ j = omega arith in q)

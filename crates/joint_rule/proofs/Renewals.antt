@@ -1,5 +1,5 @@
 -- The rest that a phase leaves is the one with which the next begins.
-use Rattle.std.proofs.Common.{◌≡◌, ◌+◌, ◌*◌, ◌<◌, ◌≤◌, ◌∷◌, ◌∙◌, ◌&&◌, ℕ, zero, suc, Bool, true, false, List, [], length, Option, Some, None, slice_get, refl, sym, ap, subst, arith}
+use Rattle.std.proofs.Common.{◌≡◌, ◌+◌, ◌*◌, ◌<◌, ◌≤◌, ◌∷◌, ◌∙◌, ◌&&◌, ℕ, zero, suc, Bool, true, false, List, [], length, Option, Some, None, slice_get, refl, sym, ap, subst, arith, is_some}
 use Rattle.backing_dev.specs.Dev.{DeviceState}
 use Rattle.block_map.specs.BlockMap.{BlockMap}
 use Rattle.class_pool.specs.Pool.{PoolState}
@@ -7,14 +7,14 @@ use Rattle.joint_rule.proofs.Pages.{content_join, join_same}
 use Rattle.joint_rule.proofs.Starts.{account_at, account_sum, keeps_self}
 use Rattle.joint_rule.specs.Begins.{AreCarried, Begin, back_at, content, form_at, form_by, found_after, image}
 use Rattle.joint_rule.specs.Joint.{AtHome, KeepsDevice, PoolFits}
-use Rattle.joint_rule.specs.Stages.{IsForm, IsSmall, is_wb}
+use Rattle.joint_rule.specs.Stages.{IsForm, IsSmall}
 use Rattle.joint_rule.specs.Starts.{AtRest, IsNextDisk, IsRenewed, Matched, Renewed}
 use Rattle.joint_rule.specs.Weights.{Backs, Count, FailedReads, FailedWrites, FreedPages, HugeWrites, Huges, News, OutOfRange, PackedBytes, Packs, Refusal, Sames, Weigh, block_by, block_claims, chains, claim_by, claims, compactions, counter, counters, device_size, lies_at, lies_by, map_size, measure, mosts, news_count, news_counter, on_entry, outs, pages, refusal_count, refusal_counter, shown, stored, stored_at, used_blocks, used_from}
 use Rattle.lock_row.specs.Totals.{row_sum}
 use Rattle.mem_account.specs.Counters.{Counters}
 use Rattle.page_steps.specs.Steps.{DiskHeld}
 use Rattle.plain_disk.specs.Phases.{held_after, touched_by}
-use Rattle.slot_entry.specs.Entries.{EntryState, weight_of, is_obj}
+use Rattle.slot_entry.specs.Entries.{EntryState, weight_of, is_obj, is_wb}
 use Rattle.slot_entry.specs.Forms.{PageForm, bytes_in, form_of}
 use Rattle.slot_entry.specs.declared.kept.Kept.{Kept}
 use Rattle.zr_base.specs.declared.op.Tag.{Tag}
@@ -151,6 +151,16 @@ module _ (g h : Begin) where
   most_keeps j v c d (renewed.maps x y is_v is_u e) is le = absurd (cc)
   most_keeps j v c d (renewed.devices x is_v is_u e) is le = absurd (cc)
 
+  -- an entry without a mark stays one
+  under_keeps : (j : ℕ) (v : DiskHeld) (d : EntryState) → Renewed g h j v (holds.Slot d)
+      → ((c : EntryState) → v ≡ holds.Slot c → c.under ≡ None) → d.under ≡ None
+  under_keeps j v d (renewed.slots c b is_v is_u r) was =
+      let now : d ≡ b = cc in ap (λ (x : EntryState). x.under) now ∙ r.under ∙ was c is_v
+  under_keeps j v d (renewed.accounts c b is_v is_u e keeps) was = absurd (cc)
+  under_keeps j v d (renewed.pools p is_v is_u) was = absurd (cc)
+  under_keeps j v d (renewed.maps x y is_v is_u e) was = absurd (cc)
+  under_keeps j v d (renewed.devices x is_v is_u e) was = absurd (cc)
+
   module _ (on_it : IsNextDisk g h) where
     pool_home : (j : ℕ) (p : PoolState) → AtHome g j (holds.Class p) → AtHome h j (holds.Class p)
     pool_home j p x = record {
@@ -168,7 +178,7 @@ module _ (g h : Begin) where
     device_home j d e x = record {
       sound = (
         (let q = x.sound.0 in let s = on_it.size in omega arith),
-        subst (λ (y : DeviceState). KeepsDevice y d) (sym e) (keeps_self d x.sound.1.end),
+        subst (λ (y : DeviceState). KeepsDevice y d) (sym e) (keeps_self d x.sound.1.end x.sound.1.writes),
       );
       stands = tt;
       backs = tt;
@@ -183,19 +193,24 @@ module _ (g h : Begin) where
         calls = subst (AreCarried h j) (sym r.order) tt;
         touched = r.touched ∙ sym r.time ∙ sym (ap (λ (ts : List Tag).
             touched_by ts h.clock (h.touched j)) r.order);
-        mark = record {
-          under = r.under ∙ x.sound.mark.under;
-          stays = λ none was. r.idle ∙ sym r.mark ∙ was;
-          only = λ none idle. (r.order, r.mark ∙ sym r.idle ∙ idle);
-        };
+        mark = λ none idle. (r.order, r.mark ∙ sym r.idle ∙ idle);
         small = subst (λ (k : Kept). IsSmall (weight_of k)) (sym r.kept) x.sound.small;
       };
       stands = subst (λ (y : ℕ × PageForm × Kept). IsForm y.0 y.1 y.2)
           (λ i. (sym on_it.chain i, sym (same_form j e d r) i, sym r.kept i)) x.stands;
-      backs = ap is_wb r.kept ∙ x.backs ∙ sym (ap (back_at h j) r.order ∙ and_true (h.back j)
-          ∙ r.back);
-      marks = λ idle. ap is_obj r.kept ∙ x.marks (sym r.idle ∙ idle);
-    }
+      backs = record {
+        there = λ on. back_now ∙ on;
+        only = λ none. back_now;
+      };
+      marks = record {
+        idle_one = λ idle. ap is_obj r.kept ∙ x.marks.idle_one (sym r.idle ∙ idle);
+        under_one = λ some. ap is_obj r.kept ∙ x.marks.under_one (sym (ap is_some r.under) ∙ some);
+        stays = λ none was off. r.idle ∙ sym r.mark ∙ was;
+      };
+    } where
+      -- it is on the device where it was before the phase
+      back_now : is_wb d.kept ≡ back_at h j d.order
+      back_now = ap is_wb r.kept ∙ sym (ap (back_at h j) r.order ∙ and_true (h.back j) ∙ r.back)
 
     home_same : (j : ℕ) (v u : DiskHeld) → Renewed g h j v u → AtHome g j v → AtHome h j u
     home_same j v u (renewed.slots e d is_v is_u r) x =
@@ -281,6 +296,9 @@ module _ (g h : Begin) where
               (λ j x y e. refl) in let z = a.disk b bytes (omega arith) in omega arith;
           pins = λ f. let x = same (outs f) (λ j e d r. refl) (λ j c n t. refl) (λ j x y e. refl) in
               let z = a.pins f in omega arith;
+          unmarked = λ k d e. let r = match_at (Renewed g h) xs ys m k (holds.Slot d) e in
+              under_keeps k r.0 d r.2 (λ c is. a.unmarked k c
+              (r.1 ∙ ap (λ (v : DiskHeld). Some (Some v)) is));
           frames = let x = same pages (λ j e d r. refl) (λ j c n t. refl) (λ j x y e. refl) in
               let y = same chains (λ j e d r. refl) (λ j c n t. refl) (λ j x y e. refl) in
               let z = a.frames in omega arith;

@@ -1,25 +1,33 @@
 -- What a finished phase leaves is at rest.
+use Rattle.lock_row.specs.declared.names.Step.TheVariants as step
+use Rattle.std.proofs.lemmas.Bool.{eq-eqb}
+use Rattle.joint_rule.proofs.Pools.{list_self}
+use Rattle.slot_entry.specs.Entries.{EntryState}
+use Rattle.lock_row.specs.declared.names.Trip.{Trip}
+use Rattle.lock_row.specs.declared.names.Step.{Step}
+use Rattle.joint_rule.proofs.Trips.{NoTrip, mark_carried, uses_none, written_none}
 use Rattle.std.proofs.Common.{◌≡◌, ◌≤◌, ◌<◌, ◌∷◌, ◌∙◌, ◌^◌, ℕ, zero, suc, Bool, true, false, List, [], map, length, Option, Some, None, slice_get, refl, sym, ap, subst, arith}
 use Rattle.call_history.specs.declared.part.Part.{Part}
 use Rattle.joint_rule.proofs.Starts.{no_locals, none_first}
-use Rattle.joint_rule.proofs.Sums.{row_nothing}
-use Rattle.joint_rule.specs.Begins.{Begin}
+use Rattle.joint_rule.proofs.Sums.{row_nothing, row_le}
+use Rattle.joint_rule.specs.Begins.{Begin, content}
 use Rattle.joint_rule.specs.Ends.{AllFinished}
 use Rattle.joint_rule.specs.Joint.{IsActor, Joint}
 use Rattle.joint_rule.specs.Rule.{Ruled}
 use Rattle.joint_rule.specs.Stages.{NoneOf, StageBy, locks_by}
 use Rattle.joint_rule.specs.Starts.{AtRest}
-use Rattle.joint_rule.specs.Weights.{ahead, at_place, behind, block_claims, chains, claims, compactions, counters, device_size, fresh_claim, lies_at, map_size, measure, mosts, news_counter, none, nothing, object_weight, outs, owing, pages, pinned, refusal_counter, shown, stored, stored_at, used_blocks}
+use Rattle.joint_rule.specs.Weights.{ahead, at_place, behind, block_claims, chains, claims, compactions, counters, device_size, fresh_claim, lies_at, map_size, measure, mosts, news_counter, none, nothing, object_weight, outs, owing, pages, pinned, refusal_counter, shown, stored, stored_at, used_blocks, block_uses, written_at, mark_at, mark_by}
 use Rattle.lock_row.specs.Totals.{by_option, row_sum, total}
 use Rattle.lock_row.specs.declared.names.At.{At}
-use Rattle.lock_row.specs.declared.names.At.TheVariants.{Start}
+use Rattle.lock_row.specs.declared.names.At.TheVariants.{Start, Visiting}
 use Rattle.lock_row.specs.declared.names.LockNo.{LockNo}
 use Rattle.lock_row.specs.declared.names.Plan.TheVariants.{Finished}
 use Rattle.lock_row.specs.declared.names.State.{State}
 use Rattle.mem_account.specs.Counters.{at_most_end}
 use Rattle.page_steps.specs.Pages.{new_class}
-use Rattle.page_steps.specs.Steps.{DiskHeld, Here, class_by, entry_in, plan_at, plan_by, spot, start_plan}
+use Rattle.page_steps.specs.Steps.{DiskHeld, Here, class_by, entry_in, plan_at, plan_by, spot, start_plan, visit_plan}
 use Rattle.zr_base.specs.Plain.{is_beyond, is_maintenance}
+use Rattle.lock_row.specs.declared.names.Held.TheVariants as holds
 
 -- ---- a finished phase
 
@@ -31,12 +39,17 @@ pub no_held : (xs : List (LockNo × DiskHeld)) → map (λ (x : LockNo × DiskHe
 no_held [] e = refl
 no_held (x ∷ xs) e = absurd (cc)
 
+never_visit : (s : Step) (x : Trip) (c : ℕ) → visit_plan s x c ≡ Finished → ⊥
+never_visit step.Arriving x c e = cc
+never_visit s x c e = cc
+
 never_finished : (size : ℕ) (at : At) (p : Part) (c d : ℕ) → plan_at size at p c d ≡ Finished → ⊥
 never_finished size Start p c d e = started (is_maintenance p.op) (is_beyond size p.op) e where
   started : (a b : Bool) → start_plan a b p ≡ Finished → ⊥
   started true b x = cc
   started false true x = cc
   started false false x = cc
+never_finished size (Visiting s x) p c d e = never_visit s x c e
 never_finished size at p c d e = cc
 
 -- a counter stands still at its end
@@ -81,6 +94,25 @@ module _ (g : Begin) (w : State DiskHeld) (r : Ruled g w) (fin : AllFinished g w
   cell_there (None ∷ xs) (suc k) lt some = cell_there xs k (omega arith) (omega arith)
   cell_there (Some x ∷ xs) (suc k) lt some = cell_there xs k (omega arith) (omega arith)
 
+  -- no actor is at a writeback
+  pub at_start : (a : ℕ) (l : Here) → slice_get w.locals a ≡ Some l → NoTrip l.at
+  at_start a l e = subst NoTrip (sym (quiet a l e).begun) tt
+
+  -- so no page is marked for one
+  unmarked : (k : ℕ) (e : EntryState) → slice_get w.row k ≡ Some (Some (holds.Slot e))
+      → e.under ≡ None
+  unmarked k e at = by_under e.under refl where
+    by_under : (u : Option ℕ) → e.under ≡ u → u ≡ None
+    by_under None is = refl
+    by_under (Some b) is = absurd (
+        let bytes = content g k e.order in
+        let one : mark_by k b bytes k e.under bytes ≡ 1 =
+        ap (λ (u : Option ℕ). mark_by k b bytes k u bytes) is
+        ∙ rw (eq-eqb k k refl, eq-eqb b b refl, list_self bytes) refl in
+        let z = row_le g.given.size (mark_at g k b bytes) w.row k (Some (holds.Slot e)) at in
+        let c = mark_carried g w j k b bytes (omega arith) in
+        let q : NoTrip (Visiting c.3.step c.3.trip) = subst NoTrip c.3.is (at_start c.0 c.1 c.2) in q)
+
   -- all values are at home, and the account's numbers are those of pools and entries
   pub at_rest : AtRest g w.row
   at_rest = record {
@@ -90,16 +122,19 @@ module _ (g : Begin) (w : State DiskHeld) (r : Ruled g w) (fin : AllFinished g w
     owners = λ f. let x = left (claims g f) (fresh_claim f)
         (λ a l e. none_weigh (object_weight f) l.fresh (quiet a l e).made) in
         let y = left (stored f) none (λ a l e. refl) in let z = j.owners f in omega arith;
-    blocks = λ f. sym (left (block_claims f) none (λ a l e. refl)) ∙ j.blocks f
+    blocks = λ f. sym (left (block_claims f) (block_uses f)
+        (λ a l e. uses_none f l (at_start a l e))) ∙ j.blocks f
         ∙ left (used_blocks f) none (λ a l e. refl);
     fits = let x = left map_size none (λ a l e. refl) in
         let y = left device_size none (λ a l e. refl) in let z = j.size in omega arith;
-    disk = λ b bytes some. let x = left (lies_at g b bytes) none (λ a l e. refl) in
+    disk = λ b bytes some. let x = left (lies_at g b bytes) (written_at b bytes)
+        (λ a l e. written_none b bytes l (at_start a l e)) in
         let y = left (stored_at b bytes) none (λ a l e. refl) in
         let z = j.disk b bytes (omega arith) in omega arith;
     pins = λ f. let x = left (outs f) none (λ a l e. refl) in
         let y = left nothing (pinned f) (λ a l e. none_weigh f l.pin (quiet a l e).pins) in
         let z = j.pins f in let r = row_nothing g.given.size w.row in omega arith;
+    unmarked = unmarked;
     frames = let x = left pages none (λ a l e. refl) in
         let y = left chains owing (λ a l e. (quiet a l e).owes) in let z = j.frames in omega arith;
     counts = λ q. let x = left (counters q) (behind q) (λ a l e.

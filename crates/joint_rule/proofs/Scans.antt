@@ -1,4 +1,5 @@
 -- What each giving of a scan that marks pages does.
+use Rattle.joint_rule.proofs.Trips.{quiet_storage, same_marks}
 use Rattle.std.proofs.Common.{◌≡◌, ◌+◌, ◌≤◌, ◌<◌, ◌∷◌, ◌∙◌, ◌==◌, ◌&&◌, ◌||◌, ℕ, zero, suc, Bool, true, false, cond, List, [], Option, Some, slice_get, refl, sym, ap, arith, inl, inr}
 use Rattle.call_history.specs.Parts.{EndsSo}
 use Rattle.call_history.specs.declared.part.Part.{Part}
@@ -61,7 +62,7 @@ more_idle : (b c : Bool) → b ≡ true → (b || c) ≡ true
 more_idle true c e = refl
 more_idle false c e = absurd (cc)
 
--- an entry that is marked has its page in the pool
+-- a page that is marked is in the pool
 idle_pooled : (k : Kept) (was may : Bool) → MayIdle k was → MayIdle k (was || (is_obj k && may))
 idle_pooled k true may h e = h refl
 idle_pooled k false may h e = (and_parts (is_obj k) may e).0
@@ -94,7 +95,7 @@ module _ (g : Begin) (ok : Known g) (w : State DiskHeld) (j : Joint g w) (a : �
   some_marks =
       let i = fit g ok w j a l who p rest todo in
       let there : slice_get i.ops p.nr ≡ Some (Idle age) =
-      ok.facts.named (ground_of g) n i.ops l.done p rest (next g ok w j a l who p rest todo)
+      ok.facts.named (ground_of g) n g.given.backed i.ops l.done p rest (next g ok w j a l who p rest todo)
       ∙ ap (λ (o : Op). Some o) op in
       marked_here g.given.actors a i.ops i.named (marks_here i.ops p.nr age there)
 
@@ -103,11 +104,7 @@ module _ (g : Begin) (ok : Known g) (w : State DiskHeld) (j : Joint g w) (a : �
     page = fits.page;
     calls = fits.calls;
     touched = fits.touched;
-    mark = record {
-      under = fits.mark.under;
-      stays = λ none was. more_idle e.idle (may_mark g.clock age e) (fits.mark.stays none was);
-      only = λ none idle. absurd (let q : true ≡ false = sym some_marks ∙ none in cc);
-    };
+    mark = λ none idle. absurd (let q : true ≡ false = sym some_marks ∙ none in cc);
     small = fits.small;
   }
 
@@ -116,7 +113,12 @@ module _ (g : Begin) (ok : Known g) (w : State DiskHeld) (j : Joint g w) (a : �
     sound = marked_fits;
     stands = st.scans.stands;
     backs = st.scans.backs;
-    marks = idle_pooled e.kept e.idle _ st.scans.marks;
+    marks = record {
+      idle_one = idle_pooled e.kept e.idle _ st.scans.marks.idle_one;
+      under_one = st.scans.marks.under_one;
+      stays = λ none was off. more_idle e.idle (may_mark g.clock age e)
+          (st.scans.marks.stays none was off);
+    };
   }
 
   few : y.marked ≤ x.page + 1
@@ -128,7 +130,7 @@ module _ (g : Begin) (ok : Known g) (w : State DiskHeld) (j : Joint g w) (a : �
     next_page = let z = eqb-false (x.page + 1) n other in let lt = st.scans.scan.page in
         elim (cases_eq (x.page + 1) n) [ inl q ↦ absurd (z q) | inr q ↦ omega arith ]
 
-    pub give_scans : Gift g a l (slot x.page) (holds.Slot f)
+    pub give_scans : Gift g w a l (slot x.page) (holds.Slot f)
         (on l (Scanning y) [] l.fresh l.pin l.owed l.ahead l.behind l.page l.fail)
     give_scans = record {
       home = marked_home;
@@ -149,13 +151,15 @@ module _ (g : Begin) (ok : Known g) (w : State DiskHeld) (j : Joint g w) (a : �
             fails = st.fails;
             begun = st.begun;
             scans = record { page = next_page; marked = few };
+            visits = tt;
             compacts = tt;
           })
           (let z = none_fresh each_one l.fresh st.made in let o = some_one l.owed in omega arith);
       alone = λ i. let r = ap (held_sum (spot n) (at_place i)) held in omega arith;
       owners = λ h. let r = ap (held_sum (spot n) (claims g h)) held in
           let t = ap (held_sum (spot n) (stored h)) held in omega arith;
-      storage = entry_back g l _ x.page e f held refl (λ h. refl) (λ b bytes. omega arith);
+      storage = quiet_storage g w a l _ _ _ j who (Marking x) at tt tt (entry_back g a l _ x.page e f
+          held refl (λ h. refl) (λ b bytes. omega arith) (same_marks g a x.page e f refl refl));
       pins = λ h. let r = ap (held_sum (spot n) (outs h)) held in
           let t = ap (held_sum (spot n) nothing) held in omega arith;
       frames = let r = ap (held_sum (spot n) pages) held in
@@ -177,7 +181,7 @@ module _ (g : Begin) (ok : Known g) (w : State DiskHeld) (j : Joint g w) (a : �
   ends_so : EndsSo (ground_of g) p (Whole (ends.Marked y.marked))
   ends_so = (marking_single n p.op age op, may_end)
 
-  pub give_stops : Gift g a l (slot x.page) (holds.Slot f)
+  pub give_stops : Gift g w a l (slot x.page) (holds.Slot f)
       (piece_over l p (Whole (ends.Marked y.marked)) [] rest)
   give_stops = record {
     home = marked_home;
@@ -186,7 +190,8 @@ module _ (g : Begin) (ok : Known g) (w : State DiskHeld) (j : Joint g w) (a : �
     owners = λ h. let r = ap (held_sum (spot n) (claims g h)) held in
         let t = ap (held_sum (spot n) (stored h)) held in
         let z = none_fresh h l.fresh st.made in omega arith;
-    storage = entry_back g l _ x.page e f held refl (λ h. refl) (λ b bytes. omega arith);
+    storage = quiet_storage g w a l _ _ _ j who (Marking x) at tt tt (entry_back g a l _ x.page e f
+        held refl (λ h. refl) (λ b bytes. omega arith) (same_marks g a x.page e f refl refl));
     pins = λ h. let r = ap (held_sum (spot n) (outs h)) held in
         let t = ap (held_sum (spot n) nothing) held in let z = none_pin h l.pin st.pins in
         omega arith;

@@ -1,12 +1,12 @@
 -- The stages that follow one another where a slot is held.
-use Rattle.std.proofs.Common.{◌≡◌, ◌+◌, ◌*◌, ◌≤◌, ◌<◌, ◌∷◌, ◌++◌, ◌∙◌, ℕ, zero, suc, Bool, true, false, eqb, List, [], Option, Some, None, refl, sym, subst, arith, inl, inr}
-use Rattle.call_history.specs.Parts.{Follows, is_carried, left_by, parts, parts_from, program, without}
+use Rattle.std.proofs.Common.{◌≡◌, ◌+◌, ◌*◌, ◌≤◌, ◌<◌, ◌∷◌, ◌++◌, ◌∙◌, ◌&&◌, ℕ, zero, suc, Bool, true, false, not, eqb, List, [], Option, Some, None, refl, sym, subst, arith, inl, inr}
+use Rattle.call_history.specs.Parts.{Follows, is_carried, left_by, parts, parts_from, parts_of, program, without}
 use Rattle.call_history.specs.declared.part.Done.{Done}
 use Rattle.call_history.specs.declared.part.Part.{Part}
 use Rattle.call_history.specs.declared.part.PartEnd.{PartEnd}
 use Rattle.joint_rule.proofs.Pages.{form_low}
 use Rattle.joint_rule.specs.Begins.{Begin, back_at, content, form_at, found_after}
-use Rattle.joint_rule.specs.Stages.{MaySeeOther, Bears, BlankAt, Changes, GoneBy, IsForm, IsObj, IsPooled, IsRight, IsWb, IsWrite, MayPin, NoObj, NoneOf, Stage, is_wb, locks_at, MayIdle}
+use Rattle.joint_rule.specs.Stages.{MaySeeOther, Bears, BlankAt, Changes, GoneBy, IsForm, IsObj, IsPooled, IsRight, IsWb, IsWrite, MayPin, NoObj, NoneOf, Stage, locks_at, IsBack, HasMarks}
 use Rattle.lock_row.specs.declared.names.At.TheVariants.{Old, Owing}
 use Rattle.lock_row.specs.declared.names.Object.{Object}
 use Rattle.lock_row.specs.declared.names.Pin.{Pin}
@@ -20,9 +20,9 @@ use Rattle.slot_entry.specs.declared.kept.Kept.{Kept}
 use Rattle.std.proofs.lemmas.Bool.{cases_Bool, eqb-false, ltb-false, or_parts}
 use Rattle.std.specs.List.{AllByRecursion}
 use Rattle.zr_base.specs.Pieces.{first_page, pages_of}
-use Rattle.zr_base.specs.Plain.{count_of, has_event, is_beyond, is_maintenance, start_of}
+use Rattle.zr_base.specs.Plain.{count_of, has_event, is_beyond, is_maintenance, is_void, is_writeback, start_of}
 use Rattle.zr_base.specs.declared.op.Op.{Op}
-use Rattle.zr_base.specs.declared.op.Op.TheVariants.{Compact, Discard, Idle, Read, Write}
+use Rattle.zr_base.specs.declared.op.Op.TheVariants.{Compact, Discard, Idle, Read, Write, Writeback}
 use Rattle.slot_entry.specs.declared.kept.Kept.TheVariants as kept
 
 gone_none : (x : Option Weight) (k : Kept) → NoneOf x → GoneBy x k
@@ -48,8 +48,8 @@ may_none k (Some x) n = absurd n
 module _ (g : Begin) (p : Part) (e : EntryState) (fresh : Option Object) (pin : Option Pin)
     (owed : ℕ) (ahead behind : Option Weight) (page : Option (List ℕ)) (fail : Option PartEnd)
     (pins : MayPin e.kept pin) (owes : owed ≡ 0) (stands : IsForm g.chain
-    (form_at g p.page e.order) e.kept) (backs : is_wb e.kept ≡ back_at g p.page e.order)
-    (marks : MayIdle e.kept e.idle)
+    (form_at g p.page e.order) e.kept) (backs : IsBack g e.kept (back_at g p.page e.order))
+    (marks : HasMarks g p.page e)
     (blank : BlankAt Old p.op ahead (found_after g p.page e.order).blank)
     (right : IsRight (MaySeeOther g p.page e.order) p.op p.page (page_in page e.kept)
     (content g p.page e.order))
@@ -78,6 +78,7 @@ module _ (g : Begin) (p : Part) (e : EntryState) (fresh : Option Object) (pin : 
       fails = well;
       begun = begun;
       scans = tt;
+      visits = tt;
       compacts = tt;
     }
 
@@ -100,6 +101,7 @@ module _ (g : Begin) (p : Part) (e : EntryState) (fresh : Option Object) (pin : 
       fails = well;
       begun = begun;
       scans = tt;
+      visits = tt;
       compacts = tt;
     }
     settle_stage (kept.Wb b) is = record {
@@ -117,6 +119,7 @@ module _ (g : Begin) (p : Part) (e : EntryState) (fresh : Option Object) (pin : 
       fails = well;
       begun = begun;
       scans = tt;
+      visits = tt;
       compacts = tt;
     }
 
@@ -125,6 +128,7 @@ module _ (g : Begin) (p : Part) (e : EntryState) (fresh : Option Object) (pin : 
   writes_change (Read start count) w = absurd w
   writes_change (Discard start count) w = absurd w
   writes_change (Idle age) w = absurd w
+  writes_change (Writeback mode) w = absurd w
   writes_change Compact w = absurd w
 
   pub made_stage : IsWrite p.op → NoneOf fresh → (h : PageForm) → f ≡ h → (k : Kept) → e.kept ≡ k
@@ -148,6 +152,7 @@ module _ (g : Begin) (p : Part) (e : EntryState) (fresh : Option Object) (pin : 
     fails = well;
     begun = begun;
     scans = tt;
+    visits = tt;
     compacts = tt;
   }
 
@@ -156,6 +161,7 @@ write_changes (Write start count stuff) i = tt
 write_changes (Read start count) i = absurd i
 write_changes (Discard start count) i = absurd i
 write_changes (Idle age) i = absurd i
+write_changes (Writeback mode) i = absurd i
 write_changes Compact i = absurd i
 
 pub write_blank : (op : Op) → IsWrite op → (x : Option Weight) (b : Bool) → BlankAt Old op x b
@@ -163,6 +169,7 @@ write_blank (Write start count stuff) i x b = tt
 write_blank (Read start count) i x b = absurd i
 write_blank (Discard start count) i x b = absurd i
 write_blank (Idle age) i x b = absurd i
+write_blank (Writeback mode) i x b = absurd i
 write_blank Compact i x b = absurd i
 
 -- ---- locks
@@ -239,19 +246,70 @@ module _ (size nr : ℕ) (op : Op) where
         positive zero h = absurd (h refl)
         positive (suc n) h = omega arith
 
-  op_disk : Every (OnDisk size) (parts size nr op)
+  op_disk : Every (OnDisk size) (parts_of size nr op)
   op_disk = elim (cases_Bool (is_single size op)) [
     | inl on ↦ rw on ((λ b. absurd (let q : true ≡ false = sym on ∙ b in cc)), tt)
     | inr off ↦ rw off (from_disk (first_page op) (pages_of op)
         (last_page (or_parts (is_maintenance op) (is_beyond size op) off).1))
   ]
 
-program_disk : (size nr : ℕ) (ops : List Op) → Every (OnDisk size) (program size nr ops)
-program_disk size nr [] = tt
-program_disk size nr (op ∷ ops) = every_append (OnDisk size) (parts size nr op)
-    (program size (nr + 1) ops) (op_disk size nr op) (program_disk size (nr + 1) ops)
+module _ (size : ℕ) (backed : Bool) where
+  some_disk : (nr : ℕ) (op : Op) → Every (OnDisk size) (parts size backed nr op)
+  some_disk nr op = elim (cases_Bool (is_void backed op))
+      [ inl on ↦ rw on tt | inr off ↦ rw off (op_disk size nr op) ]
 
-pub on_disk : (So : Part → PartEnd → Type 0) (size : ℕ) (ops : List Op) (ds : List Done) (p : Part)
-    (rest : List Part) → Follows So (program size 0 ops) ds (p ∷ rest) → OnDisk size p
-on_disk So size ops ds p rest f = (every_todo (OnDisk size) So (program size 0 ops) ds (p ∷ rest) f
-    (program_disk size 0 ops)).0
+  program_disk : (nr : ℕ) (ops : List Op) → Every (OnDisk size) (program size backed nr ops)
+  program_disk nr [] = tt
+  program_disk nr (op ∷ ops) = every_append (OnDisk size) (parts size backed nr op)
+      (program size backed (nr + 1) ops) (some_disk nr op) (program_disk (nr + 1) ops)
+
+pub on_disk : (So : Part → PartEnd → Type 0) (size : ℕ) (backed : Bool) (ops : List Op)
+    (ds : List Done) (p : Part) (rest : List Part)
+    → Follows So (program size backed 0 ops) ds (p ∷ rest) → OnDisk size p
+on_disk So size backed ops ds p rest f = (every_todo (OnDisk size) So (program size backed 0 ops)
+    ds (p ∷ rest) f (program_disk size backed 0 ops)).0
+
+-- where a writeback has a piece, the disk has a backing
+abbrev IsBacked : Bool → Part → Type 0
+IsBacked backed p = is_writeback p.op ≡ true → backed ≡ true
+
+module _ (backed : Bool) where
+  from_backed : (nr : ℕ) (op : Op) → (is_writeback op ≡ true → backed ≡ true) → (page n : ℕ)
+      → Every (IsBacked backed) (parts_from nr op page n)
+  from_backed nr op wb page zero = tt
+  from_backed nr op wb page (suc n) = elim (cases_Bool (has_event op page)) [
+    | inl there ↦ rw there (wb, from_backed nr op wb (page + 1) n)
+    | inr none ↦ rw none (from_backed nr op wb (page + 1) n)
+  ]
+
+  of_backed : (size nr : ℕ) (op : Op) → (is_writeback op ≡ true → backed ≡ true)
+      → Every (IsBacked backed) (parts_of size nr op)
+  of_backed size nr op on = elim (cases_Bool (is_single size op)) [
+    | inl one ↦ rw one (on, tt)
+    | inr more ↦ rw more (from_backed nr op on (first_page op) (pages_of op))
+  ]
+
+  void_is : (b c : Bool) → (b && not c) ≡ false → b ≡ true → c ≡ true
+  void_is b true e on = refl
+  void_is true false e on = absurd (cc)
+  void_is false false e on = absurd (cc)
+
+  some_backed : (size nr : ℕ) (op : Op) → Every (IsBacked backed) (parts size backed nr op)
+  some_backed size nr op = elim (cases_Bool (is_void backed op)) [
+    | inl on ↦ rw on tt
+    | inr off ↦ rw off (of_backed size nr op (void_is (is_writeback op) backed off))
+  ]
+
+  program_backed : (size nr : ℕ) (ops : List Op)
+      → Every (IsBacked backed) (program size backed nr ops)
+  program_backed size nr [] = tt
+  program_backed size nr (op ∷ ops) = every_append (IsBacked backed) (parts size backed nr op)
+      (program size backed (nr + 1) ops) (some_backed size nr op)
+      (program_backed size (nr + 1) ops)
+
+pub is_backed : (So : Part → PartEnd → Type 0) (size : ℕ) (backed : Bool) (ops : List Op)
+    (ds : List Done) (p : Part) (rest : List Part)
+    → Follows So (program size backed 0 ops) ds (p ∷ rest) → is_writeback p.op ≡ true
+    → backed ≡ true
+is_backed So size backed ops ds p rest f = (every_todo (IsBacked backed) So
+    (program size backed 0 ops) ds (p ∷ rest) f (program_backed backed size 0 ops)).0

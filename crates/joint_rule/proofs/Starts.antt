@@ -1,5 +1,6 @@
 -- A prepared start has the rule.
-use Rattle.std.proofs.Common.{◌≡◌, ◌≢◌, ◌+◌, ◌≤◌, ◌<◌, ◌∷◌, ◌∙◌, ◌^◌, ℕ, zero, suc, List, [], map, length, Option, Some, None, slice_get, refl, sym, ap, subst, arith}
+use Rattle.joint_rule.proofs.Trips.{NoTrip, no_mark, written_none}
+use Rattle.std.proofs.Common.{◌≡◌, ◌≢◌, ◌+◌, ◌≤◌, ◌<◌, ◌∷◌, ◌∙◌, ◌^◌, ℕ, zero, suc, List, [], map, length, Option, Some, None, slice_get, refl, sym, ap, subst, arith, Bool, true, false, cond, not, ◌&&◌}
 use Rattle.joint_rule.proofs.Ages.{ages_start}
 use Rattle.backing_dev.specs.Dev.{DeviceState}
 use Rattle.block_map.specs.BlockMap.{BlockMap}
@@ -18,12 +19,12 @@ use Rattle.joint_rule.proofs.Pages.{content_sector}
 use Rattle.joint_rule.proofs.Sums.{row_none, row_nothing}
 use Rattle.joint_rule.proofs.Places.{IsAccount, IsDevice, IsMap, account_kind, device_kind, map_kind}
 use Rattle.joint_rule.specs.Alone.{IsCalm, compacting}
-use Rattle.joint_rule.specs.Begins.{Begin, ground_of, pieces_each, pieces_on}
+use Rattle.joint_rule.specs.Begins.{Begin, ground_of, pieces_each, pieces_on, content, back_at}
 use Rattle.joint_rule.specs.Joint.{AtHome, IsActor, Joint, KeepsDevice, Sound}
 use Rattle.joint_rule.specs.Rule.{FailKeeps, OfOrder, Rule, Ruled, ShowsOrder, done_by, dones, owed, owed_by, reach_at}
 use Rattle.joint_rule.specs.Stages.{StageBy, locks_by}
 use Rattle.joint_rule.specs.Starts.{IsStart}
-use Rattle.joint_rule.specs.Weights.{HeldAll, News, ahead, at_place, behind, block_claims, chains, claims, compactions, counters, device_reads, device_size, each_one, ever_at, fails_so, faults_told, fixed, fixed_count, freed_at, freed_by, fresh_claim, lies_at, loose_pools, map_size, measure, mosts, news_count, news_counter, none, noted, nothing, object_weight, on_account, on_blocks, on_device, order_news, outs, owing, pages, pinned, refusal_count, refusal_counter, refusal_of, refusals, refused_by, same, shown, some_of, stored, stored_at, told_ahead, told_at, used_blocks}
+use Rattle.joint_rule.specs.Weights.{HeldAll, News, ahead, at_place, behind, block_claims, chains, claims, compactions, counters, device_reads, device_size, each_one, ever_at, fails_so, faults_told, fixed, fixed_count, freed_at, freed_by, fresh_claim, lies_at, loose_pools, map_size, measure, mosts, news_count, news_counter, none, noted, nothing, object_weight, on_account, on_blocks, on_device, order_news, outs, owing, pages, pinned, refusal_count, refusal_counter, refusal_of, refusals, refused_by, same, shown, some_of, stored, stored_at, told_ahead, told_at, used_blocks, block_uses, use_in, written_at, mark_at, carries_at, device_writes, new_back_at, writes_in, writes_told}
 use Rattle.lock_row.specs.Totals.{by_option, held_sum, locals_sum, mass, row_sum, total}
 use Rattle.lock_row.specs.declared.names.At.{At}
 use Rattle.lock_row.specs.declared.names.At.TheVariants.{Start}
@@ -35,7 +36,7 @@ use Rattle.mem_account.specs.Counters.{Counters, at_most_end}
 use Rattle.mem_account.specs.declared.weight.Weight.{Weight}
 use Rattle.page_steps.specs.Pages.{new_class}
 use Rattle.page_steps.specs.Steps.{DiskHeld, Here, class_by, entry_in, spot}
-use Rattle.plain_disk.specs.Ends.{compacted, tells_fault}
+use Rattle.plain_disk.specs.Ends.{compacted, tells_fault, written}
 use Rattle.zr_base.specs.declared.op.Op.{Op}
 use Rattle.zr_base.specs.declared.op.Tag.{Tag}
 use Rattle.lock_row.specs.declared.names.Held.TheVariants as holds
@@ -161,15 +162,15 @@ module _ (g : Begin) (row : List (Option DiskHeld)) (size : length row ≡ g.giv
       (λ i u at ne. no_device f i u (home i u at).sound ne)
 
 -- a device is as it was
-pub keeps_self : (d : DeviceState) → d.reads < 2 ^ 64 → KeepsDevice d d
-keeps_self d low = record {
+pub keeps_self : (d : DeviceState) → d.reads < 2 ^ 64 → d.writes < 2 ^ 64 → KeepsDevice d d
+keeps_self d low few = record {
   same = refl;
   blocks = refl;
   honest = λ h. h;
   faults = omega arith;
   reads = omega arith;
   end = low;
-  writes = refl;
+  writes = few;
 }
 
 module _ (size : ℕ) where
@@ -197,7 +198,7 @@ module _ (g : Begin) (ok : Known g) (w : State DiskHeld) (s : IsStart g w) where
     ops = h.ops;
     named = h.named;
     follows = subst (λ (c : List Done × List Part). Follows (EndsSo (ground_of g))
-        (program n 0 h.ops) c.0 c.1) (λ i. (sym h.done i, sym h.todo i)) refl;
+        (program n g.given.backed 0 h.ops) c.0 c.1) (λ i. (sym h.done i, sym h.todo i)) refl;
     locks = ap (map (λ (x : LockNo × DiskHeld). x.0)) h.held
         ∙ start_locks l.todo (class_by (entry_in l.held).kept)
         (new_class g.chain l.todo l.page (entry_in l.held).kept)
@@ -236,6 +237,19 @@ module _ (g : Begin) (ok : Known g) (w : State DiskHeld) (s : IsStart g w) where
       device_sum g w.row s.rest.size s.rest.whole s.rest.home f
       ∙ ap f (s.device (n + 257) d.0 d.1)
 
+  no_trip : (a : ℕ) (l : Here) → slice_get w.locals a ≡ Some l → NoTrip l.at
+  no_trip a l e = subst NoTrip (sym (s.actors a l e).at) tt
+
+  -- no page is marked
+  unmarked : (i b : ℕ) (bytes : List ℕ) (k : ℕ) (v : DiskHeld) → slice_get w.row k ≡ Some (Some v)
+      → mark_at g i b bytes k v ≡ 0
+  unmarked i b bytes k (holds.Slot e) at =
+      no_mark i b bytes k e.under (content g k e.order) (s.rest.unmarked k e at)
+  unmarked i b bytes k (holds.Class p) at = refl
+  unmarked i b bytes k (holds.Account p) at = refl
+  unmarked i b bytes k (holds.Blocks p) at = refl
+  unmarked i b bytes k (holds.Device p) at = refl
+
   pub start_joint : Joint g w
   start_joint = record {
     each = record { in_row = s.rest.home; in_local = actor_fits };
@@ -249,13 +263,19 @@ module _ (g : Begin) (ok : Known g) (w : State DiskHeld) (s : IsStart g w) where
     owners = λ f. let x = only (claims g f) (fresh_claim f)
         (λ a l e. ap (by_option (object_weight f)) (s.actors a l e).fresh) in
         let y = only (stored f) none (λ a l e. refl) in let z = s.rest.owners f in omega arith;
-    blocks = λ f. only (block_claims f) none (λ a l e. refl) ∙ s.rest.blocks f
+    blocks = λ f. only (block_claims f) (block_uses f)
+        (λ a l e. ap (use_in f) (s.actors a l e).at) ∙ s.rest.blocks f
         ∙ sym (only (used_blocks f) none (λ a l e. refl));
     size = let x = only map_size none (λ a l e. refl) in
         let y = only device_size none (λ a l e. refl) in let z = s.rest.fits in omega arith;
-    disk = λ b bytes some. let x = only (lies_at g b bytes) none (λ a l e. refl) in
+    disk = λ b bytes some. let x = only (lies_at g b bytes) (written_at b bytes)
+        (λ a l e. written_none b bytes l (no_trip a l e)) in
         let y = only (stored_at b bytes) none (λ a l e. refl) in
         let z = s.rest.disk b bytes (omega arith) in omega arith;
+    marks = λ i b bytes. let x = only (mark_at g i b bytes) none (λ a l e. refl) in
+        let y = row_none (mark_at g i b bytes) w.row (unmarked i b bytes) in omega arith;
+    carriers = λ a l i b e is. absurd (let q : None ≡ Some (i, b) =
+        sym (ap carries_at (s.actors a l e).at) ∙ is in cc);
     pins = λ f. let x = only (outs f) none (λ a l e. refl) in
         let y = only nothing (pinned f) (λ a l e. ap (by_option f) (s.actors a l e).pin) in
         let z = s.rest.pins f in let r = row_nothing n w.row in omega arith;
@@ -279,15 +299,16 @@ module _ (g : Begin) (ok : Known g) (w : State DiskHeld) (s : IsStart g w) where
 
   owed_each : (p : ℕ) (ls : List Here) (actors : List (List Op))
       → ((a : ℕ) (l : Here) → slice_get ls a ≡ Some l
-      → (ops : List Op) × (slice_get actors a ≡ Some ops) × (l.todo ≡ program n 0 ops))
-      → owed n ls p ≤ pieces_each n actors p
+      → (ops : List Op) × (slice_get actors a ≡ Some ops)
+      × (l.todo ≡ program n g.given.backed 0 ops))
+      → owed n ls p ≤ pieces_each n g.given.backed actors p
   owed_each p [] actors each = omega arith
   owed_each p (l ∷ ls) [] each = absurd (let q = (each 0 l refl).1 in cc)
   owed_each p (l ∷ ls) (ops ∷ actors) each =
       let r = owed_each p ls actors (λ a. each (suc a)) in
       let q = each 0 l refl in let o : ops ≡ q.0 = (let z = q.1 in cc) in
-      let t : owed_by n p l ≡ pieces_on n p (program n 0 ops) =
-      ap (pieces_on n p) (q.2 ∙ ap (program n 0) (sym o)) in omega arith
+      let t : owed_by n p l ≡ pieces_on n p (program n g.given.backed 0 ops) =
+      ap (pieces_on n p) (q.2 ∙ ap (program n g.given.backed 0) (sym o)) in omega arith
 
   empty_order : (k : ℕ) (order : List Tag) (room : ℕ) → order ≡ [] → owed n w.locals k ≤ room
       → ShowsOrder g w.locals k order room
@@ -298,7 +319,7 @@ module _ (g : Begin) (ok : Known g) (w : State DiskHeld) (s : IsStart g w) where
       reads = λ a i d at on. absurd (let q : slice_get (let ds : List Done = [] in ds) i ≡ Some d =
           subst (λ (ds : List Done). slice_get ds i ≡ Some d) (nothing_done a) at in cc);
     };
-    finds = λ at t is_at. absurd (let q : slice_get (let ts : List Tag = [] in ts) at ≡ Some t =
+    finds = λ off at t is_at. absurd (let q : slice_get (let ts : List Tag = [] in ts) at ≡ Some t =
         subst (λ (ts : List Tag). slice_get ts at ≡ Some t) is is_at in cc);
     spare = le;
     few = let z = ap length is in let r = owed_each k w.locals g.given.actors
@@ -328,6 +349,20 @@ module _ (g : Begin) (ok : Known g) (w : State DiskHeld) (s : IsStart g w) where
 
   within_end : (a : ℕ) → a < 2 ^ 64 → a ≡ at_most_end (a + 0)
   within_end a lt = omega arith
+
+  -- no page is new on the device
+  both_no : (b : Bool) → cond {A = ℕ} (b && not (b && true)) 1 0 ≡ 0
+  both_no true = refl
+  both_no false = refl
+
+  not_new : (k : ℕ) (v : DiskHeld) → slice_get w.row k ≡ Some (Some v) → new_back_at g k v ≡ 0
+  not_new k (holds.Slot e) at =
+      (λ i. cond {A = ℕ} (s.backs k e at i && not (back_at g k ((s.orders k e at).0 i))) 1 0)
+      ∙ both_no (g.back k)
+  not_new k (holds.Class p) at = refl
+  not_new k (holds.Account p) at = refl
+  not_new k (holds.Blocks p) at = refl
+  not_new k (holds.Device p) at = refl
 
   pub start_ruled : Ruled g w
   start_ruled = record {
@@ -388,6 +423,18 @@ module _ (g : Begin) (ok : Known g) (w : State DiskHeld) (s : IsStart g w) where
         let y = fails_none (tells_fault f) l.todo in omega arith) in omega arith;
     fetches = let x = only device_reads none (λ a l e. refl) in
         let y = device_of (λ d. d.reads) in omega arith;
+    writes = let d = device_at g w.row s.rest.size s.rest.whole s.rest.home in
+        let low : g.device.writes < 2 ^ 64 = subst (λ (y : DeviceState). y.writes < 2 ^ 64)
+        (s.device (n + 257) d.0 d.1) (s.rest.home (n + 257) (holds.Device d.0) d.1).sound.1.writes in
+        let z = locals_none writes_told w.locals (λ a l e. let h = s.actors a l e in
+        let ds : List Done = [] in
+        let x : writes_told l ≡ done_sum written ds + writes_in Start l.fail =
+        (λ i. done_sum written (h.done i) + writes_in (h.at i) l.fail) in omega arith) in
+        only device_writes none (λ a l e. refl) ∙ device_of (λ d. d.writes)
+        ∙ within_end g.device.writes low
+        ∙ ap (λ (i : ℕ). at_most_end (g.device.writes + i)) (sym z);
+    back = let x = only (new_back_at g) none (λ a l e. refl) in
+        let y = row_none (new_back_at g) w.row not_new in omega arith;
     alone = λ l e.
         let h = s.actors 0 l (ap (λ (ls : List Here). slice_get ls 0) e) in record {
           still = subst (MoveNoneOver g.tight) (sym h.done) tt;
@@ -395,7 +442,7 @@ module _ (g : Begin) (ok : Known g) (w : State DiskHeld) (s : IsStart g w) where
             tight = λ t. only loose_pools none (λ a l e. refl) ∙ s.tight t;
             few = omega arith;
           });
-          ages = ages_start g w l s e;
+          ages = λ off. ages_start g w l s e;
           sweeps = λ x at. absurd (let q : compacting l.todo l.at ≡ None =
               ap (compacting l.todo) h.at ∙ no_compaction l.todo in cc);
         };

@@ -36,7 +36,7 @@ use Rattle.std.proofs.lemmas.List.{length-map}
 use Rattle.std.proofs.lemmas.List.Sums.{sum_by-cons}
 use Rattle.zspage.specs.Cells.{UsedCell}
 use Rattle.zr_base.specs.declared.op.Op.{Op}
-use Rattle.zr_base.specs.declared.op.Op.TheVariants.{Compact, Discard, Idle, Read, Write}
+use Rattle.zr_base.specs.declared.op.Op.TheVariants.{Compact, Discard, Idle, Read, Write, Writeback}
 use Rattle.lock_row.specs.declared.names.LockNo.TheVariants as lock
 use Rattle.lock_row.specs.declared.names.Held.TheVariants as holds
 use Rattle.zr_base.specs.declared.op.OpEnd.TheVariants as ends
@@ -75,6 +75,7 @@ compact_push (Write start count stuff) a b n objects e x y = absurd (cc)
 compact_push (Read start count) a b n objects e x y = absurd (cc)
 compact_push (Discard start count) a b n objects e x y = absurd (cc)
 compact_push (Idle age) a b n objects e x y = absurd (cc)
+compact_push (Writeback mode) a b n objects e x y = absurd (cc)
 compact_push Compact a b n objects e x y = omega arith
 
 -- ---- objects of the classes below one

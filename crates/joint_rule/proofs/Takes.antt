@@ -1,35 +1,37 @@
 -- Each taking keeps what the stage says of the actor.
-use Rattle.std.proofs.Common.{◌≡◌, ◌+◌, ◌<◌, ◌∷◌, ◌∙◌, ℕ, Bool, true, false, List, [], map, Option, Some, None, refl, sym, ap, subst, arith, inl, inr, length, slice_get}
+use Rattle.joint_rule.proofs.Arrivals.{arrives, visits}
+use Rattle.joint_rule.proofs.Takings.{take_account, take_device, take_map, take_pool}
+use Rattle.std.proofs.Common.{◌≡◌, ◌<◌, ◌∷◌, ◌∙◌, ℕ, Bool, true, false, List, [], map, Option, Some, None, refl, sym, ap, subst, arith, inl, inr, length, slice_get}
 use Rattle.lock_row.specs.declared.names.Scan.{Scan}
 use Rattle.call_history.specs.Parts.{EndsSo, Follows, program}
 use Rattle.call_history.specs.declared.part.Part.{Part}
 use Rattle.call_history.specs.declared.part.PartEnd.{PartEnd}
 use Rattle.joint_rule.proofs.Facts.{Known}
-use Rattle.joint_rule.proofs.Places.{IsAccount, IsDevice, IsEntry, IsMap, IsPoolOf, account_kind, class_kind, device_kind, entry_kind, home_lean, map_kind}
+use Rattle.joint_rule.proofs.Places.{IsAccount, IsEntry, account_kind, entry_kind, home_lean}
 use Rattle.joint_rule.proofs.Lookups.{none_weight, nothing_shown}
 use Rattle.joint_rule.proofs.Pages.{blank_empty, blank_some, form_low, plain_right}
 use Rattle.joint_rule.proofs.Stages.{OnDisk, made_locks, made_stage, may_none, old_low, on_disk, settle_locks, settle_stage}
 use Rattle.joint_rule.specs.Begins.{Begin, back_at, content, form_at, found_after, ground_of, terms}
 use Rattle.joint_rule.specs.Joint.{AtHome, Backs, EntryFits, IsActor, Sound, Stands, Marks}
-use Rattle.joint_rule.specs.Stages.{Bears, BlankAt, BlankBy, Changes, FailBy, IsForm, IsNothing, IsObj, IsPartly, IsRight, IsSmall, IsWb, IsWrite, Looks, NoObj, NoneOf, Stage, StageBy, WasBlank, is_wb, locks_at, locks_by, MayIdle, IsScan, MaySeeOther}
+use Rattle.joint_rule.specs.Stages.{Bears, BlankAt, BlankBy, Changes, FailBy, IsForm, IsNothing, IsObj, IsPartly, IsRight, IsSmall, IsWb, IsWrite, Looks, NoObj, NoneOf, Stage, StageBy, WasBlank, locks_at, locks_by, IsScan, MaySeeOther, IsBack, HasMarks}
 use Rattle.joint_rule.specs.Weights.{measure}
 use Rattle.lock_row.specs.declared.names.At.{At}
-use Rattle.lock_row.specs.declared.names.At.TheVariants.{Away, Backed, Both, Counting, Failing, Fetching, Freeing, Giving, Inside, Leaving, Made, Missed, Old, Owing, Pinned, Pinning, Ready, Refusing, Releasing, Seen, Start, Unpinning, Wanting, Sweeping, Moving, Shrunk, Shrinking, Scanning, Marking}
+use Rattle.lock_row.specs.declared.names.At.TheVariants.{Away, Backed, Both, Counting, Failing, Fetching, Freeing, Giving, Inside, Leaving, Made, Missed, Old, Owing, Pinned, Pinning, Ready, Refusing, Releasing, Seen, Start, Unpinning, Wanting, Sweeping, Moving, Shrunk, Shrinking, Scanning, Marking, Visiting}
 use Rattle.lock_row.specs.declared.names.LockNo.{LockNo}
 use Rattle.lock_row.specs.declared.names.Object.{Object}
 use Rattle.lock_row.specs.declared.names.Pin.{Pin}
 use Rattle.lock_row.specs.declared.names.Plan.TheVariants.{Take}
 use Rattle.mem_account.specs.declared.weight.Weight.{Weight}
 use Rattle.page_steps.specs.Pages.{new_class, next_by, next_form, page_in}
-use Rattle.page_steps.specs.Steps.{DiskHeld, Here, after_take, begun_at, class_by, discard_at, entered_at, entry_in, entry_or, first_class, lock_of, made_at, part_at, plan, plan_at, plan_by, seen_at, settle_at, slot, spot, start_plan, taken_at, took, write_at, first_at, first_lock, first_scan}
+use Rattle.page_steps.specs.Steps.{DiskHeld, Here, after_take, begun_at, class_by, discard_at, entered_at, entry_in, entry_or, first_class, lock_of, made_at, part_at, plan, plan_at, plan_by, seen_at, settle_at, slot, spot, start_plan, taken_at, took, write_at, first_at, first_lock, first_scan, first_trip}
 use Rattle.plain_disk.specs.Ends.{is_single}
 use Rattle.slot_entry.specs.Entries.{EntryState, weight_of}
 use Rattle.slot_entry.specs.Forms.{Blank, PageForm, class_in, form_weight}
 use Rattle.slot_entry.specs.declared.kept.Kept.{Kept}
 use Rattle.std.proofs.lemmas.Bool.{or_from}
-use Rattle.zr_base.specs.Plain.{has_whole, is_beyond, is_maintenance, is_marking}
+use Rattle.zr_base.specs.Plain.{has_whole, is_beyond, is_maintenance, is_marking, is_writeback}
 use Rattle.zr_base.specs.declared.op.Op.{Op}
-use Rattle.zr_base.specs.declared.op.Op.TheVariants.{Compact, Discard, Idle, Read, Write}
+use Rattle.zr_base.specs.declared.op.Op.TheVariants.{Compact, Discard, Idle, Read, Write, Writeback}
 use Rattle.zr_base.specs.declared.op.Stuff.{Stuff}
 use Rattle.lock_row.specs.declared.names.LockNo.TheVariants as lock
 use Rattle.lock_row.specs.declared.names.Held.TheVariants as holds
@@ -56,7 +58,7 @@ module _ (g : Begin) (ok : Known g) (p : Part) (fresh : Option Object) (pin : Op
   -- a slot is taken
   module _ (e : EntryState) (start : Stays e Start) (x : EntryState) (fit : EntryFits g p.page x)
       (stands : IsForm g.chain (form_at g p.page x.order) x.kept)
-      (backs : is_wb x.kept ≡ back_at g p.page x.order) (marks : MayIdle x.kept x.idle)
+      (backs : IsBack g x.kept (back_at g p.page x.order)) (marks : HasMarks g p.page x)
       (begun : is_single n p.op ≡ false) where
     abbrev Goes : At → Type 0
     Goes at = (slot p.page ∷ [] ≡ locks_at at p (class_by x.kept)
@@ -73,6 +75,7 @@ module _ (g : Begin) (ok : Known g) (p : Part) (fresh : Option Object) (pin : Op
     no_blank (Read start_ count) i = absurd i
     no_blank (Discard start_ count) i = absurd i
     no_blank (Idle age) i = absurd i
+    no_blank (Writeback mode) i = absurd i
     no_blank Compact i = absurd i
 
     -- the page that the piece sees is right
@@ -109,6 +112,7 @@ module _ (g : Begin) (ok : Known g) (p : Part) (fresh : Option Object) (pin : Op
         fails = subst (λ (o : Op). FailBy g p o fail) (sym is) start.fails;
         begun = begun;
         scans = tt;
+        visits = tt;
         compacts = tt;
       },
     )
@@ -131,6 +135,7 @@ module _ (g : Begin) (ok : Known g) (p : Part) (fresh : Option Object) (pin : Op
         fails = start.fails;
         begun = begun;
         scans = tt;
+        visits = tt;
         compacts = tt;
       },
     )
@@ -153,6 +158,7 @@ module _ (g : Begin) (ok : Known g) (p : Part) (fresh : Option Object) (pin : Op
         fails = start.fails;
         begun = begun;
         scans = tt;
+        visits = tt;
         compacts = tt;
       },
     )
@@ -247,6 +253,7 @@ module _ (g : Begin) (ok : Known g) (p : Part) (fresh : Option Object) (pin : Op
           fails = start.fails;
           begun = begun;
           scans = tt;
+          visits = tt;
           compacts = tt;
         },
       )
@@ -266,6 +273,7 @@ module _ (g : Begin) (ok : Known g) (p : Part) (fresh : Option Object) (pin : Op
     entered (Read start_ count) is = read_by start_ count is x.kept refl
     entered (Discard start_ count) is = discard_by start_ count is x.kept refl
     entered (Idle age) is = absurd (let e = on_page (Idle age) is in cc)
+    entered (Writeback mode) is = absurd (let e = on_page (Writeback mode) is in cc)
     entered Compact is = absurd (let e = on_page Compact is in cc)
 
   -- ---- takings
@@ -275,58 +283,13 @@ module _ (g : Begin) (ok : Known g) (p : Part) (fresh : Option Object) (pin : Op
     abbrev Taken : LockNo → At → Type 0
     Taken m at = Moved ks m (entry_or v e) at
 
-    -- another value is taken, and the entry in hand stays
-    by_pool : (c : ℕ) (at : At) → c < 255 → Sound g (n + c) v
-        → (lock.Class c ∷ ks ≡ locks_at at p (class_by e.kept)
-        (class_in g.chain (next_form p page e.kept))) → Stays e at → Taken (lock.Class c) at
-    by_pool c at low kind locks s = pool v (class_kind g c low v kind) where
-      pool : (u : DiskHeld) → IsPoolOf u → Moved ks (lock.Class c) (entry_or u e) at
-      pool (holds.Slot y) i = absurd i
-      pool (holds.Class y) i = (locks, s)
-      pool (holds.Account y) i = absurd i
-      pool (holds.Blocks y) i = absurd i
-      pool (holds.Device y) i = absurd i
-
-    by_account : (at : At) → Sound g (n + 255) v → (lock.Account ∷ ks
-        ≡ locks_at at p (class_by e.kept) (class_in g.chain (next_form p page e.kept))) → Stays e at
-        → Taken lock.Account at
-    by_account at kind locks s = account v (account_kind g v kind) where
-      account : (u : DiskHeld) → IsAccount u → Moved ks lock.Account (entry_or u e) at
-      account (holds.Slot y) i = absurd i
-      account (holds.Class y) i = absurd i
-      account (holds.Account y) i = (locks, s)
-      account (holds.Blocks y) i = absurd i
-      account (holds.Device y) i = absurd i
-
-    by_map : (at : At) → Sound g (n + 256) v → (lock.Blocks ∷ ks
-        ≡ locks_at at p (class_by e.kept) (class_in g.chain (next_form p page e.kept))) → Stays e at
-        → Taken lock.Blocks at
-    by_map at kind locks s = map_of v (map_kind g v kind) where
-      map_of : (u : DiskHeld) → IsMap u → Moved ks lock.Blocks (entry_or u e) at
-      map_of (holds.Slot y) i = absurd i
-      map_of (holds.Class y) i = absurd i
-      map_of (holds.Account y) i = absurd i
-      map_of (holds.Blocks y) i = (locks, s)
-      map_of (holds.Device y) i = absurd i
-
-    by_device : (at : At) → Sound g (n + 257) v → (lock.Device ∷ ks
-        ≡ locks_at at p (class_by e.kept) (class_in g.chain (next_form p page e.kept))) → Stays e at
-        → Taken lock.Device at
-    by_device at kind locks s = device v (device_kind g v kind) where
-      device : (u : DiskHeld) → IsDevice u → Moved ks lock.Device (entry_or u e) at
-      device (holds.Slot y) i = absurd i
-      device (holds.Class y) i = absurd i
-      device (holds.Account y) i = absurd i
-      device (holds.Blocks y) i = absurd i
-      device (holds.Device y) i = (locks, s)
-
     -- the slot of a page that may be marked is taken
     scan_take : (y : Scan) → IsScan n y → is_marking p.op ≡ true → Sound g y.page v
-        → Stands g y.page v → Backs g y.page v → Marks v → ks ≡ [] → Stays e Start
+        → Stands g y.page v → Backs g y.page v → Marks g y.page v → ks ≡ [] → Stays e Start
         → Taken (slot y.page) (Marking y)
     scan_take y scan marking kind stands backs marks locks s =
         slot_of v (entry_kind g y.page scan.page v kind) stands backs marks where
-          slot_of : (u : DiskHeld) → IsEntry u → Stands g y.page u → Backs g y.page u → Marks u
+          slot_of : (u : DiskHeld) → IsEntry u → Stands g y.page u → Backs g y.page u → Marks g y.page u
               → Moved ks (slot y.page) (entry_or u e) (Marking y)
           slot_of (holds.Slot x) i st ba ma = (
             ap (λ (xs : List LockNo). slot y.page ∷ xs) locks,
@@ -345,6 +308,7 @@ module _ (g : Begin) (ok : Known g) (p : Part) (fresh : Option Object) (pin : Op
               fails = s.fails;
               begun = marking;
               scans = record { scan = scan; stands = st; backs = ba; marks = ma };
+              visits = tt;
               compacts = tt;
             },
           )
@@ -355,16 +319,21 @@ module _ (g : Begin) (ok : Known g) (p : Part) (fresh : Option Object) (pin : Op
 
     -- what is no request takes its first lock
     first_take : (op : Op) → p.op ≡ op → is_maintenance op ≡ true → Sound g (spot n (first_lock op)) v
-        → Stands g (spot n (first_lock op)) v → Backs g (spot n (first_lock op)) v → Marks v
-        → ks ≡ [] → Stays e Start → Taken (first_lock op) (first_at op)
+        → Stands g (spot n (first_lock op)) v → Backs g (spot n (first_lock op)) v
+        → Marks g (spot n (first_lock op)) v
+        → ks ≡ [] → Stays e Start → Taken (first_lock op) (first_at op (entry_or v e))
     first_take (Write start count stuff) is a kind stands backs marks locks s = absurd (cc)
     first_take (Read start count) is a kind stands backs marks locks s = absurd (cc)
     first_take (Discard start count) is a kind stands backs marks locks s = absurd (cc)
     first_take (Idle age) is a kind stands backs marks locks s =
         scan_take first_scan (record { page = some; marked = omega arith }) (ap is_marking is) kind
         stands backs marks locks s
+    first_take (Writeback mode) is a kind stands backs marks locks s =
+        arrives g p fresh pin owed ahead behind page fail e v ks first_trip
+        (record { page = some; few = omega arith }) (ap is_writeback is) s.made s.pins s.owes
+        s.counts kind stands backs marks locks mode tt s.right s.fails
     first_take Compact is a kind stands backs marks locks s =
-        by_pool 0 (Moving first_class) (omega arith) kind
+        take_pool g p fresh pin owed ahead behind page fail e v ks 0 (Moving first_class) (omega arith) kind
         (ap (λ (xs : List LockNo). lock.Class 0 ∷ xs) locks)
         (record {
           kind = tt;
@@ -381,6 +350,7 @@ module _ (g : Begin) (ok : Known g) (p : Part) (fresh : Option Object) (pin : Op
           fails = s.fails;
           begun = is;
           scans = tt;
+          visits = tt;
           compacts = record { class = omega arith; frames = (let o = s.owes in omega arith) };
         })
 
@@ -388,9 +358,10 @@ module _ (g : Begin) (ok : Known g) (p : Part) (fresh : Option Object) (pin : Op
         → start_plan a b p ≡ Take k
         → Sound g (spot n (lock_of (start_plan a b p))) v
         → Stands g (spot n (lock_of (start_plan a b p))) v
-        → Backs g (spot n (lock_of (start_plan a b p))) v → Marks v
+        → Backs g (spot n (lock_of (start_plan a b p))) v
+        → Marks g (spot n (lock_of (start_plan a b p))) v
         → ks ≡ [] → Stays e Start → Taken (lock_of (start_plan a b p))
-        (begun_at a b p (next_form p page (entry_or v e).kept) (entry_or v e).kept)
+        (begun_at a b p (next_form p page (entry_or v e).kept) (entry_or v e))
     start_take true b a c what kind stands backs marks locks s =
         first_take p.op refl a kind stands backs marks locks s
     start_take false true a b what kind stands backs marks locks s =
@@ -413,6 +384,7 @@ module _ (g : Begin) (ok : Known g) (p : Part) (fresh : Option Object) (pin : Op
               fails = s.fails;
               begun = b;
               scans = tt;
+              visits = tt;
               compacts = tt;
             },
           )
@@ -423,7 +395,7 @@ module _ (g : Begin) (ok : Known g) (p : Part) (fresh : Option Object) (pin : Op
     start_take false false a b what kind stands backs marks locks s = slot_of v
         (entry_kind g p.page (disk (or_from _ _ a b)).0 v kind) kind stands backs marks where
           slot_of : (u : DiskHeld) → IsEntry u → Sound g p.page u → Stands g p.page u
-              → Backs g p.page u → Marks u → Moved ks (slot p.page) (entry_or u e)
+              → Backs g p.page u → Marks g p.page u → Moved ks (slot p.page) (entry_or u e)
               (entered_at p.op p.page (next_form p page (entry_or u e).kept) (entry_or u e).kept)
           slot_of (holds.Slot x) i so st ba ma =
               let r = entered e s x so st ba ma (or_from _ _ a b) p.op refl in
@@ -442,12 +414,13 @@ module _ (g : Begin) (ok : Known g) (p : Part) (fresh : Option Object) (pin : Op
     at_take : (at : At) → plan_at n at p c d ≡ Take k → Sound g
         (spot n (lock_of (plan_at n at p c d))) v → Stands g
         (spot n (lock_of (plan_at n at p c d))) v → Backs g
-        (spot n (lock_of (plan_at n at p c d))) v → Marks v
+        (spot n (lock_of (plan_at n at p c d))) v → Marks g
+        (spot n (lock_of (plan_at n at p c d))) v
         → ks ≡ locks_at at p c d → Stays e at → Taken (lock_of (plan_at n at p c d))
-        (after_take n at p (next_form p page (entry_or v e).kept) (entry_or v e).kept)
+        (after_take n at p (next_form p page (entry_or v e).kept) (entry_or v e) fail)
     at_take Start what kind stands backs marks locks s = start_take (is_maintenance p.op)
         (is_beyond n p.op) refl refl what kind stands backs marks locks s
-    at_take Seen what kind stands backs marks locks s = by_pool c Pinning
+    at_take Seen what kind stands backs marks locks s = take_pool g p fresh pin owed ahead behind page fail e v ks c Pinning
         (old_low g.chain (form_at g p.page e.order) e.kept s.stands) kind
         (ap (λ (xs : List LockNo). lock.Class c ∷ xs) locks)
         (record {
@@ -465,9 +438,10 @@ module _ (g : Begin) (ok : Known g) (p : Part) (fresh : Option Object) (pin : Op
           fails = s.fails;
           begun = s.begun;
           scans = tt;
+          visits = tt;
           compacts = tt;
         })
-    at_take Pinned what kind stands backs marks locks s = by_pool c Unpinning
+    at_take Pinned what kind stands backs marks locks s = take_pool g p fresh pin owed ahead behind page fail e v ks c Unpinning
         (old_low g.chain (form_at g p.page e.order) e.kept s.stands) kind
         (ap (λ (xs : List LockNo). lock.Class c ∷ xs) locks)
         (record {
@@ -485,9 +459,10 @@ module _ (g : Begin) (ok : Known g) (p : Part) (fresh : Option Object) (pin : Op
           fails = s.fails;
           begun = s.begun;
           scans = tt;
+          visits = tt;
           compacts = tt;
         })
-    at_take Away what kind stands backs marks locks s = by_device Fetching kind
+    at_take Away what kind stands backs marks locks s = take_device g p fresh pin owed ahead behind page fail e v ks Fetching kind
         (ap (λ (xs : List LockNo). lock.Device ∷ xs) locks)
         (record {
           kind = s.kind;
@@ -504,9 +479,10 @@ module _ (g : Begin) (ok : Known g) (p : Part) (fresh : Option Object) (pin : Op
           fails = s.fails;
           begun = s.begun;
           scans = tt;
+          visits = tt;
           compacts = tt;
         })
-    at_take Failing what kind stands backs marks locks s = by_account Counting kind
+    at_take Failing what kind stands backs marks locks s = take_account g p fresh pin owed ahead behind page fail e v ks Counting kind
         (ap (λ (xs : List LockNo). lock.Account ∷ xs) locks)
         (record {
           kind = s.kind;
@@ -523,9 +499,10 @@ module _ (g : Begin) (ok : Known g) (p : Part) (fresh : Option Object) (pin : Op
           fails = s.fails;
           begun = s.begun;
           scans = tt;
+          visits = tt;
           compacts = tt;
         })
-    at_take Wanting what kind stands backs marks locks s = by_pool d Inside
+    at_take Wanting what kind stands backs marks locks s = take_pool g p fresh pin owed ahead behind page fail e v ks d Inside
         (form_low g.chain (next_form p page e.kept)) kind
         (ap (λ (xs : List LockNo). lock.Class d ∷ xs) locks)
         (record {
@@ -543,9 +520,10 @@ module _ (g : Begin) (ok : Known g) (p : Part) (fresh : Option Object) (pin : Op
           fails = s.fails;
           begun = s.begun;
           scans = tt;
+          visits = tt;
           compacts = tt;
         })
-    at_take Inside what kind stands backs marks locks s = by_account Both kind
+    at_take Inside what kind stands backs marks locks s = take_account g p fresh pin owed ahead behind page fail e v ks Both kind
         (ap (λ (xs : List LockNo). lock.Account ∷ xs) locks)
         (record {
           kind = s.kind;
@@ -562,9 +540,10 @@ module _ (g : Begin) (ok : Known g) (p : Part) (fresh : Option Object) (pin : Op
           fails = s.fails;
           begun = s.begun;
           scans = tt;
+          visits = tt;
           compacts = tt;
         })
-    at_take Old what kind stands backs marks locks s = by_pool c Freeing
+    at_take Old what kind stands backs marks locks s = take_pool g p fresh pin owed ahead behind page fail e v ks c Freeing
         (old_low g.chain (form_at g p.page e.order) e.kept s.stands) kind
         (ap (λ (xs : List LockNo). lock.Class c ∷ xs) locks)
         (record {
@@ -582,9 +561,10 @@ module _ (g : Begin) (ok : Known g) (p : Part) (fresh : Option Object) (pin : Op
           fails = s.fails;
           begun = s.begun;
           scans = tt;
+          visits = tt;
           compacts = tt;
         })
-    at_take Backed what kind stands backs marks locks s = by_map Releasing kind
+    at_take Backed what kind stands backs marks locks s = take_map g p fresh pin owed ahead behind page fail e v ks Releasing kind
         (ap (λ (xs : List LockNo). lock.Blocks ∷ xs) locks)
         (record {
           kind = s.kind;
@@ -601,9 +581,10 @@ module _ (g : Begin) (ok : Known g) (p : Part) (fresh : Option Object) (pin : Op
           fails = s.fails;
           begun = s.begun;
           scans = tt;
+          visits = tt;
           compacts = tt;
         })
-    at_take Owing what kind stands backs marks locks s = by_account Giving kind
+    at_take Owing what kind stands backs marks locks s = take_account g p fresh pin owed ahead behind page fail e v ks Giving kind
         (ap (λ (xs : List LockNo). lock.Account ∷ xs) locks)
         (record {
           kind = s.kind;
@@ -620,6 +601,7 @@ module _ (g : Begin) (ok : Known g) (p : Part) (fresh : Option Object) (pin : Op
           fails = s.fails;
           begun = s.begun;
           scans = tt;
+          visits = tt;
           compacts = tt;
         })
     at_take (Scanning x) what kind stands backs marks locks s =
@@ -638,10 +620,14 @@ module _ (g : Begin) (ok : Known g) (p : Part) (fresh : Option Object) (pin : Op
           fails = s.fails;
           begun = tt;
           scans = tt;
+          visits = tt;
           compacts = tt;
         })
+    at_take (Visiting t x) what kind stands backs marks locks s =
+        visits g p fresh pin owed ahead behind page fail e v ks k t x what kind stands backs marks
+        locks s
     at_take (Sweeping x) what kind stands backs marks locks s =
-        by_pool x.class (Moving x) s.compacts.class kind
+        take_pool g p fresh pin owed ahead behind page fail e v ks x.class (Moving x) s.compacts.class kind
         (ap (λ (xs : List LockNo). lock.Class x.class ∷ xs) locks)
         (record {
           kind = tt;
@@ -658,9 +644,10 @@ module _ (g : Begin) (ok : Known g) (p : Part) (fresh : Option Object) (pin : Op
           fails = s.fails;
           begun = s.begun;
           scans = tt;
+          visits = tt;
           compacts = s.compacts;
         })
-    at_take (Shrunk x) what kind stands backs marks locks s = by_account (Shrinking x) kind
+    at_take (Shrunk x) what kind stands backs marks locks s = take_account g p fresh pin owed ahead behind page fail e v ks (Shrinking x) kind
         (ap (λ (xs : List LockNo). lock.Account ∷ xs) locks)
         (record {
           kind = tt;
@@ -677,6 +664,7 @@ module _ (g : Begin) (ok : Known g) (p : Part) (fresh : Option Object) (pin : Op
           fails = s.fails;
           begun = s.begun;
           scans = tt;
+          visits = tt;
           compacts = s.compacts;
         })
     at_take Refusing what kind stands backs marks locks s = absurd (cc)
@@ -706,14 +694,16 @@ module _ (g : Begin) (ok : Known g) where
       → Stands g (spot g.given.size (lock_of (plan_by g.given.size ps l.at (class_by e.kept)
       (new_class g.chain ps l.page e.kept)))) v
       → Backs g (spot g.given.size (lock_of (plan_by g.given.size ps l.at (class_by e.kept)
-      (new_class g.chain ps l.page e.kept)))) v → Marks v
+      (new_class g.chain ps l.page e.kept)))) v
+      → Marks g (spot g.given.size (lock_of (plan_by g.given.size ps l.at (class_by e.kept)
+      (new_class g.chain ps l.page e.kept)))) v
       → ks ≡ locks_by ps l.at (class_by e.kept) (new_class g.chain ps l.page e.kept)
       → StageBy g ps e l.at l.fresh l.pin l.owed l.ahead l.behind l.page l.fail
       → (lock_of (plan_by g.given.size ps l.at (class_by e.kept)
       (new_class g.chain ps l.page e.kept)) ∷ ks ≡ locks_by ps
-      (taken_at g.given.size ps l.at l.page (entry_or v e).kept) (class_by (entry_or v e).kept)
+      (taken_at g.given.size ps l.at l.page (entry_or v e) l.fail) (class_by (entry_or v e).kept)
       (new_class g.chain ps l.page (entry_or v e).kept))
-      × StageBy g ps (entry_or v e) (taken_at g.given.size ps l.at l.page (entry_or v e).kept)
+      × StageBy g ps (entry_or v e) (taken_at g.given.size ps l.at l.page (entry_or v e) l.fail)
       l.fresh l.pin l.owed l.ahead l.behind l.page l.fail
   by_take l v k [] e ks some disk what kind stands backs marks locks s = absurd (cc)
   by_take l v k (p ∷ ps) e ks some disk what kind stands backs marks locks s =
@@ -727,11 +717,12 @@ module _ (g : Begin) (ok : Known g) where
       let kind = subst (λ (m : LockNo). Sound g (spot g.given.size m) v) q home.sound in
       let stands = subst (λ (m : LockNo). Stands g (spot g.given.size m) v) q home.stands in
       let backs = subst (λ (m : LockNo). Backs g (spot g.given.size m) v) q home.backs in
+      let marks = subst (λ (m : LockNo). Marks g (spot g.given.size m) v) q home.marks in
       let t = by_take l v k l.todo (entry_in l.held) (map (λ (x : LockNo × DiskHeld). x.0) l.held)
       (ok.proper.some (some_actor g.given.actors a f.ops f.named))
-      (λ p rest is. on_disk (EndsSo (ground_of g)) g.given.size f.ops l.done p rest
-      (subst (Follows (EndsSo (ground_of g)) (program g.given.size 0 f.ops) l.done) is
-      f.follows)) what kind stands backs home.marks f.locks f.stage in
+      (λ p rest is. on_disk (EndsSo (ground_of g)) g.given.size g.given.backed f.ops l.done p rest
+      (subst (Follows (EndsSo (ground_of g)) (program g.given.size g.given.backed 0 f.ops) l.done) is
+      f.follows)) what kind stands backs marks f.locks f.stage in
       record {
         who = f.who;
         ops = f.ops;

@@ -1,4 +1,6 @@
 -- Each turn keeps orders, what they make of pages, and what pieces have read.
+use Rattle.plain_disk.specs.Idles.{may_write}
+use Rattle.joint_rule.proofs.Courses.{Course, IsCourse, course_of, carries_of}
 use Rattle.std.proofs.Common.{◌≡◌, ◌≢◌, ◌+◌, ◌*◌, ◌-◌, ◌≤◌, ◌∷◌, ◌++◌, ◌∙◌, ◌⊎◌, ℕ, zero, suc, Bool, true, false, cond, eqb, List, [], length, take, Option, Some, None, slice_get, slice_set, refl, sym, ap, subst, arith, inl, inr, ⊎_elim, length-append}
 use Rattle.call_history.specs.Parts.{got_by, is_carried, is_on, is_read, left_by, stands_so, without}
 use Rattle.call_history.specs.Shows.{Grown, SeesSo, ShowsPage, got_from, tag_by}
@@ -33,12 +35,13 @@ use Rattle.std.proofs.lemmas.Bool.{and_left, and_right, cases_Bool, eq-eqb, ne_e
 use Rattle.zr_base.specs.Plain.{named}
 use Rattle.zr_base.specs.Sectors.{page_sector}
 use Rattle.zr_base.specs.declared.op.Op.{Op}
-use Rattle.zr_base.specs.declared.op.Op.TheVariants.{Compact, Discard, Idle, Read, Write}
+use Rattle.zr_base.specs.declared.op.Op.TheVariants.{Compact, Discard, Idle, Read, Write, Writeback}
 use Rattle.zr_base.specs.declared.op.Tag.{Tag}
 use mathlib.Core.Logic.{dite}
 use mathlib.Core.Path.{fun_ext}
 use native.Mathlib.Decide.{ℕ_discrete}
 use Rattle.joint_rule.proofs.Events as event
+use Rattle.joint_rule.proofs.Courses as course
 use Rattle.lock_row.specs.declared.names.Held.TheVariants as holds
 use Rattle.zr_base.specs.declared.op.OpEnd.TheVariants as ends
 
@@ -129,12 +132,13 @@ push_at {A} (z ∷ zs) x (suc i) y e = ⊎_elim
 
 -- one more call finds what is held, where its page isn't on the device
 held_push : (g : Begin) (p : ℕ) (order : List Tag) (t : Tag) → FindHeld g p order
-    → (back_at g p order ≡ false → (s : ℕ) (old : List ℕ) → g.given.finds p t s old ≡ old)
+    → (may_write g.given.backed g.given.actors ≡ false → back_at g p order ≡ false → (s : ℕ)
+    (old : List ℕ) → g.given.finds p t s old ≡ old)
     → FindHeld g p (order ++ t ∷ [])
-held_push g p order t old new i u is off s bytes = ⊎_elim
-    (λ o. old i u o.0 (subst (λ (ts : List Tag). back_at g p ts ≡ false) o.1 off) s bytes)
+held_push g p order t old new none i u is off s bytes = ⊎_elim
+    (λ o. old none i u o.0 (subst (λ (ts : List Tag). back_at g p ts ≡ false) o.1 off) s bytes)
     (λ o. subst (λ (x : Tag). g.given.finds p x s bytes ≡ bytes) o.0
-    (new (subst (λ (ts : List Tag). back_at g p ts ≡ false) o.1 off) s bytes))
+    (new none (subst (λ (ts : List Tag). back_at g p ts ≡ false) o.1 off) s bytes))
     (push_at order t i u is)
 
 -- ---- what a giving does to orders
@@ -172,6 +176,7 @@ no_got (Write start count stuff) p page e c = ap (λ (o : Op). got_at o p page) 
 no_got (Read start count) p page e c = absurd c
 no_got (Discard start count) p page e c = ap (λ (o : Op). got_at o p page) (sym e)
 no_got (Idle age) p page e c = absurd c
+no_got (Writeback mode) p page e c = absurd c
 no_got Compact p page e c = absurd c
 
 bad_stands : (g : Begin) (p : Part) (op : Op) (x : PartEnd) → FailBy g p op (Some x)
@@ -184,6 +189,7 @@ bad_stands g p (Write start count stuff) (Eio fault) f = absurd f
 bad_stands g p (Read start count) x f = absurd f
 bad_stands g p (Discard start count) x f = absurd f
 bad_stands g p (Idle age) x f = absurd f
+bad_stands g p (Writeback mode) x f = absurd f
 bad_stands g p Compact x f = absurd f
 
 -- a piece of which the device failed stands where it is a read, and has read nothing
@@ -211,7 +217,24 @@ module _ (g : Begin) (ok : Known g) (w : State DiskHeld) (j : Joint g w) (a : �
   same_tells v₀ m₀ e f t = subst (λ (x : DiskHeld × Here). Tells g P l k x.0 x.1)
       (λ i. (sym e i, sym f i)) t
 
+  -- a giving of a writeback leaves orders as they are
+  visit_tells : (c : IsCourse g l v m) → (HeldAll g.given.size (OfOrder P) l.held
+      → OfOrder P (spot g.given.size k) v × HeldAll g.given.size (OfOrder P) m.held)
+      → Tells g P l k v m
+  visit_tells c carry = by_course c.course where
+    by_course : Course l v c.p c.rest m → Tells g P l k v m
+    by_course (course.goes s y done todo at fail) = quiet done todo carry
+    by_course (course.halts s y end done todo at well fail i) = quiet done todo carry
+    by_course (course.errs s y d d' b fault wrote lost done todo at well fail held v_is failed) =
+        quiet done todo carry
+    by_course (course.tells wrote lost well m_is) =
+        refused c.p c.rest (Whole (ends.Written wrote lost)) c.todo refl (λ h. (carry h).0) m_is
+    by_course (course.closes end i fail m_is) =
+        refused c.p c.rest (Whole end) c.todo refl (λ h. (carry h).0) m_is
+
   pub tells_of : (ev : Event g l v m) → Chosen g l v m ev → Tells g P l k v m
+  tells_of (event.visits t) chosen = visit_tells (course_of g ok w j a l who v m t)
+      (carries_of g ok w j a l who v m k what P t)
   tells_of (event.refuses p rest c todo at held v_is m_is) chosen =
       same_tells _ m v_is refl (refused p rest (Whole ends.Range) todo refl (λ h. tt) m_is)
   tells_of (event.pins p rest e o q q' u u' cell todo at held is sw named_u free outside is_cell
@@ -380,7 +403,7 @@ module _ (g : Begin) (ok : Known g) (w : State DiskHeld) (j : Joint g w) (t : To
         held_map n P Q f l.held (t.in_local a l who),
       )
 
-  module _ (m : Here) (there : slice_get w.row (spot n k) ≡ Some None) (x : Gift g a l k v m) where
+  module _ (m : Here) (there : slice_get w.row (spot n k) ≡ Some None) (x : Gift g w a l k v m) where
     abbrev P : ℕ → List Tag → ℕ → Type 0
     P = ShowsOrder g w.locals
 

@@ -1,4 +1,7 @@
 -- Each turn keeps the rule.
+use Rattle.joint_rule.proofs.Written.{back_give, back_take, writes_give, writes_of, writes_take}
+use Rattle.zr_base.specs.declared.op.OpEnd.{OpEnd}
+use Rattle.joint_rule.proofs.Courses.{Course, IsCourse, IsRefused, course_of}
 use Rattle.std.proofs.Common.{◌≡◌, ◌*◌, ◌≤◌, ◌<◌, ◌∷◌, ◌++◌, ◌⊎◌, ℕ, zero, suc, List, [], Option, Some, None, slice_get, slice_set, refl, sym, ap, subst, arith, inl, inr, ⊎_elim}
 use Rattle.joint_rule.proofs.Ages.{ages_turn}
 use Rattle.call_history.specs.Parts.{KeepsTo}
@@ -46,6 +49,7 @@ use Rattle.plain_disk.specs.Ends.{Bounds}
 use Rattle.slot_entry.specs.Entries.{EntryState}
 use Rattle.zr_base.specs.Plain.{Finds}
 use Rattle.joint_rule.proofs.Events as event
+use Rattle.joint_rule.proofs.Courses as course
 use Rattle.lock_row.specs.declared.names.LockNo.TheVariants as lock
 use Rattle.lock_row.specs.declared.names.Held.TheVariants as holds
 use Rattle.zr_base.specs.declared.op.OpEnd.TheVariants as ends
@@ -68,6 +72,7 @@ module _ (g : Begin) (b c : Bounds) (up : Above b c) where
   keeps_up : (x : PartEnd) → KeepsTo (ground_of g) b x → KeepsTo (ground_of g) c x
   keeps_up Carried h = tt
   keeps_up NoMemory h = tt
+  keeps_up (Whole (ends.WriteEio fault wrote lost)) h = let t = up.1 in omega arith
   keeps_up (Whole x) h = tt
   keeps_up (AtLimit n need limit) h = let t = times_le g.chain b.reach c.reach up.0 in omega arith
   keeps_up (Eio fault) h = let t = up.1 in omega arith
@@ -136,8 +141,41 @@ module _ (g : Begin) (ok : Known g) (w : State DiskHeld) (j : Joint g w) (a : �
       let b = below g ok w j a l who (omega arith) in
       let few = need_few q need sounds.1.0.1 is_need in let p1 = past.1 in omega arith
 
+  visit_limits : (c : Bounds) → Above (reach_at g w) c → device_faults (spot n k) v ≤ c.faults
+      → IsCourse g l v m → KeepsLimits g (reach_at g w) l → KeepsLimits g c m
+  visit_limits c up low t h = by_course t.course where
+    ends_so : (x : PartEnd) → m.done ≡ l.done → m.fail ≡ Some x → KeepsTo (ground_of g) c x
+        → KeepsLimits g c m
+    ends_so x done fail keeps = record {
+      over = λ i d e. (limits_up g (reach_at g w) c up l h).over i d
+          (subst (λ (ds : List Done). slice_get ds i ≡ Some d) done e);
+      now = subst (FailKeeps g c) (sym fail) keeps;
+    }
+
+    refused_keeps : (end : OpEnd) → IsRefused end → KeepsTo (ground_of g) c (Whole end)
+    refused_keeps (ends.Budget wrote lost) i = tt
+    refused_keeps (ends.NoBlock wrote lost) i = tt
+    refused_keeps end i = absurd i
+
+    by_course : Course l v t.p t.rest m → KeepsLimits g c m
+    by_course (course.goes s y done todo at fail) =
+        limits_same g (reach_at g w) c up l m done fail h
+    by_course (course.halts s y end done todo at well fail i) =
+        ends_so (Whole end) done fail (refused_keeps end i)
+    by_course (course.errs s y d d' b fault wrote lost done todo at well fail held v_is failed) =
+        ends_so (Whole (ends.WriteEio fault wrote lost)) done fail
+        (let r = ap (device_faults (spot n k)) v_is in let z = failed.count in omega arith)
+    by_course (course.tells wrote lost well m_is) = subst (KeepsLimits g c) (sym m_is)
+        (limits_over g (reach_at g w) c up l t.p (Whole (ends.Written wrote lost)) [] t.rest tt h)
+    by_course (course.closes end i fail m_is) = subst (KeepsLimits g c) (sym m_is)
+        (limits_over g (reach_at g w) c up l t.p (Whole end) [] t.rest
+        (fail_up g (reach_at g w) c up (Some (Whole end))
+        (subst (FailKeeps g (reach_at g w)) fail h.now)) h)
+
   pub limits_of : (c : Bounds) → Above (reach_at g w) c → device_faults (spot n k) v ≤ c.faults
       → Event g l v m → KeepsLimits g (reach_at g w) l → KeepsLimits g c m
+  limits_of c up low (event.visits t) h =
+      visit_limits c up low (course_of g ok w j a l who v m t) h
   limits_of c up low (event.refuses p rest x todo at held v_is m_is) h =
       subst (KeepsLimits g c) (sym m_is) (limits_over g (reach_at g w) c up l p
       (Whole ends.Range) [] rest tt h)
@@ -241,6 +279,8 @@ module _ (g : Begin) (ok : Known g) (w : State DiskHeld) (r : Ruled g w) (a : �
             (get_set w.locals a i m y l who e);
         faults = faults_take g ok w a l who k v r.faults;
         fetches = fetches_take g ok w a l who k v what there r.fetches;
+        writes = writes_take g ok w a l who k v what there r.writes;
+        back = back_take g ok w a l who k v what there r.back;
         alone = alone_take g ok w r.joint a l who k v what there ages r.alone;
       }
 
@@ -249,7 +289,7 @@ module _ (g : Begin) (ok : Known g) (w : State DiskHeld) (r : Ruled g w) (a : �
       → Ruled g (gone size w a l who k (Some v) m)
   rule_give m what there ev chosen ages =
       let x = gift g ok w r.joint a l who k v m what ev chosen in
-      let b = blames_of g ok w r.joint a l who k v m ev in
+      let b = blames_of g ok w r.joint a l who k v m what ev in
       let now = reach_at g (gone size w a l who k (Some v) m) in
       let up : Above (reach_at g w) now = (
         risen g ok w r.joint a l who k v m there x,
@@ -264,9 +304,9 @@ module _ (g : Begin) (ok : Known g) (w : State DiskHeld) (r : Ruled g w) (a : �
             chosen);
         most = most_give g ok w r.joint a l who k v m there x r.most;
         refusals = λ q. refusals_give g ok w r.joint a l who k v m q there
-            (refuses_of g ok w r.joint a l who k v m q ev) (r.refusals q);
+            (refuses_of g ok w r.joint a l who k v m q what ev) (r.refusals q);
         freed = freed_give g ok w r.joint a l who k v m there
-            (frees_of g ok w r.joint a l who k v m ev) r.freed;
+            (frees_of g ok w r.joint a l who k v m what ev) r.freed;
         news = λ q. news_give g ok w r.joint a l who k v m q there
             (news_gives g ok w r.joint a l who k v m what q ev chosen) (r.news q);
         limits = λ i y e. ⊎_elim
@@ -277,6 +317,10 @@ module _ (g : Begin) (ok : Known g) (w : State DiskHeld) (r : Ruled g w) (a : �
         faults = faults_give g ok w r.joint a l who k v m r.limits b r.faults;
         fetches = fetches_give g ok w r.joint a l who k v m there
             (reads_of g ok w r.joint a l who k v m what ev) r.fetches;
+        writes = writes_give g ok w r.joint a l who k v m there
+            (writes_of g ok w r.joint a l who k v m what ev) r.writes;
+        back = back_give g ok w r.joint a l who k v m there
+            (writes_of g ok w r.joint a l who k v m what ev) r.back;
         alone = alone_give g ok w r.joint a l who k v m what there ev ages r.alone;
       }
 

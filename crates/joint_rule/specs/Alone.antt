@@ -9,7 +9,7 @@ use Rattle.class_pool.specs.Compaction.{MayMove}
 use Rattle.plain_disk.specs.Compactions.{loose}
 use Rattle.call_history.specs.declared.part.Part.{Part}
 use Rattle.call_history.specs.declared.part.Done.{Done}
-use Rattle.plain_disk.specs.Idles.{Aged, passed, IsMarked}
+use Rattle.plain_disk.specs.Idles.{Aged, may_write, passed, IsMarked}
 use Rattle.call_history.specs.Alone.{tight_over, MoveNoneOver, moves_over, pages_over, AreMarkedOver}
 use Rattle.lock_row.specs.declared.names.LockNo.TheVariants as lock
 use Rattle.lock_row.specs.declared.names.Held.TheVariants as holds
@@ -155,11 +155,12 @@ pub record Ages (g : Begin) (w : State DiskHeld) (l : Here) : Type 0 where
 
 -- ---- the only actor
 
--- What its pieces that are over say, and what stands while it is at this one.
+-- What its pieces that are over say, and what stands while it is at this one; of marks where nothing is
+-- written back.
 pub record IsOnly (g : Begin) (w : State DiskHeld) (l : Here) : Type 0 where
   pub still : MoveNoneOver g.tight l.done
   pub calm : is_calm l.todo l.at ≡ true → IsCalm g w l.done
-  pub ages : Ages g w l
+  pub ages : may_write g.given.backed g.given.actors ≡ false → Ages g w l
   pub sweeps : (x : Compaction) → compacting l.todo l.at ≡ Some x → Sweeps g w l x
 
 -- where an actor is the only one of its phase

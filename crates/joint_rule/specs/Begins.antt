@@ -1,5 +1,5 @@
 -- What a phase begins with, and what a page is after the calls of an order.
-use Rattle.std.specs.Prelude.{◌≡◌, ℕ, ◌+◌, ◌-◌, ◌*◌, ◌^◌, ◌<◌, ◌≤◌, ◌==◌, ◌&&◌, ⊤, Bool, true, List, [], ◌∷◌, length, Option, Some, None, if◌then◌else◌}
+use Rattle.std.specs.Prelude.{◌≡◌, ℕ, ◌+◌, ◌-◌, ◌*◌, ◌^◌, ◌<◌, ◌≤◌, ◌==◌, ◌&&◌, ◌||◌, ⊤, Bool, true, List, [], ◌∷◌, length, Option, Some, None, if◌then◌else◌}
 use Rattle.std.specs.List.{AllByRecursion}
 use Rattle.zr_base.specs.declared.op.Tag.{Tag}
 use Rattle.zr_base.specs.declared.op.Op.{Op}
@@ -10,6 +10,7 @@ use Rattle.plain_disk.specs.Forms.{page_bytes}
 use Rattle.plain_disk.specs.Ends.{Ground, is_single}
 use Rattle.plain_disk.specs.Calls.{Found, leave_page, after_all, ever_pooled}
 use Rattle.plain_disk.specs.Phases.{Given, calls_on}
+use Rattle.plain_disk.specs.Idles.{may_write}
 use Rattle.call_history.specs.declared.part.Part.{Part}
 use Rattle.call_history.specs.Parts.{program}
 use Rattle.slot_entry.specs.Forms.{PageForm, Blank, form_of, bytes_in, page_weight}
@@ -46,7 +47,8 @@ ground_of g = record {
   size = g.given.size;
   chain = g.chain;
   limit = g.was.limit;
-  back = g.back;
+  backed = g.given.backed;
+  back = λ p. g.back p || may_write g.given.backed g.given.actors;
   faults = g.device.faults;
 }
 
@@ -80,7 +82,8 @@ image g p order = bytes_in (form_at g p order)
 abbrev pub ever : Begin → ℕ → List Tag → ℕ
 ever g p order = if ever_pooled page_weight p (calls_on g.given p) (found g p) order then 1 else 0
 
--- whether a page is on the device: where it was before the phase, and its order has reads alone
+-- whether a page is on the device where nothing is written back: where it was before the phase, and
+-- its order has reads alone
 abbrev pub back_at : Begin → ℕ → List Tag → Bool
 back_at g p order = g.back p && leave_page g.given.actors order
 
@@ -105,10 +108,10 @@ pieces_on size page [] = 0
 pieces_on size page (p ∷ ps) = piece_on size page p + pieces_on size page ps
 
 -- those of all actors
-abbrev pub pieces_each : ℕ → List (List Op) → ℕ → ℕ
-pieces_each size [] page = 0
-pieces_each size (ops ∷ more) page =
-    pieces_on size page (program size 0 ops) + pieces_each size more page
+abbrev pub pieces_each : ℕ → Bool → List (List Op) → ℕ → ℕ
+pieces_each size backed [] page = 0
+pieces_each size backed (ops ∷ more) page =
+    pieces_on size page (program size backed 0 ops) + pieces_each size backed more page
 
 -- ---- what is known of a phase
 
@@ -123,7 +126,7 @@ pub record IsRoomy (g : Begin) : Type 0 where
   pub least : 4 ≤ g.chain
   pub most : g.chain ≤ 16
   pub few : g.given.size + length g.given.actors < 2 ^ 32 - 1
-  pub pieces : (p : ℕ) → p < g.given.size → pieces_each g.given.size g.given.actors p < 2 ^ 32
+  pub pieces : (p : ℕ) → p < g.given.size → pieces_each g.given.size g.given.backed g.given.actors p < 2 ^ 32
 
 -- Calls find sectors, and over an honest device what sectors hold.
 pub record FindsRight (g : Begin) : Type 0 where
@@ -146,4 +149,4 @@ pub record Proper (g : Begin) : Type 0 where
   pub least : 4 ≤ g.chain
   pub most : g.chain ≤ 16
   pub few : g.given.size + length g.given.actors < 2 ^ 32 - 1
-  pub pieces : (p : ℕ) → p < g.given.size → pieces_each g.given.size g.given.actors p < 2 ^ 32
+  pub pieces : (p : ℕ) → p < g.given.size → pieces_each g.given.size g.given.backed g.given.actors p < 2 ^ 32

@@ -10,7 +10,7 @@ use Rattle.backing_dev.specs.Dev.{DeviceState}
 use Rattle.plain_disk.specs.Calls.{after_all}
 use Rattle.plain_disk.specs.Compactions.{are_tight}
 use Rattle.plain_disk.specs.Rests.{Settings, Rest, page_of, stats, nothing_yet, so_far_of}
-use Rattle.plain_disk.specs.Phases.{Given, calls_on, begun, back_after, held_after, nth_order, touched_by}
+use Rattle.plain_disk.specs.Phases.{Given, calls_on, begun, held_after, nth_order, touched_by}
 use Rattle.call_history.specs.declared.part.Done.{Done}
 use Rattle.lock_row.specs.declared.names.Held.TheVariants as holds
 use Rattle.lock_row.specs.declared.names.Plan.TheVariants.{Finished}
@@ -19,6 +19,7 @@ use Rattle.slot_entry.specs.Forms.{page_weight}
 use Rattle.page_steps.specs.Steps.{DiskHeld, Here, plan}
 use Rattle.joint_rule.specs.Begins.{Begin, terms}
 use Rattle.joint_rule.specs.Weights.{used_each}
+use Rattle.slot_entry.specs.Entries.{is_wb}
 
 -- a phase of these actors begins at a rest of the plain disk; its calls find what is held
 abbrev pub begin_at : Rest → List (List Op) → Begin
@@ -43,6 +44,11 @@ AllFinished g w = (a : ℕ) (l : Here) → slice_get w.locals a ≡ Some l → p
 abbrev pub order_in : Option DiskHeld → List Tag
 order_in (Some (holds.Slot e)) = e.order
 order_in _ = []
+
+-- whether the page of the entry at a place is on the device
+abbrev pub back_in : Option DiskHeld → Bool
+back_in (Some (holds.Slot e)) = is_wb e.kept
+back_in _ = false
 
 -- whether the page of the entry at a place is marked idle
 abbrev pub idle_in : Option DiskHeld → Bool
@@ -84,14 +90,14 @@ device_in d _ = d
 abbrev pub device_of : DeviceState → ℕ → List (Option DiskHeld) → DeviceState
 device_of d size row = device_in d (value_at row (size + 257))
 
--- The rest of the plain disk after a phase with these orders: pages by the calls, marks, pools,
--- counters and the device by the row.
+-- The rest of the plain disk after a phase with these orders: pages by the calls, marks, which are on
+-- the device, pools, counters and the device by the row.
 abbrev pub rest_by : Rest → Given → List (List Tag) → List (Option DiskHeld) → Rest
 rest_by r g orders row = record {
   size = r.size;
   holds = λ s. held_after g (s / 8) (nth_order orders (s / 8)) s;
   blank = λ p. (after_all (calls_on g p) (page_of r p) (nth_order orders p)).blank;
-  back = λ p. back_after r g.actors p (nth_order orders p);
+  back = λ p. back_in (value_at row p);
   idle = λ p. idle_in (value_at row p);
   touched = λ p. touched_by (nth_order orders p) r.set.clock (r.touched p);
   used = λ k. used_in (value_at row (r.size + k));

@@ -1,6 +1,6 @@
 -- The joint rule of pages, pools and the account: what each value and each actor is, and the sums
 -- over them all.
-use Rattle.std.specs.Prelude.{◌≡◌, ℕ, ◌+◌, ◌^◌, ◌<◌, ◌≤◌, true, false, List, [], map, length, sum_by, None, Some, slice_get, ⊤}
+use Rattle.std.specs.Prelude.{◌≡◌, ℕ, ◌+◌, ◌^◌, ◌<◌, ◌≤◌, true, false, List, [], map, length, sum_by, Some, slice_get, ⊤}
 use Rattle.zr_base.specs.declared.op.Op.{Op}
 use Rattle.size_class.specs.Classes.{class_size, chain_of, per_of}
 use Rattle.backing_dev.specs.Dev.{DeviceState, IsHonestDevice}
@@ -16,8 +16,8 @@ use Rattle.slot_entry.specs.Entries.{EntryState, weight_of}
 use Rattle.page_steps.specs.Pages.{new_class}
 use Rattle.page_steps.specs.Steps.{DiskHeld, Here, spot, class_by, entry_in}
 use Rattle.joint_rule.specs.Begins.{Begin, ground_of, form_at, back_at, AreCarried}
-use Rattle.joint_rule.specs.Weights.{HeldAll, Each, nothing, none, at_place, Weigh, each_one, claims, fresh_claim, BlockWeigh, block_claims, used_blocks, map_size, device_size, lies_at, stored_at, cell_weight, stored, names, PinWeigh, outs, pinned, pages, chains, owing, ever_at, leaning, Fixed, fixed, fixed_count, Count, counters, shown, ahead, behind}
-use Rattle.joint_rule.specs.Stages.{IsForm, is_wb, MayIdle, IsSmall, StageBy, locks_by}
+use Rattle.joint_rule.specs.Weights.{HeldAll, Each, nothing, none, at_place, Weigh, each_one, claims, fresh_claim, BlockWeigh, block_claims, block_uses, used_blocks, map_size, device_size, lies_at, written_at, stored_at, mark_at, carried_at, carries, shows_at, cell_weight, stored, names, PinWeigh, outs, pinned, pages, chains, owing, ever_at, leaning, Fixed, fixed, fixed_count, Count, counters, shown, ahead, behind}
+use Rattle.joint_rule.specs.Stages.{IsForm, IsBack, HasMarks, IsSmall, StageBy, locks_by}
 
 -- ---- each value by itself
 
@@ -30,13 +30,11 @@ pub record PoolFits (chain : ℕ) (p : PoolState) : Type 0 where
   pub pool : IsPool p
   pub once : (h : ℕ) → sum_by (cell_weight (names h)) (used_cells p.zspages) ≤ 1
 
--- An entry isn't under writeback. Its page stays idle where it was before the phase and no call stands
--- in its order; and where no operation marks pages, no other page is idle.
-pub record MarkFits (g : Begin) (j : ℕ) (e : EntryState) : Type 0 where
-  pub under : e.under ≡ None
-  pub stays : e.order ≡ [] → g.idle j ≡ true → e.idle ≡ true
-  pub only : is_marked_in g.given.actors ≡ false → e.idle ≡ true
-      → (e.order ≡ []) × (g.idle j ≡ true)
+-- where no operation marks pages, a page is idle only where it was before the phase, and no call
+-- stands in its order
+abbrev pub MarkFits : Begin → ℕ → EntryState → Type 0
+MarkFits g j e = is_marked_in g.given.actors ≡ false → e.idle ≡ true
+    → (e.order ≡ []) × (g.idle j ≡ true)
 
 -- An entry is that of a page, the calls of its order are carried out there, it was touched when it
 -- was last, its mark is one of the phase, and its object is small.
@@ -48,7 +46,7 @@ pub record EntryFits (g : Begin) (j : ℕ) (e : EntryState) : Type 0 where
   pub small : IsSmall (weight_of e.kept)
 
 -- The device is the one with which the phase began, with as many blocks, honest where it was. Its
--- counts haven't fallen, that of reads isn't past its end, and nothing was written.
+-- counts haven't fallen, and those of calls aren't past their end.
 pub record KeepsDevice (d e : DeviceState) : Type 0 where
   pub same : e.references ≡ d.references
   pub blocks : e.blocks ≡ d.blocks
@@ -56,7 +54,7 @@ pub record KeepsDevice (d e : DeviceState) : Type 0 where
   pub faults : d.faults ≤ e.faults
   pub reads : d.reads ≤ e.reads
   pub end : e.reads < 2 ^ 64
-  pub writes : e.writes ≡ d.writes
+  pub writes : e.writes < 2 ^ 64
 
 -- the value fits its place
 abbrev pub Sound : Begin → ℕ → DiskHeld → Type 0
@@ -76,26 +74,26 @@ Stands g j (holds.Device x) = ⊤
 
 -- an entry's page is on the device where it was before the phase and its order has reads alone
 abbrev pub Backs : Begin → ℕ → DiskHeld → Type 0
-Backs g j (holds.Slot e) = is_wb e.kept ≡ back_at g j e.order
+Backs g j (holds.Slot e) = IsBack g e.kept (back_at g j e.order)
 Backs g j (holds.Class p) = ⊤
 Backs g j (holds.Account c) = ⊤
 Backs g j (holds.Blocks x) = ⊤
 Backs g j (holds.Device x) = ⊤
 
--- an entry that is marked idle has its page in the pool
-abbrev pub Marks : DiskHeld → Type 0
-Marks (holds.Slot e) = MayIdle e.kept e.idle
-Marks (holds.Class p) = ⊤
-Marks (holds.Account c) = ⊤
-Marks (holds.Blocks x) = ⊤
-Marks (holds.Device x) = ⊤
+-- an entry is marked as it has to be
+abbrev pub Marks : Begin → ℕ → DiskHeld → Type 0
+Marks g j (holds.Slot e) = HasMarks g j e
+Marks g j (holds.Class p) = ⊤
+Marks g j (holds.Account c) = ⊤
+Marks g j (holds.Blocks x) = ⊤
+Marks g j (holds.Device x) = ⊤
 
 -- A value at home fits its place, and its page is kept and marked as it has to be.
 pub record AtHome (g : Begin) (j : ℕ) (v : DiskHeld) : Type 0 where
   pub sound : Sound g j v
   pub stands : Stands g j v
   pub backs : Backs g j v
-  pub marks : Marks v
+  pub marks : Marks g j v
 
 -- ---- each actor by itself
 
@@ -105,7 +103,7 @@ pub record IsActor (g : Begin) (a : ℕ) (l : Here) : Type 0 where
   pub who : l.actor ≡ a
   pub ops : List Op
   pub named : slice_get g.given.actors a ≡ Some ops
-  pub follows : Follows (EndsSo (ground_of g)) (program g.given.size 0 ops) l.done l.todo
+  pub follows : Follows (EndsSo (ground_of g)) (program g.given.size g.given.backed 0 ops) l.done l.todo
   pub locks : map (λ (x : LockNo × DiskHeld). x.0) l.held
       ≡ locks_by l.todo l.at (class_by (entry_in l.held).kept)
       (new_class g.chain l.todo l.page (entry_in l.held).kept)
@@ -130,15 +128,24 @@ pub record Joint (g : Begin) (w : State DiskHeld) : Type 0 where
   -- the objects that entries and actors name are those of the pools, each once, with their bytes
   pub owners : (f : Weigh) → total (spot g.given.size) (claims g f) (fresh_claim f) w
       ≡ total (spot g.given.size) (stored f) none w
-  -- the blocks that the map has as taken are those in which pages are kept, each once
-  pub blocks : (f : BlockWeigh) → total (spot g.given.size) (block_claims f) none w
+  -- the blocks that the map has as taken are those in which pages are kept and those that writebacks
+  -- have, each once
+  pub blocks : (f : BlockWeigh) → total (spot g.given.size) (block_claims f) (block_uses f) w
       ≡ total (spot g.given.size) (used_blocks f) none w
   -- the map has no more blocks than the device
   pub size : total (spot g.given.size) map_size none w
       ≤ total (spot g.given.size) device_size none w
-  -- where a page is kept in a block, the block has the page, if the device tells what it has
-  pub disk : (b : ℕ) (bytes : List ℕ) → 0 < total (spot g.given.size) (lies_at g b bytes) none w
+  -- where a page is kept in a block or was written there, the block has the page, if the device tells
+  -- what it has
+  pub disk : (b : ℕ) (bytes : List ℕ)
+      → 0 < total (spot g.given.size) (lies_at g b bytes) (written_at b bytes) w
       → 0 < total (spot g.given.size) (stored_at b bytes) none w
+  -- each mark is that of a writeback, which carries the page
+  pub marks : (s b : ℕ) (bytes : List ℕ) → total (spot g.given.size) (mark_at g s b bytes) none w
+      ≤ total (spot g.given.size) nothing (carried_at s b bytes) w
+  -- where a writeback carries a page, its mark stands, or another actor's tag is in the page's order
+  pub carriers : (a : ℕ) (l : Here) (s b : ℕ) → slice_get w.locals a ≡ Some l
+      → carries l ≡ Some (s, b) → 1 ≤ total (spot g.given.size) (shows_at a s b) none w
   -- the cells that are out are those that actors have pinned
   pub pins : (f : PinWeigh) → total (spot g.given.size) (outs f) none w
       ≡ total (spot g.given.size) nothing (pinned f) w

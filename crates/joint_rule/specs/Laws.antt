@@ -1,5 +1,5 @@
 -- What the rule of pages, pools and the account gives: statements that the laws claim.
-use Rattle.std.specs.Prelude.{◌≡◌, ℕ, ◌+◌, ◌*◌, ◌<◌, ◌≤◌, true, List, [], ◌∷◌, length, Option, Some, None, slice_get, ⊤}
+use Rattle.std.specs.Prelude.{◌≡◌, ℕ, ◌+◌, ◌*◌, ◌<◌, ◌≤◌, Bool, true, false, List, [], ◌∷◌, length, Option, Some, None, slice_get, ⊤}
 use Rattle.zr_base.specs.declared.op.Op.{Op}
 use Rattle.zr_base.specs.Plain.{zero_sector, IsSector}
 use Rattle.mem_account.specs.Counters.{no_counts}
@@ -15,7 +15,10 @@ use Rattle.call_history.specs.Tallies.{Tallies}
 use Rattle.lock_row.specs.declared.names.LockNo.{LockNo}
 use Rattle.lock_row.specs.declared.names.LockNo.TheVariants as lock
 use Rattle.lock_row.specs.declared.names.Held.TheVariants as holds
-use Rattle.lock_row.specs.declared.names.At.TheVariants.{Moving}
+use Rattle.lock_row.specs.declared.names.At.TheVariants.{Visiting, Moving}
+use Rattle.lock_row.specs.declared.names.Step.{Step}
+use Rattle.lock_row.specs.declared.names.Step.TheVariants as step
+use Rattle.lock_row.specs.declared.names.Trip.{Trip}
 use Rattle.lock_row.specs.declared.names.Compaction.{Compaction}
 use Rattle.lock_row.specs.declared.names.Plan.TheVariants.{Finished, Take, Give}
 use Rattle.lock_row.specs.declared.names.State.{State}
@@ -23,11 +26,11 @@ use Rattle.lock_row.specs.Machine.{Turn, Reached}
 use Rattle.lock_row.specs.Totals.{total}
 use Rattle.slot_entry.specs.Entries.{EntryState}
 use Rattle.slot_entry.specs.Forms.{page_weight}
-use Rattle.page_steps.specs.Steps.{DiskHeld, Here, spot, plan, took}
+use Rattle.page_steps.specs.Steps.{DiskHeld, Here, spot, entry_in, plan, took}
 use Rattle.page_steps.specs.Givings.{Works}
 use Rattle.page_steps.specs.Fits.{StageFits}
-use Rattle.joint_rule.specs.Begins.{Begin, finding, FindsRight, terms, ground_of, AreRequests, IsRoomy, Proper}
-use Rattle.joint_rule.specs.Weights.{none, stored, each_one}
+use Rattle.joint_rule.specs.Begins.{Begin, content, finding, FindsRight, terms, ground_of, AreRequests, IsRoomy, Proper}
+use Rattle.joint_rule.specs.Weights.{none, stored, each_one, stored_at, foreign}
 use Rattle.joint_rule.specs.Rule.{Rule}
 use Rattle.joint_rule.specs.Starts.{AtRest, IsStart, IsRenewed, Renewed, Matched, IsNextDisk, IsNew}
 use Rattle.joint_rule.specs.Ends.{begin_at, AllFinished, orders_of, histories, account_of, rest_after, new_rest}
@@ -113,6 +116,40 @@ CompactedIsFew = (g : Begin) (w : State DiskHeld) (a : ℕ) (l : Here) (p : Part
     (x : Compaction) (q : PoolState) → Rule g w → slice_get w.locals a ≡ Some l
     → l.todo ≡ p ∷ rest → l.at ≡ Moving x → l.held ≡ (lock.Class x.class, holds.Class q) ∷ []
     → (x.class < 255) × (length (objects q) ≤ g.given.size + length w.locals)
+
+-- ---- writebacks
+
+-- whether a writeback has found its mark, and hasn't given its slot yet
+abbrev pub has_won : Step → Bool
+has_won step.Won = true
+has_won step.Freeing = true
+has_won step.Backing = true
+has_won step.Committing = true
+has_won step.Owing = true
+has_won step.Paying = true
+has_won step.Putting = true
+has_won s = false
+
+-- where a writeback has found its mark, the page that it carries is what its page holds now, whatever
+-- events came since it was marked: committing it leaves the content as it was
+abbrev pub CommitKeepsPage : Type 0
+CommitKeepsPage = (g : Begin) (w : State DiskHeld) (a : ℕ) (l : Here) (s : Step) (x : Trip)
+    (page : List ℕ) → (u : Rule g w) → slice_get w.locals a ≡ Some l → l.at ≡ Visiting s x
+    → has_won s ≡ true → l.page ≡ Some page
+    → page ≡ content (finding g u.finds) x.page (entry_in l.held).order
+
+-- and its block of the device has that page, if the device tells what it has
+abbrev pub CommitHasBlock : Type 0
+CommitHasBlock = (g : Begin) (w : State DiskHeld) (a : ℕ) (l : Here) (s : Step) (x : Trip) (b : ℕ)
+    (page : List ℕ) → Rule g w → slice_get w.locals a ≡ Some l → l.at ≡ Visiting s x
+    → has_won s ≡ true → x.block ≡ Some b → l.page ≡ Some page
+    → 0 < total (spot g.given.size) (stored_at b page) none w
+
+-- where it has written its page and its mark is gone, another actor's tag is in the page's order
+abbrev pub LostHasOther : Type 0
+LostHasOther = (g : Begin) (w : State DiskHeld) (a : ℕ) (l : Here) (x : Trip) → Rule g w
+    → slice_get w.locals a ≡ Some l → l.at ≡ Visiting step.Losing x → l.fail ≡ None
+    → 1 ≤ foreign a (entry_in l.held).order
 
 -- ---- finished phases
 

@@ -3,6 +3,7 @@ use Rattle.std.specs.Prelude.{◌≡◌, ℕ, ◌+◌, ◌*◌, ◌<◌, ◌≤�
 use Rattle.zr_base.specs.declared.op.Tag.{Tag}
 use Rattle.mem_account.specs.Counters.{at_most_end}
 use Rattle.plain_disk.specs.Ends.{Bounds}
+use Rattle.plain_disk.specs.Idles.{may_write}
 use Rattle.call_history.specs.declared.part.Done.{Done}
 use Rattle.call_history.specs.declared.part.PartEnd.{PartEnd}
 use Rattle.call_history.specs.Parts.{KeepsTo}
@@ -13,7 +14,7 @@ use Rattle.lock_row.specs.Totals.{locals_sum, total}
 use Rattle.page_steps.specs.Steps.{DiskHeld, Here, spot}
 use Rattle.zr_base.specs.Plain.{Finds}
 use Rattle.joint_rule.specs.Begins.{Begin, FindsRight, finding, ground_of, content, back_at, pieces_on, pieces_each}
-use Rattle.joint_rule.specs.Weights.{HeldAll, Each, none, one, pages, device_faults, device_reads, faults_told, fetches_told, fetches_noted, ever_at, mosts, Refusal, refusal_count, refusal_counter, refusals, compactions, freed_by, News, noted, told_ahead, news_count, news_counter}
+use Rattle.joint_rule.specs.Weights.{HeldAll, Each, none, one, pages, device_faults, device_reads, device_writes, writes_told, wrote_told, new_back_at, faults_told, fetches_told, fetches_noted, ever_at, mosts, Refusal, refusal_count, refusal_counter, refusals, compactions, freed_by, News, noted, told_ahead, news_count, news_counter}
 use Rattle.joint_rule.specs.Joint.{Joint}
 use Rattle.joint_rule.specs.Alone.{Alone}
 
@@ -36,9 +37,10 @@ owed_by size page l = pieces_on size page l.todo
 abbrev pub owed : ℕ → List Here → ℕ → ℕ
 owed size ls page = locals_sum (owed_by size page) ls
 
--- the calls of an order find what is held, where their page isn't on the device
+-- the calls of an order find what is held, where their page isn't on the device and nothing is written
+-- back
 abbrev pub FindHeld : Begin → ℕ → List Tag → Type 0
-FindHeld g p order = (at : ℕ) (t : Tag) → slice_get order at ≡ Some t
+FindHeld g p order = may_write g.given.backed g.given.actors ≡ false → (at : ℕ) (t : Tag) → slice_get order at ≡ Some t
     → back_at g p (take at order) ≡ false → (s : ℕ) (old : List ℕ) → g.given.finds p t s old ≡ old
 
 -- An order shows what its calls leave, and has spare room for the pieces that are left; with these
@@ -48,7 +50,7 @@ pub record ShowsOrder (g : Begin) (ls : List Here) (p : ℕ) (order : List Tag) 
   pub shows : ShowsPage g.given (dones ls) p (content g p order) order
   pub finds : FindHeld g p order
   pub spare : owed g.given.size ls p ≤ room
-  pub few : length order + owed g.given.size ls p ≤ pieces_each g.given.size g.given.actors p
+  pub few : length order + owed g.given.size ls p ≤ pieces_each g.given.size g.given.backed g.given.actors p
 
 -- what the order of an entry is
 abbrev pub OfOrder : (ℕ → List Tag → ℕ → Type 0) → ℕ → DiskHeld → Type 0
@@ -129,6 +131,16 @@ abbrev pub FewFetches : Begin → State DiskHeld → Type 0
 FewFetches g w = total (spot g.given.size) device_reads none w
     ≤ g.device.reads + total (spot g.given.size) (fetches_noted g) fetches_told w
 
+-- the device has written once for each page that writebacks have left there or lost, and for each
+-- page in work that was written
+abbrev pub CountsWrites : Begin → State DiskHeld → Type 0
+CountsWrites g w = total (spot g.given.size) device_writes none w
+    ≡ at_most_end (g.device.writes + locals_sum writes_told w.locals)
+
+-- the pages that are new on the device are at most those that writebacks have left there
+abbrev pub FewBack : Begin → State DiskHeld → Type 0
+FewBack g w = total (spot g.given.size) (new_back_at g) none w ≤ locals_sum wrote_told w.locals
+
 -- ---- the rule
 
 -- The rule that each state of a phase has, by what its calls find.
@@ -143,6 +155,8 @@ pub record Ruled (g : Begin) (w : State DiskHeld) : Type 0 where
   pub limits : Limits g w
   pub faults : FaultsDiffer w
   pub fetches : FewFetches g w
+  pub writes : CountsWrites g w
+  pub back : FewBack g w
   pub alone : Alone g w
 
 -- There is something that the calls find by which the state has the rule.

@@ -1,11 +1,13 @@
 -- What the stage of an actor's piece says of the actor's parts and of the entry that it holds.
-use Rattle.std.specs.Prelude.{◌≡◌, ℕ, ◌+◌, ◌*◌, ◌<◌, ◌≤◌, ◌⊎◌, Bool, true, false, List, [], ◌∷◌, length, Option, Some, None, ⊤}
+use Rattle.std.specs.Prelude.{◌≡◌, ℕ, ◌+◌, ◌*◌, ◌<◌, ◌≤◌, ◌⊎◌, Bool, true, false, List, [], ◌∷◌, length, Option, Some, None, is_some, ⊤}
 use Rattle.zr_base.specs.declared.op.Op.{Op}
-use Rattle.zr_base.specs.declared.op.Op.TheVariants.{Write, Read, Discard, Idle, Compact}
-use Rattle.zr_base.specs.Plain.{is_beyond, is_marking, has_whole}
+use Rattle.zr_base.specs.declared.op.Op.TheVariants.{Write, Read, Discard, Idle, Writeback, Compact}
+use Rattle.zr_base.specs.Plain.{is_beyond, is_marking, is_writeback, has_whole}
 use Rattle.mem_account.specs.declared.weight.Weight.{Weight}
+use Rattle.mem_account.specs.declared.weight.Weight.TheVariants.{Back}
 use Rattle.mem_account.specs.Tally.{packed_bytes_of}
 use Rattle.plain_disk.specs.Ends.{is_single}
+use Rattle.plain_disk.specs.Idles.{may_write}
 use Rattle.call_history.specs.declared.part.Part.{Part}
 use Rattle.call_history.specs.declared.part.PartEnd.{PartEnd}
 use Rattle.call_history.specs.declared.part.PartEnd.TheVariants.{Carried, AtLimit, NoMemory, Eio, Whole}
@@ -13,8 +15,11 @@ use Rattle.call_history.specs.Parts.{EndsSo}
 use Rattle.lock_row.specs.declared.names.LockNo.{LockNo}
 use Rattle.lock_row.specs.declared.names.LockNo.TheVariants as lock
 use Rattle.lock_row.specs.declared.names.At.{At}
-use Rattle.lock_row.specs.declared.names.At.TheVariants.{Start, Refusing, Seen, Pinning, Pinned, Unpinning, Leaving, Away, Fetching, Failing, Counting, Missed, Wanting, Inside, Both, Made, Old, Freeing, Backed, Releasing, Owing, Giving, Ready, Scanning, Marking, Sweeping, Moving, Shrunk, Shrinking}
+use Rattle.lock_row.specs.declared.names.At.TheVariants.{Start, Refusing, Seen, Pinning, Pinned, Unpinning, Leaving, Away, Fetching, Failing, Counting, Missed, Wanting, Inside, Both, Made, Old, Freeing, Backed, Releasing, Owing, Giving, Ready, Scanning, Marking, Visiting, Sweeping, Moving, Shrunk, Shrinking}
 use Rattle.lock_row.specs.declared.names.Scan.{Scan}
+use Rattle.lock_row.specs.declared.names.Step.{Step}
+use Rattle.lock_row.specs.declared.names.Step.TheVariants as step
+use Rattle.lock_row.specs.declared.names.Trip.{Trip}
 use Rattle.lock_row.specs.declared.names.Compaction.{Compaction}
 use Rattle.lock_row.specs.declared.names.Object.{Object}
 use Rattle.lock_row.specs.declared.names.Pin.{Pin}
@@ -22,13 +27,15 @@ use Rattle.lock_row.specs.Totals.{by_option}
 use Rattle.slot_entry.specs.declared.kept.Kept.{Kept}
 use Rattle.slot_entry.specs.declared.kept.Kept.TheVariants as kept
 use Rattle.slot_entry.specs.declared.limits.TheConstants.{MOST_PACKED}
-use Rattle.slot_entry.specs.Entries.{EntryState, weight_of, is_obj}
+use Rattle.slot_entry.specs.Entries.{EntryState, weight_of, is_obj, is_wb}
 use Rattle.slot_entry.specs.Forms.{PageForm, Blank, Word, Pooled, object_class, form_weight}
 use Rattle.page_steps.specs.Pages.{page_in, next_form}
-use Rattle.page_steps.specs.Steps.{slot}
+use Rattle.page_steps.specs.Steps.{slot, is_mark_of}
 use Rattle.joint_rule.specs.Begins.{Begin, ground_of, found_after, content, form_at, back_at}
 use Rattle.backing_dev.specs.Dev.{IsHonestDevice}
 use Rattle.bdi_page.specs.Packing.{IsPage}
+use Rattle.zr_base.specs.declared.op.OpEnd.{OpEnd}
+use Rattle.zr_base.specs.declared.op.OpEnd.TheVariants as ends
 use Rattle.zr_base.specs.declared.op.Tag.{Tag}
 use Rattle.joint_rule.specs.Weights.{Count, measure}
 
@@ -54,11 +61,6 @@ abbrev pub IsWb : Kept → Type 0
 IsWb (kept.Wb b) = ⊤
 IsWb _ = ⊥
 
--- whether it is
-abbrev pub is_wb : Kept → Bool
-is_wb (kept.Wb b) = true
-is_wb _ = false
-
 -- the page is kept neither as an object nor in a block
 abbrev pub NoObj : Kept → Type 0
 NoObj (kept.Obj o) = ⊥
@@ -79,6 +81,7 @@ IsWrite _ = ⊥
 abbrev pub Changes : Op → Type 0
 Changes (Read start count) = ⊥
 Changes (Idle age) = ⊥
+Changes (Writeback m) = ⊥
 Changes Compact = ⊥
 Changes _ = ⊤
 
@@ -86,6 +89,7 @@ Changes _ = ⊤
 abbrev pub Looks : Op → Type 0
 Looks (Discard start count) = ⊥
 Looks (Idle age) = ⊥
+Looks (Writeback m) = ⊥
 Looks Compact = ⊥
 Looks _ = ⊤
 
@@ -131,6 +135,13 @@ MayPin k (Some x) = Names k x
 
 -- ---- refusals
 
+-- a writeback that stops before its last page tells so many pages written back and lost
+abbrev pub StopsSo : Trip → OpEnd → Type 0
+StopsSo y (ends.Budget wrote lost) = (wrote ≡ y.wrote) × (lost ≡ y.lost)
+StopsSo y (ends.NoBlock wrote lost) = (wrote ≡ y.wrote) × (lost ≡ y.lost)
+StopsSo y (ends.WriteEio fault wrote lost) = (wrote ≡ y.wrote) × (lost ≡ y.lost)
+StopsSo y _ = ⊥
+
 module _ (g : Begin) (p : Part) where
   -- the piece may be refused so
   abbrev pub IsRefusal : PartEnd → Type 0
@@ -161,7 +172,27 @@ module _ (g : Begin) (p : Part) where
   FailBy (Read start count) x = NoneOf x
   FailBy (Discard start count) x = ⊥
   FailBy (Idle age) x = ⊥
+  FailBy (Writeback m) x = ⊥
   FailBy Compact x = ⊥
+
+  -- a writeback is over so, and tells what it has done
+  abbrev pub IsQuit : Trip → Option PartEnd → Type 0
+  IsQuit y (Some (Whole end)) = EndsSo (ground_of g) p (Whole end) × StopsSo y end
+  IsQuit y _ = ⊥
+
+  -- nothing is refused, or a writeback is over so
+  abbrev pub MayQuit : Trip → Option PartEnd → Type 0
+  MayQuit y None = ⊤
+  MayQuit y (Some x) = IsQuit y (Some x)
+
+  -- by the step of a writeback
+  abbrev pub QuitAt : Step → Trip → Option PartEnd → Type 0
+  QuitAt step.Quitting y x = IsQuit y x
+  QuitAt step.Landing y x = MayQuit y x
+  QuitAt step.Losing y x = MayQuit y x
+  QuitAt step.Undoing y x = MayQuit y x
+  QuitAt step.Releasing y x = MayQuit y x
+  QuitAt s y x = NoneOf x
 
   -- the refusal, by the stage
   abbrev pub FailAt : At → Op → Option PartEnd → Type 0
@@ -172,6 +203,7 @@ module _ (g : Begin) (p : Part) where
   FailAt Counting op x = IsFault x
   FailAt Missed op x = IsFault x
   FailAt Made op x = MayFail x
+  FailAt (Visiting s y) op x = QuitAt s y x
   FailAt at op x = NoneOf x
 
 -- ---- stages
@@ -203,6 +235,7 @@ KindAt Giving op k f = Changes op × NoObj k
 KindAt Ready op k f = Changes op × NoObj k
 KindAt (Scanning x) op k f = ⊤
 KindAt (Marking x) op k f = ⊤
+KindAt (Visiting s x) op k f = ⊤
 KindAt (Sweeping x) op k f = ⊤
 KindAt (Moving x) op k f = ⊤
 KindAt (Shrunk x) op k f = ⊤
@@ -225,6 +258,12 @@ MadeAt chain Giving f e x = Bears chain f x
 MadeAt chain Ready f e x = Bears chain f x
 MadeAt chain at f e x = NoneOf x
 
+-- that of a writeback
+abbrev pub VisitPin : Step → Kept → Option Pin → Type 0
+VisitPin step.Pinned k x = IsPinned k x
+VisitPin step.Unpinning k x = IsPinned k x
+VisitPin s k x = NoneOf x
+
 -- the pinned cell
 abbrev pub PinAt : At → Kept → Option Pin → Type 0
 PinAt Pinned k x = IsPinned k x
@@ -235,12 +274,27 @@ PinAt Both k x = MayPin k x
 PinAt Made k x = MayPin k x
 PinAt Old k x = MayPin k x
 PinAt Freeing k x = MayPin k x
+PinAt (Visiting s y) k x = VisitPin s k x
 PinAt at k x = NoneOf x
+
+-- whether a writeback has given up its page's object, and owes its frames
+abbrev pub is_owing : Step → Bool
+is_owing step.Backing = true
+is_owing step.Committing = true
+is_owing step.Owing = true
+is_owing step.Paying = true
+is_owing s = false
+
+-- the frames that are owed, where some may be or none
+abbrev pub OweBy : Bool → ℕ → ℕ → Type 0
+OweBy true chain n = n ≤ chain
+OweBy false chain n = n ≡ 0
 
 -- the frames that are owed
 abbrev pub OweAt : ℕ → At → ℕ → Type 0
 OweAt chain Owing n = n ≤ chain
 OweAt chain Giving n = n ≤ chain
+OweAt chain (Visiting s x) n = OweBy (is_owing s) chain n
 OweAt chain (Shrunk x) n = n ≤ chain
 OweAt chain (Shrinking x) n = n ≤ chain
 OweAt chain at n = n ≡ 0
@@ -254,46 +308,61 @@ StandAt chain Giving f k = ⊤
 StandAt chain Ready f k = ⊤
 StandAt chain (Scanning x) f k = ⊤
 StandAt chain (Marking x) f k = ⊤
+StandAt chain (Visiting s x) f k = ⊤
 StandAt chain (Sweeping x) f k = ⊤
 StandAt chain (Moving x) f k = ⊤
 StandAt chain (Shrunk x) f k = ⊤
 StandAt chain (Shrinking x) f k = ⊤
 StandAt chain at f k = IsForm chain f k
 
--- the page is on the device where it was before the phase and its order has reads alone, until its
--- block is given up
-abbrev pub BackAt : At → Kept → Bool → Type 0
-BackAt Start k back = ⊤
-BackAt Refusing k back = ⊤
-BackAt Owing k back = ⊤
-BackAt Giving k back = ⊤
-BackAt Ready k back = ⊤
-BackAt (Scanning x) k back = ⊤
-BackAt (Marking x) k back = ⊤
-BackAt (Sweeping x) k back = ⊤
-BackAt (Moving x) k back = ⊤
-BackAt (Shrunk x) k back = ⊤
-BackAt (Shrinking x) k back = ⊤
-BackAt at k back = is_wb k ≡ back
+-- A page is on the device where it was before the phase and its order has reads alone, and where
+-- nothing is written back only there.
+pub record IsBack (g : Begin) (k : Kept) (back : Bool) : Type 0 where
+  pub there : back ≡ true → is_wb k ≡ true
+  pub only : may_write g.given.backed g.given.actors ≡ false → is_wb k ≡ back
+
+-- until its block is given up
+abbrev pub BackAt : Begin → At → Kept → Bool → Type 0
+BackAt g Start k back = ⊤
+BackAt g Refusing k back = ⊤
+BackAt g Owing k back = ⊤
+BackAt g Giving k back = ⊤
+BackAt g Ready k back = ⊤
+BackAt g (Scanning x) k back = ⊤
+BackAt g (Marking x) k back = ⊤
+BackAt g (Visiting s x) k back = ⊤
+BackAt g (Sweeping x) k back = ⊤
+BackAt g (Moving x) k back = ⊤
+BackAt g (Shrunk x) k back = ⊤
+BackAt g (Shrinking x) k back = ⊤
+BackAt g at k back = IsBack g k back
 
 -- a page that is marked idle is in the pool
 abbrev pub MayIdle : Kept → Bool → Type 0
 MayIdle k idle = idle ≡ true → is_obj k ≡ true
 
--- a page that is marked idle is in the pool, until its object is given up
-abbrev pub MarkAt : At → Kept → Bool → Type 0
-MarkAt Start k idle = ⊤
-MarkAt Refusing k idle = ⊤
-MarkAt Owing k idle = ⊤
-MarkAt Giving k idle = ⊤
-MarkAt Ready k idle = ⊤
-MarkAt (Scanning x) k idle = ⊤
-MarkAt (Marking x) k idle = ⊤
-MarkAt (Sweeping x) k idle = ⊤
-MarkAt (Moving x) k idle = ⊤
-MarkAt (Shrunk x) k idle = ⊤
-MarkAt (Shrinking x) k idle = ⊤
-MarkAt at k idle = MayIdle k idle
+-- A page that is marked is in the pool; and one that was idle before the phase stays so where no call
+-- stands in its order, and it isn't on the device.
+pub record HasMarks (g : Begin) (p : ℕ) (e : EntryState) : Type 0 where
+  pub idle_one : MayIdle e.kept e.idle
+  pub under_one : is_some e.under ≡ true → is_obj e.kept ≡ true
+  pub stays : e.order ≡ [] → g.idle p ≡ true → is_wb e.kept ≡ false → e.idle ≡ true
+
+-- an entry is marked so, until its object is given up
+abbrev pub MarkAt : Begin → At → ℕ → EntryState → Type 0
+MarkAt g Start p e = ⊤
+MarkAt g Refusing p e = ⊤
+MarkAt g Owing p e = ⊤
+MarkAt g Giving p e = ⊤
+MarkAt g Ready p e = ⊤
+MarkAt g (Scanning x) p e = ⊤
+MarkAt g (Marking x) p e = ⊤
+MarkAt g (Visiting s x) p e = ⊤
+MarkAt g (Sweeping x) p e = ⊤
+MarkAt g (Moving x) p e = ⊤
+MarkAt g (Shrunk x) p e = ⊤
+MarkAt g (Shrinking x) p e = ⊤
+MarkAt g at p e = HasMarks g p e
 
 -- a write that reads the device has only a part of its page
 abbrev pub IsPartly : Op → ℕ → Type 0
@@ -307,9 +376,10 @@ PartlyAt Fetching op page = IsPartly op page
 PartlyAt at op page = ⊤
 
 -- an actor may see another page than the one that is held: over a device that isn't honest, where the
--- page is on it
+-- page may be on it
 abbrev pub MaySeeOther : Begin → ℕ → List Tag → Type 0
-MaySeeOther g p order = (IsHonestDevice g.device → ⊥) × (back_at g p order ≡ true)
+MaySeeOther g p order = (IsHonestDevice g.device → ⊥)
+    × ((back_at g p order ≡ true) ⊎ (may_write g.given.backed g.given.actors ≡ true))
 
 -- the page that the actor sees is the one that is held, or another where it may be
 abbrev pub IsSeen : Type 0 → List ℕ → List ℕ → Type 0
@@ -322,6 +392,7 @@ IsRight other (Write start count stuff) p page was =
 IsRight other (Read start count) p page was = IsSeen other page was
 IsRight other (Discard start count) p page was = ⊤
 IsRight other (Idle age) p page was = ⊤
+IsRight other (Writeback m) p page was = ⊤
 IsRight other Compact p page was = ⊤
 
 -- nothing was read yet, or the page that the actor sees is right
@@ -337,6 +408,7 @@ RightAt other Counting op p x page was = NoneOf x
 RightAt other Missed op p x page was = NoneOf x
 RightAt other (Scanning y) op p x page was = NoneOf x
 RightAt other (Marking y) op p x page was = NoneOf x
+RightAt other (Visiting s y) op p x page was = ⊤
 RightAt other (Sweeping y) op p x page was = NoneOf x
 RightAt other (Moving y) op p x page was = NoneOf x
 RightAt other (Shrunk y) op p x page was = NoneOf x
@@ -352,17 +424,37 @@ abbrev pub GoneBy : Option Weight → Kept → Type 0
 GoneBy None k = ⊤
 GoneBy (Some w) k = IsNothing k × IsSmall w
 
+-- the object is given up
+abbrev pub IsGone : Option Weight → Kept → Type 0
+IsGone None k = ⊥
+IsGone (Some w) k = IsNothing k × IsSmall w
+
 -- The account counts the new form, and the entry shows the old one.
 pub record Lags (x y : Option Weight) (f : PageForm) (k : Kept) : Type 0 where
   pub ahead : (q : Count) → by_option (measure q) x ≡ measure q (form_weight f)
   pub behind : (q : Count) → by_option (measure q) y ≡ measure q (weight_of k)
   pub small : IsSmall (form_weight f)
 
+-- The account counts the page as one on the device, and the entry shows nothing.
+pub record LagsBack (x y : Option Weight) (k : Kept) : Type 0 where
+  pub ahead : x ≡ Some Back
+  pub behind : (q : Count) → by_option (measure q) y ≡ measure q (weight_of k)
+
+-- those of a writeback
+abbrev pub VisitCount : Step → Option Weight → Option Weight → Kept → Type 0
+VisitCount step.Backing x y k = IsGone x k × NoneOf y
+VisitCount step.Committing x y k = IsGone x k × NoneOf y
+VisitCount step.Owing x y k = IsGone x k × NoneOf y
+VisitCount step.Paying x y k = IsGone x k × NoneOf y
+VisitCount step.Putting x y k = LagsBack x y k
+VisitCount s x y k = NoneOf x × NoneOf y
+
 -- what the account counts of the page beside what the entry shows, and the other way round
 abbrev pub CountAt : At → Option Weight → Option Weight → PageForm → Kept → Type 0
 CountAt Owing x y f k = GoneBy x k × NoneOf y
 CountAt Giving x y f k = GoneBy x k × NoneOf y
 CountAt Ready x y f k = Lags x y f k
+CountAt (Visiting s z) x y f k = VisitCount s x y k
 CountAt at x y f k = NoneOf x × NoneOf y
 
 -- whether a discard's page was blank
@@ -392,6 +484,7 @@ BeginAt size Start p = ⊤
 BeginAt size Refusing p = is_beyond size p.op ≡ true
 BeginAt size (Scanning x) p = is_marking p.op ≡ true
 BeginAt size (Marking x) p = is_marking p.op ≡ true
+BeginAt size (Visiting s x) p = is_writeback p.op ≡ true
 BeginAt size (Sweeping x) p = p.op ≡ Compact
 BeginAt size (Moving x) p = p.op ≡ Compact
 BeginAt size (Shrunk x) p = p.op ≡ Compact
@@ -420,14 +513,110 @@ pub record IsScan (size : ℕ) (x : Scan) : Type 0 where
 pub record Scans (g : Begin) (x : Scan) (e : EntryState) : Type 0 where
   pub scan : IsScan g.given.size x
   pub stands : IsForm g.chain (form_at g x.page e.order) e.kept
-  pub backs : is_wb e.kept ≡ back_at g x.page e.order
-  pub marks : MayIdle e.kept e.idle
+  pub backs : IsBack g e.kept (back_at g x.page e.order)
+  pub marks : HasMarks g x.page e
 
 -- where a scan stands
 abbrev pub ScanAt : Begin → At → EntryState → Type 0
 ScanAt g (Scanning x) e = IsScan g.given.size x
 ScanAt g (Marking x) e = Scans g x e
 ScanAt g at e = ⊤
+
+-- ---- writebacks
+
+-- A writeback is at a page of the disk, and has written at most those before it.
+pub record IsTrip (size : ℕ) (x : Trip) : Type 0 where
+  pub page : x.page < size
+  pub few : x.wrote + x.lost ≤ x.page
+
+-- A writeback has its page's entry, which is kept and marked as it has to be.
+pub record VisitsPage (g : Begin) (x : Trip) (e : EntryState) : Type 0 where
+  pub stands : IsForm g.chain (form_at g x.page e.order) e.kept
+  pub backs : IsBack g e.kept (back_at g x.page e.order)
+  pub marks : HasMarks g x.page e
+
+-- A page that is to be written back is in the pool, and not under writeback.
+pub record VisitsObject (g : Begin) (x : Trip) (e : EntryState) : Type 0 where
+  pub page : VisitsPage g x e
+  pub object : IsObj e.kept
+  pub clear : NoneOf e.under
+
+-- a writeback has a block
+abbrev pub HasSome : {X : Type 0} → Option X → Type 0
+HasSome None = ⊥
+HasSome (Some x) = ⊤
+
+-- the page that it has copied is the one that is held
+abbrev pub IsCopied : Option (List ℕ) → List ℕ → Type 0
+IsCopied None was = ⊥
+IsCopied (Some page) was = page ≡ was
+
+-- where its write succeeded, its mark is gone
+abbrev pub IsUnmarked : Option PartEnd → Option ℕ → Option ℕ → Type 0
+IsUnmarked None block under = is_mark_of block under ≡ false
+IsUnmarked (Some end) block under = ⊤
+
+-- the page that it carries is a page
+abbrev pub IsCarried : Option (List ℕ) → Type 0
+IsCarried None = ⊥
+IsCarried (Some page) = IsPage page
+
+-- The mark of a writeback still stands, where its page's object isn't given up yet.
+pub record HasWon (g : Begin) (x : Trip) (e : EntryState) : Type 0 where
+  pub page : VisitsPage g x e
+  pub object : IsObj e.kept
+  pub mark : is_mark_of x.block e.under ≡ true
+
+-- And where it is.
+pub record HasEvicted (g : Begin) (x : Trip) (e : EntryState) : Type 0 where
+  pub gone : IsNothing e.kept
+  pub pooled : IsPooled (form_at g x.page e.order)
+  pub mark : is_mark_of x.block e.under ≡ true
+
+-- What a writeback has that has lost its mark, or whose write failed.
+pub record HasLost (g : Begin) (x : Trip) (e : EntryState) (fail : Option PartEnd) : Type 0 where
+  pub page : VisitsPage g x e
+  pub gone : IsUnmarked fail x.block e.under
+
+-- what a writeback has, by its step: its page's entry, its block, and the page that it has copied
+abbrev pub StepAt : Begin → Step → Trip → EntryState → Option (List ℕ) → Option PartEnd → Type 0
+StepAt g step.Arriving x e page fail = NoneOf x.block × NoneOf page
+StepAt g step.Passing x e page fail = VisitsPage g x e × NoneOf x.block × NoneOf page
+StepAt g step.Asking x e page fail = VisitsObject g x e × NoneOf x.block × NoneOf page
+StepAt g step.Reserving x e page fail = VisitsObject g x e × NoneOf x.block × NoneOf page
+StepAt g step.Quitting x e page fail = VisitsObject g x e × NoneOf x.block × NoneOf page
+StepAt g step.Seen x e page fail = VisitsObject g x e × HasSome x.block × NoneOf page
+StepAt g step.Pinning x e page fail = VisitsObject g x e × HasSome x.block × NoneOf page
+StepAt g step.Pinned x e page fail = VisitsObject g x e × HasSome x.block
+    × IsCopied page (content g x.page e.order)
+StepAt g step.Unpinning x e page fail = VisitsObject g x e × HasSome x.block
+    × IsCopied page (content g x.page e.order)
+StepAt g step.Marking x e page fail = VisitsObject g x e × HasSome x.block
+    × IsCopied page (content g x.page e.order)
+StepAt g step.Flying x e page fail = HasSome x.block × IsCarried page
+StepAt g step.Storing x e page fail = HasSome x.block × IsCarried page
+StepAt g step.Landing x e page fail = HasSome x.block × IsCarried page
+StepAt g step.Won x e page fail = HasWon g x e × HasSome x.block × IsCarried page
+StepAt g step.Freeing x e page fail = HasWon g x e × HasSome x.block × IsCarried page
+StepAt g step.Backing x e page fail = HasEvicted g x e × HasSome x.block × IsCarried page
+StepAt g step.Committing x e page fail = HasEvicted g x e × HasSome x.block × IsCarried page
+StepAt g step.Owing x e page fail = HasEvicted g x e × HasSome x.block × IsCarried page
+StepAt g step.Paying x e page fail = HasEvicted g x e × HasSome x.block × IsCarried page
+StepAt g step.Putting x e page fail = HasEvicted g x e × HasSome x.block × IsCarried page
+StepAt g step.Losing x e page fail = HasLost g x e fail × HasSome x.block × IsCarried page
+StepAt g step.Undoing x e page fail = HasSome x.block × NoneOf page
+StepAt g step.Releasing x e page fail = HasSome x.block × NoneOf page
+
+-- A writeback is at a step.
+pub record IsVisiting (g : Begin) (s : Step) (x : Trip) (e : EntryState) (page : Option (List ℕ))
+    (fail : Option PartEnd) : Type 0 where
+  pub trip : IsTrip g.given.size x
+  pub step : StepAt g s x e page fail
+
+-- where a writeback stands
+abbrev pub VisitAt : Begin → At → EntryState → Option (List ℕ) → Option PartEnd → Type 0
+VisitAt g (Visiting s x) e page fail = IsVisiting g s x e page fail
+VisitAt g at e page fail = ⊤
 
 -- An actor at a piece, with the entry that it holds.
 pub record Stage (g : Begin) (p : Part) (e : EntryState) (at : At) (fresh : Option Object)
@@ -438,8 +627,8 @@ pub record Stage (g : Begin) (p : Part) (e : EntryState) (at : At) (fresh : Opti
   pub pins : PinAt at e.kept pin
   pub owes : OweAt g.chain at owed
   pub stands : StandAt g.chain at (form_at g p.page e.order) e.kept
-  pub backs : BackAt at e.kept (back_at g p.page e.order)
-  pub marks : MarkAt at e.kept e.idle
+  pub backs : BackAt g at e.kept (back_at g p.page e.order)
+  pub marks : MarkAt g at p.page e
   pub partly : PartlyAt at p.op p.page
   pub right : RightAt (MaySeeOther g p.page e.order) at p.op p.page page (page_in page e.kept)
       (content g p.page e.order)
@@ -448,12 +637,14 @@ pub record Stage (g : Begin) (p : Part) (e : EntryState) (at : At) (fresh : Opti
   pub fails : FailAt g p at p.op fail
   pub begun : BeginAt g.given.size at p
   pub scans : ScanAt g at e
+  pub visits : VisitAt g at e page fail
   pub compacts : CompactAt g.chain at owed
 
 -- An actor between two pieces, or finished.
-pub record Quiet (fresh : Option Object) (pin : Option Pin) (owed : ℕ)
+pub record Quiet (at : At) (fresh : Option Object) (pin : Option Pin) (owed : ℕ)
     (ahead behind : Option Weight) (page : Option (List ℕ)) (fail : Option PartEnd)
     : Type 0 where
+  pub begun : at ≡ Start
   pub made : NoneOf fresh
   pub pins : NoneOf pin
   pub owes : owed ≡ 0
@@ -466,9 +657,35 @@ pub record Quiet (fresh : Option Object) (pin : Option Pin) (owed : ℕ)
 abbrev pub StageBy : Begin → List Part → EntryState → At → Option Object → Option Pin → ℕ
     → Option Weight → Option Weight → Option (List ℕ) → Option PartEnd → Type 0
 StageBy g [] e at fresh pin owed ahead behind page fail =
-    Quiet fresh pin owed ahead behind page fail
+    Quiet at fresh pin owed ahead behind page fail
 StageBy g (p ∷ ps) e at fresh pin owed ahead behind page fail =
     Stage g p e at fresh pin owed ahead behind page fail
+
+-- the locks that a writeback holds at a step, where c is the class of the page's object
+abbrev pub visit_locks : Step → Trip → ℕ → List LockNo
+visit_locks step.Arriving x c = []
+visit_locks step.Passing x c = slot x.page ∷ []
+visit_locks step.Asking x c = slot x.page ∷ []
+visit_locks step.Reserving x c = lock.Blocks ∷ slot x.page ∷ []
+visit_locks step.Quitting x c = slot x.page ∷ []
+visit_locks step.Seen x c = slot x.page ∷ []
+visit_locks step.Pinning x c = lock.Class c ∷ slot x.page ∷ []
+visit_locks step.Pinned x c = slot x.page ∷ []
+visit_locks step.Unpinning x c = lock.Class c ∷ slot x.page ∷ []
+visit_locks step.Marking x c = slot x.page ∷ []
+visit_locks step.Flying x c = []
+visit_locks step.Storing x c = lock.Device ∷ []
+visit_locks step.Landing x c = []
+visit_locks step.Won x c = slot x.page ∷ []
+visit_locks step.Freeing x c = lock.Class c ∷ slot x.page ∷ []
+visit_locks step.Backing x c = slot x.page ∷ []
+visit_locks step.Committing x c = lock.Blocks ∷ slot x.page ∷ []
+visit_locks step.Owing x c = slot x.page ∷ []
+visit_locks step.Paying x c = lock.Account ∷ slot x.page ∷ []
+visit_locks step.Putting x c = slot x.page ∷ []
+visit_locks step.Losing x c = slot x.page ∷ []
+visit_locks step.Undoing x c = []
+visit_locks step.Releasing x c = lock.Blocks ∷ []
 
 -- the locks that an actor holds, the last taken first: c is the class of the old object, d that of
 -- the new one
@@ -498,6 +715,7 @@ locks_at Giving p c d = lock.Account ∷ slot p.page ∷ []
 locks_at Ready p c d = slot p.page ∷ []
 locks_at (Scanning x) p c d = []
 locks_at (Marking x) p c d = slot x.page ∷ []
+locks_at (Visiting s x) p c d = visit_locks s x c
 locks_at (Sweeping x) p c d = []
 locks_at (Moving x) p c d = lock.Class x.class ∷ []
 locks_at (Shrunk x) p c d = []

@@ -15,16 +15,16 @@ use Rattle.lock_row.specs.declared.names.State.{State}
 use Rattle.lock_row.specs.Totals.{row_sum}
 use Rattle.class_pool.specs.Pool.{PoolState}
 use Rattle.slot_entry.specs.declared.kept.Kept.TheVariants as kept
-use Rattle.slot_entry.specs.Entries.{EntryState}
+use Rattle.slot_entry.specs.Entries.{EntryState, is_wb}
 use Rattle.page_steps.specs.Steps.{DiskHeld, Here}
-use Rattle.joint_rule.specs.Begins.{Begin, found_after, back_at}
+use Rattle.joint_rule.specs.Begins.{Begin, found_after}
 use Rattle.joint_rule.specs.Weights.{Weigh, claims, stored, BlockWeigh, block_claims, used_blocks, map_size, device_size, lies_at, stored_at, PinWeigh, outs, pages, chains, Count, counters, shown, mosts, Refusal, refusal_counter, compactions, loose_pools, News, news_counter}
 use Rattle.joint_rule.specs.Joint.{AtHome}
 use Rattle.joint_rule.specs.Rule.{owed}
 
 -- ---- rests and starts
 
--- A row with all values at home, and nothing under way.
+-- A row with all values at home, and nothing under way: no page is under writeback.
 pub record AtRest (g : Begin) (row : List (Option DiskHeld)) : Type 0 where
   pub size : length row ≡ g.given.size + 258
   pub whole : (k : ℕ) → k < length row → (v : DiskHeld) × (slice_get row k ≡ Some (Some v))
@@ -35,6 +35,8 @@ pub record AtRest (g : Begin) (row : List (Option DiskHeld)) : Type 0 where
   pub disk : (b : ℕ) (bytes : List ℕ) → 0 < row_sum (lies_at g b bytes) row
       → 0 < row_sum (stored_at b bytes) row
   pub pins : (f : PinWeigh) → row_sum (outs f) row ≡ 0
+  pub unmarked : (k : ℕ) (e : EntryState) → slice_get row k ≡ Some (Some (holds.Slot e))
+      → e.under ≡ None
   pub frames : row_sum pages row ≡ row_sum chains row
   pub counts : (q : Count) → row_sum (counters q) row ≡ row_sum (shown q) row
   -- the account's maximum isn't below its frames, and no counter is past its end
@@ -49,7 +51,7 @@ pub record Starts (g : Begin) (a : ℕ) (l : Here) : Type 0 where
   pub ops : List Op
   pub named : slice_get g.given.actors a ≡ Some ops
   pub at : l.at ≡ Start
-  pub todo : l.todo ≡ program g.given.size 0 ops
+  pub todo : l.todo ≡ program g.given.size g.given.backed 0 ops
   pub held : l.held ≡ []
   pub done : l.done ≡ []
   pub fresh : l.fresh ≡ None
@@ -68,6 +70,8 @@ pub record IsStart (g : Begin) (w : State DiskHeld) : Type 0 where
       → (e.order ≡ []) × (owed g.given.size w.locals k ≤ e.room)
   pub marks : (k : ℕ) (e : EntryState) → slice_get w.row k ≡ Some (Some (holds.Slot e))
       → e.idle ≡ g.idle k
+  pub backs : (k : ℕ) (e : EntryState) → slice_get w.row k ≡ Some (Some (holds.Slot e))
+      → is_wb e.kept ≡ g.back k
   pub account : (k : ℕ) (c : Counters) → slice_get w.row k ≡ Some (Some (holds.Account c))
       → c ≡ g.was
   pub device : (k : ℕ) (d : DeviceState) → slice_get w.row k ≡ Some (Some (holds.Device d))
@@ -89,7 +93,7 @@ pub record IsRenewed (g h : Begin) (j : ℕ) (e f : EntryState) : Type 0 where
   pub touched : f.touched ≡ e.touched
   pub time : h.touched j ≡ e.touched
   pub blank : h.blank j ≡ (found_after g j e.order).blank
-  pub back : h.back j ≡ back_at g j e.order
+  pub back : h.back j ≡ is_wb e.kept
   pub before : (k : ℕ) → k < 8
       → h.given.before (8 * j + k) ≡ held_after g.given j e.order (8 * j + k)
 
@@ -146,3 +150,4 @@ IsNew g j (holds.Account c) = (j ≡ g.given.size + 255) × (c ≡ record no_cou
 IsNew g j (holds.Blocks x) = (j ≡ g.given.size + 256) × AreFree x.states
     × (length x.states ≤ g.device.blocks)
 IsNew g j (holds.Device x) = (j ≡ g.given.size + 257) × (x ≡ g.device) × (x.reads < 2 ^ 64)
+    × (x.writes < 2 ^ 64)

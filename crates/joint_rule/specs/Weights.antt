@@ -1,9 +1,9 @@
 -- What values and actors weigh: the sums over them that the joint rule compares.
-use Rattle.std.specs.Prelude.{◌≡◌, ℕ, zero, suc, ◌+◌, ◌==◌, ◌&&◌, Bool, true, false, cond, is_some, List, [], ◌∷◌, length, sum_by, Option, Some, None, slice_get}
+use Rattle.std.specs.Prelude.{◌≡◌, ℕ, zero, suc, ◌+◌, ◌==◌, ◌&&◌, Bool, true, false, cond, not, is_none, is_some, option_map, List, [], ◌∷◌, length, sum_by, Option, Some, None, slice_get}
 use denote.RawPtr.{Ptr, block_ptr, null_ptr}
 use Rattle.zr_base.specs.declared.op.Tag.{Tag}
 use Rattle.zr_base.specs.declared.op.Op.{Op}
-use Rattle.zr_base.specs.declared.op.Op.TheVariants.{Write, Read, Discard, Idle, Compact}
+use Rattle.zr_base.specs.declared.op.Op.TheVariants.{Write, Read, Discard, Idle, Writeback, Compact}
 use Rattle.zr_base.specs.declared.op.OpEnd.{OpEnd}
 use Rattle.zspage.specs.Cells.{UsedCell, used_of}
 use Rattle.class_pool.specs.Zspages.{Cells}
@@ -16,7 +16,7 @@ use Rattle.block_map.specs.BlockMap.{BlockMap}
 use Rattle.backing_dev.specs.Dev.{DeviceState}
 use Rattle.mem_account.specs.Tally.{same_of, packed_of, packed_bytes_of, huge_of, back_of}
 use Rattle.mem_account.specs.declared.weight.Weight.{Weight}
-use Rattle.plain_disk.specs.Ends.{failed_read, failed_write, starved, tells_fault, beyond, compacted}
+use Rattle.plain_disk.specs.Ends.{failed_read, failed_write, starved, tells_fault, left_back, written, beyond, compacted}
 use Rattle.plain_disk.specs.Compactions.{loose}
 use Rattle.plain_disk.specs.Calls.{Found, calls_sum, made_huge, freed, may_fetch}
 use Rattle.plain_disk.specs.Phases.{calls_on}
@@ -26,7 +26,10 @@ use Rattle.call_history.specs.Parts.{piece_gives, done_sum}
 use Rattle.lock_row.specs.declared.names.LockNo.{LockNo}
 use Rattle.lock_row.specs.declared.names.Held.TheVariants as holds
 use Rattle.lock_row.specs.declared.names.At.{At}
-use Rattle.lock_row.specs.declared.names.At.TheVariants.{Start, Refusing, Away, Fetching, Failing, Counting, Missed, Ready, Scanning, Marking, Sweeping, Moving, Shrunk, Shrinking}
+use Rattle.lock_row.specs.declared.names.At.TheVariants.{Start, Refusing, Away, Fetching, Failing, Counting, Missed, Ready, Scanning, Marking, Visiting, Sweeping, Moving, Shrunk, Shrinking}
+use Rattle.lock_row.specs.declared.names.Step.{Step}
+use Rattle.lock_row.specs.declared.names.Step.TheVariants as step
+use Rattle.lock_row.specs.declared.names.Trip.{Trip}
 use Rattle.lock_row.specs.declared.names.State.{State}
 use Rattle.lock_row.specs.declared.names.Object.{Object}
 use Rattle.lock_row.specs.declared.names.Pin.{Pin}
@@ -34,10 +37,10 @@ use Rattle.lock_row.specs.Totals.{by_option}
 use Rattle.slot_entry.specs.declared.kept.Kept.{Kept}
 use Rattle.slot_entry.specs.declared.kept.Kept.TheVariants as kept
 use Rattle.slot_entry.specs.Forms.{same_list, page_weight}
-use Rattle.slot_entry.specs.Entries.{weight_of}
+use Rattle.slot_entry.specs.Entries.{weight_of, is_wb}
 use Rattle.page_steps.specs.Steps.{DiskHeld, Here, spot}
 use Rattle.page_steps.specs.Compactions.{compaction_at}
-use Rattle.joint_rule.specs.Begins.{Begin, found, content, image, ever}
+use Rattle.joint_rule.specs.Begins.{Begin, found, content, image, ever, back_at}
 
 -- ---- values and actors
 
@@ -228,6 +231,27 @@ abbrev pub used_from : BlockWeigh → ℕ → List BlockState → ℕ
 used_from f b [] = 0
 used_from f b (s ∷ states) = use_by f b s + used_from f (suc b) states
 
+-- the block that a writeback has reserved, or made the page's, by its step
+abbrev pub use_at : BlockWeigh → Step → Trip → ℕ
+use_at f step.Arriving x = 0
+use_at f step.Passing x = 0
+use_at f step.Asking x = 0
+use_at f step.Reserving x = 0
+use_at f step.Quitting x = 0
+use_at f step.Owing x = by_option (f 1) x.block
+use_at f step.Paying x = by_option (f 1) x.block
+use_at f step.Putting x = by_option (f 1) x.block
+use_at f s x = by_option (f 0) x.block
+
+-- by a stage
+abbrev pub use_in : BlockWeigh → At → ℕ
+use_in f (Visiting s x) = use_at f s x
+use_in f at = 0
+
+-- that of an actor
+abbrev pub block_uses : BlockWeigh → Here → ℕ
+block_uses f l = use_in f l.at
+
 -- those of the map
 abbrev pub used_blocks : BlockWeigh → ℕ → DiskHeld → ℕ
 used_blocks f = on_blocks (λ x. used_from f 0 x.states)
@@ -253,6 +277,120 @@ lies_by b bytes _ page = 0
 abbrev pub lies_at : Begin → ℕ → List ℕ → ℕ → DiskHeld → ℕ
 lies_at g b bytes = on_entry (λ j k order. lies_by b bytes k (content g j order))
 
+-- ---- writebacks
+
+-- whether the page of a writeback was written to its block, and isn't counted yet
+abbrev pub is_written : Step → Bool
+is_written step.Landing = true
+is_written step.Won = true
+is_written step.Freeing = true
+is_written step.Backing = true
+is_written step.Committing = true
+is_written step.Owing = true
+is_written step.Paying = true
+is_written step.Putting = true
+is_written step.Losing = true
+is_written step.Undoing = true
+is_written step.Releasing = true
+is_written s = false
+
+-- whether a writeback carries its page, which its slot is marked for
+abbrev pub is_carrying : Step → Bool
+is_carrying step.Flying = true
+is_carrying step.Storing = true
+is_carrying step.Landing = true
+is_carrying step.Won = true
+is_carrying step.Freeing = true
+is_carrying step.Backing = true
+is_carrying step.Committing = true
+is_carrying step.Owing = true
+is_carrying step.Paying = true
+is_carrying step.Putting = true
+is_carrying step.Losing = true
+is_carrying s = false
+
+-- 1 for a block with these bytes
+abbrev pub pair : ℕ → List ℕ → Option ℕ → Option (List ℕ) → ℕ
+pair b bytes (Some c) (Some page) = cond (b == c) (same_bytes bytes page) 0
+pair b bytes _ _ = 0
+
+-- 1 for a writeback that carries a page, where it has these bytes
+abbrev pub written_by : ℕ → List ℕ → At → Option (List ℕ) → ℕ
+written_by b bytes (Visiting s x) page =
+    cond (is_written s && is_carrying s) (pair b bytes x.block page) 0
+written_by b bytes at page = 0
+
+-- 1 for an actor that has written these bytes to this block
+abbrev pub written_at : ℕ → List ℕ → Here → ℕ
+written_at b bytes l = cond (is_none l.fail) (written_by b bytes l.at l.page) 0
+
+-- the page and the block of a writeback that carries one
+abbrev pub carries_at : At → Option (ℕ × ℕ)
+carries_at (Visiting s x) =
+    cond (is_carrying s) (option_map (λ b. (x.page, b)) x.block) None
+carries_at at = None
+
+-- those of an actor
+abbrev pub carries : Here → Option (ℕ × ℕ)
+carries l = carries_at l.at
+
+-- 1 for an actor that carries page s with these bytes to block b
+abbrev pub carried_by : ℕ → ℕ → List ℕ → At → Option (List ℕ) → ℕ
+carried_by s b bytes (Visiting st x) page =
+    cond (is_carrying st && (s == x.page)) (pair b bytes x.block page) 0
+carried_by s b bytes at page = 0
+
+-- by its stage and its page
+abbrev pub carried_at : ℕ → ℕ → List ℕ → Here → ℕ
+carried_at s b bytes l = carried_by s b bytes l.at l.page
+
+-- 1 for a page s that is marked with block b and has to have these bytes
+abbrev pub mark_by : ℕ → ℕ → List ℕ → ℕ → Option ℕ → List ℕ → ℕ
+mark_by s b bytes j under page = cond (s == j) (pair b bytes under (Some page)) 0
+
+-- by an entry
+abbrev pub mark_at : Begin → ℕ → ℕ → List ℕ → ℕ → DiskHeld → ℕ
+mark_at g s b bytes j (holds.Slot e) = mark_by s b bytes j e.under (content g j e.order)
+mark_at g s b bytes j v = 0
+
+-- how many tags of an order are other actors'
+abbrev pub foreign : ℕ → List Tag → ℕ
+foreign a [] = 0
+foreign a (t ∷ ts) = cond (t.actor == a) 0 1 + foreign a ts
+
+-- 1 for the mark of this block
+abbrev pub marks_of : ℕ → Option ℕ → ℕ
+marks_of b None = 0
+marks_of b (Some c) = same b c
+
+-- what page s shows of a writeback of the actor a: its mark, or others' tags
+abbrev pub shows_at : ℕ → ℕ → ℕ → ℕ → DiskHeld → ℕ
+shows_at a s b j (holds.Slot e) = cond (s == j) (marks_of b e.under + foreign a e.order) 0
+shows_at a s b j v = 0
+
+-- the pages that the writeback in work has left on the device
+abbrev pub wrote_in : At → ℕ
+wrote_in (Visiting s x) = x.wrote
+wrote_in at = 0
+
+-- its writes of the device that succeeded
+abbrev pub writes_in : At → Option PartEnd → ℕ
+writes_in (Visiting s x) None = x.wrote + x.lost + cond (is_written s) 1 0
+writes_in (Visiting s x) (Some end) = x.wrote + x.lost
+writes_in at fail = 0
+
+-- the pages that an actor tells to have left on the device
+abbrev pub wrote_told : Here → ℕ
+wrote_told l = done_sum left_back l.done + wrote_in l.at
+
+-- the writes of the device that it tells
+abbrev pub writes_told : Here → ℕ
+writes_told l = done_sum written l.done + writes_in l.at l.fail
+
+-- 1 for an entry whose page is new on the device
+abbrev pub new_back_at : Begin → ℕ → DiskHeld → ℕ
+new_back_at g = on_entry (λ j k order. cond (is_wb k && not (back_at g j order)) 1 0)
+
 -- 1 for a device whose block has these bytes, or that doesn't tell
 abbrev pub has_block : ℕ → List ℕ → Option (List (List ℕ)) → ℕ
 has_block b bytes None = 1
@@ -272,6 +410,10 @@ device_faults = on_device (λ d. d.faults)
 abbrev pub device_reads : ℕ → DiskHeld → ℕ
 device_reads = on_device (λ d. d.reads)
 
+-- how many writes did
+abbrev pub device_writes : ℕ → DiskHeld → ℕ
+device_writes = on_device (λ d. d.writes)
+
 -- what a piece in work gives by the refusal that it has already
 abbrev pub fails_so : (Op → OpEnd → ℕ) → List Part → Option PartEnd → ℕ
 fails_so f [] x = 0
@@ -287,6 +429,7 @@ looks (Write start count stuff) = 1
 looks (Read start count) = 1
 looks (Discard start count) = 0
 looks (Idle age) = 0
+looks (Writeback m) = 0
 looks Compact = 0
 
 -- 1 for a piece at a stage that may have read the device
@@ -300,6 +443,7 @@ fetched_by Counting op = 0
 fetched_by Missed op = 0
 fetched_by (Scanning x) op = 0
 fetched_by (Marking x) op = 0
+fetched_by (Visiting s x) op = 0
 fetched_by (Sweeping x) op = 0
 fetched_by (Moving x) op = 0
 fetched_by (Shrunk x) op = 0
@@ -497,6 +641,7 @@ told_by FreedPages (Write start count stuff) x = 0
 told_by FreedPages (Read start count) x = 0
 told_by FreedPages (Discard start count) x = cond (is_some x) 1 0
 told_by FreedPages (Idle age) x = 0
+told_by FreedPages (Writeback m) x = 0
 told_by FreedPages Compact x = 0
 
 -- what a piece at a stage gives that the account has counted, and the order hasn't got yet

@@ -2,7 +2,7 @@
 //! function whose body calls the laws that it rests on: who wants it calls it, and has its clauses.
 
 ghost use Rattle.joint_rule.specs.Facts.{Facts};
-ghost use Rattle.joint_rule.specs.Laws.{StartHasRule, TurnKeepsRule, ReachedHasRule, NobodyWaitsForever, TakesLock, GivesLock, TakenValueFits, ObjectsAreFew, CompactedIsFew, FinishedIsAtRest, FinishedAgrees, FinishedFinds, FinishedTallies, RestGoesOn, EntryGoesOn, NextIsProper, NewIsAtRest, RequestsAreProper, NewIsProper, NewCountsNothing, NewIsNew};
+ghost use Rattle.joint_rule.specs.Laws.{StartHasRule, TurnKeepsRule, ReachedHasRule, NobodyWaitsForever, TakesLock, GivesLock, TakenValueFits, ObjectsAreFew, CompactedIsFew, CommitKeepsPage, CommitHasBlock, LostHasOther, FinishedIsAtRest, FinishedAgrees, FinishedFinds, FinishedTallies, RestGoesOn, EntryGoesOn, NextIsProper, NewIsAtRest, RequestsAreProper, NewIsProper, NewCountsNothing, NewIsNew};
 
 use backing_dev::{Dev, MemBacking};
 use block_map::Blocks;
@@ -55,6 +55,21 @@ pub fn values_fit()
     ensures fits { TakenValueFits }
     ensures few { ObjectsAreFew }
     ensures compacted { CompactedIsFew }
+{
+    lower_laws();
+}
+
+/// What a writeback commits is what its page holds, and its block has it; and one that has lost its
+/// mark finds another actor's call in the page's order.
+///
+/// The shortest interleaving that a commit without this test breaks: a writeback marks a page and gives
+/// its slot, another actor writes the page, and the writeback takes the slot again: its copy is the old
+/// page. The other side of the test is the access of a page, which removes the mark
+/// (`Entry::accessed` of `slot_entry`).
+pub fn writebacks_keep_pages()
+    ensures commit { CommitKeepsPage }
+    ensures block { CommitHasBlock }
+    ensures lost { LostHasOther }
 {
     lower_laws();
 }

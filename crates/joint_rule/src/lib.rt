@@ -3,4 +3,6 @@
 
 mod laws;
 
-pub use laws::{disks_begin, locks_are_of_the_disk, phases_go_on, rule_keeps, values_fit};
+pub use laws::{
+    disks_begin, locks_are_of_the_disk, phases_go_on, rule_keeps, values_fit, writebacks_keep_pages,
+};

@@ -11,6 +11,6 @@ mod rule;
 
 pub use hand::{Hand, NextLocal, Still};
 pub use laws::{names_have_places, sums_move, totals_move, values_stay_apart};
-pub use names::{At, Compaction, Held, Local, LockNo, Object, Pin, Plan, Scan, State};
+pub use names::{At, Compaction, Held, Local, LockNo, Object, Pin, Plan, Scan, State, Step, Trip};
 pub use row::{SimHand, SimRow};
 pub use rule::{PhaseStart, RowValue};

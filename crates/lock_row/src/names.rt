@@ -40,7 +40,7 @@ pub enum Plan {
 /// The stage of an actor's piece, by its next event.
 pub enum At {
     /// It takes the page's slot, the account for a request beyond the disk, the first page's slot
-    /// to mark pages, or the first class for a compaction.
+    /// to mark pages or to write them back, or the first class for a compaction.
     Start,
     /// It gives the account, which counted a request beyond the disk.
     Refusing,
@@ -90,6 +90,8 @@ pub enum At {
     Scanning(Scan),
     /// It gives that slot, with the mark where it may be marked.
     Marking(Scan),
+    /// It is at a step of a writeback.
+    Visiting(Step, Trip),
     /// It takes the next class of a compaction.
     Sweeping(Compaction),
     /// It gives that class, where it has moved one object or none.
@@ -105,6 +107,67 @@ pub enum At {
 pub struct Scan {
     pub page: u32,
     pub marked: u32,
+}
+
+/// A step of a writeback's visit of a page, by its next event.
+#[derive(Clone, Copy, PartialEq, Eq, Debug)]
+pub enum Step {
+    /// It takes the page's slot.
+    Arriving,
+    /// It gives the slot, whose page isn't written back.
+    Passing,
+    /// It takes the blocks, to reserve one.
+    Asking,
+    /// It gives the blocks, with one reserved or none.
+    Reserving,
+    /// It gives the slot, where none was reserved: it is over.
+    Quitting,
+    /// It takes the class of the page's object, to pin it.
+    Seen,
+    /// It gives that class, with the object's cell out.
+    Pinning,
+    /// It takes that class, to unpin the object.
+    Pinned,
+    /// It gives that class, with the cell at home.
+    Unpinning,
+    /// It gives the slot, with the mark of its block.
+    Marking,
+    /// It takes the device, to write the page to the block.
+    Flying,
+    /// It gives the device, which has written the block or has failed.
+    Storing,
+    /// It takes the slot again.
+    Landing,
+    /// Its mark still stands: it takes the class of the page's object, to free it.
+    Won,
+    /// It gives that class, without the object.
+    Freeing,
+    /// It takes the blocks, to make the block the page's.
+    Backing,
+    /// It gives the blocks.
+    Committing,
+    /// It takes the account, to give back frames and to count the page.
+    Owing,
+    /// It gives the account.
+    Paying,
+    /// It gives the slot, whose page is kept in the block.
+    Putting,
+    /// It gives the slot, whose mark is gone or whose write failed.
+    Losing,
+    /// It takes the blocks, to free its block.
+    Undoing,
+    /// It gives the blocks, without that one.
+    Releasing,
+}
+
+/// Where a writeback stands: the page that it visits, how many pages it has left on the device so far,
+/// and how many it has written in vain, and the block that it has reserved or made the page's.
+#[derive(Clone, Copy, PartialEq, Eq, Debug)]
+pub struct Trip {
+    pub page: u32,
+    pub wrote: u32,
+    pub lost: u32,
+    pub block: Option<u32>,
 }
 
 /// Where a compaction stands: the class that it is at; how many objects it may still move there,

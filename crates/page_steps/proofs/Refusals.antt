@@ -2,7 +2,7 @@
 use Rattle.std.proofs.Common.{◌≡◌, ◌⊎◌, ℕ, zero, suc, ◌+◌, ◌==◌, Bool, true, false, List, [], ◌∷◌, ◌++◌, length, map, Option, Some, None, refl, sym, ap, ◌∙◌, subst, inl, inr, arith, length-append}
 use Rattle.std.proofs.lemmas.Bool.{false≢true}
 use Rattle.std.proofs.lemmas.List.{append_cancel_left, map-append}
-use Rattle.std.specs.Prelude.{⊤, slice_set}
+use Rattle.std.specs.Prelude.{⊤, slice_set, if◌then◌else◌}
 use Rattle.zspage.specs.Cells.{CellState, UsedCell, entry}
 use Rattle.class_pool.specs.Zspages.{Cells}
 use Rattle.class_pool.specs.Pool.{PoolState, Object, object_of, objects, used_cells, used_cells_in}
@@ -14,7 +14,7 @@ use Rattle.call_history.specs.Parts.{is_read}
 use Rattle.call_history.specs.Shows.{got_from}
 use Rattle.lock_row.specs.declared.names.Held.TheVariants as holds
 use Rattle.zr_base.specs.declared.op.Op.{Op}
-use Rattle.zr_base.specs.declared.op.Op.TheVariants.{Write, Read, Discard, Idle, Compact}
+use Rattle.zr_base.specs.declared.op.Op.TheVariants.{Write, Read, Discard, Idle, Writeback, Compact}
 use Rattle.zr_base.specs.declared.op.OpEnd.TheVariants as ends
 use Rattle.mem_account.specs.Counters.{Counters, counted}
 use Rattle.mem_account.specs.declared.weight.Delta.TheVariants as delta
@@ -23,14 +23,19 @@ use Rattle.lock_row.specs.declared.names.At.{At}
 use Rattle.lock_row.specs.declared.names.At.TheVariants as at
 use Rattle.lock_row.specs.declared.names.Compaction.{Compaction}
 use Rattle.lock_row.specs.declared.names.Pin.{Pin}
+use Rattle.lock_row.specs.declared.names.Step.{Step as VisitStep}
+use Rattle.lock_row.specs.declared.names.Step.TheVariants as step
+use Rattle.lock_row.specs.declared.names.Trip.{Trip}
 use Rattle.slot_entry.specs.declared.kept.Kept.{Kept}
 use Rattle.slot_entry.specs.declared.kept.Kept.TheVariants as kept
 use Rattle.page_steps.specs.Pools.{Lends, Returns}
-use Rattle.page_steps.specs.Steps.{Terms, DiskHeld, Here, taken_at, settle_at, quit_at, took, entry_or, entry_in}
-use Rattle.page_steps.specs.Givings.{Works, fails_by, refuses, pins, unpins, fetches, misses, counts, charges, limits, starves, stows, quits, frees, releases, repays, puts, reads, fails, errs, leaves, marks, compacts}
+use Rattle.page_steps.specs.Steps.{Terms, DiskHeld, Here, taken_at, arrived_at, landed_at, visited_at, is_mark_of, mode_of, settle_at, quit_at, took, entry_or, entry_in}
+use Rattle.page_steps.specs.Givings.{Works, fails_by, refuses, pins, unpins, fetches, misses, counts, charges, limits, starves, stows, quits, frees, releases, repays, puts, reads, fails, errs, leaves, marks, visits, compacts}
 use Rattle.page_steps.specs.Scans.{Marks, scans, scan_at, with_page, marking_by}
 use Rattle.lock_row.specs.declared.names.Scan.{Scan}
-use Rattle.slot_entry.specs.Entries.{is_new_mark}
+use Rattle.slot_entry.specs.Entries.{EntryState, is_new_mark, is_eligible}
+use Rattle.page_steps.specs.Visits.{Visits, trip_at, onward_by, undoing_by, ending_with, passed_page, wrote_page, lost_page}
+use Rattle.page_steps.specs.Visits.{passes as visit_passes, reserves as visit_reserves, refrains as visit_refrains, quits as visit_quits, pins as visit_pins, unpins as visit_unpins, marks as visit_marks, stores as visit_stores, spoils as visit_spoils, frees as visit_frees, commits as visit_commits, pays as visit_pays, puts as visit_puts, loses as visit_loses, releases as visit_releases}
 use Rattle.page_steps.specs.Compactions.{Compacts, moves, rests, shrinks, moved_at, with_move, compaction_at, resting_by}
 use Rattle.page_steps.specs.Nexts.{ending_by, failing_by, tail_of, own_entry, pinning, fetching, missing}
 use Rattle.page_steps.specs.Pages.{page_in}
@@ -114,6 +119,12 @@ IsUnread todo f = HasSome f × (reads_first todo ≡ false)
 abbrev IsNoted : List Part → Option PartEnd → Type 0
 IsNoted todo f = HasNone f ⊎ (IsFault f × (reads_first todo ≡ true))
 
+-- the end that is known, if one is, is that of an operation that is over in one piece
+abbrev IsWholeEnd : Option PartEnd → Type 0
+IsWholeEnd None = ⊤
+IsWholeEnd (Some (over.Whole end)) = ⊤
+IsWholeEnd f = ⊥
+
 -- the piece may still be refused, and has changed nothing
 abbrev IsEarly : At → List Part → Option PartEnd → Type 0
 IsEarly at.Start todo f = HasNone f
@@ -150,6 +161,7 @@ IsLate at.Giving todo f = ⊤
 IsLate at.Ready todo f = ⊤
 IsLate (at.Scanning x) todo f = ⊤
 IsLate (at.Marking x) todo f = ⊤
+IsLate (at.Visiting s x) todo f = IsWholeEnd f
 IsLate (at.Sweeping x) todo f = ⊤
 IsLate (at.Moving x) todo f = ⊤
 IsLate (at.Shrunk x) todo f = ⊤
@@ -184,47 +196,90 @@ split at.Giving todo f none = inr tt
 split at.Ready todo f none = inr tt
 split (at.Scanning x) todo f none = inr tt
 split (at.Marking x) todo f none = inr tt
+split (at.Visiting s x) todo None none = inr tt
+split (at.Visiting s x) todo (Some end) none = absurd none
 split (at.Sweeping x) todo f none = inr tt
 split (at.Moving x) todo f none = inr tt
 split (at.Shrunk x) todo f none = inr tt
 split (at.Shrinking x) todo f none = inr tt
 
-early_take : (size : ℕ) (todo : List Part) (a : At) (page : Option (List ℕ)) (k : Kept)
-    (f : Option PartEnd) → IsEarly a todo f
-    → IsEarly (taken_at size todo a page k) todo f ⊎ IsLate (taken_at size todo a page k) todo f
-early_take size todo a page k None e = split (taken_at size todo a page k) todo None tt
-early_take size [] a page k (Some end) e = inl e
-early_take size (p ∷ ps) at.Pinned page k (Some end) e = inl tt
-early_take size (p ∷ ps) at.Unpinning page k (Some end) e = inl tt
-early_take size (p ∷ ps) at.Leaving page k (Some end) e = inl tt
-early_take size (p ∷ ps) at.Failing page k (Some end) e = inl e
-early_take size (p ∷ ps) at.Counting page k (Some end) e = inl e
-early_take size (p ∷ ps) at.Missed page k (Some end) e = inl e
-early_take size (p ∷ ps) at.Made page k (Some end) e = inl tt
-early_take size (p ∷ ps) a page k (Some end) e = absurd e
+early_take : (size : ℕ) (todo : List Part) (a : At) (page : Option (List ℕ))
+    (e : EntryState) (f : Option PartEnd) → IsEarly a todo f
+    → IsEarly (taken_at size todo a page e f) todo f ⊎ IsLate (taken_at size todo a page e f) todo f
+early_take size todo a page e None soon = split (taken_at size todo a page e None) todo None tt
+early_take size [] a page e (Some end) soon = inl soon
+early_take size (p ∷ ps) at.Pinned page e (Some end) soon = inl tt
+early_take size (p ∷ ps) at.Unpinning page e (Some end) soon = inl tt
+early_take size (p ∷ ps) at.Leaving page e (Some end) soon = inl tt
+early_take size (p ∷ ps) at.Failing page e (Some end) soon = inl soon
+early_take size (p ∷ ps) at.Counting page e (Some end) soon = inl soon
+early_take size (p ∷ ps) at.Missed page e (Some end) soon = inl soon
+early_take size (p ∷ ps) at.Made page e (Some end) soon = inl tt
+early_take size (p ∷ ps) a page e (Some end) soon = absurd soon
 
-late_take : (size : ℕ) (todo : List Part) (a : At) (page : Option (List ℕ)) (k : Kept)
-    (f : Option PartEnd) → IsLate a todo f → IsLate (taken_at size todo a page k) todo f
-late_take size [] a page k f late = late
-late_take size (p ∷ ps) at.Refusing page k f late = tt
-late_take size (p ∷ ps) at.Failing page k f late = late
-late_take size (p ∷ ps) at.Counting page k f late = late
-late_take size (p ∷ ps) at.Missed page k f late = late
-late_take size (p ∷ ps) at.Made page k f late = late
-late_take size (p ∷ ps) at.Old page k f late = tt
-late_take size (p ∷ ps) at.Freeing page k f late = tt
-late_take size (p ∷ ps) at.Backed page k f late = tt
-late_take size (p ∷ ps) at.Releasing page k f late = tt
-late_take size (p ∷ ps) at.Owing page k f late = tt
-late_take size (p ∷ ps) at.Giving page k f late = tt
-late_take size (p ∷ ps) at.Ready page k f late = tt
-late_take size (p ∷ ps) (at.Scanning x) page k f late = tt
-late_take size (p ∷ ps) (at.Marking x) page k f late = tt
-late_take size (p ∷ ps) (at.Sweeping x) page k f late = tt
-late_take size (p ∷ ps) (at.Moving x) page k f late = tt
-late_take size (p ∷ ps) (at.Shrunk x) page k f late = tt
-late_take size (p ∷ ps) (at.Shrinking x) page k f late = tt
-late_take size (p ∷ ps) a page k f late = absurd late
+arrived_late : (meant : Bool) (x : Trip) (todo : List Part) (f : Option PartEnd) → IsWholeEnd f
+    → IsLate (arrived_at meant x) todo f
+arrived_late true x todo f whole = whole
+arrived_late false x todo f whole = whole
+
+landed_late : (f : Option PartEnd) (x : Trip) (e : EntryState) (todo : List Part) → IsWholeEnd f
+    → IsLate (landed_at f x e) todo f
+landed_late None x e todo whole = by (is_mark_of x.block e.under) where
+  by : (b : Bool) → IsLate (if b then at.Visiting step.Won x else at.Visiting step.Losing x) todo None
+  by true = tt
+  by false = tt
+landed_late (Some end) x e todo whole = whole
+
+visit_late : (s : VisitStep) (x : Trip) (op : Op) (e : EntryState) (f : Option PartEnd) (todo : List Part)
+    → IsWholeEnd f → IsLate (visited_at s x op e f) todo f
+visit_late step.Arriving x op e f todo whole =
+    arrived_late (is_eligible (mode_of op) e) x todo f whole
+visit_late step.Passing x op e f todo whole = whole
+visit_late step.Asking x op e f todo whole = whole
+visit_late step.Reserving x op e f todo whole = whole
+visit_late step.Quitting x op e f todo whole = whole
+visit_late step.Seen x op e f todo whole = whole
+visit_late step.Pinning x op e f todo whole = whole
+visit_late step.Pinned x op e f todo whole = whole
+visit_late step.Unpinning x op e f todo whole = whole
+visit_late step.Marking x op e f todo whole = whole
+visit_late step.Flying x op e f todo whole = whole
+visit_late step.Storing x op e f todo whole = whole
+visit_late step.Landing x op e f todo whole = landed_late f x e todo whole
+visit_late step.Won x op e f todo whole = whole
+visit_late step.Freeing x op e f todo whole = whole
+visit_late step.Backing x op e f todo whole = whole
+visit_late step.Committing x op e f todo whole = whole
+visit_late step.Owing x op e f todo whole = whole
+visit_late step.Paying x op e f todo whole = whole
+visit_late step.Putting x op e f todo whole = whole
+visit_late step.Losing x op e f todo whole = whole
+visit_late step.Undoing x op e f todo whole = whole
+visit_late step.Releasing x op e f todo whole = whole
+
+late_take : (size : ℕ) (todo : List Part) (a : At) (page : Option (List ℕ))
+    (e : EntryState) (f : Option PartEnd) → IsLate a todo f → IsLate (taken_at size todo a page e f) todo f
+late_take size [] a page e f late = late
+late_take size (p ∷ ps) at.Refusing page e f late = tt
+late_take size (p ∷ ps) at.Failing page e f late = late
+late_take size (p ∷ ps) at.Counting page e f late = late
+late_take size (p ∷ ps) at.Missed page e f late = late
+late_take size (p ∷ ps) at.Made page e f late = late
+late_take size (p ∷ ps) at.Old page e f late = tt
+late_take size (p ∷ ps) at.Freeing page e f late = tt
+late_take size (p ∷ ps) at.Backed page e f late = tt
+late_take size (p ∷ ps) at.Releasing page e f late = tt
+late_take size (p ∷ ps) at.Owing page e f late = tt
+late_take size (p ∷ ps) at.Giving page e f late = tt
+late_take size (p ∷ ps) at.Ready page e f late = tt
+late_take size (p ∷ ps) (at.Scanning x) page e f late = tt
+late_take size (p ∷ ps) (at.Marking x) page e f late = tt
+late_take size (p ∷ ps) (at.Visiting s x) page e f late = visit_late s x p.op e f (p ∷ ps) late
+late_take size (p ∷ ps) (at.Sweeping x) page e f late = tt
+late_take size (p ∷ ps) (at.Moving x) page e f late = tt
+late_take size (p ∷ ps) (at.Shrunk x) page e f late = tt
+late_take size (p ∷ ps) (at.Shrinking x) page e f late = tt
+late_take size (p ∷ ps) a page e f late = absurd late
 
 -- ---- givings
 
@@ -282,6 +337,78 @@ mark_step t l v m (scans p rest age x e todo op stage held give is) =
     subst (λ (y : Here). Goes l y) (sym is)
     (scan_step (with_page (scan_at l.at) (is_new_mark t.clock age e))
     (((scan_at l.at).page + 1) == t.size) l v p rest todo)
+
+onward_step : (x : Trip) (last : Bool) (l : Here) (v : DiskHeld) (p : Part) (rest : List Part)
+    → l.todo ≡ p ∷ rest → Goes l (onward_by x last l v)
+onward_step x true l v p rest todo =
+    let end = over.Whole (ends.Written x.wrote x.lost) in
+    inr (record { part = p; end = end; got = [] }, over_is l end (λ p. []) p rest l.todo todo, λ r. r)
+onward_step x false l v p rest todo = inl (tt, refl)
+
+-- an operation that is over in one piece isn't refused
+whole_end : (op : Op) (end : PartEnd) → IsWholeEnd (Some end) → IsRefusedEnd op end → ⊥
+whole_end op (over.Whole end) whole refused = refused
+whole_end op end whole refused = whole
+
+end_step : (end : PartEnd) (l : Here) (p : Part) (rest : List Part) → l.todo ≡ p ∷ rest
+    → IsWholeEnd (Some end) → Goes l (ending_by l end (λ p. []) l.todo)
+end_step end l p rest todo whole =
+    inr (
+      record { part = p; end = end; got = [] },
+      over_is l end (λ p. []) p rest l.todo todo,
+      whole_end p.op end whole,
+    )
+
+undo_step : (size : ℕ) (f : Option PartEnd) (l : Here) (v : DiskHeld) (p : Part) (rest : List Part)
+    → l.todo ≡ p ∷ rest → IsWholeEnd f → Goes l (undoing_by size f l v)
+undo_step size None l v p rest todo whole =
+    onward_step (lost_page (trip_at l.at)) ((lost_page (trip_at l.at)).page == size) l v p rest todo
+undo_step size (Some end) l v p rest todo whole = end_step end l p rest todo whole
+
+-- it goes on
+visit_on : (l m n : Here) → m ≡ n → IsLate n.at n.todo n.fail → n.done ≡ l.done → Goes l m
+visit_on l m n is late same =
+    inl (subst (λ (y : Here). IsLate y.at y.todo y.fail × (y.done ≡ l.done)) (sym is) (late, same))
+
+visit_step : (t : Terms) (l : Here) (v : DiskHeld) (m : Here) → Visits t l v m
+    → IsLate l.at l.todo l.fail → Goes l m
+visit_step t l v m (visit_passes p rest x e todo stage held give is) late =
+    subst (λ (y : Here). Goes l y) (sym is)
+    (onward_step (passed_page (trip_at l.at)) ((passed_page (trip_at l.at)).page == t.size) l v p rest
+    todo)
+visit_step t l v m (visit_reserves p rest x e y b todo stage held answer give is) late =
+    visit_on l m _ is (subst (λ (a : At). IsLate a l.todo l.fail) stage late) refl
+visit_step t l v m (visit_refrains p rest x e y r end todo stage held answer none give is) late =
+    visit_on l m _ is tt refl
+visit_step t l v m (visit_quits p rest x e end todo stage held fail give is) late =
+    subst (λ (y : Here). Goes l y) (sym (is ∙ ap (ending_with l) fail))
+    (end_step end l p rest todo (subst IsWholeEnd fail
+    (subst (λ (a : At). IsLate a l.todo l.fail) stage late)))
+visit_step t l v m (visit_pins p rest x e o q q' cell todo stage held kept lends give is) late =
+    visit_on l m _ is (subst (λ (a : At). IsLate a l.todo l.fail) stage late) refl
+visit_step t l v m (visit_unpins p rest x e o q q' todo stage held kept back give is) late =
+    visit_on l m _ is (subst (λ (a : At). IsLate a l.todo l.fail) stage late) refl
+visit_step t l v m (visit_marks p rest x e b todo stage held block give is) late =
+    visit_on l m _ is (subst (λ (a : At). IsLate a l.todo l.fail) stage late) refl
+visit_step t l v m (visit_stores p rest x b page d d' todo stage held block seen written give is) late =
+    visit_on l m _ is (subst (λ (a : At). IsLate a l.todo l.fail) stage late) refl
+visit_step t l v m (visit_spoils p rest x b d d' fault todo stage held block failed give is) late =
+    visit_on l m _ is tt refl
+visit_step t l v m (visit_frees p rest x e o q q' frames todo stage held kept drops give is) late =
+    visit_on l m _ is (subst (λ (a : At). IsLate a l.todo l.fail) stage late) refl
+visit_step t l v m (visit_commits p rest x e b y todo stage held block give is) late =
+    visit_on l m _ is (subst (λ (a : At). IsLate a l.todo l.fail) stage late) refl
+visit_step t l v m (visit_pays p rest x e c was todo stage held ahead give is) late =
+    visit_on l m _ is (subst (λ (a : At). IsLate a l.todo l.fail) stage late) refl
+visit_step t l v m (visit_puts p rest x e b todo stage held block give is) late =
+    subst (λ (y : Here). Goes l y) (sym is)
+    (onward_step (wrote_page (trip_at l.at)) ((wrote_page (trip_at l.at)).page == t.size) l v p rest
+    todo)
+visit_step t l v m (visit_loses p rest x e todo stage held give is) late =
+    visit_on l m _ is (subst (λ (a : At). IsLate a l.todo l.fail) stage late) refl
+visit_step t l v m (visit_releases p rest x b y todo stage held block give is) late =
+    subst (λ (y : Here). Goes l y) (sym is)
+    (undo_step t.size l.fail l v p rest todo (subst (λ (a : At). IsLate a l.todo l.fail) stage late))
 
 -- the piece in work is no read
 no_read : (p : Part) (rest todo : List Part) → todo ≡ p ∷ rest → reads_first todo ≡ false
@@ -363,6 +490,7 @@ late_step t l v m (leaves p rest e end todo stage held fail other give is) late 
           (subst (λ (a : At). IsLate a l.todo l.fail) stage late),
     )
 late_step t l v m (marks c) late = mark_step t l v m c
+late_step t l v m (visits c) late = visit_step t l v m c late
 late_step t l v m (compacts c) late = compact_step t l v m c
 
 -- What a giving of a piece leaves that may still be refused: it goes on with what it took, or it is
@@ -391,12 +519,47 @@ fails_write (Write start count stuff) c e = refl
 fails_write (Read start count) c e = absurd (false≢true (sym e))
 fails_write (Discard start count) c e = refl
 fails_write (Idle age) c e = refl
+fails_write (Writeback m) c e = refl
 fails_write Compact c e = refl
 
 -- the value that was held last
 last_is : (l : Here) (v : DiskHeld) (held : List (LockNo × DiskHeld)) → l.held ≡ held
     → GivesLast held v → GivesLast l.held v
 last_is l v held is last = subst (λ (h : List (LockNo × DiskHeld)). GivesLast h v) (sym is) last
+
+-- no event of a writeback is at an early stage
+visit_early : (t : Terms) (l : Here) (v : DiskHeld) (m : Here) → Visits t l v m
+    → IsEarly l.at l.todo l.fail → ⊥
+visit_early t l v m (visit_passes p rest x e todo stage held give is) early =
+    subst (λ (a : At). IsEarly a l.todo l.fail) stage early
+visit_early t l v m (visit_reserves p rest x e y b todo stage held answer give is) early =
+    subst (λ (a : At). IsEarly a l.todo l.fail) stage early
+visit_early t l v m (visit_refrains p rest x e y r end todo stage held answer none give is) early =
+    subst (λ (a : At). IsEarly a l.todo l.fail) stage early
+visit_early t l v m (visit_quits p rest x e end todo stage held fail give is) early =
+    subst (λ (a : At). IsEarly a l.todo l.fail) stage early
+visit_early t l v m (visit_pins p rest x e o q q' cell todo stage held kept lends give is) early =
+    subst (λ (a : At). IsEarly a l.todo l.fail) stage early
+visit_early t l v m (visit_unpins p rest x e o q q' todo stage held kept back give is) early =
+    subst (λ (a : At). IsEarly a l.todo l.fail) stage early
+visit_early t l v m (visit_marks p rest x e b todo stage held block give is) early =
+    subst (λ (a : At). IsEarly a l.todo l.fail) stage early
+visit_early t l v m (visit_stores p rest x b page d d' todo stage held block seen written give is) early =
+    subst (λ (a : At). IsEarly a l.todo l.fail) stage early
+visit_early t l v m (visit_spoils p rest x b d d' fault todo stage held block failed give is) early =
+    subst (λ (a : At). IsEarly a l.todo l.fail) stage early
+visit_early t l v m (visit_frees p rest x e o q q' frames todo stage held kept drops give is) early =
+    subst (λ (a : At). IsEarly a l.todo l.fail) stage early
+visit_early t l v m (visit_commits p rest x e b y todo stage held block give is) early =
+    subst (λ (a : At). IsEarly a l.todo l.fail) stage early
+visit_early t l v m (visit_pays p rest x e c was todo stage held ahead give is) early =
+    subst (λ (a : At). IsEarly a l.todo l.fail) stage early
+visit_early t l v m (visit_puts p rest x e b todo stage held block give is) early =
+    subst (λ (a : At). IsEarly a l.todo l.fail) stage early
+visit_early t l v m (visit_loses p rest x e todo stage held give is) early =
+    subst (λ (a : At). IsEarly a l.todo l.fail) stage early
+visit_early t l v m (visit_releases p rest x b y todo stage held block give is) early =
+    subst (λ (a : At). IsEarly a l.todo l.fail) stage early
 
 early_step : (t : Terms) (l : Here) (v : DiskHeld) (m : Here) → Works t l v m
     → IsEarly l.at l.todo l.fail → Step l m v
@@ -479,6 +642,7 @@ early_step t l v m (marks c) early = absurd (by c) where
   by : Marks t l v m → ⊥
   by (scans p rest age x e todo op stage held give is) =
       subst (λ (a : At). IsEarly a l.todo l.fail) stage early
+early_step t l v m (visits c) early = absurd (visit_early t l v m c early)
 early_step t l v m (compacts c) early = absurd (by c) where
   by : Compacts t l v m → ⊥
   by (moves p rest x q q' budget frames todo stage held more one give is) =
@@ -506,7 +670,7 @@ never_late : (t : Terms) (es : List Event) (l : Here) → IsLate l.at l.todo l.f
 never_late t [] l late refused = refused
 never_late t (Takes v ∷ es) l late (k, what, refused) =
     never_late t es (took t l v)
-    (late_take t.size l.todo l.at l.page (entry_or v (entry_in l.held)).kept l.fail late) refused
+    (late_take t.size l.todo l.at l.page (entry_or v (entry_in l.held)) l.fail late) refused
 never_late t (Gives v m ∷ []) l late (k, what, works, (d, done, refused)) =
     elim (late_step t l v m works late) [
       | inl goes ↦ one_more l.done m.done d goes.1 done
@@ -523,7 +687,7 @@ gives_back : (t : Terms) (es : List Event) (l : Here) → IsEarly l.at l.todo l.
     → GiveBack t es l
 gives_back t [] l early refused = tt
 gives_back t (Takes v ∷ es) l early (k, what, refused) =
-    elim (early_take t.size l.todo l.at l.page (entry_or v (entry_in l.held)).kept l.fail early) [
+    elim (early_take t.size l.todo l.at l.page (entry_or v (entry_in l.held)) l.fail early) [
       | inl soon ↦ gives_back t es (took t l v) soon refused
       | inr late ↦ absurd (never_late t es (took t l v) late refused)
     ]

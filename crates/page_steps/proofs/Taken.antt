@@ -146,7 +146,7 @@ asks c r count x v w =
     let d = sym w.request in
     λ i. with_lock (here {D = AnyDevice} x r stage.Beyond)
     (begun_at (d i) (e i) x.part (next_form x.part None (entry_or v (entry_in [])).kept)
-    (entry_or v (entry_in [])).kept)
+    (entry_or v (entry_in [])))
     (lock_of (start_plan (d i) (e i) x.part)) v
 
 -- a piece on the disk takes its slot
@@ -156,7 +156,7 @@ enters c r piece x v w =
     let d = sym w.request in
     λ i. with_lock (here {D = AnyDevice} x r stage.Start)
     (begun_at (d i) (e i) x.part (next_form x.part None (entry_or v (entry_in [])).kept)
-    (entry_or v (entry_in [])).kept)
+    (entry_or v (entry_in [])))
     (lock_of (start_plan (d i) (e i) x.part)) v
 
 -- a new object's class is taken

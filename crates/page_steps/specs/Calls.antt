@@ -66,6 +66,10 @@ end_of (piece.AtLimit pages need limit) = over.AtLimit pages need limit
 end_of piece.NoMemory = over.NoMemory
 end_of (piece.Eio fault) = over.Eio fault
 end_of (piece.Marked pages) = over.Whole (ends.Marked pages)
+end_of (piece.Written wrote lost) = over.Whole (ends.Written wrote lost)
+end_of (piece.Budget wrote lost) = over.Whole (ends.Budget wrote lost)
+end_of (piece.NoBlock wrote lost) = over.Whole (ends.NoBlock wrote lost)
+end_of (piece.WriteEio fault wrote lost) = over.Whole (ends.WriteEio fault wrote lost)
 end_of (piece.Compacted moves frames) = over.Whole (ends.Compacted moves frames)
 
 -- the sectors that a piece with such an end has read, where its page is this one

@@ -1,16 +1,17 @@
 -- What a value has to be for an actor to go on with it, by the stage at which the actor takes it.
 use Rattle.std.specs.Prelude.{◌≡◌, ℕ, ◌+◌, ◌-◌, ◌<◌, ◌≤◌, ◌^◌, ⊤, Bool, true, false, Contains, List, [], ◌∷◌, length, Option, Some, None, slice_get}
 use Rattle.zr_base.specs.declared.op.Op.{Op}
-use Rattle.zr_base.specs.declared.op.Op.TheVariants.{Idle}
+use Rattle.zr_base.specs.declared.op.Op.TheVariants.{Idle, Writeback}
 use Rattle.zr_base.specs.Plain.{is_beyond, is_maintenance}
 use Rattle.zspage.specs.Cells.{CellState, UsedCell}
 use Rattle.zspage.specs.Cells.{Fits as CellFits}
 use Rattle.class_pool.specs.Pool.{PoolState, used_cells, IsAtHome, IsLent, IsPool}
 use Rattle.mem_account.specs.Counters.{Counters, IsCounted, HasFittingSizes, counted}
 use Rattle.mem_account.specs.declared.weight.Weight.{Weight}
+use Rattle.mem_account.specs.declared.weight.Weight.TheVariants as weights
 use Rattle.mem_account.specs.declared.weight.Delta.TheVariants as delta
 use Rattle.bdi_page.specs.Packing.{IsPage}
-use Rattle.block_map.specs.declared.state.BlockState.TheVariants.{Owned}
+use Rattle.block_map.specs.declared.state.BlockState.TheVariants.{Held, Owned}
 use Rattle.block_map.specs.BlockMap.{BlockMap}
 use Rattle.backing_dev.specs.Dev.{DeviceState}
 use Rattle.call_history.specs.declared.part.Part.{Part}
@@ -18,13 +19,16 @@ use Rattle.lock_row.specs.declared.names.Held.TheVariants as holds
 use Rattle.lock_row.specs.declared.names.At.{At}
 use Rattle.lock_row.specs.declared.names.At.TheVariants as at
 use Rattle.lock_row.specs.declared.names.Pin.{Pin}
+use Rattle.lock_row.specs.declared.names.Step.{Step}
+use Rattle.lock_row.specs.declared.names.Step.TheVariants as step
+use Rattle.lock_row.specs.declared.names.Trip.{Trip}
 use Rattle.slot_entry.specs.declared.kept.Stored.{Stored}
 use Rattle.slot_entry.specs.declared.kept.Kept.{Kept}
 use Rattle.slot_entry.specs.declared.kept.Kept.TheVariants as kept
-use Rattle.slot_entry.specs.Entries.{EntryState}
+use Rattle.slot_entry.specs.Entries.{EntryState, is_obj}
 use Rattle.slot_entry.specs.Forms.{PageForm, Pooled, form_of, form_weight}
 use Rattle.page_steps.specs.Pages.{next_form}
-use Rattle.page_steps.specs.Steps.{Terms, DiskHeld, Here, entry_in}
+use Rattle.page_steps.specs.Steps.{Terms, DiskHeld, Here, entry_in, is_mark_of}
 use Rattle.page_steps.specs.Givings.{old_weight}
 use Rattle.page_steps.specs.Compactions.{repaid}
 
@@ -100,9 +104,14 @@ SweepFits chain v = AsPool (λ q. q.chain ≤ chain) v
 abbrev pub ScanFits : ℕ → DiskHeld → Type 0
 ScanFits clock v = AsSlot (λ e. e.touched ≤ clock) v
 
+-- the entry of a page that a writeback takes
+abbrev pub TripFits : DiskHeld → Type 0
+TripFits v = AsSlot (λ e. ⊤) v
+
 -- the first value of what is no request
 abbrev pub FirstFits : Terms → Op → DiskHeld → Type 0
 FirstFits t (Idle age) v = ScanFits t.clock v
+FirstFits t (Writeback m) v = TripFits v
 FirstFits t _ v = SweepFits t.chain v
 
 -- the first value of a piece: that of what is no request, the account for a request beyond the disk, or
@@ -143,6 +152,35 @@ abbrev pub StoreFits : ℕ → PageForm → DiskHeld → Type 0
 StoreFits chain (Pooled bytes huge) v = AsPool (CanStore chain (length bytes)) v
 StoreFits chain _ v = ⊤
 
+-- the device to which a page is to be written: it has the block
+abbrev pub WriteFits : Option ℕ → DiskHeld → Type 0
+WriteFits None v = ⊤
+WriteFits (Some b) v = AsDevice (λ d. b < d.blocks) v
+
+-- the entry that a writeback takes again: where its mark still stands, the page is in the pool
+abbrev pub LandFits : Option ℕ → DiskHeld → Type 0
+LandFits block v = AsSlot (λ e. is_mark_of block e.under ≡ true → is_obj e.kept ≡ true) v
+
+-- the map of a block that a writeback has reserved
+abbrev pub HeldFits : Option ℕ → DiskHeld → Type 0
+HeldFits None v = ⊤
+HeldFits (Some b) v = AsBlocks (λ y. slice_get y.states b ≡ Some Held) v
+
+-- a value that a writeback takes at a step
+abbrev pub VisitFits : Step → Trip → EntryState → Option Pin → ℕ → Option Weight → DiskHeld → Type 0
+VisitFits step.Arriving x e pin owed ahead v = TripFits v
+VisitFits step.Asking x e pin owed ahead v = AsBlocks (λ y. ⊤) v
+VisitFits step.Seen x e pin owed ahead v = PinFits e.kept v
+VisitFits step.Pinned x e pin owed ahead v = PinnedFits pin v
+VisitFits step.Flying x e pin owed ahead v = WriteFits x.block v
+VisitFits step.Landing x e pin owed ahead v = LandFits x.block v
+VisitFits step.Won x e pin owed ahead v = FreeFits e.kept None v
+VisitFits step.Backing x e pin owed ahead v = HeldFits x.block v
+VisitFits step.Owing x e pin owed ahead v =
+    AsAccount (CanPay owed (old_weight ahead e.kept) weights.Back) v
+VisitFits step.Undoing x e pin owed ahead v = HeldFits x.block v
+VisitFits s x e pin owed ahead v = ⊤
+
 -- a value that a piece takes at its stage
 abbrev pub FitsAt : Terms → At → Part → EntryState → Option Pin → ℕ → Option Weight
     → Option (List ℕ) → DiskHeld → Type 0
@@ -159,6 +197,7 @@ FitsAt t at.Backed p e pin owed ahead page v = ReleaseFits e.kept v
 FitsAt t at.Owing p e pin owed ahead page v =
     AsAccount (CanPay owed (old_weight ahead e.kept) (form_weight (next_form p page e.kept))) v
 FitsAt t (at.Scanning x) p e pin owed ahead page v = ScanFits t.clock v
+FitsAt t (at.Visiting s x) p e pin owed ahead page v = VisitFits s x e pin owed ahead v
 FitsAt t (at.Sweeping x) p e pin owed ahead page v = SweepFits t.chain v
 FitsAt t (at.Shrunk x) p e pin owed ahead page v = AsAccount (λ c. owed ≤ c.pages) v
 FitsAt t _ p e pin owed ahead page v = ⊤

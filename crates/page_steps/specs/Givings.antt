@@ -2,7 +2,7 @@
 use Rattle.std.specs.Prelude.{◌≡◌, ℕ, ◌+◌, ◌≤◌, Bool, true, false, length, List, [], ◌∷◌, ◌++◌, Option, Some, None}
 use Rattle.zr_base.specs.declared.op.Tag.{Tag}
 use Rattle.zr_base.specs.declared.op.Op.{Op}
-use Rattle.zr_base.specs.declared.op.Op.TheVariants.{Write, Read, Discard, Idle, Compact}
+use Rattle.zr_base.specs.declared.op.Op.TheVariants.{Write, Read, Discard, Idle, Writeback, Compact}
 use Rattle.zspage.specs.Cells.{CellState}
 use Rattle.class_pool.specs.Pool.{PoolState, PoolHasRoom}
 use Rattle.mem_account.specs.Counters.{Counters, charged, counted, IsPastLimit, IsWithinLimit}
@@ -30,6 +30,7 @@ use Rattle.page_steps.specs.Pages.{next_form}
 use Rattle.page_steps.specs.Pools.{IsNeed, Adds, Lends, Returns, DropsPinned}
 use Rattle.page_steps.specs.Steps.{Terms, DiskHeld, Here, slot}
 use Rattle.page_steps.specs.Scans.{Marks}
+use Rattle.page_steps.specs.Visits.{Visits}
 use Rattle.page_steps.specs.Compactions.{repaid, Compacts}
 use Rattle.page_steps.specs.Nexts.{refusing, reading, putting, failing, fetching, missing, counting_failure, pinning, unpinning, charging, denying, stowing, quitting, freeing, repaying}
 
@@ -66,6 +67,7 @@ tells (Write start count stuff) c = c
 tells (Read start count) c = c
 tells (Discard start count) c = counted c delta.NotifyFree
 tells (Idle age) c = c
+tells (Writeback m) c = c
 tells Compact c = c
 
 -- a failure of the device is counted
@@ -74,6 +76,7 @@ fails_by (Write start count stuff) c = counted c delta.FailedWrite
 fails_by (Read start count) c = counted c delta.FailedRead
 fails_by (Discard start count) c = counted c delta.FailedWrite
 fails_by (Idle age) c = counted c delta.FailedWrite
+fails_by (Writeback m) c = counted c delta.FailedWrite
 fails_by Compact c = counted c delta.FailedWrite
 
 -- the account once a page is counted: frames are given back, and the page has a new weight
@@ -196,5 +199,7 @@ pub data Works (t : Terms) (l : Here) (v : DiskHeld) (m : Here) : Type 0 where
       → v ≡ holds.Slot e → m ≡ failing l v → Works t l v m
   -- an event of a scan that marks pages
   marks : Marks t l v m → Works t l v m
+  -- an event of a writeback
+  visits : Visits t l v m → Works t l v m
   -- an event of a compaction
   compacts : Compacts t l v m → Works t l v m

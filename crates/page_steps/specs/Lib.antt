@@ -4,6 +4,7 @@ pub mod Steps
 pub mod Nexts
 pub mod Scans
 pub mod Compactions
+pub mod Visits
 pub mod Givings
 pub mod Fits
 pub mod Calls

@@ -1,7 +1,7 @@
 -- What a piece leaves of its page, and the form that it leaves.
 use Rattle.std.specs.Prelude.{ℕ, zero, suc, ◌+◌, ◌*◌, List, [], ◌∷◌, ◌++◌, Option, Some, None}
 use Rattle.zr_base.specs.declared.op.Op.{Op}
-use Rattle.zr_base.specs.declared.op.Op.TheVariants.{Write, Read, Discard, Idle, Compact}
+use Rattle.zr_base.specs.declared.op.Op.TheVariants.{Write, Read, Discard, Idle, Writeback, Compact}
 use Rattle.zr_base.specs.Sectors.{page_sector}
 use Rattle.zr_base.specs.Plain.{sector_after}
 use Rattle.call_history.specs.declared.part.Part.{Part}
@@ -35,6 +35,7 @@ next_by (Write start count stuff) p page = form_of (page_after p page)
 next_by (Read start count) p page = Blank
 next_by (Discard start count) p page = Blank
 next_by (Idle age) p page = Blank
+next_by (Writeback mode) p page = Blank
 next_by Compact p page = Blank
 
 -- the form that a piece leaves, by what its actor sees

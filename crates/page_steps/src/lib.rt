@@ -17,7 +17,8 @@ mod values;
 pub use call::PageCall;
 pub use laws::{calls_are_events, refusals_leave_all};
 pub use nexts::{Chosen, Takes, Told, give_by, take_by};
+pub use pins::{pin_object, read_cell, unpin_object};
 pub use stage::{
     DiskHeld, Due, Head, Lent, New, Outcome, Own, PieceEnd, Progress, Scratch, Stage, Work,
 };
-pub use values::{account_of, entry_of, pool_of};
+pub use values::{account_of, blocks_of, device_of, entry_of, pool_of, weight_in};

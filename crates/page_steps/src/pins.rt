@@ -5,7 +5,10 @@
 ghost use Rattle.std.specs.Prelude.{◌≡◌, ◌≤◌, ◌+◌, ◌++◌, length, take, drop};
 ghost use Rattle.zspage.specs.Cells.{header_size, object_in};
 ghost use Rattle.page_steps.specs.declared.stage.Stage.TheVariants as stage;
+ghost use Rattle.class_pool.specs.Pool.{IsLent};
 ghost use Rattle.page_steps.specs.Pages.{page_in_cell};
+ghost use Rattle.page_steps.specs.Pools.{Lends, Returns};
+ghost use Rattle.page_steps.specs.Fits.{CanPin};
 ghost use Rattle.page_steps.specs.Calls.{HasObject, unpinned_by};
 ghost use Rattle.page_steps.specs.Turns.{IsReady, HasAdvanced, HasRead, CanRead};
 
@@ -68,8 +71,8 @@ fn front<'a>(first: &'a [u8], second: &'a [u8], len: usize) -> (&'a [u8], &'a [u
     }
 }
 
-// Reads the page from its object's cell, whose bytes may lie in two frames.
-fn read_cell(lent: &Lent, page: &mut Page)
+/// Reads the page from its object's cell, whose bytes may lie in two frames.
+pub fn read_cell(lent: &Lent, page: &mut Page)
     requires { CanRead lent.now }
     ensures { page.new ≡ page_in_cell lent.now.object lent.now.cell }
 {
@@ -102,6 +105,23 @@ fn read_stage<D: Backing>(head: Head, entry: Entry, lent: Lent, scratch: &mut Sc
     }
 }
 
+/// Pins an object that has a page's bytes: its cell, from which the page can be read.
+pub fn pin_object(pool: &mut ClassPool, object: Stored) -> Cell
+    requires { CanPin object pool.old }
+    ensures lends { Lends pool.old pool.new object.handle.0 result }
+    ensures read { CanRead (record { object = object; cell = result }) }
+{
+    pool.pin(object.handle)
+}
+
+/// Unpins an object.
+pub fn unpin_object(pool: &mut ClassPool, object: Stored, cell: Cell)
+    requires { IsLent pool.old object.handle.0 cell }
+    ensures { Returns pool.old pool.new object.handle.0 }
+{
+    pool.unpin(object.handle, cell);
+}
+
 /// Pins the object, gives its class back, and reads the page.
 pub(crate) fn pin<D: Backing, H: Hand<Value = DiskHeld<D>>>(
     head: Head,
@@ -117,7 +137,7 @@ pub(crate) fn pin<D: Backing, H: Hand<Value = DiskHeld<D>>>(
         pool) hand.old scratch.new result.0 hand.new result.1 }
 {
     let mut lender = pool;
-    let cell = lender.pin(object.handle);
+    let cell = pin_object(&mut lender, object);
     let lock = LockNo::Class(object.class);
     give_by::<D, H, Brand, Stored, Cell, LockNo>(
         hand,
@@ -183,7 +203,7 @@ pub(crate) fn unpin<D: Backing, H: Hand<Value = DiskHeld<D>>>(
 {
     let Lent { object, cell } = lent;
     let mut lender = pool;
-    lender.unpin(object.handle, cell);
+    unpin_object(&mut lender, object, cell);
     hand.give::<Unpins>(LockNo::Class(object.class), Held::Class(lender));
     (unpinned(entry, end), Progress::Moved)
 }

@@ -77,6 +77,14 @@ pub enum PieceEnd {
     Eio { fault: u64 },
     /// It was a scan that marks pages: how many marks are new.
     Marked(u32),
+    /// It was a writeback: the pages that it left on the device, and those that it wrote in vain.
+    Written { wrote: u32, lost: u32 },
+    /// The same, until the limit on writes allowed no other.
+    Budget { wrote: u32, lost: u32 },
+    /// The same, until no block was free.
+    NoBlock { wrote: u32, lost: u32 },
+    /// The same, until the device failed to write a page: the device's count of faults after it.
+    WriteEio { fault: u64, wrote: u32, lost: u32 },
     /// It was a compaction: the objects that it moved, and the frames that it freed.
     Compacted { moves: u64, frames: u64 },
 }

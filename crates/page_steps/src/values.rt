@@ -46,7 +46,7 @@ pub fn account_of<D: Backing>(value: DiskHeld<D>) -> Account
 }
 
 /// The map of blocks, from what its lock guards.
-pub(crate) fn blocks_of<D: Backing>(value: DiskHeld<D>) -> Blocks
+pub fn blocks_of<D: Backing>(value: DiskHeld<D>) -> Blocks
     requires { (x : _) × (value ≡ holds.Blocks x) }
     ensures { value ≡ holds.Blocks result }
 {
@@ -57,7 +57,7 @@ pub(crate) fn blocks_of<D: Backing>(value: DiskHeld<D>) -> Blocks
 }
 
 /// The device, from what its lock guards.
-pub(crate) fn device_of<D: Backing>(value: DiskHeld<D>) -> Dev<D>
+pub fn device_of<D: Backing>(value: DiskHeld<D>) -> Dev<D>
     requires { (d : _) × (value ≡ holds.Device d) }
     ensures { value ≡ holds.Device result }
 {
@@ -68,7 +68,7 @@ pub(crate) fn device_of<D: Backing>(value: DiskHeld<D>) -> Dev<D>
 }
 
 /// How a page of this form weighs.
-pub(crate) fn weight_in(kept: Kept) -> Weight
+pub fn weight_in(kept: Kept) -> Weight
     ensures { result ≡ weight_of kept }
 {
     match kept {

@@ -13,8 +13,8 @@ use Rattle.zr_base.specs.Plain.{Finds}
 use Rattle.mem_account.specs.declared.weight.Weight.{Weight}
 use Rattle.size_class.specs.Classes.{per_of}
 use Rattle.plain_disk.specs.Forms.{is_pooled}
-use Rattle.plain_disk.specs.Rests.{Rest, kept_pages}
-use Rattle.plain_disk.specs.Idles.{pages_at, pages_after, AreMarked}
+use Rattle.plain_disk.specs.Rests.{Rest, is_backed, kept_pages}
+use Rattle.plain_disk.specs.Idles.{pages_at, pages_after, AreMarked, may_write}
 
 -- ---- classes
 
@@ -87,7 +87,8 @@ pub record IsAlone (form : List ℕ → Weight) (r : Rest) (finds : ℕ → Find
   pub least : tight_after (are_tight r.set.chain r.used) ops ≡ true
       → (k : ℕ) → k < 255 → IsLeast (per_of m.set.chain k) (m.used k)
   pub few : moves_after 0 ops es ≤ pooled_pages form m
-  -- each mark is counted where it is new, and these pages are idle after the last operation
-  pub marks : AreMarked form r finds 0 (pages_at r) ops es
-  pub idle : (p : ℕ) → p < r.size
+  -- where none of them writes back, each mark is counted where it is new, and these pages are idle
+  -- after the last one
+  pub marks : may_write (is_backed r) (ops ∷ []) ≡ false → AreMarked form r finds 0 (pages_at r) ops es
+  pub idle : may_write (is_backed r) (ops ∷ []) ≡ false → (p : ℕ) → p < r.size
       → m.idle p ≡ (pages_after form r finds 0 (pages_at r) ops es p).idle

@@ -8,7 +8,7 @@ use Rattle.zr_base.specs.declared.op.Op.TheVariants.{Write, Read}
 use Rattle.zr_base.specs.declared.op.OpEnd.{OpEnd}
 use Rattle.zr_base.specs.declared.op.OpEnd.TheVariants as ends
 use Rattle.zr_base.specs.Pieces.{first_page, pages_of}
-use Rattle.zr_base.specs.Plain.{stuff_sector, has_whole, is_beyond, is_maintenance, is_marking, is_compaction}
+use Rattle.zr_base.specs.Plain.{stuff_sector, has_whole, is_beyond, is_maintenance, is_marking, is_writeback, is_void, is_compaction}
 use Rattle.mem_account.specs.declared.weight.Weight.{Weight}
 use Rattle.size_class.specs.Classes.{chain_of}
 use Rattle.plain_disk.specs.Forms.{is_pooled, in_class}
@@ -16,13 +16,14 @@ use Rattle.plain_disk.specs.Forms.{is_pooled, in_class}
 -- ---- what ends are measured by
 
 -- What ends are measured by from the phase's start on: the form of a page by its bytes, the disk's
--- pages, the most frames of a chain, the limit in frames, where 0 is none, which pages are on the
--- backing device, and how many of its calls have failed.
+-- pages, the most frames of a chain, the limit in frames, where 0 is none, whether the disk has a
+-- backing, which pages may be on the backing device, and how many of its calls have failed.
 pub record Ground : Type 0 where
   pub form : List ℕ → Weight
   pub size : ℕ
   pub chain : ℕ
   pub limit : ℕ
+  pub backed : Bool
   pub back : ℕ → Bool
   pub faults : ℕ
 
@@ -73,7 +74,7 @@ pub record MayBeAtLimit (t : Ground) (op : Op) (page charged need limit : ℕ) :
   pub needs : IsNeed t op page need
 
 -- The device may have failed at a read of the page, with this count of faults after it: the page
--- was there at the phase's start, and the count has risen since.
+-- may be there, and the count has risen since the phase's start.
 pub record IsFaultAt (t : Ground) (page fault : ℕ) : Type 0 where
   pub back : t.back page ≡ true
   pub rose : t.faults < fault
@@ -85,12 +86,21 @@ MayFault t (Write start count stuff) page fault =
 MayFault t (Read start count) page fault = IsFaultAt t page fault
 MayFault t _ page fault = ⊥
 
+-- an operation wrote so many pages back and lost so many, of a disk of so many
+abbrev pub WritesBack : Op → ℕ → ℕ → Type 0
+WritesBack op pages size = (is_writeback op ≡ true) × (pages ≤ size)
+
 -- the ends of an operation that is over in one piece: `range` where it lies beyond the disk; new marks
--- of at most the disk's pages; and a compaction's numbers, which frees at most a chain's frames with
--- each move
+-- of at most the disk's pages; at most as many pages written back, and fewer where it was cut; and a
+-- compaction's numbers, which frees at most a chain's frames with each move
 abbrev pub MayBeSingle : Ground → Op → OpEnd → Type 0
 MayBeSingle t op ends.Range = is_beyond t.size op ≡ true
 MayBeSingle t op (ends.Marked pages) = (is_marking op ≡ true) × (pages ≤ t.size)
+MayBeSingle t op (ends.Written wrote lost) = WritesBack op (wrote + lost) t.size
+MayBeSingle t op (ends.Budget wrote lost) = WritesBack op (wrote + lost + 1) t.size
+MayBeSingle t op (ends.NoBlock wrote lost) = WritesBack op (wrote + lost + 1) t.size
+MayBeSingle t op (ends.WriteEio fault wrote lost) =
+    WritesBack op (wrote + lost + 1) t.size × (t.faults < fault)
 MayBeSingle t op (ends.Compacted moves frames) =
     (is_compaction op ≡ true) × (frames ≤ t.chain * moves)
 MayBeSingle t op _ = ⊥
@@ -99,18 +109,29 @@ MayBeSingle t op _ = ⊥
 abbrev pub IsCutAt : ℕ → Op → ℕ → Type 0
 IsCutAt pages op done = (is_single pages op ≡ false) × (done < pages_of op)
 
--- The ends that an operation may have. A refused piece is the next one after those that were
--- carried out. At a refusal the limit is below the frames that the pages in the pool and the actors
--- can have. The count of faults that is told is at most the one at the phase's end.
-abbrev pub MayEnd : Ground → Bounds → Op → OpEnd → Type 0
-MayEnd t b op ends.Ok = is_single t.size op ≡ false
-MayEnd t b op (ends.AtLimit charged need limit done) = IsCutAt t.size op done
+-- The ends that an operation may have that does something. A refused piece is the next one after those
+-- that were carried out. At a refusal the limit is below the frames that the pages in the pool and the
+-- actors can have. The count of faults that is told is at most the one at the phase's end.
+abbrev pub MayEndSo : Ground → Bounds → Op → OpEnd → Type 0
+MayEndSo t b op ends.Ok = is_single t.size op ≡ false
+MayEndSo t b op (ends.AtLimit charged need limit done) = IsCutAt t.size op done
     × MayBeAtLimit t op (first_page op + done) charged need limit × (limit < t.chain * b.reach)
-MayEnd t b op (ends.NoMemory done) = IsCutAt t.size op done
+MayEndSo t b op (ends.NoMemory done) = IsCutAt t.size op done
     × MayWant t.form op (first_page op + done)
-MayEnd t b op (ends.Eio fault done) = IsCutAt t.size op done
+MayEndSo t b op (ends.Eio fault done) = IsCutAt t.size op done
     × MayFault t op (first_page op + done) fault × (fault ≤ b.faults)
-MayEnd t b op end = MayBeSingle t op end
+MayEndSo t b op (ends.WriteEio fault wrote lost) =
+    MayBeSingle t op (ends.WriteEio fault wrote lost) × (fault ≤ b.faults)
+MayEndSo t b op end = MayBeSingle t op end
+
+-- where it does nothing, a writeback has its own end
+abbrev pub MayEndBy : Bool → Ground → Bounds → Op → OpEnd → Type 0
+MayEndBy true t b op end = end ≡ ends.NoBacking
+MayEndBy false t b op end = MayEndSo t b op end
+
+-- the ends that an operation may have: a writeback without a backing does nothing
+abbrev pub MayEnd : Ground → Bounds → Op → OpEnd → Type 0
+MayEnd t b op end = MayEndBy (is_void t.backed op) t b op end
 
 -- those of an actor's operations
 abbrev pub MayEndAll : Ground → Bounds → List Op → List OpEnd → Type 0
@@ -181,7 +202,24 @@ starved _ _ = 0
 -- one for an end that tells this count of faults
 abbrev pub tells_fault : ℕ → Op → OpEnd → ℕ
 tells_fault n op (ends.Eio fault done) = if fault == n then 1 else 0
+tells_fault n op (ends.WriteEio fault wrote lost) = if fault == n then 1 else 0
 tells_fault n op _ = 0
+
+-- the pages that a writeback left on the device
+abbrev pub left_back : Op → OpEnd → ℕ
+left_back op (ends.Written wrote lost) = wrote
+left_back op (ends.Budget wrote lost) = wrote
+left_back op (ends.NoBlock wrote lost) = wrote
+left_back op (ends.WriteEio fault wrote lost) = wrote
+left_back op _ = 0
+
+-- its writes of the device that succeeded
+abbrev pub written : Op → OpEnd → ℕ
+written op (ends.Written wrote lost) = wrote + lost
+written op (ends.Budget wrote lost) = wrote + lost
+written op (ends.NoBlock wrote lost) = wrote + lost
+written op (ends.WriteEio fault wrote lost) = wrote + lost
+written op _ = 0
 
 -- the frames that a compaction freed
 abbrev pub compacted : Op → OpEnd → ℕ

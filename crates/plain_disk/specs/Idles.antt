@@ -7,7 +7,7 @@ use Rattle.zr_base.specs.declared.op.Op.{Op}
 use Rattle.zr_base.specs.declared.op.Op.TheVariants.{Idle}
 use Rattle.zr_base.specs.declared.op.OpEnd.{OpEnd}
 use Rattle.zr_base.specs.declared.op.OpEnd.TheVariants as ends
-use Rattle.zr_base.specs.Plain.{Look, Finds, is_older, is_marking, stands_on}
+use Rattle.zr_base.specs.Plain.{Look, Finds, is_older, is_marking, is_writeback, stands_on}
 use Rattle.mem_account.specs.declared.weight.Weight.{Weight}
 use Rattle.plain_disk.specs.Forms.{is_pooled}
 use Rattle.plain_disk.specs.Calls.{Found, kept_as, after, leaves_page}
@@ -100,10 +100,24 @@ abbrev pub is_marked_in : List (List Op) → Bool
 is_marked_in [] = false
 is_marked_in (ops ∷ more) = marks_some ops || is_marked_in more
 
+-- whether some operation of an actor writes pages back
+abbrev pub writes_some : List Op → Bool
+writes_some [] = false
+writes_some (op ∷ ops) = is_writeback op || writes_some ops
+
+-- whether some actor's does
+abbrev pub is_written_in : List (List Op) → Bool
+is_written_in [] = false
+is_written_in (ops ∷ more) = writes_some ops || is_written_in more
+
+-- whether pages may be written back: the disk has a backing, and some actor does so
+abbrev pub may_write : Bool → List (List Op) → Bool
+may_write backed actors = backed && is_written_in actors
+
 -- What a page's mark may be after a phase with this order: only a page of the pool is idle; a page
--- that was idle stays so where no call stands in its order; and where no operation marks pages, no
--- other page is idle.
-pub record KeepsMark (pooled was : Bool) (marks : Bool) (order : List Tag) (is : Bool) : Type 0 where
+-- that was idle stays so where no call stands in its order, or it is on the device; and where no
+-- operation marks pages, no other page is idle.
+pub record KeepsMark (pooled was marks back : Bool) (order : List Tag) (is : Bool) : Type 0 where
   pub pooled_one : is ≡ true → pooled ≡ true
-  pub stays : order ≡ [] → was ≡ true → is ≡ true
+  pub stays : order ≡ [] → was ≡ true → back ≡ false → is ≡ true
   pub only : marks ≡ false → is ≡ true → (order ≡ []) × (was ≡ true)

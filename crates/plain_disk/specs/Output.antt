@@ -90,6 +90,7 @@ phase_lines es gots orders = actors_lines 0 es gots ++ order_lines 0 orders
 abbrev pub is_refused : OpEnd → Bool
 is_refused ends.Ok = false
 is_refused (ends.Marked pages) = false
+is_refused (ends.Written wrote lost) = false
 is_refused (ends.Compacted moves frames) = false
 is_refused _ = true
 

@@ -1,6 +1,6 @@
 -- What a phase may print, and the rest that it leaves: its ends, for each page an order of the
 -- calls on it, and for each read the bytes that the calls before it left.
-use Rattle.std.specs.Prelude.{◌≡◌, ℕ, ◌+◌, ◌*◌, ◌/◌, ◌<◌, ◌≤◌, ◌&&◌, Bool, false, List, [], ◌∷◌, length, get_or, take, sum_by, count_by, Some, slice_get}
+use Rattle.std.specs.Prelude.{◌≡◌, ℕ, ◌+◌, ◌*◌, ◌/◌, ◌<◌, ◌≤◌, ◌&&◌, ◌||◌, not, Bool, true, false, List, [], ◌∷◌, length, get_or, take, sum_by, count_by, Some, slice_get}
 use Rattle.std.specs.List.{range_with_len}
 use Rattle.zr_base.specs.declared.op.Tag.{Tag}
 use Rattle.zr_base.specs.declared.op.Op.{Op}
@@ -9,20 +9,21 @@ use Rattle.zr_base.specs.Plain.{Finds, IsSector, PageCalls, content, order_befor
 use Rattle.mem_account.specs.declared.weight.Weight.{Weight}
 use Rattle.mem_account.specs.Counters.{at_most_end}
 use Rattle.backing_dev.specs.Dev.{DeviceState, IsHonestDevice}
-use Rattle.plain_disk.specs.Ends.{Ground, Bounds, MayEndEach, due_from, ends_sum, failed_read, failed_write, starved, tells_fault, beyond, compacted}
+use Rattle.plain_disk.specs.Ends.{Ground, Bounds, MayEndEach, due_from, ends_sum, failed_read, failed_write, starved, tells_fault, left_back, written, beyond, compacted}
 use Rattle.plain_disk.specs.Output.{OutLine, phase_lines}
-use Rattle.plain_disk.specs.Calls.{Found, leave_page, after_all, ever_pooled, calls_sum, made_huge, freed, may_fetch}
+use Rattle.plain_disk.specs.Calls.{Found, kept_as, leave_page, after_all, ever_pooled, calls_sum, made_huge, freed, may_fetch}
 use Rattle.plain_disk.specs.Compactions.{IsAlone}
-use Rattle.plain_disk.specs.Idles.{is_marked_in, KeepsMark}
+use Rattle.plain_disk.specs.Idles.{is_marked_in, may_write, KeepsMark}
 use Rattle.plain_disk.specs.Forms.{is_pooled}
-use Rattle.plain_disk.specs.Rests.{SoFar, Rest, page_of, kept_at, kept_pages, frames_of, AreUsed}
+use Rattle.plain_disk.specs.Rests.{SoFar, Rest, is_backed, page_of, kept_at, kept_pages, frames_of, AreUsed}
 
 -- ---- orders and contents
 
--- what a phase begins with: the disk's pages, the operations of its actors, and what each sector
--- holds; and what calls find on each page
+-- what a phase begins with: the disk's pages, whether it has a backing, the operations of its actors,
+-- and what each sector holds; and what calls find on each page
 pub record Given : Type 0 where
   pub size : ℕ
+  pub backed : Bool
   pub actors : List (List Op)
   pub before : ℕ → List ℕ
   pub finds : ℕ → Finds
@@ -61,8 +62,13 @@ due g orders a (ops ∷ more) (es ∷ others) =
 
 -- a phase of these actors begins, whose calls find so much
 abbrev pub begun : Rest → List (List Op) → (ℕ → Finds) → Given
-begun r actors finds =
-    record { size = r.size; actors = actors; before = r.holds; finds = finds }
+begun r actors finds = record {
+  size = r.size;
+  backed = is_backed r;
+  actors = actors;
+  before = r.holds;
+  finds = finds;
+}
 
 -- whether a page is on the device after the calls of an order: it was before the phase, and they are
 -- reads alone
@@ -70,26 +76,27 @@ abbrev pub back_after : Rest → List (List Op) → ℕ → List Tag → Bool
 back_after r actors p order = r.back p && leave_page actors order
 
 -- Calls find sectors: what is held, over an honest device; and over any other, where their page isn't
--- on it.
+-- on it and none is written back.
 pub record FindsHeld (r : Rest) (actors : List (List Op)) (orders : List (List Tag))
     (finds : ℕ → Finds) : Type 0 where
   pub sectors : (p : ℕ) (tag : Tag) (s : ℕ) (old : List ℕ) → IsSector old
       → IsSector (finds p tag s old)
   pub honest : IsHonestDevice r.device → (p : ℕ) (tag : Tag) (s : ℕ) (old : List ℕ)
       → finds p tag s old ≡ old
-  pub pooled : (p at : ℕ) (tag : Tag) → p < r.size
+  pub pooled : may_write (is_backed r) actors ≡ false → (p at : ℕ) (tag : Tag) → p < r.size
       → slice_get (nth_order orders p) at ≡ Some tag
       → back_after r actors p (take at (nth_order orders p)) ≡ false
       → (s : ℕ) (old : List ℕ) → finds p tag s old ≡ old
 
 -- what its ends are measured by from its start on
-abbrev pub phase_ground : (List ℕ → Weight) → Rest → Ground
-phase_ground form r = record {
+abbrev pub phase_ground : (List ℕ → Weight) → Rest → List (List Op) → Ground
+phase_ground form r actors = record {
   form = form;
   size = r.size;
   chain = r.set.chain;
   limit = r.set.limit;
-  back = r.back;
+  backed = is_backed r;
+  back = λ p. r.back p || may_write (is_backed r) actors;
   faults = r.device.faults;
 }
 
@@ -149,15 +156,22 @@ fetches r g ends orders =
     phase_sum (λ p. calls_sum may_fetch (calls_on g p)) r orders + ends_sum starved g.actors ends
 
 -- What a phase leaves of the device: it is the same, with as many blocks, honest where it was; its
--- count of faults hasn't fallen; it has read at most so often; and nothing was written.
-pub record LeavesDevice (d e : DeviceState) (most : ℕ) : Type 0 where
+-- count of faults hasn't fallen; it has read at most so often; and it has written so often.
+pub record LeavesDevice (d e : DeviceState) (most written : ℕ) : Type 0 where
   pub same : e.references ≡ d.references
   pub blocks : e.blocks ≡ d.blocks
   pub honest : IsHonestDevice d → IsHonestDevice e
   pub faults : d.faults ≤ e.faults
   pub reads : d.reads ≤ e.reads
   pub few : e.reads ≤ d.reads + most
-  pub writes : e.writes ≡ d.writes
+  pub writes : e.writes ≡ at_most_end (d.writes + written)
+
+-- Which page is on the device after a phase: one that was and stays there by the calls of its order;
+-- where nothing is written back no other one; and only one that has a form of the pool.
+pub record KeepsBack (stays writes pooled is : Bool) : Type 0 where
+  pub there : stays ≡ true → is ≡ true
+  pub only : writes ≡ false → is ≡ stays
+  pub pooled_one : is ≡ true → pooled ≡ true
 
 -- The rest that a phase with these orders leaves, but for what has happened so far.
 pub record LeavesPages (form : List ℕ → Weight) (r : Rest) (g : Given)
@@ -167,14 +181,20 @@ pub record LeavesPages (form : List ℕ → Weight) (r : Rest) (g : Given)
       → m.holds s ≡ held_after g (s / 8) (nth_order orders (s / 8)) s
   pub blank : (p : ℕ) → p < r.size
       → m.blank p ≡ (after_all (calls_on g p) (page_of r p) (nth_order orders p)).blank
-  pub back : (p : ℕ) → p < r.size → m.back p ≡ back_after r g.actors p (nth_order orders p)
+  pub back : (p : ℕ) → p < r.size → KeepsBack (back_after r g.actors p (nth_order orders p))
+      (may_write g.backed g.actors) (is_pooled (kept_as form p (page_of m p))) (m.back p)
   pub idle : (p : ℕ) → p < r.size → KeepsMark (is_pooled (kept_at form m p)) (r.idle p)
-      (is_marked_in g.actors) (nth_order orders p) (m.idle p)
+      (is_marked_in g.actors) (m.back p) (nth_order orders p) (m.idle p)
   pub touched : (p : ℕ) → p < r.size
       → m.touched p ≡ touched_by (nth_order orders p) r.set.clock (r.touched p)
   pub used : AreUsed r.set.chain (kept_pages form m) m.used
   pub most : IsMost r (reach form r g orders) m.most m.used
   pub set : m.set ≡ r.set
+
+-- the pages that are on the device and weren't, or were given up by a call of their order
+abbrev pub new_back : Rest → List (List Op) → List (List Tag) → Rest → ℕ
+new_back r actors orders m = count_by
+    (λ p. m.back p && not (back_after r actors p (nth_order orders p))) (range_with_len 0 r.size)
 
 -- The rest that a phase with these ends and orders leaves.
 pub record Leaves (form : List ℕ → Weight) (r : Rest) (g : Given)
@@ -182,6 +202,9 @@ pub record Leaves (form : List ℕ → Weight) (r : Rest) (g : Given)
   pub pages : LeavesPages form r g orders m
   pub so_far : m.so_far ≡ so_far_after form r g ends orders
   pub device : LeavesDevice r.device m.device (fetches r g ends orders)
+      (ends_sum written g.actors ends)
+  -- the pages that are new on the device are at most those that were written back
+  pub few_back : new_back r g.actors orders m ≤ ends_sum left_back g.actors ends
 
 -- ---- phases
 
@@ -193,7 +216,7 @@ pub record IsPhase (form : List ℕ → Weight) (r : Rest) (actors : List (List 
   -- what calls find on each page
   pub finds : ℕ → Finds
   pub held : FindsHeld r actors orders finds
-  pub may : MayEndEach (phase_ground form r)
+  pub may : MayEndEach (phase_ground form r actors)
       (bounds form r (begun r actors finds) orders m.device.faults) 0 actors ends
   -- no two lines tell the same count of faults
   pub faults_differ : (f : ℕ) → ends_sum (tells_fault f) actors ends ≤ 1

@@ -1,6 +1,6 @@
 -- The state of a disk between two items of a job, and its statistics: sums over its pages, and
 -- counts of what has happened so far.
-use Rattle.std.specs.Prelude.{◌≡◌, ℕ, ◌*◌, ◌<◌, ◌≤◌, Bool, List, [], ◌∷◌, map, length, sum_by, if◌then◌else◌}
+use Rattle.std.specs.Prelude.{◌≡◌, ℕ, ◌*◌, ◌<◌, ◌≤◌, nat_lt, Bool, List, [], ◌∷◌, map, length, sum_by, if◌then◌else◌}
 use Rattle.std.specs.List.{flat_map, range_with_len, AllByRecursion}
 use Rattle.mem_account.specs.declared.weight.Weight.{Weight}
 use Rattle.mem_account.specs.declared.weight.Weight.TheVariants.{Empty, Back}
@@ -65,6 +65,10 @@ pub record Rest : Type 0 where
   pub device : DeviceState
   pub set : Settings
   pub so_far : SoFar
+
+-- whether the disk has a backing
+abbrev pub is_backed : Rest → Bool
+is_backed r = nat_lt 0 r.set.backing
 
 -- a page of the rest
 abbrev pub page_of : Rest → ℕ → Found

@@ -4,3 +4,6 @@ pub mod Numbers
 pub mod ScanTurns
 pub mod Scans
 pub mod Classes
+pub mod VisitTurns
+pub mod Writebacks
+pub mod Onward

@@ -48,7 +48,7 @@ module _ (c : IdleHead) where
       ap (λ (op : Op). with_lock (here x stage.Start)
       (begun_at (is_maintenance op) (is_beyond x.terms.size x.part.op) (record x.part { op = op })
       (next_form x.part None (entry_or v (entry_in [])).kept)
-      (entry_or v (entry_in [])).kept)
+      (entry_or v (entry_in [])))
       (lock_of (start_plan (is_maintenance op) (is_beyond x.terms.size x.part.op)
       (record x.part { op = op }))) v) (sym w.op)
 

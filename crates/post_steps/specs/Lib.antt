@@ -1,3 +1,4 @@
 pub mod Idle
+pub mod Writeback
 pub mod Compact
 pub mod Turns

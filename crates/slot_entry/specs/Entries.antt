@@ -46,7 +46,12 @@ abbrev pub is_obj : Kept → Bool
 is_obj (Obj o) = true
 is_obj _ = false
 
--- whether it is there as its 4096 bytes
+-- whether it is in a block of the device
+abbrev pub is_wb : Kept → Bool
+is_wb (Wb b) = true
+is_wb _ = false
+
+-- whether it is in the pool as its 4096 bytes
 abbrev pub is_huge : Kept → Bool
 is_huge (Obj o) = o.huge
 is_huge _ = false

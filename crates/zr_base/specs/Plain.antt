@@ -1,6 +1,6 @@
 -- What a job's calls do to a plain disk: a list of sectors, and for each page the order of the
 -- calls on it.
-use Rattle.std.specs.Prelude.{◌≡◌, ℕ, ◌+◌, ◌-◌, ◌*◌, ◌<◌, ◌≤◌, ◌^◌, ◌/◌, ◌%◌, Bool, true, false, ◌&&◌, nat_lt, nat_le, ◌==◌, List, [], ◌∷◌, length, All, take, drop, get_or, replicate, count_by, Option, Some, None, option_and_then, slice_get, if◌then◌else◌}
+use Rattle.std.specs.Prelude.{◌≡◌, ℕ, ◌+◌, ◌-◌, ◌*◌, ◌<◌, ◌≤◌, ◌^◌, ◌/◌, ◌%◌, Bool, true, false, ◌&&◌, not, nat_lt, nat_le, ◌==◌, List, [], ◌∷◌, length, All, take, drop, get_or, replicate, count_by, Option, Some, None, option_and_then, slice_get, if◌then◌else◌}
 use Rattle.std.specs.List.{flat_map, range_with_len, AllByRecursion}
 use Rattle.std.specs.Int.{w64, to_le_bytes}
 use Rattle.zr_base.specs.declared.limits.TheConstants.{MOST_SECTORS}
@@ -8,7 +8,7 @@ use Rattle.zr_base.specs.declared.op.Tag.{Tag}
 use Rattle.zr_base.specs.declared.op.Stuff.{Stuff}
 use Rattle.zr_base.specs.declared.op.Stuff.TheVariants.{Fill, Seq, Hex}
 use Rattle.zr_base.specs.declared.op.Op.{Op}
-use Rattle.zr_base.specs.declared.op.Op.TheVariants.{Write, Read, Discard, Idle, Compact}
+use Rattle.zr_base.specs.declared.op.Op.TheVariants.{Write, Read, Discard, Idle, Writeback, Compact}
 use Rattle.zr_base.specs.declared.op.OpEnd.{OpEnd}
 use Rattle.zr_base.specs.declared.op.OpEnd.TheVariants as ends
 
@@ -65,6 +65,7 @@ start_of (Write start count stuff) = start
 start_of (Read start count) = start
 start_of (Discard start count) = start
 start_of (Idle age) = 0
+start_of (Writeback mode) = 0
 start_of Compact = 0
 
 -- how many sectors it has; what is no request has none
@@ -73,20 +74,31 @@ count_of (Write start count stuff) = count
 count_of (Read start count) = count
 count_of (Discard start count) = count
 count_of (Idle age) = 0
+count_of (Writeback mode) = 0
 count_of Compact = 0
 
--- whether an operation is no request: it marks pages, or compacts the pools
+-- whether an operation is no request: it marks pages or writes them back, or compacts the pools
 abbrev pub is_maintenance : Op → Bool
 is_maintenance (Write start count stuff) = false
 is_maintenance (Read start count) = false
 is_maintenance (Discard start count) = false
 is_maintenance (Idle age) = true
+is_maintenance (Writeback mode) = true
 is_maintenance Compact = true
 
 -- whether it marks pages idle
 abbrev pub is_marking : Op → Bool
 is_marking (Idle age) = true
 is_marking _ = false
+
+-- whether it writes pages back
+abbrev pub is_writeback : Op → Bool
+is_writeback (Writeback mode) = true
+is_writeback _ = false
+
+-- whether it does nothing: it writes pages back, and there is no backing
+abbrev pub is_void : Bool → Op → Bool
+is_void backed op = is_writeback op && not backed
 
 -- whether it is a compaction
 abbrev pub is_compaction : Op → Bool
@@ -104,6 +116,7 @@ IsRequest (Write start count stuff) = InBounds start count × HasSectors stuff c
 IsRequest (Read start count) = InBounds start count
 IsRequest (Discard start count) = InBounds start count
 IsRequest (Idle age) = Unit {0}
+IsRequest (Writeback mode) = Unit {0}
 IsRequest Compact = Unit {0}
 
 -- whether a request lies beyond a disk of so many pages
@@ -117,6 +130,7 @@ has_event (Write start count stuff) page = true
 has_event (Read start count) page = true
 has_event (Discard start count) page = has_whole start count page
 has_event (Idle age) page = false
+has_event (Writeback mode) page = false
 has_event Compact page = false
 
 -- ---- ages
@@ -136,6 +150,7 @@ sector_after (Read start count) s old = old
 sector_after (Discard start count) s old =
     if has_whole start count (s / 8) then zero_sector else old
 sector_after (Idle age) s old = old
+sector_after (Writeback mode) s old = old
 sector_after Compact s old = old
 
 -- the operation that a tag names
@@ -188,6 +203,7 @@ pieces_noted (Write start count stuff) done = done
 pieces_noted (Read start count) done = done + 1
 pieces_noted (Discard start count) done = done
 pieces_noted (Idle age) done = done
+pieces_noted (Writeback mode) done = done
 pieces_noted Compact done = done
 
 -- whether an operation with its end stands in the order of a page: with all its pieces, or with
@@ -199,6 +215,11 @@ stands_on op (ends.AtLimit pages need limit done) page = is_among (start_of op /
 stands_on op (ends.NoMemory done) page = is_among (start_of op / 8) done page
 stands_on op (ends.Eio fault done) page = is_among (start_of op / 8) (pieces_noted op done) page
 stands_on op (ends.Marked pages) page = false
+stands_on op (ends.Written wrote lost) page = false
+stands_on op (ends.Budget wrote lost) page = false
+stands_on op (ends.NoBlock wrote lost) page = false
+stands_on op ends.NoBacking page = false
+stands_on op (ends.WriteEio fault wrote lost) page = false
 stands_on op (ends.Compacted moves frames) page = false
 
 -- whether the operation that is named stands in the order of a page with its end, where there are both

@@ -57,6 +57,31 @@ pub enum OpEnd {
     },
     /// Pages were marked idle: how many marks are new.
     Marked(u32),
+    /// Pages were written back: how many are on the device now, and how many were written in vain,
+    /// since another actor's call came to the page meanwhile.
+    Written {
+        wrote: u32,
+        lost: u32,
+    },
+    /// The same, until the limit on writes allowed no other.
+    Budget {
+        wrote: u32,
+        lost: u32,
+    },
+    /// The same, until no block of the device was free.
+    NoBlock {
+        wrote: u32,
+        lost: u32,
+    },
+    /// No block of a device is used, so no page could be written back.
+    NoBacking,
+    /// Pages were written back until the device failed to write one: the device's count of faults
+    /// after it.
+    WriteEio {
+        fault: u64,
+        wrote: u32,
+        lost: u32,
+    },
     /// A compaction was carried out: how many objects it moved, and how many frames of 4096 bytes
     /// it freed.
     Compacted {
@@ -152,6 +177,11 @@ pub enum Op {
     /// seconds.
     Idle {
         age: Option<u64>,
+    },
+    /// Writes pages of the pool back to the backing device, one after the other. Without a backing it
+    /// does nothing.
+    Writeback {
+        mode: Mode,
     },
     /// Compacts the pools: objects move out of the zspages that have few, which are then given up.
     Compact,

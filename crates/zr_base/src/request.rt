@@ -2,7 +2,7 @@
 //! them.
 
 ghost use Rattle.std.specs.Prelude.{◌≡◌, ◌+◌, ◌≤◌, ◌<◌, ◌^◌, IsTrue};
-ghost use Rattle.zr_base.specs.Plain.{start_of, count_of, touches, is_beyond, has_event, IsRequest};
+ghost use Rattle.zr_base.specs.Plain.{start_of, count_of, touches, is_beyond, is_void, has_event, IsRequest};
 ghost use Rattle.zr_base.specs.Pieces.{first_page, pages_of, piece_on, IsPieceOf};
 
 use crate::op::{Op, Piece};
@@ -15,7 +15,7 @@ impl Op {
     {
         match self {
             Op::Write { start, .. } | Op::Read { start, .. } | Op::Discard { start, .. } => *start,
-            Op::Idle { .. } | Op::Compact => 0,
+            Op::Idle { .. } | Op::Writeback { .. } | Op::Compact => 0,
         }
     }
 
@@ -25,7 +25,7 @@ impl Op {
     {
         match self {
             Op::Write { count, .. } | Op::Read { count, .. } | Op::Discard { count, .. } => *count,
-            Op::Idle { .. } | Op::Compact => 0,
+            Op::Idle { .. } | Op::Writeback { .. } | Op::Compact => 0,
         }
     }
 
@@ -66,6 +66,13 @@ impl Op {
         8 * (pages as u64) < self.end()
     }
 
+    /// Whether it is a writeback on a disk without a backing, which does nothing.
+    pub fn is_void(&self, backed: bool) -> bool
+        ensures { result ≡ is_void backed self.now }
+    {
+        matches!(self, Op::Writeback { .. }) && !backed
+    }
+
     /// Whether the piece on a page is carried out: that of a discard only where it has the whole
     /// page.
     pub fn has_event(&self, page: u32) -> bool
@@ -78,7 +85,7 @@ impl Op {
                 let first = 8 * page as u64;
                 *start <= first && first + 8 <= self.end()
             }
-            Op::Idle { .. } | Op::Compact => false,
+            Op::Idle { .. } | Op::Writeback { .. } | Op::Compact => false,
         }
     }
 

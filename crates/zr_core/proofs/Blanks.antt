@@ -4,7 +4,7 @@ use Rattle.std.specs.List.{AllByRecursion}
 use Rattle.std.specs.Prelude.{option_and_then}
 use Rattle.zr_base.specs.declared.op.Tag.{Tag}
 use Rattle.zr_base.specs.declared.op.Op.{Op}
-use Rattle.zr_base.specs.declared.op.Op.TheVariants.{Write, Read, Discard, Idle, Compact}
+use Rattle.zr_base.specs.declared.op.Op.TheVariants.{Write, Read, Discard, Idle, Writeback, Compact}
 use Rattle.zr_base.specs.Plain.{Look, Finds, PageCalls, content, named, has_whole, sector_after, sector_after_named, zero_sector, IsRequest, IsSector}
 use Rattle.plain_disk.specs.Calls.{Found, after, after_all, blank_by}
 use Rattle.plain_disk.specs.Phases.{calls_on, held_after}
@@ -20,6 +20,7 @@ blank_one p k f None look lt does zeros e = zeros e
 blank_one p k f (Some (Write start count stuff)) look lt does zeros e = absurd (cc)
 blank_one p k f (Some (Read start count)) look lt does zeros e = zeros e
 blank_one p k f (Some (Idle age)) look lt does zeros e = zeros e
+blank_one p k f (Some (Writeback mode)) look lt does zeros e = zeros e
 blank_one p k f (Some Compact) look lt does zeros e = zeros e
 blank_one p k f (Some (Discard start count)) look lt does zeros e =
     ap (λ (b : Bool). cond b zero_sector (f.holds (8 * p + k)))
@@ -48,6 +49,7 @@ sector_one (Some (Read start count)) look s old puts finds ok =
 sector_one (Some (Discard start count)) look s old puts finds ok =
     puts (Discard start count) old refl ok
 sector_one (Some (Idle age)) look s old puts finds ok = puts (Idle age) old refl ok
+sector_one (Some (Writeback mode)) look s old puts finds ok = puts (Writeback mode) old refl ok
 sector_one (Some Compact) look s old puts finds ok = puts Compact old refl ok
 
 -- so do the calls of an order
@@ -102,7 +104,7 @@ module _ (law : RequestsAreProper) (g : Begin) (proper : Proper g) where
       → ((p : ℕ) → p < h.given.size → h.touched p ≤ h.clock)
       → (0 < length h.given.actors → 0 < h.given.size)
       → h.given.size + length h.given.actors < 2 ^ 32 - 1
-      → ((p : ℕ) → p < h.given.size → pieces_each h.given.size h.given.actors p < 2 ^ 32)
+      → ((p : ℕ) → p < h.given.size → pieces_each h.given.size h.given.backed h.given.actors p < 2 ^ 32)
       → Proper h
   begins_proper h work held before blank chain times some few pieces =
       law h (requests h.given.actors work) (finds_right h held)
@@ -144,6 +146,6 @@ module _ (law : RequestsAreProper) (g : Begin) (proper : Proper g) where
         least = (let q = proper.least in omega arith);
         most = (let q = proper.most in omega arith);
         few = (let q = proper.few in let n = ap length none in omega arith);
-        pieces = λ p lt. subst (λ (xs : List (List Op)). pieces_each h.given.size xs p < 2 ^ 32)
+        pieces = λ p lt. subst (λ (xs : List (List Op)). pieces_each h.given.size h.given.backed xs p < 2 ^ 32)
             (sym none) (omega arith);
       })

@@ -1,12 +1,12 @@
 -- A phase has no more pieces on a page than operations.
-use Rattle.std.proofs.Common.{◌≡◌, ℕ, zero, suc, ◌+◌, ◌^◌, ◌<◌, ◌≤◌, true, cond, eqb, List, [], ◌∷◌, ◌++◌, length, inl, inr, refl, arith}
+use Rattle.std.proofs.Common.{◌≡◌, ℕ, zero, suc, ◌+◌, ◌^◌, ◌<◌, ◌≤◌, Bool, true, false, cond, eqb, List, [], ◌∷◌, ◌++◌, length, inl, inr, refl, arith}
 use Rattle.std.proofs.lemmas.Bool.{cases_Bool, cases_lt, eqb-true}
 use Rattle.zr_base.specs.declared.op.Op.{Op}
 use Rattle.zr_base.specs.Pieces.{first_page, pages_of}
-use Rattle.zr_base.specs.Plain.{has_event}
+use Rattle.zr_base.specs.Plain.{is_void, has_event}
 use Rattle.plain_disk.specs.Ends.{is_single}
 use Rattle.call_history.specs.declared.part.Part.{Part}
-use Rattle.call_history.specs.Parts.{parts_from, parts, program}
+use Rattle.call_history.specs.Parts.{parts_from, parts_of, parts, program}
 use Rattle.actor_steps.specs.Places.{operations, IsWork}
 use Rattle.joint_rule.specs.Begins.{piece_on, pieces_on, pieces_each}
 
@@ -89,24 +89,32 @@ module _ (size page : ℕ) where
               ])
             ]
 
-    parts_one : pieces_on size page (parts size nr op) ≤ 1
-    parts_one = elim (cases_Bool (is_single size op)) [
+    some_one : pieces_on size page (parts_of size nr op) ≤ 1
+    some_one = elim (cases_Bool (is_single size op)) [
       | inl on ↦ rw on
           (let q = none_single (record { nr = nr; op = op; page = first_page op }) on in omega arith)
       | inr off ↦ rw off (from_one (first_page op) (pages_of op))
     ]
 
-  program_few : (nr : ℕ) (ops : List Op) → pieces_on size page (program size nr ops) ≤ length ops
-  program_few nr [] = omega arith
-  program_few nr (op ∷ ops) =
-      let a = on_append (parts size nr op) (program size (nr + 1) ops) in
-      let b = parts_one nr op in
-      let c = program_few (nr + 1) ops in omega arith
+  -- none where the operation does nothing
+  void_one : (b : Bool) (ps : List Part) → pieces_on size page ps ≤ 1
+      → pieces_on size page (cond b [] ps) ≤ 1
+  void_one true ps one = omega arith
+  void_one false ps one = one
 
-  each_few : (actors : List (List Op)) → pieces_each size actors page ≤ operations actors
-  each_few [] = omega arith
-  each_few (ops ∷ more) = let a = program_few 0 ops in let b = each_few more in omega arith
+  module _ (backed : Bool) where
+    program_few : (nr : ℕ) (ops : List Op)
+        → pieces_on size page (program size backed nr ops) ≤ length ops
+    program_few nr [] = omega arith
+    program_few nr (op ∷ ops) =
+        let a = on_append (parts size backed nr op) (program size backed (nr + 1) ops) in
+        let b = void_one (is_void backed op) (parts_of size nr op) (some_one nr op) in
+        let c = program_few (nr + 1) ops in omega arith
 
-  pub pieces_few : (actors : List (List Op)) → IsWork actors
-      → pieces_each size actors page < 2 ^ 32
-  pieces_few actors work = let a = each_few actors in let b = work.most in omega arith
+    each_few : (actors : List (List Op)) → pieces_each size backed actors page ≤ operations actors
+    each_few [] = omega arith
+    each_few (ops ∷ more) = let a = program_few 0 ops in let b = each_few more in omega arith
+
+    pub pieces_few : (actors : List (List Op)) → IsWork actors
+        → pieces_each size backed actors page < 2 ^ 32
+    pieces_few actors work = let a = each_few actors in let b = work.most in omega arith

@@ -1,5 +1,5 @@
 -- A phase that is over, as its world shows it.
-use Rattle.std.proofs.Common.{◌≡◌, ◌⊎◌, ℕ, ◌+◌, List, [], ◌∷◌, Option, inl, inr, refl, sym, ap, ◌∙◌, subst, arith}
+use Rattle.std.proofs.Common.{◌≡◌, ◌⊎◌, ℕ, ◌+◌, Bool, List, [], ◌∷◌, Option, inl, inr, refl, sym, ap, ◌∙◌, subst, arith}
 use Rattle.zr_base.specs.declared.op.Op.{Op}
 use Rattle.call_history.specs.declared.part.Part.{Part}
 use Rattle.call_history.specs.declared.part.Done.{Done}
@@ -23,13 +23,13 @@ on_same : (size page : ℕ) (ps : List Part) → counted_on size page ps ≡ pie
 on_same size page [] = refl
 on_same size page (p ∷ ps) = ap (λ (n : ℕ). piece_on size page p + n) (on_same size page ps)
 
-pub each_same : (size : ℕ) (actors : List (List Op)) (page : ℕ)
-    → counted_each size actors page ≡ pieces_each size actors page
-each_same size [] page = refl
-each_same size (ops ∷ more) page = λ i. on_same size page (program size 0 ops) i
-    + each_same size more page i
+pub each_same : (size : ℕ) (backed : Bool) (actors : List (List Op)) (page : ℕ)
+    → counted_each size backed actors page ≡ pieces_each size backed actors page
+each_same size backed [] page = refl
+each_same size backed (ops ∷ more) page = λ i. on_same size page (program size backed 0 ops) i
+    + each_same size backed more page i
 
-module _ {D : Type 0} (x : Playing D) (fit : AreFit x.terms x.actors x.workers) (g : Begin) (j : HasRule g x)
+module _ {D : Type 0} (x : Playing D) (fit : AreFit x.terms x.backed x.actors x.workers) (g : Begin) (j : HasRule g x)
     (finished : AllFinished (state_of x j.dones)) (chain : x.terms.chain ≡ MOST_CHAIN)
     (rests : FinishedIsAtRest) (next : RestGoesOn) (law : RequestsAreProper) where
   same_size : g.given.size ≡ x.terms.size
@@ -43,7 +43,7 @@ module _ {D : Type 0} (x : Playing D) (fit : AreFit x.terms x.actors x.workers) 
       (let a = j.of.some in let s = same_size in omega arith)
       (let a = j.of.most in let s = same_size in omega arith) rests next law)
 
-  pub orders_over : HasAllPieces x.terms.size x.noted x.actors
+  pub orders_over : HasAllPieces x.terms.size x.backed x.noted x.actors
       → HasAllOrders x.terms.size x.noted x.cells
   orders_over pieces = record {
     listed = pieces.listed;
@@ -52,7 +52,8 @@ module _ {D : Type 0} (x : Playing D) (fit : AreFit x.terms x.actors x.workers) 
         (let a = j.of.some in let s = same_size in omega arith)
         (let a = j.of.most in let s = same_size in omega arith) rests next law p
         (let s = same_size in omega arith)
-        ((λ i. pieces_each (same_size i) (j.of.actors i) p) ∙ sym (each_same x.terms.size x.actors p)
+        ((λ i. pieces_each (same_size i) (j.of.backed i) (j.of.actors i) p)
+        ∙ sym (each_same x.terms.size x.backed x.actors p)
         ∙ pieces.others p lt off);
   }
 
@@ -63,7 +64,7 @@ module _ {D : Type 0} (x : Playing D) (fit : AreFit x.terms x.actors x.workers) 
     kept = j.kept;
     rule = j.rule;
     finished = finished;
-    lines = shows_lines x.terms x.actors x.cells x.workers j.dones fit j.kept;
+    lines = shows_lines x.terms x.backed x.actors x.cells x.workers j.dones fit j.kept;
     rests = rests_as;
   }
 
@@ -92,10 +93,10 @@ rests_over x can finished chain rests next law = by can.ruled where
 
 -- a whole phase by its turns
 pub steps_over : {D : Type 0} (x y : Playing D) (turns : List ℕ) → Plays turns x y
-    → AreFit y.terms y.actors y.workers → y.actors ≡ x.actors
+    → AreFit y.terms y.backed y.actors y.workers → y.actors ≡ x.actors
     → (before : List (Option DiskHeld)) → IsSetUpOn before x
     → ((dones : List (List Done)) → AllFinished (state_of y dones))
-    → PhaseSteps x.terms x.actors before turns (lines_shown y) y.cells
+    → PhaseSteps x.terms x.backed x.actors before turns (lines_shown y) y.cells
 steps_over x y turns plays fit named before up finished =
     let n = plays.goes up.dones up.kept in record {
       start = state_of x up.dones;
@@ -103,8 +104,8 @@ steps_over x y turns plays fit named before up finished =
       is_set_up = up.set_up;
       run = n.2;
       finished = finished n.0;
-      prints = shows_lines y.terms y.actors y.cells y.workers n.0 fit n.1
-          ∙ (λ i. printed (size_same i) (named i) (state_of y n.0));
+      prints = shows_lines y.terms y.backed y.actors y.cells y.workers n.0 fit n.1
+          ∙ (λ i. printed (size_same i) (plays.backed i) (named i) (state_of y n.0));
       leaves = refl;
     } where
       size_same : y.terms.size ≡ x.terms.size

@@ -153,15 +153,15 @@ module _ (pages limit : ℕ) (e : DeviceState) (x : BlockMap) (front row cells :
       (λ s. let none : ⊥ = omega arith in none)
 
   pub row_new : AreFree x.states → length x.states ≤ e.blocks → e.reads < 2 ^ 64
-      → AreNew (new_disk pages limit e) (pages + 258) cells
-  row_new free fits reads = subst (λ (y : ℕ × Row). AreNew (new_disk pages limit e) y.0 y.1) (λ i. (
+      → e.writes < 2 ^ 64 → AreNew (new_disk pages limit e) (pages + 258) cells
+  row_new free fits reads writes = subst (λ (y : ℕ × Row). AreNew (new_disk pages limit e) y.0 y.1) (λ i. (
     (let q : pages + 256 + 1 + 1 ≡ pages + 258 = omega arith in q) i,
     (append_assoc front (Some (holds.Blocks x) ∷ []) (Some (holds.Device e) ∷ []) ∙ sym cells_are) i,
   ))
       (new_more (new_disk pages limit e) (pages + 256 + 1) (front ++ Some (holds.Blocks x) ∷ [])
       (holds.Device e)
       (new_more (new_disk pages limit e) (pages + 256) front (holds.Blocks x) are (refl, free, fits))
-      ((let q : pages + 256 + 1 ≡ pages + 257 = omega arith in q), refl, reads))
+      ((let q : pages + 256 + 1 ≡ pages + 257 = omega arith in q), refl, reads, writes))
 
 -- ---- a new disk at rest
 
@@ -230,6 +230,7 @@ module _ (pages limit : ℕ) (device : DeviceState) (cells : Row)
         (λ k lt.
         let x = are.each k (let a = emptied_long cells in let s = are.size in omega arith) in
         (without_calls x.0, emptied_at cells k (Some x.0) x.1)) new_each;
+    marks = λ k e at. (new_each k (holds.Slot e) at).4;
     account = account;
     device = at;
   }

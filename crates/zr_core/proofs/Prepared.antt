@@ -18,8 +18,8 @@ use Rattle.actor_steps.specs.declared.worker.Worker.{Worker}
 use Rattle.actor_steps.specs.Counts.{count_at, pieces_each as counted_each}
 use Rattle.actor_steps.specs.Preparing.{AreNewWorkers}
 use Rattle.actor_steps.specs.Places.{IsWork, todo_at}
-use Rattle.actor_steps.specs.Workers.{here, stage_of, at_by, held_by, owed_by, Keeps}
-use Rattle.page_steps.specs.Calls.{fresh_of, cell_in, ahead_of, behind_of, page_of, fail_of}
+use Rattle.actor_steps.specs.Workers.{here, stage_of, at_by, held_by, pin_by, owed_by, ahead_by, behind_by, page_by, fail_by, Keeps}
+use Rattle.page_steps.specs.Calls.{fresh_of}
 use Rattle.joint_rule.specs.Begins.{Begin, pieces_on, pieces_each}
 use Rattle.joint_rule.specs.Laws.{StartHasRule, RestGoesOn, RequestsAreProper}
 use Rattle.joint_rule.specs.Rule.{owed}
@@ -272,57 +272,59 @@ none_over [] a done e = absurd (cc)
 none_over (w ∷ ws) zero done e = let q : Some (let ds : List Done = [] in ds) ≡ Some done = e in cc
 none_over (w ∷ ws) (suc a) done e = none_over ws a done e
 
-record HereAt {D : Type 0} (t : Terms) (actors : List (List Op)) (ws : List (Worker D)) (a : ℕ)
-    (l : Here) : Type 0 where
+record HereAt {D : Type 0} (t : Terms) (backed : Bool) (actors : List (List Op)) (ws : List (Worker D))
+    (a : ℕ) (l : Here) : Type 0 where
   ops : List Op
   worker : Worker D
   named : slice_get actors a ≡ Some ops
   there : slice_get ws a ≡ Some worker
-  is : l ≡ here t.size ops worker []
+  is : l ≡ here t.size backed ops worker []
 
-here_at : {D : Type 0} (t : Terms) (actors : List (List Op)) (ws : List (Worker D)) (a : ℕ) (l : Here)
-    → slice_get (heres t actors ws (nothing_over ws)) a ≡ Some l → HereAt t actors ws a l
-here_at t [] ws a l e = absurd (cc)
-here_at t (ops ∷ more) [] a l e = absurd (cc)
-here_at t (ops ∷ more) (w ∷ ws) zero l e =
+here_at : {D : Type 0} (t : Terms) (backed : Bool) (actors : List (List Op)) (ws : List (Worker D))
+    (a : ℕ) (l : Here) → slice_get (heres t backed actors ws (nothing_over ws)) a ≡ Some l
+    → HereAt t backed actors ws a l
+here_at t backed [] ws a l e = absurd (cc)
+here_at t backed (ops ∷ more) [] a l e = absurd (cc)
+here_at t backed (ops ∷ more) (w ∷ ws) zero l e =
     record {
       ops = ops;
       worker = w;
       named = refl;
       there = refl;
       is =
-          (let q : Some (here t.size ops w []) ≡ Some l = e in cc);
+          (let q : Some (here t.size backed ops w []) ≡ Some l = e in cc);
     }
-here_at t (ops ∷ more) (w ∷ ws) (suc a) l e = let h = here_at t more ws a l e in
+here_at t backed (ops ∷ more) (w ∷ ws) (suc a) l e = let h = here_at t backed more ws a l e in
     record { ops = h.ops; worker = h.worker; named = h.named; there = h.there; is = h.is }
 
-as_many : {D : Type 0} (t : Terms) (actors : List (List Op)) (ws : List (Worker D)) → length ws ≡ length actors
-    → length (heres t actors ws (nothing_over ws)) ≡ length actors
-as_many t [] ws e = refl
-as_many t (ops ∷ more) [] e = absurd (let q : 0 ≡ suc (length more) = e in
+as_many : {D : Type 0} (t : Terms) (backed : Bool) (actors : List (List Op)) (ws : List (Worker D))
+    → length ws ≡ length actors → length (heres t backed actors ws (nothing_over ws)) ≡ length actors
+as_many t backed [] ws e = refl
+as_many t backed (ops ∷ more) [] e = absurd (let q : 0 ≡ suc (length more) = e in
     let none : ⊥ = omega arith in none)
-as_many t (ops ∷ more) (w ∷ ws) e = ap suc (as_many t more ws (omega arith))
+as_many t backed (ops ∷ more) (w ∷ ws) e = ap suc (as_many t backed more ws (omega arith))
 
-owed_is : {D : Type 0} (t : Terms) (p : ℕ) (actors : List (List Op)) (ws : List (Worker D))
+owed_is : {D : Type 0} (t : Terms) (backed : Bool) (p : ℕ) (actors : List (List Op)) (ws : List (Worker D))
     → length ws ≡ length actors
     → ((a : ℕ) (ops : List Op) (w : Worker D) → slice_get actors a ≡ Some ops
     → slice_get ws a ≡ Some w
-    → todo_at t.size ops w.place ≡ program t.size 0 ops)
-    → owed t.size (heres t actors ws (nothing_over ws)) p ≡ pieces_each t.size actors p
-owed_is t p [] ws e todo = refl
-owed_is t p (ops ∷ more) [] e todo = absurd (let q : 0 ≡ suc (length more) = e in
+    → todo_at t.size backed ops w.place ≡ program t.size backed 0 ops)
+    → owed t.size (heres t backed actors ws (nothing_over ws)) p ≡ pieces_each t.size backed actors p
+owed_is t backed p [] ws e todo = refl
+owed_is t backed p (ops ∷ more) [] e todo = absurd (let q : 0 ≡ suc (length more) = e in
     let none : ⊥ = omega arith in none)
-owed_is t p (ops ∷ more) (w ∷ ws) e todo =
+owed_is t backed p (ops ∷ more) (w ∷ ws) e todo =
     λ i. pieces_on t.size p (todo 0 ops w refl refl i)
-    + owed_is t p more ws (omega arith)
+    + owed_is t backed p more ws (omega arith)
     (λ a os v named there. todo (suc a) os v named there) i
 
 -- ---- the state before the first turn
 
-module _ {D : Type 0} (t : Terms) (actors : List (List Op)) (cells cells' : Row) (ws : List (Worker D))
+module _ {D : Type 0} (t : Terms) (backed : Bool) (actors : List (List Op)) (cells cells' : Row)
+    (ws : List (Worker D))
     (limit : ℕ) (spare : Option (Spare D)) (counts : BTreeMap ℕ ℕ) (noted : List ℕ)
-    (new : AreNewWorkers t.size t.chain actors ws)
-    (counted : (p : ℕ) → p < t.size → count_at counts p ≡ counted_each t.size actors p)
+    (new : AreNewWorkers t.size backed t.chain actors ws)
+    (counted : (p : ℕ) → p < t.size → count_at counts p ≡ counted_each t.size backed actors p)
     (r : AreReserved (λ p. true) counts t.size cells cells')
     (beyond : (k : ℕ) (e : EntryState) → t.size ≤ k
     → slice_get cells k ≡ Some (Some (holds.Slot e)) → ⊥) where
@@ -330,6 +332,7 @@ module _ {D : Type 0} (t : Terms) (actors : List (List Op)) (cells cells' : Row)
   now = record {
     terms = t;
     limit = limit;
+    backed = backed;
     spare = spare;
     noted = noted;
     actors = actors;
@@ -338,15 +341,13 @@ module _ {D : Type 0} (t : Terms) (actors : List (List Op)) (cells cells' : Row)
   }
 
   abbrev locals : List Here
-  locals = heres t actors ws (nothing_over ws)
+  locals = heres t backed actors ws (nothing_over ws)
 
-  kept : AreKept ws (nothing_over ws)
+  kept : AreKept backed actors ws (nothing_over ws)
   kept = record {
     count = length-map ws (λ (w : Worker D). (let ds : List Done = [] in ds));
-    each = λ a w done e f. subst (Keeps w) (sym (none_over ws a done f))
-        (let ops = there_is actors a
-        (let q = slice_get_within ws a w e in let n = new.count in omega arith) in
-        (new.each a ops.0 w ops.1 e).keeps);
+    each = λ a ops w done n e f. subst (Keeps backed ops w) (sym (none_over ws a done f))
+        (new.each a ops w n e).keeps;
   }
 
   orders : (k : ℕ) (e : EntryState) → slice_get cells' k ≡ Some (Some (holds.Slot e))
@@ -357,19 +358,19 @@ module _ {D : Type 0} (t : Terms) (actors : List (List Op)) (cells cells' : Row)
         sym p.after ∙ at in cc) in
         subst (λ (x : EntryState). (x.order ≡ []) × (owed t.size locals k ≤ x.room)) q (
           p.order refl,
-          (let o = owed_is t k actors ws new.count
+          (let o = owed_is t backed k actors ws new.count
               (λ a ops w named there. (new.each a ops w named there).todo) in
               let m = counted k lt in
-              let s = each_same t.size actors k in let room = p.room refl in omega arith),
+              let s = each_same t.size backed actors k in let room = p.room refl in omega arith),
         ))
     | inr ge ↦ absurd (beyond k e ge (sym (r.others k ge) ∙ at))
   ]
 
-  begin : (a : ℕ) (l : Here) → slice_get locals a ≡ Some l → Begins t.size actors a l
+  begin : (a : ℕ) (l : Here) → slice_get locals a ≡ Some l → Begins t.size backed actors a l
   begin a l e =
-      let h = here_at t actors ws a l e in
+      let h = here_at t backed actors ws a l e in
       let w = new.each a h.ops h.worker h.named h.there in
-      subst (Begins t.size actors a) (sym h.is) record {
+      subst (Begins t.size backed actors a) (sym h.is) record {
         who = w.who;
         ops = h.ops;
         named = h.named;
@@ -378,22 +379,22 @@ module _ {D : Type 0} (t : Terms) (actors : List (List Op)) (cells cells' : Row)
         held = ap (held_by h.worker.place.page) w.at;
         done = refl;
         fresh = ap (λ c. fresh_of h.worker.scratch (stage_of c)) w.at;
-        pin = ap (λ c. cell_in (stage_of c)) w.at;
+        pin = ap pin_by w.at;
         owed = ap owed_by w.at;
-        ahead = ap (λ c. ahead_of (stage_of c)) w.at;
-        behind = ap (λ c. behind_of (stage_of c)) w.at;
-        page = ap (λ c. page_of h.worker.scratch (stage_of c)) w.at;
-        fail = ap (λ c. fail_of (stage_of c)) w.at;
+        ahead = ap ahead_by w.at;
+        behind = ap behind_by w.at;
+        page = ap (page_by h.worker.scratch) w.at;
+        fail = ap fail_by w.at;
       }
 
   abbrev first : State DiskHeld
   first = state_of now (nothing_over ws)
 
-  is_set_up : IsSetUp t.size actors cells first
+  is_set_up : IsSetUp t.size backed actors cells first
   is_set_up = record {
     row = keeps_values t.size (λ p. true) counts cells cells' r;
     orders = orders;
-    count = as_many t actors ws new.count;
+    count = as_many t backed actors ws new.count;
     begin = begin;
   }
 
@@ -409,27 +410,28 @@ module _ {D : Type 0} (t : Terms) (actors : List (List Op)) (cells cells' : Row)
         let e = entry_known g t.size cells rests p (let s = rests.size in omega arith) in
         let q = time p e.0 e.1 in let same = e.2 in omega arith
 
-    begins_so : IsOf (begun g actors t.clock) now
+    begins_so : IsOf (begun g backed actors t.clock) now
     begins_so = record {
       goes_by = λ i. record {
         size = rests.size i;
         chain = (rests.chain ∙ sym chain) i;
         clock = t.clock;
       };
+      backed = refl;
       actors = refl;
       some = rests.some;
       most = rests.most;
-      proper = begins_proper law g rests.proper (begun g actors t.clock) work
+      proper = begins_proper law g rests.proper (begun g backed actors t.clock) work
           (λ p tag s old. refl) refl refl refl times
           (λ lt. let s = rests.size in let a = rests.some in omega arith)
           (let a = rests.size in let b = rests.most in let c = work.few in omega arith)
-          (λ p lt. pieces_few g.given.size p actors work);
+          (λ p lt. pieces_few g.given.size p backed actors work);
     }
 
-    is_start : IsStart (begun g actors t.clock) first
-    is_start = begins g t.size cells rests actors t.clock first is_set_up next
+    is_start : IsStart (begun g backed actors t.clock) first
+    is_start = begins g t.size cells rests backed actors t.clock first is_set_up next
 
-    pub prepared : IsPrepared (begun g actors t.clock) now
+    pub prepared : IsPrepared (begun g backed actors t.clock) now
     prepared = record {
       of = begins_so;
       dones = nothing_over ws;
@@ -437,12 +439,12 @@ module _ {D : Type 0} (t : Terms) (actors : List (List Op)) (cells cells' : Row)
       start = is_start;
     }
 
-    pub ruled : StartHasRule → HasRule (begun g actors t.clock) now
+    pub ruled : StartHasRule → HasRule (begun g backed actors t.clock) now
     ruled start = record {
       of = begins_so;
       dones = nothing_over ws;
       kept = kept;
-      rule = start (begun g actors t.clock) first begins_so.proper is_start;
+      rule = start (begun g backed actors t.clock) first begins_so.proper is_start;
     }
 
   -- the phase can go on, also on a disk without pages
@@ -473,4 +475,4 @@ module _ {D : Type 0} (t : Terms) (actors : List (List Op)) (cells cells' : Row)
       none bare.0,
     )
     by (inr (g, rests)) =
-        inr (begun g actors t.clock, ruled g rests work time chain next law start)
+        inr (begun g backed actors t.clock, ruled g rests work time chain next law start)

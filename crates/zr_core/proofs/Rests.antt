@@ -10,18 +10,20 @@ use Rattle.mem_account.specs.Counters.{Counters, no_counts}
 use Rattle.block_map.specs.BlockMap.{BlockMap}
 use Rattle.backing_dev.specs.Dev.{DeviceState}
 use Rattle.call_history.specs.Parts.{program}
-use Rattle.plain_disk.specs.Idles.{is_marked_in}
+use Rattle.plain_disk.specs.Idles.{may_write}
 use Rattle.plain_disk.specs.Phases.{held_after, touched_by}
 use Rattle.lock_row.specs.declared.names.Held.TheVariants as holds
 use Rattle.lock_row.specs.declared.names.State.{State}
-use Rattle.slot_entry.specs.Entries.{EntryState}
+use Rattle.slot_entry.specs.declared.kept.Kept.{Kept}
+use Rattle.slot_entry.specs.Entries.{EntryState, is_wb}
 use Rattle.page_steps.specs.Pages.{new_class}
 use Rattle.page_steps.specs.Steps.{DiskHeld, class_by, entry_in, plan_by}
 use Rattle.joint_rule.specs.Begins.{Begin, finding, found_after, back_at, pieces_each, AreCarried, Proper}
-use Rattle.joint_rule.specs.Ends.{idle_in, device_in}
-use Rattle.joint_rule.specs.Joint.{MarkFits, EntryFits, Sound}
+use Rattle.joint_rule.specs.Ends.{back_in, idle_in, device_in}
+use Rattle.joint_rule.specs.Joint.{EntryFits, Sound}
 use Rattle.joint_rule.specs.Laws.{RestGoesOn, FinishedIsAtRest, RequestsAreProper}
 use Rattle.joint_rule.specs.Rule.{Rule, owed}
+use Rattle.joint_rule.specs.Stages.{IsBack}
 use Rattle.joint_rule.specs.Starts.{AtRest, Renewed, slots, accounts, pools, maps, devices, IsStart}
 use Rattle.zr_core.specs.Machines.{AllFinished, order_in, order_at, without_calls, without_orders, IsKept, KeepsValues, IsSetUp}
 use Rattle.zr_core.specs.declared.limits.TheConstants.{MOST_CHAIN}
@@ -77,16 +79,30 @@ and_true : (b : Bool) → b ≡ (b && true)
 and_true true = refl
 and_true false = refl
 
--- without calls, and where no operation marks pages, a page is idle where it was
-same_mark : (x y : Bool) → (x ≡ true → y ≡ true) → (y ≡ true → x ≡ true) → x ≡ y
-same_mark true y to from = sym (to refl)
-same_mark false true to from = from refl
-same_mark false false to from = refl
+none_written : (backed : Bool) → may_write backed [] ≡ false
+none_written true = refl
+none_written false = refl
 
-mark_still : (g : Begin) (j : ℕ) (e : EntryState) → e.order ≡ []
-    → is_marked_in g.given.actors ≡ false → MarkFits g j e → g.idle j ≡ e.idle
-mark_still g j e none unmarked fits =
-    same_mark (g.idle j) e.idle (fits.stays none) (λ idle. (fits.only unmarked idle).1)
+backed_still : (g : Begin) (j : ℕ) (k : Kept) → g.given.actors ≡ []
+    → IsBack g k (back_at g j []) → g.back j ≡ is_wb k
+backed_still g j k none is = and_true (g.back j) ∙ sym (is.only
+    (ap (may_write g.given.backed) none ∙ none_written g.given.backed))
+
+-- the mark of an entry without its order is the one in its place
+mark_in : (row : Row) (j : ℕ) (e : EntryState)
+    → slice_get (without_orders row) j ≡ Some (Some (holds.Slot e))
+    → e.idle ≡ idle_in (get_or row j None)
+mark_in row j e at = let u = was_at row j (holds.Slot e) at in by u.0 u.1 u.2 where
+  by : (v : DiskHeld) → slice_get row j ≡ Some (Some v) → without_calls v ≡ holds.Slot e
+      → e.idle ≡ idle_in (get_or row j None)
+  by (holds.Slot f) here is =
+      let same : e ≡ record f { order = []; room = 0 } = cc in
+      ap (λ (x : EntryState). x.idle) same
+      ∙ sym (ap idle_in (get_or_from_slice_get row j (Some (holds.Slot f)) None here))
+  by (holds.Class q) here is = absurd (cc)
+  by (holds.Account c) here is = absurd (cc)
+  by (holds.Blocks x) here is = absurd (cc)
+  by (holds.Device x) here is = absurd (cc)
 
 -- a page that was touched before a time is touched at it or before
 touched_before : (order : List Tag) (clock touched : ℕ) → touched ≤ clock
@@ -221,6 +237,8 @@ module _ (g : Begin) (pages : ℕ) (cells : Row) (rests : RestsAs g pages cells)
         chain = rests.chain;
         proper = rests.proper;
         row = subst (AtRest g) (sym same) rests.row;
+        marks = λ k e at. rests.marks k e
+            (sym (ap (λ (row : Row). slice_get row k) same) ∙ at);
         account = a.1 ∙ ap (λ (u : DiskHeld). Some (Some u)) a.2;
         device = d.1 ∙ ap (λ (u : DiskHeld). Some (Some u)) d.2;
       }
@@ -244,9 +262,7 @@ module _ (g : Begin) (pages : ℕ) (cells : Row) (rests : RestsAs g pages cells)
     idle_was : (e : EntryState) (j : ℕ)
         → slice_get (without_orders cells) j ≡ Some (Some (without_calls (holds.Slot e)))
         → h.idle j ≡ e.idle
-    idle_was e j at = idle j ∙ mark_still g j (record e { order = []; room = 0 }) refl
-        (ap is_marked_in rests.none)
-        (rests.row.home j (without_calls (holds.Slot e)) at).sound.mark
+    idle_was e j at = idle j ∙ sym (rests.marks j (record e { order = []; room = 0 }) at)
 
     device_was : (x : DeviceState) (j : ℕ)
         → slice_get (without_orders cells) j ≡ Some (Some (holds.Device x)) → g.device ≡ x
@@ -271,7 +287,8 @@ module _ (g : Begin) (pages : ℕ) (cells : Row) (rests : RestsAs g pages cells)
           touched = ap (λ (f : EntryState). f.touched) is.2;
           time = touched_was e j at;
           blank = blank j;
-          back = back j ∙ and_true (g.back j);
+          back = back j ∙ backed_still g j e.kept rests.none
+              (rests.row.home j (without_calls (holds.Slot e)) at).backs;
           before = λ k lt. before (8 * j + k);
         }
     renewed j (holds.Class q) u at is = pools q refl is
@@ -295,10 +312,10 @@ module _ (g : Begin) (pages : ℕ) (cells : Row) (rests : RestsAs g pages cells)
 
   -- ---- a phase begins
 
-  module _ (actors : List (List Op)) (now : ℕ) (w : State DiskHeld)
-      (up : IsSetUp pages actors cells w) (next : RestGoesOn) where
+  module _ (backed : Bool) (actors : List (List Op)) (now : ℕ) (w : State DiskHeld)
+      (up : IsSetUp pages backed actors cells w) (next : RestGoesOn) where
     abbrev new : Begin
-    new = begun g actors now
+    new = begun g backed actors now
 
     next_is : (k : ℕ) (v u : DiskHeld) → slice_get w.row k ≡ Some (Some u) → IsKept v u
         → IsNext v u
@@ -340,13 +357,9 @@ module _ (g : Begin) (pages : ℕ) (cells : Row) (rests : RestsAs g pages cells)
         ∙ ap (slice_get w.row) e
         ∙ u.1 ∙ ap (λ (x : DiskHeld). Some (Some x)) u.2 in cc
 
-    -- and the marks
-    marks_are : (k : ℕ) (e : EntryState) → slice_get w.row k ≡ Some (Some (holds.Slot e))
-        → e.idle ≡ g.idle k
-    marks_are k e at = sym (mark_still g k (record e { order = []; room = 0 }) refl
-        (ap is_marked_in rests.none)
-        ((rests_on w.row up.row).row.home k (without_calls (holds.Slot e))
-        (emptied_at w.row k (Some (holds.Slot e)) at)).sound.mark)
+    -- the row that is set up is at rest too
+    set_up_rests : RestsAs g pages w.row
+    set_up_rests = rests_on w.row up.row
 
     pub begins : IsStart new w
     begins = record {
@@ -356,7 +369,11 @@ module _ (g : Begin) (pages : ℕ) (cells : Row) (rests : RestsAs g pages cells)
         o.0,
         subst (λ (n : ℕ). owed n w.locals k ≤ e.room) (sym rests.size) o.1,
       );
-      marks = marks_are;
+      marks = λ k e at. set_up_rests.marks k (record e { order = []; room = 0 })
+          (emptied_at w.row k (Some (holds.Slot e)) at);
+      backs = λ k e at. sym (backed_still g k e.kept rests.none
+          (set_up_rests.row.home k (without_calls (holds.Slot e))
+          (emptied_at w.row k (Some (holds.Slot e)) at)).backs);
       account = account_is;
       device = device_is;
       actors = λ a l at. let b = up.begin a l at in record {
@@ -364,7 +381,7 @@ module _ (g : Begin) (pages : ℕ) (cells : Row) (rests : RestsAs g pages cells)
         ops = b.ops;
         named = b.named;
         at = b.at;
-        todo = b.todo ∙ ap (λ (n : ℕ). program n 0 b.ops) (sym rests.size);
+        todo = b.todo ∙ ap (λ (n : ℕ). program n backed 0 b.ops) (sym rests.size);
         held = b.held;
         done = b.done;
         fresh = b.fresh;
@@ -410,6 +427,17 @@ module _ (g : Begin) (pages : ℕ) (cells : Row) (rests : RestsAs g pages cells)
         ))
         (λ ne. (without_calls v, emptied_at after k (Some v) (set_else k ne ∙ here), same_next v))
 
+    -- a mark is as before, where the other value isn't an entry's
+    set_marks : ((e : EntryState) → without_calls now ≡ holds.Slot e → ⊥) → (k : ℕ) (e : EntryState)
+        → slice_get (without_orders after) k ≡ Some (Some (holds.Slot e)) → e.idle ≡ g.idle k
+    set_marks none k e here =
+        let u = was_at after k (holds.Slot e) here in dite (ℕ_discrete k at)
+        (λ same. absurd (none e (
+        let q : Some (Some now) ≡ Some (Some u.0) = sym set_at ∙ ap (slice_get after) (sym same) ∙ u.1 in
+        let r : now ≡ u.0 = cc in ap without_calls r ∙ u.2)))
+        (λ ne. rests.marks k e (emptied_at cells k (Some u.0) (sym (set_else k ne) ∙ u.1)
+        ∙ ap (λ (v : DiskHeld). Some (Some v)) u.2))
+
     set_long : length (without_orders after) ≡ length cells
     set_long = emptied_long after ∙ ap length is ∙ length-set cells at (Some now)
 
@@ -446,6 +474,8 @@ module _ (g : Begin) (pages : ℕ) (cells : Row) (rests : RestsAs g pages cells)
           (λ s. refl) next (without_orders after)
           (set_long (pages + 255) (holds.Account g.was) (holds.Account d) rests.account goes after is)
           (set_each (pages + 255) (holds.Account g.was) (holds.Account d) rests.account goes after is);
+      marks = set_marks (pages + 255) (holds.Account g.was) (holds.Account d) rests.account goes after
+          is (λ e q. cc);
       account =
           set_at (pages + 255) (holds.Account g.was) (holds.Account d) rests.account goes after is;
       device =
@@ -472,6 +502,8 @@ module _ (g : Begin) (pages : ℕ) (cells : Row) (rests : RestsAs g pages cells)
           (without_orders after)
           (set_long (pages + 256) (holds.Blocks x) (holds.Blocks y) there maps_go after is)
           (set_each (pages + 256) (holds.Blocks x) (holds.Blocks y) there maps_go after is);
+      marks = set_marks (pages + 256) (holds.Blocks x) (holds.Blocks y) there maps_go after is
+          (λ e q. cc);
       account = set_else (pages + 256) (holds.Blocks x) (holds.Blocks y) there maps_go after is
           (pages + 255) (λ e. let none : ⊥ = omega arith in none) ∙ rests.account;
       device = set_else (pages + 256) (holds.Blocks x) (holds.Blocks y) there maps_go after is
@@ -521,7 +553,7 @@ module _ (g : Begin) (w : State DiskHeld) (proper : Proper g) (rule : Rule g w)
         touched = refl;
         time = ap touched_in (get_or_from_slice_get w.row j (Some (holds.Slot e)) None at);
         blank = ap (λ (o : List Tag). (found_after gf j o).blank) order;
-        back = ap (λ (o : List Tag). back_at gf j o) order;
+        back = ap back_in (get_or_from_slice_get w.row j (Some (holds.Slot e)) None at);
         before = λ k lt. ap (λ (n : ℕ). held_after gf.given n (order_at w.row n) (8 * j + k))
             (let q : (8 * j + k) / 8 ≡ j = omega arith in q)
             ∙ ap (λ (o : List Tag). held_after gf.given j o (8 * j + k)) order;
@@ -577,6 +609,7 @@ module _ (g : Begin) (w : State DiskHeld) (proper : Proper g) (rule : Rule g w)
             (matched (Renewed gf gone) w.row (without_orders w.row) (emptied_long w.row) ends.whole
             (λ k v at. (without_calls v, emptied_at w.row k (Some v) at, gone_at k v at)))
             ends;
+        marks = λ k e at. mark_in w.row k e at;
         account = a.1 ∙ ap (λ (c : Counters). Some (Some (holds.Account c)))
             (sym (account_some g.was.limit g.given.size w.row some
             ∙ ap (account_in (record no_counts { limit = g.was.limit }))
@@ -587,7 +620,7 @@ module _ (g : Begin) (w : State DiskHeld) (proper : Proper g) (rule : Rule g w)
 
   -- a page on which no piece has events has no order
   pub no_order : (p : ℕ) → p < g.given.size
-      → pieces_each g.given.size g.given.actors p ≡ 0 → order_at w.row p ≡ []
+      → pieces_each g.given.size g.given.backed g.given.actors p ≡ 0 → order_at w.row p ≡ []
   no_order p lt none =
       let e = entry_there gf w.row ends p lt in
       let few = (rule.ruled.told.in_row p (holds.Slot e.0) e.1).few in

@@ -1,5 +1,5 @@
 -- No state with the joint rule is stuck, and each event leaves fewer.
-use Rattle.std.proofs.Common.{◌≡◌, ◌≢◌, ℕ, zero, suc, ◌+◌, ◌-◌, ◌<◌, ◌≤◌, List, [], ◌∷◌, ◌++◌, length, Option, Some, slice_get, sym, refl, ap, ◌∙◌, subst, arith, inl, inr, ⊎_elim, append_assoc, add-one}
+use Rattle.std.proofs.Common.{◌≡◌, ◌≢◌, ℕ, zero, suc, ◌+◌, ◌-◌, ◌<◌, ◌≤◌, Bool, List, [], ◌∷◌, ◌++◌, length, Option, Some, slice_get, sym, refl, ap, ◌∙◌, subst, arith, inl, inr, ⊎_elim, append_assoc, add-one}
 use Rattle.std.specs.Prelude.{replicate, take}
 use Rattle.std.specs.List.{range_with_len}
 use Rattle.std.proofs.lemmas.List.{append-nil, replicate_more, replicate-append-replicate}
@@ -23,7 +23,7 @@ use Rattle.actor_steps.specs.Workers.{here}
 use Rattle.joint_rule.specs.Begins.{Begin, terms}
 use Rattle.joint_rule.specs.Laws.{TurnKeepsRule, CanMove, takes, gives, NobodyWaitsForever}
 use Rattle.zr_core.specs.Machines.{OneTurn, Turns, IsReached, AllFinished, rounds_of}
-use Rattle.zr_core.specs.States.{heres, state, Playing, state_of, AreKept, CanGoOn, HasRule, IsReachedFrom, TurnIs, TurnsOnce}
+use Rattle.zr_core.specs.States.{heres, state, Playing, state_of, HasKept, CanGoOn, HasRule, IsReachedFrom, TurnIs, TurnsOnce}
 use Rattle.zr_core.specs.Runs.{turns_of, Plays, RunsOut, IsBusy, AllOver, left_by, all_left, nothing_over, left_of, AreFew, IsFree, Round, RoundTo}
 use Rattle.zr_core.proofs.Fewer.{AllFew, count_same, of_here}
 use Rattle.zr_core.proofs.Falls.{falls, free_falls}
@@ -72,33 +72,33 @@ module _ (sums : SumMoves DiskHeld) (t : Terms) where
 -- ---- workers
 
 -- what is left doesn't depend on what is over
-sum_same : {D : Type 0} (n : ℕ) (t : Terms) (actors : List (List Op)) (ws : List (Worker D))
-    (dones : List (List Done)) → length dones ≡ length ws
-    → locals_sum (left_by t.size n) (heres t actors ws dones)
-    ≡ locals_sum (left_by t.size n) (heres t actors ws (nothing_over ws))
-sum_same n t [] ws ds e = refl
-sum_same n t (ops ∷ more) [] ds e = refl
-sum_same n t (ops ∷ more) (w ∷ ws) [] e = absurd (let q : 0 ≡ suc (length ws) = e in
+sum_same : {D : Type 0} (n : ℕ) (t : Terms) (backed : Bool) (actors : List (List Op))
+    (ws : List (Worker D)) (dones : List (List Done)) → length dones ≡ length ws
+    → locals_sum (left_by t.size n) (heres t backed actors ws dones)
+    ≡ locals_sum (left_by t.size n) (heres t backed actors ws (nothing_over ws))
+sum_same n t backed [] ws ds e = refl
+sum_same n t backed (ops ∷ more) [] ds e = refl
+sum_same n t backed (ops ∷ more) (w ∷ ws) [] e = absurd (let q : 0 ≡ suc (length ws) = e in
     let none : ⊥ = omega arith in none)
-sum_same n t (ops ∷ more) (w ∷ ws) (d ∷ ds) e =
-    ap (λ (k : ℕ). left_by t.size n (here t.size ops w d) + k) (sum_same n t more ws ds (omega arith))
+sum_same n t backed (ops ∷ more) (w ∷ ws) (d ∷ ds) e =
+    ap (λ (k : ℕ). left_by t.size n (here t.size backed ops w d) + k) (sum_same n t backed more ws ds (omega arith))
 
 pub left_same : {D : Type 0} (x : Playing D) (dones : List (List Done)) → length dones ≡ length x.workers
     → all_left x.terms.size (state_of x dones) ≡ left_of x
 left_same x dones e =
-    sum_same (x.terms.size + length (heres x.terms x.actors x.workers dones)) x.terms x.actors
-    x.workers dones e
+    sum_same (x.terms.size + length (heres x.terms x.backed x.actors x.workers dones)) x.terms x.backed
+    x.actors x.workers dones e
     ∙ ap (λ (k : ℕ). locals_sum (left_by x.terms.size (x.terms.size + k))
-    (heres x.terms x.actors x.workers (nothing_over x.workers)))
-    (count_same x.terms x.actors x.workers dones e)
+    (heres x.terms x.backed x.actors x.workers (nothing_over x.workers)))
+    (count_same x.terms x.backed x.actors x.workers dones e)
 
-pub heres_length : {D : Type 0} (t : Terms) (actors : List (List Op)) (ws : List (Worker D))
+pub heres_length : {D : Type 0} (t : Terms) (backed : Bool) (actors : List (List Op)) (ws : List (Worker D))
     (dones : List (List Done))
-    → length (heres t actors ws dones) ≤ length actors
-heres_length t [] ws ds = omega arith
-heres_length t (ops ∷ more) [] ds = omega arith
-heres_length t (ops ∷ more) (w ∷ ws) [] = omega arith
-heres_length t (ops ∷ more) (w ∷ ws) (d ∷ ds) = let q = heres_length t more ws ds in
+    → length (heres t backed actors ws dones) ≤ length actors
+heres_length t backed [] ws ds = omega arith
+heres_length t backed (ops ∷ more) [] ds = omega arith
+heres_length t backed (ops ∷ more) (w ∷ ws) [] = omega arith
+heres_length t backed (ops ∷ more) (w ∷ ws) (d ∷ ds) = let q = heres_length t backed more ws ds in
     omega arith
 
 -- an actor that can move is free
@@ -142,11 +142,11 @@ module _ {D : Type 0} (free : NobodyWaitsForever) (x : Playing D) (can : CanGoOn
         let done = there_is j.dones busy.actor (let n = j.kept.count in
         let q = slice_get_within x.workers busy.actor busy.worker busy.there in omega arith) in
         let is_fit = can.fit.each busy.actor busy.ops busy.worker busy.named busy.there in
-        let who = heres_get x.terms x.actors x.workers j.dones busy.actor busy.ops busy.worker done.0
+        let who = heres_get x.terms x.backed x.actors x.workers j.dones busy.actor busy.ops busy.worker done.0
         busy.named busy.there done.1 in
-        let l = here x.terms.size busy.ops busy.worker done.0 in
+        let l = here x.terms.size x.backed busy.ops busy.worker done.0 in
         let f = may_move g s (free g s busy.actor l j.of.proper j.rule who
-        (λ e. some_todo x.terms.size busy.ops busy.worker.place is_fit.settled busy.more
+        (λ e. some_todo x.terms.size x.backed busy.ops busy.worker.place is_fit.settled busy.more
         (no_plan (terms g) l e))) in
         (f.0, subst (λ (t : Terms). IsFree t s f.0) j.of.goes_by f.1)
 
@@ -159,7 +159,7 @@ module _ {D : Type 0} (free : NobodyWaitsForever) (x : Playing D) (can : CanGoOn
         let f = busy_free in
         let j = rule.1 in
         let less = round_falls sums x.terms (state_of x j.dones) (state_of y r.0) n
-        (let q = heres_length x.terms x.actors x.workers j.dones in omega arith) f.0 f.1
+        (let q = heres_length x.terms x.backed x.actors x.workers j.dones in omega arith) f.0 f.1
         (subst (λ (t : Terms). Round t (state_of x j.dones) (state_of y r.0) n) same r.3) in
         let a = left_same x j.dones j.kept.count in
         let b : all_left x.terms.size (state_of y r.0) ≡ left_of y =
@@ -167,13 +167,13 @@ module _ {D : Type 0} (free : NobodyWaitsForever) (x : Playing D) (can : CanGoOn
         ∙ left_same y r.0 r.1.count in omega arith
 
 -- where all workers are past their operations, all actors are finished
-pub all_finished : {D : Type 0} (t : Terms) (actors : List (List Op)) (cells : List (Option DiskHeld))
+pub all_finished : {D : Type 0} (t : Terms) (backed : Bool) (actors : List (List Op)) (cells : List (Option DiskHeld))
     (ws : List (Worker D)) (dones : List (List Done)) → AllOver actors ws
-    → AllFinished (state t actors cells ws dones)
-all_finished t actors cells ws dones over a l who =
-    let x = of_here t actors ws dones a l who in
+    → AllFinished (state t backed actors cells ws dones)
+all_finished t backed actors cells ws dones over a l who =
+    let x = of_here t backed actors ws dones a l who in
     subst (λ (m : Here). m.todo ≡ []) x.4
-    (no_todo t.size x.1.place.nr x.0 x.1.place.page x.1.place.left (over a x.0 x.1 x.3.0 x.3.1))
+    (no_todo t.size backed x.1.place.nr x.0 x.1.place.page x.1.place.left (over a x.0 x.1 x.3.0 x.3.1))
 
 -- one more actor that is finished
 pub more_over : {D : Type 0} (actors : List (List Op)) (ws : List (Worker D)) (n : ℕ) (ops : List Op) (w : Worker D)
@@ -201,12 +201,12 @@ range_push a n j e = rw add-one (range_suc a n j e)
 
 pub turn_more : {D : Type 0} → SumMoves DiskHeld → (start : State DiskHeld) (x y : Playing D) → y.terms ≡ x.terms
     → (i : ℕ) (t : WasTurn) → AllFew x → RoundTo start x i
-    → ((dones : List (List Done)) → AreKept x.workers dones → TurnsOnce i x y t dones)
+    → ((dones : List (List Done)) → HasKept x dones → TurnsOnce i x y t dones)
     → RoundTo start y (i + 1)
 turn_more sums start x y same i t few r turn =
     let n = turn r.0 r.1 in
     let once = one_turn x.terms i (state_of x r.0) (state_of y n.0) t n.2 in
-    subst (λ (u : Terms). (dones : List (List Done)) × AreKept y.workers dones
+    subst (λ (u : Terms). (dones : List (List Done)) × HasKept y dones
     × Turns u (range_with_len 0 (i + 1)) start (state_of y dones)
     × Round u start (state_of y dones) (i + 1)) (sym same) (
       n.0,
@@ -223,6 +223,7 @@ pub plays_none : {D : Type 0} (x : Playing D) → CanGoOn x → Plays [] x x
 plays_none x can = record {
   same = refl;
   limit = refl;
+  backed = refl;
   spare = refl;
   can = can;
   goes = λ dones kept. (dones, kept, refl);
@@ -233,6 +234,7 @@ pub plays_on : {D : Type 0} (xs ys : List ℕ) (x y z : Playing D) → Plays xs 
 plays_on xs ys x y z first then = record {
   same = then.same ∙ first.same;
   limit = then.limit ∙ first.limit;
+  backed = then.backed ∙ first.backed;
   spare = then.spare ∙ first.spare;
   can = then.can;
   goes = λ dones kept.
@@ -247,12 +249,13 @@ plays_on xs ys x y z first then = record {
 
 -- one turn
 pub plays_once : {D : Type 0} (a : ℕ) (x y : Playing D) (t : WasTurn) → y.terms ≡ x.terms
-    → y.limit ≡ x.limit → y.spare ≡ x.spare → CanGoOn y
-    → ((dones : List (List Done)) → AreKept x.workers dones → TurnsOnce a x y t dones)
+    → y.limit ≡ x.limit → y.backed ≡ x.backed → y.spare ≡ x.spare → CanGoOn y
+    → ((dones : List (List Done)) → HasKept x dones → TurnsOnce a x y t dones)
     → Plays (a ∷ []) x y
-plays_once a x y t same limit spare can turn = record {
+plays_once a x y t same limit backed spare can turn = record {
   same = same;
   limit = limit;
+  backed = backed;
   spare = spare;
   can = can;
   goes = λ dones kept. let n = turn dones kept in
@@ -282,12 +285,13 @@ idle u (suc k) a w n turn.Finished not is =
     (w, one_turn u a w w turn.Finished (is.0, is.1, is.2, refl), idle u k a w n turn.Finished not is)
 
 pub plays_idle : {D : Type 0} (k a : ℕ) (x y : Playing D) (t : WasTurn) → t ≢ turn.Went → y.terms ≡ x.terms
-    → y.limit ≡ x.limit → y.spare ≡ x.spare → CanGoOn y
-    → ((dones : List (List Done)) → AreKept x.workers dones → TurnsOnce a x y t dones)
+    → y.limit ≡ x.limit → y.backed ≡ x.backed → y.spare ≡ x.spare → CanGoOn y
+    → ((dones : List (List Done)) → HasKept x dones → TurnsOnce a x y t dones)
     → Plays (replicate k a) x y
-plays_idle k a x y t not same limit spare can once = record {
+plays_idle k a x y t not same limit backed spare can once = record {
   same = same;
   limit = limit;
+  backed = backed;
   spare = spare;
   can = can;
   goes = λ dones kept. let n = once dones kept in (n.0, n.1, idle x.terms k a _ _ t not n.2);
@@ -346,7 +350,7 @@ module _ {D : Type 0} (x y z : Playing D) where
 module _ {D : Type 0} (xs : List ℕ) (x y : Playing D) (ops : y.actors ≡ x.actors) (plays : Plays xs x y) where
   pub plays_rule : TurnKeepsRule → (g : Begin) → HasRule g x → HasRule g y
   plays_rule keeps g j = let n = plays.goes j.dones j.kept in record {
-    of = of_on x y plays.same ops g j.of;
+    of = of_on x y plays.same plays.backed ops g j.of;
     dones = n.0;
     kept = n.1;
     rule = rule_run keeps g j.of.proper xs (state_of x j.dones) (state_of y n.0) j.rule
@@ -368,7 +372,7 @@ module _ {D : Type 0} (xs : List ℕ) (x y : Playing D) (ops : y.actors ≡ x.ac
 -- a schedule, and then rounds until all actors are finished
 pub runs_out : {D : Type 0} (x y : Playing D) (turns : List ℕ) (rounds : ℕ)
     → Plays (turns ++ rounds_of (length x.actors) rounds) x y → AllOver y.actors y.workers
-    → (dones : List (List Done)) → AreKept x.workers dones → RunsOut turns x y dones
+    → (dones : List (List Done)) → HasKept x dones → RunsOut turns x y dones
 runs_out x y turns rounds plays over dones kept =
     let n = plays.goes dones kept in
-    (rounds, n.0, n.1, n.2, all_finished y.terms y.actors y.cells y.workers n.0 over)
+    (rounds, n.0, n.1, n.2, all_finished y.terms y.backed y.actors y.cells y.workers n.0 over)

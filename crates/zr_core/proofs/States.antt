@@ -7,10 +7,12 @@ use Rattle.call_history.specs.declared.part.Done.{Done}
 use Rattle.lock_row.specs.declared.names.LockNo.{LockNo}
 use Rattle.lock_row.specs.declared.names.At.{At}
 use Rattle.lock_row.specs.declared.names.At.TheVariants as at
+use Rattle.lock_row.specs.declared.names.Step.{Step}
+use Rattle.lock_row.specs.declared.names.Step.TheVariants as step
 use Rattle.lock_row.specs.declared.names.Plan.TheVariants.{Finished, Take, Give}
 use Rattle.lock_row.specs.Rows.{Row, place_in, cell, with_cell}
 use Rattle.page_steps.specs.Pages.{new_class}
-use Rattle.page_steps.specs.Steps.{Terms, DiskHeld, Here, spot, class_by, start_plan, plan_at, plan_by, entry_in, plan}
+use Rattle.page_steps.specs.Steps.{Terms, DiskHeld, Here, spot, class_by, start_plan, visit_plan, plan_at, plan_by, entry_in, plan}
 use Rattle.page_steps.specs.Nexts.{Next}
 use Rattle.actor_steps.specs.declared.worker.Worker.{Worker}
 use Rattle.actor_steps.specs.declared.worker.Turn.{Turn}
@@ -24,67 +26,73 @@ use Rattle.zr_core.proofs.Lists.{get_set, set_same}
 
 -- ---- lists
 
-pub heres_get : {D : Type 0} (t : Terms) (actors : List (List Op)) (ws : List (Worker D)) (dones : List (List Done))
+pub heres_get : {D : Type 0} (t : Terms) (backed : Bool) (actors : List (List Op)) (ws : List (Worker D))
+    (dones : List (List Done))
     (a : ℕ) (ops : List Op) (w : Worker D) (done : List Done)
     → slice_get actors a ≡ Some ops → slice_get ws a ≡ Some w → slice_get dones a ≡ Some done
-    → slice_get (heres t actors ws dones) a ≡ Some (here t.size ops w done)
-heres_get t [] ws ds a ops w done e f h = absurd (cc)
-heres_get t (x ∷ xs) [] ds a ops w done e f h = absurd (cc)
-heres_get t (x ∷ xs) (y ∷ ys) [] a ops w done e f h = absurd (cc)
-heres_get t (x ∷ xs) (y ∷ ys) (z ∷ zs) zero ops w done e f h =
+    → slice_get (heres t backed actors ws dones) a ≡ Some (here t.size backed ops w done)
+heres_get t backed [] ws ds a ops w done e f h = absurd (cc)
+heres_get t backed (x ∷ xs) [] ds a ops w done e f h = absurd (cc)
+heres_get t backed (x ∷ xs) (y ∷ ys) [] a ops w done e f h = absurd (cc)
+heres_get t backed (x ∷ xs) (y ∷ ys) (z ∷ zs) zero ops w done e f h =
     let p : x ≡ ops = (let q : Some x ≡ Some ops = e in cc) in
     let q : y ≡ w = (let q : Some y ≡ Some w = f in cc) in
     let r : z ≡ done = (let q : Some z ≡ Some done = h in cc) in
-    λ i. Some (here t.size (p i) (q i) (r i))
-heres_get t (x ∷ xs) (y ∷ ys) (z ∷ zs) (suc a) ops w done e f h =
-    heres_get t xs ys zs a ops w done e f h
+    λ i. Some (here t.size backed (p i) (q i) (r i))
+heres_get t backed (x ∷ xs) (y ∷ ys) (z ∷ zs) (suc a) ops w done e f h =
+    heres_get t backed xs ys zs a ops w done e f h
 
-pub heres_set : {D : Type 0} (t : Terms) (actors : List (List Op)) (ws : List (Worker D)) (dones : List (List Done))
+pub heres_set : {D : Type 0} (t : Terms) (backed : Bool) (actors : List (List Op)) (ws : List (Worker D))
+    (dones : List (List Done))
     (a : ℕ) (ops : List Op) (w : Worker D) (done : List Done)
     → slice_get actors a ≡ Some ops → a < length ws → a < length dones
-    → heres t actors (slice_set ws a w) (slice_set dones a done)
-    ≡ slice_set (heres t actors ws dones) a (here t.size ops w done)
-heres_set t [] ws ds a ops w done e f h = absurd (cc)
-heres_set t (x ∷ xs) [] ds a ops w done e f h = absurd (omega arith)
-heres_set t (x ∷ xs) (y ∷ ys) [] a ops w done e f h = absurd (omega arith)
-heres_set t (x ∷ xs) (y ∷ ys) (z ∷ zs) zero ops w done e f h =
+    → heres t backed actors (slice_set ws a w) (slice_set dones a done)
+    ≡ slice_set (heres t backed actors ws dones) a (here t.size backed ops w done)
+heres_set t backed [] ws ds a ops w done e f h = absurd (cc)
+heres_set t backed (x ∷ xs) [] ds a ops w done e f h = absurd (omega arith)
+heres_set t backed (x ∷ xs) (y ∷ ys) [] a ops w done e f h = absurd (omega arith)
+heres_set t backed (x ∷ xs) (y ∷ ys) (z ∷ zs) zero ops w done e f h =
     let p : x ≡ ops = (let q : Some x ≡ Some ops = e in cc) in
-    ap (λ (os : List Op). here t.size os w done ∷ heres t xs ys zs) p
-heres_set t (x ∷ xs) (y ∷ ys) (z ∷ zs) (suc a) ops w done e f h =
-    ap (λ (ls : List Here). here t.size x y z ∷ ls)
-    (heres_set t xs ys zs a ops w done e (omega arith) (omega arith))
+    ap (λ (os : List Op). here t.size backed os w done ∷ heres t backed xs ys zs) p
+heres_set t backed (x ∷ xs) (y ∷ ys) (z ∷ zs) (suc a) ops w done e f h =
+    ap (λ (ls : List Here). here t.size backed x y z ∷ ls)
+    (heres_set t backed xs ys zs a ops w done e (omega arith) (omega arith))
 
-pub fit_set : {D : Type 0} (t : Terms) (actors : List (List Op)) (ws : List (Worker D)) (a : ℕ) (ops : List Op)
-    (old w : Worker D)
-    → AreFit t actors ws → slice_get actors a ≡ Some ops → slice_get ws a ≡ Some old
-    → IsFit t ops w
-    → AreFit t actors (slice_set ws a w)
-fit_set {D} t actors ws a ops old w fit named there new = record {
+same_ops : (xs : List (List Op)) (a b : ℕ) (ops os : List Op) → a ≡ b → slice_get xs a ≡ Some ops
+    → slice_get xs b ≡ Some os → ops ≡ os
+same_ops xs a b ops os same e f =
+    let q : Some ops ≡ Some os = sym e ∙ ap (slice_get xs) same ∙ f in let r : ops ≡ os = cc in r
+
+pub fit_set : {D : Type 0} (t : Terms) (backed : Bool) (actors : List (List Op)) (ws : List (Worker D))
+    (a : ℕ) (ops : List Op) (old w : Worker D)
+    → AreFit t backed actors ws → slice_get actors a ≡ Some ops → slice_get ws a ≡ Some old
+    → IsFit t backed ops w
+    → AreFit t backed actors (slice_set ws a w)
+fit_set {D} t backed actors ws a ops old w fit named there new = record {
   count = length-set ws a w ∙ fit.count;
   each = λ b os v e f. ⊎_elim
-      (λ s. subst (λ (x : List Op × Worker D). IsFit t x.0 x.1) (λ i. (
-        (let q : Some ops ≡ Some os = sym named
-            ∙ (ap (slice_get actors) (sym s.0) ∙ e) in let r : ops ≡ os = cc in r) i,
-        s.1 i,
-      )) new)
+      (λ s. subst (λ (x : List Op × Worker D). IsFit t backed x.0 x.1)
+      (λ i. (same_ops actors a b ops os (sym s.0) named e i, s.1 i)) new)
       (λ o. fit.each b os v e o.1)
       (get_set ws a b w v old there f);
 }
 
-pub kept_set : {D : Type 0} (ws : List (Worker D)) (dones : List (List Done)) (a : ℕ) (old w : Worker D)
-    (was done : List Done)
-    → AreKept ws dones → slice_get ws a ≡ Some old → slice_get dones a ≡ Some was → Keeps w done
-    → AreKept (slice_set ws a w) (slice_set dones a done)
-kept_set {D} ws dones a old w was done kept there had new = record {
+pub kept_set : {D : Type 0} (backed : Bool) (actors : List (List Op)) (ws : List (Worker D))
+    (dones : List (List Done)) (a : ℕ) (ops : List Op) (old w : Worker D) (was done : List Done)
+    → AreKept backed actors ws dones → slice_get actors a ≡ Some ops → slice_get ws a ≡ Some old
+    → slice_get dones a ≡ Some was → Keeps backed ops w done
+    → AreKept backed actors (slice_set ws a w) (slice_set dones a done)
+kept_set {D} backed actors ws dones a ops old w was done kept named there had new = record {
   count = length-set dones a done ∙ kept.count ∙ sym (length-set ws a w);
-  each = λ b v d e f. ⊎_elim
+  each = λ b os v d n e f. ⊎_elim
       (λ s. ⊎_elim
-      (λ t. subst (λ (x : Worker D × List Done). Keeps x.0 x.1) (λ i. (s.1 i, t.1 i)) new)
+      (λ t. subst (λ (x : List Op × Worker D × List Done). Keeps backed x.0 x.1 x.2)
+      (λ i. (same_ops actors a b ops os (sym s.0) named n i, s.1 i, t.1 i)) new)
       (λ t. absurd (t.0 s.0))
       (get_set dones a b done d was had f))
       (λ o. ⊎_elim
       (λ t. absurd (o.0 t.0))
-      (λ t. kept.each b v d o.1 t.1)
+      (λ t. kept.each b os v d n o.1 t.1)
       (get_set dones a b done d was had f))
       (get_set ws a b w v old there e);
 }
@@ -127,6 +135,31 @@ no_plan t l e = todo l.todo refl where
         going at.Ready c d f = cc
         going (at.Scanning x) c d f = cc
         going (at.Marking x) c d f = cc
+        going (at.Visiting s x) c d f = visiting s f where
+          visiting : (s : Step) → visit_plan s x c ≡ Finished → ⊥
+          visiting step.Arriving f = cc
+          visiting step.Passing f = cc
+          visiting step.Asking f = cc
+          visiting step.Reserving f = cc
+          visiting step.Quitting f = cc
+          visiting step.Seen f = cc
+          visiting step.Pinning f = cc
+          visiting step.Pinned f = cc
+          visiting step.Unpinning f = cc
+          visiting step.Marking f = cc
+          visiting step.Flying f = cc
+          visiting step.Storing f = cc
+          visiting step.Landing f = cc
+          visiting step.Won f = cc
+          visiting step.Freeing f = cc
+          visiting step.Backing f = cc
+          visiting step.Committing f = cc
+          visiting step.Owing f = cc
+          visiting step.Paying f = cc
+          visiting step.Putting f = cc
+          visiting step.Losing f = cc
+          visiting step.Undoing f = cc
+          visiting step.Releasing f = cc
         going (at.Sweeping x) c d f = cc
         going (at.Moving x) c d f = cc
         going (at.Shrunk x) c d f = cc

@@ -22,7 +22,7 @@ use Rattle.joint_rule.specs.Begins.{Begin, terms}
 use Rattle.joint_rule.specs.Laws.{IsLock, TurnKeepsRule, TakesLock, GivesLock, TakenValueFits}
 use Rattle.zr_core.specs.Machines.{OneTurn, IsReached}
 use Rattle.zr_core.specs.Rests.{names_of}
-use Rattle.zr_core.specs.States.{heres, Playing, state_of, AreKept, HasRule, IsEmpty, IsOf, IsReachedFrom, taken, given, TurnIs, TurnsOnce}
+use Rattle.zr_core.specs.States.{heres, Playing, state_of, HasKept, HasRule, IsEmpty, IsOf, IsReachedFrom, taken, given, TurnIs, TurnsOnce}
 use Rattle.zr_core.proofs.Lists.{there_is}
 use Rattle.zr_core.proofs.Machines.{run_on}
 use Rattle.zr_core.proofs.Names.{there, place, cell_at, names_long}
@@ -52,37 +52,37 @@ pub record Seat {D : Type 0} (x : Playing D) (a : ℕ) (ops : List Op) (w : Work
 
 module _ {D : Type 0} (x : Playing D) (a : ℕ) (ops : List Op) (w : Worker D) (r : Row DiskHeld)
     (s : Seat x a ops w r) where
-  done_of : (dones : List (List Done)) → AreKept x.workers dones
-      → (done : List Done) × (slice_get dones a ≡ Some done) × Keeps w done
+  done_of : (dones : List (List Done)) → HasKept x dones
+      → (done : List Done) × (slice_get dones a ≡ Some done) × Keeps x.backed ops w done
   done_of dones kept =
       let d = there_is dones a
       (let n = kept.count in let q = slice_get_within x.workers a w s.worker in omega arith) in
-      (d.0, d.1, kept.each a w d.0 s.worker d.1)
+      (d.0, d.1, kept.each a ops w d.0 s.named s.worker d.1)
 
   abbrev over : List Done
   over = (done_of s.rule.dones s.rule.kept).0
 
   abbrev local : Here
-  local = here x.terms.size ops w over
+  local = here x.terms.size x.backed ops w over
 
   abbrev now : State DiskHeld
   now = state_of x s.rule.dones
 
   who : slice_get now.locals a ≡ Some local
-  who = heres_get x.terms x.actors x.workers s.rule.dones a ops w over s.named s.worker
+  who = heres_get x.terms x.backed x.actors x.workers s.rule.dones a ops w over s.named s.worker
       (done_of s.rule.dones s.rule.kept).1
 
   same_size : s.begin.given.size ≡ x.terms.size
   same_size = ap (λ (t : Terms). t.size) s.rule.of.goes_by
 
-  planned : {p : Plan} → next_event x.terms ops w ≡ p → plan (terms s.begin) local ≡ p
+  planned : {p : Plan} → next_event x.terms x.backed ops w ≡ p → plan (terms s.begin) local ≡ p
   planned what = ap (λ (t : Terms). plan t local) s.rule.of.goes_by ∙ what
 
-  takes_here : (k : LockNo) → next_event x.terms ops w ≡ Take k → IsLock x.terms.size k
+  takes_here : (k : LockNo) → next_event x.terms x.backed ops w ≡ Take k → IsLock x.terms.size k
   takes_here k what = subst (λ (n : ℕ). IsLock n k) same_size
       (s.takes s.begin now a local k s.rule.of.proper s.rule.rule who (planned what))
 
-  gives_here : (k : LockNo) → next_event x.terms ops w ≡ Give k
+  gives_here : (k : LockNo) → next_event x.terms x.backed ops w ≡ Give k
       → IsLock x.terms.size k × (slice_get x.cells (spot x.terms.size k) ≡ Some None)
   gives_here k what =
       subst (λ (n : ℕ). IsLock n k × (slice_get x.cells (spot n k) ≡ Some None)) same_size
@@ -95,7 +95,7 @@ module _ {D : Type 0} (x : Playing D) (a : ℕ) (ops : List Op) (w : Worker D) (
   place_is : (k : LockNo) → IsLock x.terms.size k → place_in r.names k ≡ spot x.terms.size k
   place_is k is = ap (λ ks. place_in ks k) s.names ∙ place x.terms.size s.places k is
 
-  pub may_take : (k : LockNo) → next_event x.terms ops w ≡ Take k
+  pub may_take : (k : LockNo) → next_event x.terms x.backed ops w ≡ Take k
       → (o : Option DiskHeld) × (cell r k ≡ Some o)
   may_take k what =
       let is = takes_here k what in
@@ -106,15 +106,15 @@ module _ {D : Type 0} (x : Playing D) (a : ℕ) (ops : List Op) (w : Worker D) (
       omega arith) in
       (o.0, cell_is k is ∙ o.1)
 
-  pub may_fit : TakenValueFits → (k : LockNo) (v : DiskHeld) → next_event x.terms ops w ≡ Take k
-      → cell r k ≡ Some (Some v) → StageFits x.terms (here x.terms.size ops w []) v
+  pub may_fit : TakenValueFits → (k : LockNo) (v : DiskHeld) → next_event x.terms x.backed ops w ≡ Take k
+      → cell r k ≡ Some (Some v) → StageFits x.terms (here x.terms.size x.backed ops w []) v
   may_fit fits k v what at =
       subst (λ (t : Terms). StageFits t local v) s.rule.of.goes_by
       (fits s.begin now a local k v s.rule.of.proper s.rule.rule who (planned what)
       (ap (λ (n : ℕ). slice_get x.cells (spot n k)) same_size ∙ sym (cell_is k (takes_here k what))
       ∙ at))
 
-  pub may_give : (k : LockNo) → next_event x.terms ops w ≡ Give k → cell r k ≡ Some None
+  pub may_give : (k : LockNo) → next_event x.terms x.backed ops w ≡ Give k → cell r k ≡ Some None
   may_give k what = let out = gives_here k what in cell_is k out.0 ∙ out.1
 
   module _ {X : Type 0} {takes : X → LockNo → Next → DiskHeld → X → Type 0} {misses : X → LockNo
@@ -127,12 +127,13 @@ module _ {D : Type 0} (x : Playing D) (a : ℕ) (ops : List Op) (w : Worker D) (
       (gave : (k : LockNo) (f : Next) (v : DiskHeld) → gives h k f v m
       → (cell (row_of h) k ≡ Some None) × (row_of m ≡ with_cell (row_of h) k (Some v)))
       (w' : Worker D) (res : Turn) (t : Terms) (same : t ≡ x.terms)
-      (all : (done : List Done) → Keeps w done
-      → Advanced takes misses gives t ops w h w' m res done) where
+      (all : (done : List Done) → Keeps x.backed ops w done
+      → Advanced takes misses gives t x.backed ops w h w' m res done) where
     abbrev after : Playing D
     after = record {
       terms = x.terms;
       limit = x.limit;
+      backed = x.backed;
       spare = x.spare;
       noted = x.noted;
       actors = x.actors;
@@ -140,29 +141,29 @@ module _ {D : Type 0} (x : Playing D) (a : ℕ) (ops : List Op) (w : Worker D) (
       workers = slice_set x.workers a w';
     }
 
-    turned : (done : List Done) → Keeps w done
-        → Advanced takes misses gives x.terms ops w h w' m res done
+    turned : (done : List Done) → Keeps x.backed ops w done
+        → Advanced takes misses gives x.terms x.backed ops w h w' m res done
     turned done keeps =
-        subst (λ (u : Terms). Advanced takes misses gives u ops w h w' m res done) same
+        subst (λ (u : Terms). Advanced takes misses gives u x.backed ops w h w' m res done) same
         (all done keeps)
 
     at_name : (k : LockNo) → place_in (row_of h).names k ≡ place_in r.names k
     at_name k = ap (λ (y : Row DiskHeld). place_in y.names k) is
 
-    pub turns_once : (dones : List (List Done)) → AreKept x.workers dones
+    pub turns_once : (dones : List (List Done)) → HasKept x dones
         → TurnsOnce a x after res dones
     turns_once dones kept =
         let lt : a < length x.workers = slice_get_within x.workers a w s.worker in
         let d = done_of dones kept in
         let adv = turned d.0 d.2 in
-        let is_who = heres_get x.terms x.actors x.workers dones a ops w d.0 s.named s.worker d.1 in (
+        let is_who = heres_get x.terms x.backed x.actors x.workers dones a ops w d.0 s.named s.worker d.1 in (
           slice_set dones a adv.0,
-          kept_set x.workers dones a w w' d.0 adv.0 kept s.worker d.1 adv.1,
+          kept_set x.backed x.actors x.workers dones a ops w w' d.0 adv.0 kept s.named s.worker d.1 adv.1,
           subst (λ (ls : List Here). TurnIs x.terms a (state_of x dones)
               (record { row = (row_of m).cells; locals = ls }) res)
-              (sym (heres_set x.terms x.actors x.workers dones a ops w' adv.0 s.named lt
+              (sym (heres_set x.terms x.backed x.actors x.workers dones a ops w' adv.0 s.named lt
               (let q = kept.count in omega arith)))
-              (turn_is row_of x.cells (heres x.terms x.actors x.workers dones) a is_who
+              (turn_is row_of x.cells (heres x.terms x.backed x.actors x.workers dones) a is_who
               (ap (λ (y : Row DiskHeld). y.cells) is ∙ s.cells)
               (λ k what. at_name k ∙ place_is k (takes_here k what))
               (λ k what. at_name k ∙ place_is k (gives_here k what).0) took missed gave adv.2),
@@ -186,21 +187,23 @@ ruled_by x a ops (inr ruled) e = ruled
 
 -- ---- what a turn keeps
 
-pub of_on : {D : Type 0} (x y : Playing D) → y.terms ≡ x.terms → y.actors ≡ x.actors → (g : Begin) → IsOf g x
-    → IsOf g y
-of_on x y same ops g o = record {
+pub of_on : {D : Type 0} (x y : Playing D) → y.terms ≡ x.terms → y.backed ≡ x.backed → y.actors ≡ x.actors
+    → (g : Begin) → IsOf g x → IsOf g y
+of_on x y same backed ops g o = record {
   goes_by = o.goes_by ∙ sym same;
+  backed = o.backed ∙ sym backed;
   actors = o.actors ∙ sym ops;
   some = let q = o.some in let e = ap (λ (u : Terms). u.size) same in omega arith;
   most = let q = o.most in let e = ap (λ (u : Terms). u.size) same in omega arith;
   proper = o.proper;
 }
 
-module _ {D : Type 0} (x y : Playing D) (same : y.terms ≡ x.terms) (ops : y.actors ≡ x.actors) (a : ℕ) (t : Turn)
-    (turn : (dones : List (List Done)) → AreKept x.workers dones → TurnsOnce a x y t dones) where
+module _ {D : Type 0} (x y : Playing D) (same : y.terms ≡ x.terms) (backed : y.backed ≡ x.backed)
+    (ops : y.actors ≡ x.actors) (a : ℕ) (t : Turn)
+    (turn : (dones : List (List Done)) → HasKept x dones → TurnsOnce a x y t dones) where
   pub rule_on : TurnKeepsRule → (g : Begin) → HasRule g x → HasRule g y
   rule_on keeps g j = let n = turn j.dones j.kept in record {
-    of = of_on x y same ops g j.of;
+    of = of_on x y same backed ops g j.of;
     dones = n.0;
     kept = n.1;
     rule = keeps g a (state_of x j.dones) (state_of y n.0) j.of.proper j.rule

@@ -1,5 +1,5 @@
 -- The states of a phase: its start, its end, and what it prints.
-use Rattle.std.specs.Prelude.{◌≡◌, ℕ, zero, suc, ◌≤◌, List, [], ◌++◌, map, length, get_or, Option, Some, None, slice_get}
+use Rattle.std.specs.Prelude.{◌≡◌, ℕ, zero, suc, ◌≤◌, Bool, List, [], ◌++◌, map, length, get_or, Option, Some, None, slice_get}
 use Rattle.std.specs.List.{range_with_len}
 use Rattle.zr_base.specs.declared.op.Tag.{Tag}
 use Rattle.zr_base.specs.declared.op.Op.{Op}
@@ -93,13 +93,14 @@ pub record KeepsValues (before after : List (Option DiskHeld)) : Type 0 where
 
 -- ---- starts
 
--- An actor before its first turn.
-pub record Begins (size : ℕ) (actors : List (List Op)) (a : ℕ) (l : Here) : Type 0 where
+-- An actor before its first turn, on a disk that has a backing or none.
+pub record Begins (size : ℕ) (backed : Bool) (actors : List (List Op)) (a : ℕ) (l : Here)
+    : Type 0 where
   pub who : l.actor ≡ a
   pub ops : List Op
   pub named : slice_get actors a ≡ Some ops
   pub at : l.at ≡ Start
-  pub todo : l.todo ≡ program size 0 ops
+  pub todo : l.todo ≡ program size backed 0 ops
   pub held : l.held ≡ []
   pub done : l.done ≡ []
   pub fresh : l.fresh ≡ None
@@ -112,13 +113,14 @@ pub record Begins (size : ℕ) (actors : List (List Op)) (a : ℕ) (l : Here) : 
 
 -- A phase of these actors is set up on a row: every order is empty and has room for the phase's
 -- pieces, all else is as the row had it, and no actor has had a turn.
-pub record IsSetUp (size : ℕ) (actors : List (List Op)) (before : List (Option DiskHeld))
-    (w : State DiskHeld) : Type 0 where
+pub record IsSetUp (size : ℕ) (backed : Bool) (actors : List (List Op))
+    (before : List (Option DiskHeld)) (w : State DiskHeld) : Type 0 where
   pub row : KeepsValues before w.row
   pub orders : (k : ℕ) (e : EntryState) → slice_get w.row k ≡ Some (Some (holds.Slot e))
       → (e.order ≡ []) × (owed size w.locals k ≤ e.room)
   pub count : length w.locals ≡ length actors
-  pub begin : (a : ℕ) (l : Here) → slice_get w.locals a ≡ Some l → Begins size actors a l
+  pub begin : (a : ℕ) (l : Here) → slice_get w.locals a ≡ Some l
+      → Begins size backed actors a l
 
 -- ---- what a phase prints
 
@@ -127,19 +129,21 @@ abbrev pub histories : List Here → List (List Done)
 histories ls = map (λ (l : Here). l.done) ls
 
 -- what is printed of a state in which all actors are finished
-abbrev pub printed : ℕ → List (List Op) → State DiskHeld → List OutLine
-printed size actors w =
-    phase_lines (ends_each actors (histories w.locals)) (told_each actors (histories w.locals))
+abbrev pub printed : ℕ → Bool → List (List Op) → State DiskHeld → List OutLine
+printed size backed actors w =
+    phase_lines (ends_each backed actors (histories w.locals))
+    (told_each actors (histories w.locals))
     (orders_of size w.row)
 
 -- A phase of these actors, set up on a row, makes these turns, after which all actors are finished:
 -- what it prints, and the row that it leaves.
-pub record PhaseSteps (t : Terms) (actors : List (List Op)) (before : List (Option DiskHeld))
-    (turns : List ℕ) (lines : List OutLine) (after : List (Option DiskHeld)) : Type 0 where
+pub record PhaseSteps (t : Terms) (backed : Bool) (actors : List (List Op))
+    (before : List (Option DiskHeld)) (turns : List ℕ) (lines : List OutLine)
+    (after : List (Option DiskHeld)) : Type 0 where
   pub start : State DiskHeld
   pub last : State DiskHeld
-  pub is_set_up : IsSetUp t.size actors before start
+  pub is_set_up : IsSetUp t.size backed actors before start
   pub run : Turns t turns start last
   pub finished : AllFinished last
-  pub prints : lines ≡ printed t.size actors last
+  pub prints : lines ≡ printed t.size backed actors last
   pub leaves : after ≡ last.row

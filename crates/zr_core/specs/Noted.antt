@@ -33,6 +33,8 @@ pub record HasAllOrders (pages : ℕ) (noted : List ℕ) (cells : List (Option D
   pub others : (p : ℕ) → p < pages → is_in noted p ≡ false → order_at cells p ≡ []
 
 -- Every page on which a piece of these actors has events is in the list.
-pub record HasAllPieces (pages : ℕ) (noted : List ℕ) (actors : List (List Op)) : Type 0 where
+pub record HasAllPieces (pages : ℕ) (backed : Bool) (noted : List ℕ) (actors : List (List Op))
+    : Type 0 where
   pub listed : ArePages pages noted
-  pub others : (p : ℕ) → p < pages → is_in noted p ≡ false → pieces_each pages actors p ≡ 0
+  pub others : (p : ℕ) → p < pages → is_in noted p ≡ false
+      → pieces_each pages backed actors p ≡ 0

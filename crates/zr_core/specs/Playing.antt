@@ -11,13 +11,14 @@ use Rattle.zr_core.specs.declared.disk.World.{World}
 use Rattle.zr_core.specs.declared.phase.Phase.{Phase}
 use Rattle.zr_core.specs.Machines.{AllFinished, orders_of, printed}
 use Rattle.zr_core.specs.Rests.{RestsAs, left}
-use Rattle.zr_core.specs.States.{AreKept, IsOf, Playing, ends_shown, sectors_shown, state_of}
+use Rattle.zr_core.specs.States.{HasKept, IsOf, Playing, ends_shown, sectors_shown, state_of}
 
 -- a world and its phase, between two turns
 abbrev pub playing : {D : Type 0} {b : Ghosts D} → World D b → Phase D → List (List Op) → Playing D
 playing world phase actors = record {
   terms = record { size = world.pages; chain = MOST_CHAIN; clock = phase.clock };
   limit = world.limit;
+  backed = world.backed;
   spare = world.spare;
   noted = world.noted.items;
   actors = actors;
@@ -35,8 +36,8 @@ lines_shown x =
 pub record HasEndedAs {D : Type 0} (g : Begin) (x : Playing D) : Type 0 where
   pub of : IsOf g x
   pub dones : List (List Done)
-  pub kept : AreKept x.workers dones
+  pub kept : HasKept x dones
   pub rule : Rule g (state_of x dones)
   pub finished : AllFinished (state_of x dones)
-  pub lines : lines_shown x ≡ printed x.terms.size x.actors (state_of x dones)
+  pub lines : lines_shown x ≡ printed x.terms.size x.backed x.actors (state_of x dones)
   pub rests : RestsAs (left (finding g rule.finds) x.cells) x.terms.size x.cells

@@ -1,5 +1,5 @@
 -- A disk between two phases: its row, and what a phase on it begins with.
-use Rattle.std.specs.Prelude.{◌≡◌, ◌⊎◌, ℕ, zero, suc, ◌+◌, ◌/◌, ◌^◌, ◌<◌, ◌≤◌, ◌==◌, nat_lt, true, false, List, [], ◌∷◌, ◌++◌, map, get_or, length, if◌then◌else◌, Option, Some, None, is_some, IfSome, slice_get}
+use Rattle.std.specs.Prelude.{◌≡◌, ◌⊎◌, ℕ, zero, suc, ◌+◌, ◌/◌, ◌^◌, ◌<◌, ◌≤◌, ◌==◌, nat_lt, Bool, true, false, List, [], ◌∷◌, ◌++◌, map, get_or, length, if◌then◌else◌, Option, Some, None, is_some, IfSome, slice_get}
 use Rattle.std.specs.List.{range_with_len}
 use Rattle.zr_base.specs.declared.op.Op.{Op}
 use Rattle.zr_base.specs.Plain.{as_held, zero_sector}
@@ -13,9 +13,9 @@ use Rattle.lock_row.specs.declared.names.LockNo.TheVariants as lock
 use Rattle.lock_row.specs.declared.names.Held.TheVariants as holds
 use Rattle.slot_entry.specs.Entries.{EntryState}
 use Rattle.page_steps.specs.Steps.{DiskHeld, slot}
-use Rattle.joint_rule.specs.Begins.{Begin, found_after, back_at, Proper}
+use Rattle.joint_rule.specs.Begins.{Begin, found_after, Proper}
 use Rattle.joint_rule.specs.Starts.{AtRest, AreFree}
-use Rattle.joint_rule.specs.Ends.{idle_in, device_of}
+use Rattle.joint_rule.specs.Ends.{back_in, idle_in, device_of}
 use Rattle.zr_base.specs.declared.limits.TheConstants.{MOST_PAGES}
 use Rattle.zr_core.specs.declared.limits.TheConstants.{MOST_CHAIN}
 use Rattle.zr_core.specs.declared.spare.Spare.{Spare}
@@ -103,11 +103,12 @@ blocks_in (Some (holds.Blocks x)) = x
 blocks_in (Some (holds.Device x)) = no_blocks
 
 -- What stands beside the row before the disk's size is given: the map has free blocks alone, and no
--- more than the device, whose count of reads isn't past its end.
+-- more than the device, whose counts of calls aren't past their end.
 pub record IsSpare {D : Type 0} (s : Spare D) : Type 0 where
   pub free : AreFree s.blocks.states
   pub fits : length s.blocks.states ≤ s.device.blocks
   pub reads : s.device.reads < 2 ^ 64
+  pub writes : s.device.writes < 2 ^ 64
 
 -- before the disk's size is given, the device and the map stand beside the row, and then in it
 abbrev pub IsEarly : {D : Type 0} → ℕ → Option (Spare D) → Type 0
@@ -125,8 +126,8 @@ blocks_by (Some s) pages cells = s.blocks
 
 -- ---- between two phases
 
--- Each value is at home, and these are the disk's pages as the phases so far left them, with every
--- order taken as empty, and the account.
+-- Each value is at home, and these are the disk's pages and marks as the phases so far left them, with
+-- every order taken as empty, the account and the device.
 pub record RestsAs (g : Begin) (pages : ℕ) (cells : List (Option DiskHeld)) : Type 0 where
   pub size : g.given.size ≡ pages
   pub some : 1 ≤ pages
@@ -135,6 +136,8 @@ pub record RestsAs (g : Begin) (pages : ℕ) (cells : List (Option DiskHeld)) : 
   pub chain : g.chain ≡ MOST_CHAIN
   pub proper : Proper g
   pub row : AtRest g (without_orders cells)
+  pub marks : (k : ℕ) (e : EntryState)
+      → slice_get (without_orders cells) k ≡ Some (Some (holds.Slot e)) → e.idle ≡ g.idle k
   pub account : slice_get cells (pages + 255) ≡ Some (Some (holds.Account g.was))
   pub device : slice_get cells (pages + 257) ≡ Some (Some (holds.Device g.device))
 
@@ -161,11 +164,13 @@ pub record IsAtRest (pages : ℕ) (noted : List ℕ) (cells : List (Option DiskH
 
 -- ---- what a phase begins with
 
--- a new disk: zeros, nothing written, the limit, and the device
+-- a new disk: zeros, nothing written, the limit, and the device; without actors nothing goes by whether
+-- it has a backing
 abbrev pub new_disk : ℕ → ℕ → DeviceState → Begin
 new_disk pages limit device = record {
   given = record {
     size = pages;
+    backed = false;
     actors = [];
     before = λ s. zero_sector;
     finds = λ p. as_held;
@@ -204,11 +209,12 @@ with_limit g limit = with_account g (record g.was { limit = limit })
 abbrev pub with_lowered : Begin → Begin
 with_lowered g = with_account g (record g.was { most = g.was.pages })
 
--- a phase of these actors at this time
-abbrev pub begun : Begin → List (List Op) → ℕ → Begin
-begun g actors now = record {
+-- a phase of these actors at this time, on a disk that has a backing or none
+abbrev pub begun : Begin → Bool → List (List Op) → ℕ → Begin
+begun g backed actors now = record {
   given = record {
     size = g.given.size;
+    backed = backed;
     actors = actors;
     before = g.given.before;
     finds = λ p. as_held;
@@ -238,12 +244,13 @@ abbrev pub left : Begin → List (Option DiskHeld) → Begin
 left g row = record {
   given = record {
     size = g.given.size;
+    backed = g.given.backed;
     actors = [];
     before = λ s. held_after g.given (s / 8) (order_at row (s / 8)) s;
     finds = λ p. as_held;
   };
   blank = λ p. (found_after g p (order_at row p)).blank;
-  back = λ p. back_at g p (order_at row p);
+  back = λ p. back_in (get_or row p None);
   idle = λ p. idle_in (get_or row p None);
   touched = λ p. touched_in (get_or row p None);
   chain = g.chain;

@@ -3,7 +3,7 @@ use Rattle.std.specs.Prelude.{◌≡◌, ◌⊎◌, ◌≢◌, ℕ, ◌+◌, ◌
 use Rattle.std.specs.List.{flat_map, range_with_len}
 use Rattle.zr_base.specs.declared.op.Op.{Op}
 use Rattle.zr_base.specs.declared.op.Turns.{Turns}
-use Rattle.zr_base.specs.declared.op.Op.TheVariants.{Idle, Compact}
+use Rattle.zr_base.specs.declared.op.Op.TheVariants.{Idle, Writeback, Compact}
 use Rattle.call_history.specs.declared.part.Part.{Part}
 use Rattle.call_history.specs.declared.part.Done.{Done}
 use Rattle.class_pool.specs.Pool.{PoolState, objects}
@@ -11,17 +11,19 @@ use Rattle.lock_row.specs.declared.names.LockNo.{LockNo}
 use Rattle.lock_row.specs.declared.names.LockNo.TheVariants as lock
 use Rattle.lock_row.specs.declared.names.Held.TheVariants as holds
 use Rattle.lock_row.specs.declared.names.At.{At}
-use Rattle.lock_row.specs.declared.names.At.TheVariants.{Start, Refusing, Seen, Pinning, Pinned, Unpinning, Leaving, Away, Fetching, Failing, Counting, Missed, Wanting, Inside, Both, Made, Old, Freeing, Backed, Releasing, Owing, Giving, Ready, Scanning, Marking, Sweeping, Moving, Shrunk, Shrinking}
+use Rattle.lock_row.specs.declared.names.At.TheVariants.{Start, Refusing, Seen, Pinning, Pinned, Unpinning, Leaving, Away, Fetching, Failing, Counting, Missed, Wanting, Inside, Both, Made, Old, Freeing, Backed, Releasing, Owing, Giving, Ready, Scanning, Marking, Visiting, Sweeping, Moving, Shrunk, Shrinking}
 use Rattle.lock_row.specs.declared.names.Scan.{Scan}
 use Rattle.lock_row.specs.declared.names.Compaction.{Compaction}
+use Rattle.lock_row.specs.declared.names.Step.{Step}
+use Rattle.lock_row.specs.declared.names.Step.TheVariants as step
+use Rattle.lock_row.specs.declared.names.Trip.{Trip}
 use Rattle.lock_row.specs.declared.names.Plan.TheVariants.{Finished, Take}
 use Rattle.lock_row.specs.declared.names.State.{State}
 use Rattle.lock_row.specs.Totals.{locals_sum}
-use Rattle.page_steps.specs.Scans.{scan_at}
 use Rattle.page_steps.specs.Steps.{Terms, DiskHeld, Here, spot, plan}
 use Rattle.actor_steps.specs.declared.worker.Worker.{Worker}
 use Rattle.zr_core.specs.Machines.{Turns as Makes, rounds_of, AllFinished}
-use Rattle.zr_core.specs.States.{AreKept, Playing, state_of, CanGoOn}
+use Rattle.zr_core.specs.States.{HasKept, Playing, state_of, CanGoOn}
 
 -- the turns of a schedule, one after the other
 abbrev pub turns_of : List Turns → List ℕ
@@ -29,12 +31,12 @@ turns_of schedule = flat_map (λ t. replicate t.times t.actor) schedule
 
 -- these turns lead from the state that was to one that is, whatever was over before
 abbrev pub GoesBy : {D : Type 0} → List ℕ → Playing D → Playing D → List (List Done) → Type 0
-GoesBy turns x y dones = (dones' : List (List Done)) × AreKept y.workers dones'
+GoesBy turns x y dones = (dones' : List (List Done)) × HasKept y dones'
     × Makes x.terms turns (state_of x dones) (state_of y dones')
 
 -- the schedule's turns, and then rounds until all actors are finished
 abbrev pub RunsOut : {D : Type 0} → List ℕ → Playing D → Playing D → List (List Done) → Type 0
-RunsOut turns x y dones = (rounds : ℕ) × (dones' : List (List Done)) × AreKept y.workers dones'
+RunsOut turns x y dones = (rounds : ℕ) × (dones' : List (List Done)) × HasKept y dones'
     × Makes x.terms (turns ++ rounds_of (length x.actors) rounds) (state_of x dones)
     (state_of y dones')
     × AllFinished (state_of y dones')
@@ -43,9 +45,10 @@ RunsOut turns x y dones = (rounds : ℕ) × (dones' : List (List Done)) × AreKe
 pub record Plays {D : Type 0} (turns : List ℕ) (x y : Playing D) : Type 0 where
   pub same : y.terms ≡ x.terms
   pub limit : y.limit ≡ x.limit
+  pub backed : y.backed ≡ x.backed
   pub spare : y.spare ≡ x.spare
   pub can : CanGoOn y
-  pub goes : (dones : List (List Done)) → AreKept x.workers dones → GoesBy turns x y dones
+  pub goes : (dones : List (List Done)) → HasKept x dones → GoesBy turns x y dones
 
 -- some actor isn't finished
 pub record IsBusy {D : Type 0} (actors : List (List Op)) (ws : List (Worker D)) : Type 0 where
@@ -74,10 +77,42 @@ compaction_left n x = class_left (unwrap_or x.budget n) + (254 - x.class) * clas
 abbrev pub scan_left : ℕ → Scan → ℕ
 scan_left size x = 2 * (size - x.page)
 
--- the most events of a piece, on a disk of so many pages: twelve, or those of a scan of all pages, or
--- of a compaction of all classes
+-- the most events that a writeback has left of a page's visit
+abbrev pub visit_left : Step → ℕ
+visit_left step.Arriving = 18
+visit_left step.Passing = 1
+visit_left step.Asking = 17
+visit_left step.Reserving = 16
+visit_left step.Quitting = 1
+visit_left step.Seen = 15
+visit_left step.Pinning = 14
+visit_left step.Pinned = 13
+visit_left step.Unpinning = 12
+visit_left step.Marking = 11
+visit_left step.Flying = 10
+visit_left step.Storing = 9
+visit_left step.Landing = 8
+visit_left step.Won = 7
+visit_left step.Freeing = 6
+visit_left step.Backing = 5
+visit_left step.Committing = 4
+visit_left step.Owing = 3
+visit_left step.Paying = 2
+visit_left step.Putting = 1
+visit_left step.Losing = 3
+visit_left step.Undoing = 2
+visit_left step.Releasing = 1
+
+-- the most events that a writeback of so many pages has left: eighteen for each page
+abbrev pub trip_left : ℕ → Step → Trip → ℕ
+trip_left size step.Arriving x = 18 * (size - x.page)
+trip_left size s x = visit_left s + 18 * (size - (x.page + 1))
+
+-- the most events of a piece, on a disk of so many pages: twelve, or those of a scan or a writeback of
+-- all pages, or of a compaction of all classes
 abbrev pub op_left : ℕ → ℕ → Op → ℕ
 op_left size n (Idle age) = 2 * size
+op_left size n (Writeback mode) = 18 * size
 op_left size n Compact = 255 * class_left n
 op_left size n op = 12
 
@@ -113,6 +148,7 @@ stage_left size n p Leaving = 1
 stage_left size n p Refusing = 1
 stage_left size n p (Scanning x) = scan_left size x
 stage_left size n p (Marking x) = scan_left size x - 1
+stage_left size n p (Visiting s x) = trip_left size s x
 stage_left size n p (Sweeping x) = compaction_left n x
 stage_left size n p (Moving x) = compaction_left n x - 1
 stage_left size n p (Shrunk x) = compaction_left n x + 2
@@ -134,11 +170,19 @@ Few n l = (p : Part) (rest : List Part) (x : Compaction) (q : PoolState)
     → l.held ≡ (lock.Class x.class, holds.Class q) ∷ []
     → (x.class < 255) × (length (objects q) ≤ n)
 
--- a scan is at a page of the disk, the first one before it has taken any
-abbrev pub IsOnDisk : ℕ → Here → Type 0
-IsOnDisk size l = (p : Part) (rest : List Part) → l.todo ≡ p ∷ rest → (scan_at l.at).page < size
+-- the page that a scan takes or gives next, or that a writeback takes to visit it
+abbrev pub page_at : At → ℕ
+page_at (Scanning x) = x.page
+page_at (Marking x) = x.page
+page_at (Visiting step.Arriving x) = x.page
+page_at at = 0
 
--- no class has more objects than there are pages and actors, and scans are at pages of the disk
+-- that is a page of the disk, the first one before any is taken
+abbrev pub IsOnDisk : ℕ → Here → Type 0
+IsOnDisk size l = (p : Part) (rest : List Part) → l.todo ≡ p ∷ rest → page_at l.at < size
+
+-- no class has more objects than there are pages and actors, and scans and writebacks are at pages of
+-- the disk
 abbrev pub AreFew : ℕ → State DiskHeld → Type 0
 AreFew size w = (a : ℕ) (l : Here) → slice_get w.locals a ≡ Some l
     → Few (size + length w.locals) l × IsOnDisk size l
@@ -170,6 +214,6 @@ Round t start now i = (all_left t.size now < all_left t.size start)
 
 -- a round has come to the actor i
 abbrev pub RoundTo : {D : Type 0} → State DiskHeld → Playing D → ℕ → Type 0
-RoundTo start x i = (dones : List (List Done)) × AreKept x.workers dones
+RoundTo start x i = (dones : List (List Done)) × HasKept x dones
     × Makes x.terms (range_with_len 0 i) start (state_of x dones)
     × Round x.terms start (state_of x dones) i

@@ -1,5 +1,5 @@
 -- The state that a row and its workers stand for, where these pieces of each actor are over.
-use Rattle.std.specs.Prelude.{◌≡◌, ◌⊎◌, ℕ, ◌<◌, ◌≤◌, List, [], ◌∷◌, map, length, Option, Some, None, slice_get, option_and_then}
+use Rattle.std.specs.Prelude.{◌≡◌, ◌⊎◌, ℕ, ◌<◌, ◌≤◌, Bool, List, [], ◌∷◌, map, length, Option, Some, None, slice_get, option_and_then}
 use Rattle.zr_base.specs.declared.limits.TheConstants.{MOST_PAGES}
 use Rattle.zr_base.specs.declared.op.Op.{Op}
 use Rattle.zr_base.specs.declared.op.OpEnd.{OpEnd}
@@ -24,17 +24,20 @@ use Rattle.zr_core.specs.Machines.{IsReached, IsSetUp}
 use Rattle.zr_core.specs.Noted.{HasAllPieces}
 use Rattle.zr_core.specs.Rests.{IsBare}
 
--- the locals of workers, where these pieces of each are over
-abbrev pub heres : {D : Type 0} → Terms → List (List Op) → List (Worker D) → List (List Done) → List Here
-heres t [] ws dones = []
-heres t (ops ∷ more) [] dones = []
-heres t (ops ∷ more) (w ∷ ws) [] = []
-heres t (ops ∷ more) (w ∷ ws) (done ∷ dones) = here t.size ops w done ∷ heres t more ws dones
+-- the locals of workers, where these pieces of each are over, on a disk that has a backing or none
+abbrev pub heres : {D : Type 0} → Terms → Bool → List (List Op) → List (Worker D) → List (List Done)
+    → List Here
+heres t backed [] ws dones = []
+heres t backed (ops ∷ more) [] dones = []
+heres t backed (ops ∷ more) (w ∷ ws) [] = []
+heres t backed (ops ∷ more) (w ∷ ws) (done ∷ dones) =
+    here t.size backed ops w done ∷ heres t backed more ws dones
 
 -- the state of a row and its workers, where these pieces of each are over
-abbrev pub state : {D : Type 0} → Terms → List (List Op) → List (Option DiskHeld) → List (Worker D) → List (List Done)
-    → State DiskHeld
-state t actors cells ws dones = record { row = cells; locals = heres t actors ws dones }
+abbrev pub state : {D : Type 0} → Terms → Bool → List (List Op) → List (Option DiskHeld)
+    → List (Worker D) → List (List Done) → State DiskHeld
+state t backed actors cells ws dones =
+    record { row = cells; locals = heres t backed actors ws dones }
 
 -- how the operations ended
 abbrev pub ends_shown : {D : Type 0} → List (Worker D) → List (List OpEnd)
@@ -52,22 +55,26 @@ sectors_shown {D} ws =
     map (λ (w : Worker D). map (λ (r : Reply). told_by r.end r.sectors.items) w.replies.items) ws
 
 -- Each worker is fit for its operations.
-pub record AreFit {D : Type 0} (t : Terms) (actors : List (List Op)) (ws : List (Worker D)) : Type 0 where
+pub record AreFit {D : Type 0} (t : Terms) (backed : Bool) (actors : List (List Op))
+    (ws : List (Worker D)) : Type 0 where
   pub count : length ws ≡ length actors
   pub each : (a : ℕ) (ops : List Op) (w : Worker D) → slice_get actors a ≡ Some ops
-      → slice_get ws a ≡ Some w → IsFit t ops w
+      → slice_get ws a ≡ Some w → IsFit t backed ops w
 
 -- The workers' replies have what these pieces have read, and how their operations ended.
-pub record AreKept {D : Type 0} (ws : List (Worker D)) (dones : List (List Done)) : Type 0 where
+pub record AreKept {D : Type 0} (backed : Bool) (actors : List (List Op)) (ws : List (Worker D))
+    (dones : List (List Done)) : Type 0 where
   pub count : length dones ≡ length ws
-  pub each : (a : ℕ) (w : Worker D) (done : List Done) → slice_get ws a ≡ Some w
-      → slice_get dones a ≡ Some done → Keeps w done
+  pub each : (a : ℕ) (ops : List Op) (w : Worker D) (done : List Done)
+      → slice_get actors a ≡ Some ops → slice_get ws a ≡ Some w
+      → slice_get dones a ≡ Some done → Keeps backed ops w done
 
--- A phase between two turns: what its steps go by, the disk's limit, what stands beside the row, the
--- pages that may have an order, the actors' operations, the row and the workers.
+-- A phase between two turns: what its steps go by, the disk's limit, whether it has a backing, what
+-- stands beside the row, the pages that may have an order, the actors' operations, the row and the workers.
 pub record Playing (D : Type 0) : Type 0 where
   pub terms : Terms
   pub limit : ℕ
+  pub backed : Bool
   pub spare : Option (Spare D)
   pub noted : List ℕ
   pub actors : List (List Op)
@@ -76,11 +83,16 @@ pub record Playing (D : Type 0) : Type 0 where
 
 -- the state that it stands for, where these pieces of each actor are over
 abbrev pub state_of : {D : Type 0} → Playing D → List (List Done) → State DiskHeld
-state_of x dones = state x.terms x.actors x.cells x.workers dones
+state_of x dones = state x.terms x.backed x.actors x.cells x.workers dones
+
+-- its workers' replies have what these pieces have read, and how their operations ended
+abbrev pub HasKept : {D : Type 0} → Playing D → List (List Done) → Type 0
+HasKept x dones = AreKept x.backed x.actors x.workers dones
 
 -- The phase is one that begins so.
 pub record IsOf {D : Type 0} (g : Begin) (x : Playing D) : Type 0 where
   pub goes_by : terms g ≡ x.terms
+  pub backed : g.given.backed ≡ x.backed
   pub actors : g.given.actors ≡ x.actors
   pub some : 1 ≤ x.terms.size
   pub most : x.terms.size ≤ MOST_PAGES
@@ -91,26 +103,26 @@ pub record IsOf {D : Type 0} (g : Begin) (x : Playing D) : Type 0 where
 pub record IsPrepared {D : Type 0} (g : Begin) (x : Playing D) : Type 0 where
   pub of : IsOf g x
   pub dones : List (List Done)
-  pub kept : AreKept x.workers dones
+  pub kept : HasKept x dones
   pub start : IsStart g (state_of x dones)
 
 -- The workers stand before their first turn, in a phase that is set up on this row.
 pub record IsSetUpOn {D : Type 0} (before : List (Option DiskHeld)) (x : Playing D) : Type 0 where
   pub dones : List (List Done)
-  pub kept : AreKept x.workers dones
-  pub set_up : IsSetUp x.terms.size x.actors before (state_of x dones)
+  pub kept : HasKept x dones
+  pub set_up : IsSetUp x.terms.size x.backed x.actors before (state_of x dones)
 
 -- The joint rule holds for the phase that begins so.
 pub record HasRule {D : Type 0} (g : Begin) (x : Playing D) : Type 0 where
   pub of : IsOf g x
   pub dones : List (List Done)
-  pub kept : AreKept x.workers dones
+  pub kept : HasKept x dones
   pub rule : Rule g (state_of x dones)
 
 -- Turns lead from this state to the one that it stands for.
 pub record IsReachedFrom {D : Type 0} (start : State DiskHeld) (x : Playing D) : Type 0 where
   pub dones : List (List Done)
-  pub kept : AreKept x.workers dones
+  pub kept : HasKept x dones
   pub reached : IsReached x.terms start (state_of x dones)
 
 -- the disk's size isn't given yet, and there is no actor
@@ -120,8 +132,8 @@ IsEmpty x = IsBare x.terms.size x.cells × (x.actors ≡ [])
 -- Each worker is fit for its operations, no piece has events on a page that isn't noted, and the
 -- joint rule holds for some beginning; before the disk's size is given there is no actor.
 pub record CanGoOn {D : Type 0} (x : Playing D) : Type 0 where
-  pub fit : AreFit x.terms x.actors x.workers
-  pub pieces : HasAllPieces x.terms.size x.noted x.actors
+  pub fit : AreFit x.terms x.backed x.actors x.workers
+  pub pieces : HasAllPieces x.terms.size x.backed x.noted x.actors
   pub ruled : IsEmpty x ⊎ ((g : Begin) × HasRule g x)
 
 -- one event of an actor
@@ -142,7 +154,7 @@ TurnIs t a w n turn.Finished = (l : Here) × (slice_get w.locals a ≡ Some l) �
 
 -- a turn from the state that was to one that is, whatever was over before
 abbrev pub TurnsOnce : {D : Type 0} → ℕ → Playing D → Playing D → Turn → List (List Done) → Type 0
-TurnsOnce a x y r dones = (dones' : List (List Done)) × AreKept y.workers dones'
+TurnsOnce a x y r dones = (dones' : List (List Done)) × HasKept y dones'
     × TurnIs x.terms a (state_of x dones) (state_of y dones') r
 
 -- an item of an actor's operation

@@ -1,7 +1,7 @@
 //! A disk: its row of entries, one for each page, of pools, one for each class, and of the account.
 
 ghost use Rattle.std.proofs.Props.{props};
-ghost use Rattle.std.specs.Prelude.{◌≡◌, ◌+◌, ◌<◌, ◌≤◌, ◌^◌, [], replicate, slice_get, slice_set, Some, OnOk, OnErr};
+ghost use Rattle.std.specs.Prelude.{◌≡◌, ◌+◌, ◌<◌, ◌≤◌, ◌^◌, true, false, [], replicate, slice_get, slice_set, Some, OnOk, OnErr};
 ghost use Rattle.zr_base.specs.declared.limits.TheConstants.{MOST_PAGES};
 ghost use Rattle.mem_account.specs.Counters.{Counters};
 ghost use Rattle.block_map.specs.BlockMap.{BlockMap};
@@ -31,6 +31,8 @@ pub struct World<D: Backing> {
     pub(crate) alloc: Global,
     pub(crate) pages: u32,
     pub(crate) limit: u64,
+    // whether blocks of the device are used
+    pub(crate) backed: bool,
     pub(crate) row: SimRow<DiskHeld<D>>,
     // the pages that may have an order, in rising order
     pub(crate) noted: Vec<u32>,
@@ -47,6 +49,7 @@ impl<D: Backing> World<D> {
     pub fn new(alloc: Global, dev: D) -> World<D>
         ensures pages { result.pages ≡ 0 }
         ensures limit { result.limit ≡ 0 }
+        ensures backed { result.backed ≡ false }
         ensures cells { result.row.cells ≡ [] }
         ensures rest { IsAtRest result.pages result.noted.items result.row.cells }
         ensures device { device_by result.spare result.pages result.row.cells ≡ record {
@@ -64,6 +67,7 @@ impl<D: Backing> World<D> {
             alloc,
             pages: 0,
             limit: 0,
+            backed: false,
             row: SimRow::empty(alloc),
             noted: Vec::new(alloc),
             spare: Some(Spare {
@@ -81,6 +85,7 @@ impl<D: Backing> World<D> {
         requires most { pages ≤ MOST_PAGES }
         ensures pages { OnOk result (self.new.pages ≡ pages) }
         ensures limit { self.new.limit ≡ self.old.limit }
+        ensures backed { self.new.backed ≡ self.old.backed }
         ensures values { OnOk result (AreNew (new_disk pages self.old.limit
             (device_by self.old.spare self.old.pages self.old.row.cells)) (pages + 258) self.new.row.cells) }
         ensures new { OnOk result (RestsAs (new_disk pages self.old.limit
@@ -113,6 +118,7 @@ impl<D: Backing> World<D> {
         requires fits { blocks ≤ (device_by self.old.spare self.old.pages self.old.row.cells).blocks }
         ensures pages { self.new.pages ≡ self.old.pages }
         ensures limit { self.new.limit ≡ self.old.limit }
+        ensures backed { OnOk result (self.new.backed ≡ true) }
         ensures row { self.new.row ≡ self.old.row }
         ensures noted { self.new.noted.items ≡ self.old.noted.items }
         ensures rest { IsAtRest self.old.pages self.old.noted.items self.old.row.cells
@@ -122,7 +128,8 @@ impl<D: Backing> World<D> {
         ensures blocks { OnOk result (blocks_by self.new.spare self.new.pages self.new.row.cells
             ≡ record (blocks_by self.old.spare self.old.pages self.old.row.cells)
             { states = replicate blocks BlockState.Free }) }
-        ensures err { OnErr result (self.new.spare ≡ self.old.spare) }
+        ensures err { OnErr result ((self.new.spare ≡ self.old.spare)
+            × (self.new.backed ≡ self.old.backed)) }
     {
         let mut map = Blocks::new(self.alloc, blocks)?;
         let Some(spare) = self.spare.take() else {
@@ -135,6 +142,7 @@ impl<D: Backing> World<D> {
             device,
             blocks: map,
         });
+        self.backed = true;
         Ok(())
     }
 
@@ -143,6 +151,7 @@ impl<D: Backing> World<D> {
         requires rest { IsAtRest self.old.pages self.old.noted.items self.old.row.cells }
         ensures pages { self.new.pages ≡ self.old.pages }
         ensures limit { self.new.limit ≡ self.old.limit }
+        ensures backed { self.new.backed ≡ self.old.backed }
         ensures noted { self.new.noted.items ≡ self.old.noted.items }
         ensures device { device_by self.new.spare self.new.pages self.new.row.cells
             ≡ device_by self.old.spare self.old.pages self.old.row.cells }
@@ -172,6 +181,7 @@ impl<D: Backing> World<D> {
         requires rest { IsAtRest self.old.pages self.old.noted.items self.old.row.cells }
         ensures pages { self.new.pages ≡ self.old.pages }
         ensures limit { self.new.limit ≡ self.old.limit }
+        ensures backed { self.new.backed ≡ self.old.backed }
         ensures noted { self.new.noted.items ≡ self.old.noted.items }
         ensures device { device_by self.new.spare self.new.pages self.new.row.cells
             ≡ device_by self.old.spare self.old.pages self.old.row.cells }
@@ -190,6 +200,7 @@ impl<D: Backing> World<D> {
         requires rest { IsAtRest self.old.pages self.old.noted.items self.old.row.cells }
         ensures pages { self.new.pages ≡ self.old.pages }
         ensures limit { self.new.limit ≡ self.old.limit }
+        ensures backed { self.new.backed ≡ self.old.backed }
         ensures noted { self.new.noted.items ≡ self.old.noted.items }
         ensures device { device_by self.new.spare self.new.pages self.new.row.cells
             ≡ device_by self.old.spare self.old.pages self.old.row.cells }
@@ -276,6 +287,7 @@ impl<D: Backing> World<D> {
         ensures pages { self.new.pages ≡ self.old.pages }
         ensures noted { self.new.noted.items ≡ self.old.noted.items }
         ensures limit { self.new.limit ≡ pages }
+        ensures backed { self.new.backed ≡ self.old.backed }
         ensures spare { self.new.spare ≡ self.old.spare }
         ensures none { self.old.pages ≡ 0 → self.new.row ≡ self.old.row }
         ensures cells { (c : Counters) → slice_get self.old.row.cells (self.old.pages + 255) ≡ Some (Some (holds.Account c))
@@ -303,6 +315,7 @@ impl<D: Backing> World<D> {
         ensures pages { self.new.pages ≡ self.old.pages }
         ensures noted { self.new.noted.items ≡ self.old.noted.items }
         ensures limit { self.new.limit ≡ self.old.limit }
+        ensures backed { self.new.backed ≡ self.old.backed }
         ensures spare { self.new.spare ≡ self.old.spare }
         ensures none { self.old.pages ≡ 0 → self.new.row ≡ self.old.row }
         ensures cells { (c : Counters) → slice_get self.old.row.cells (self.old.pages + 255) ≡ Some (Some (holds.Account c))

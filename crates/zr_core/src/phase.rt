@@ -1,6 +1,6 @@
 //! The actors of a phase, and what is known of their operations that are over.
 
-ghost use Rattle.std.specs.Prelude.{◌≡◌, Some, IsSome};
+ghost use Rattle.std.specs.Prelude.{◌≡◌, Bool, Some, IsSome};
 ghost use Rattle.call_history.specs.Histories.{ends_each, told_each};
 ghost use Rattle.page_steps.specs.Steps.{Terms};
 ghost use Rattle.zr_core.specs.States.{ends_shown, sectors_shown, of_op, HasEnded, AreFit, AreKept};
@@ -43,8 +43,10 @@ impl<D: Backing> Phase<D> {
         requires there { IsSome (of_op (ends_shown self.now.workers.items) actor op) }
         requires over { HasEnded self.now.workers.items actor op }
         ensures end { of_op (ends_shown self.now.workers.items) actor op ≡ Some result.now }
-        ensures by_history { (t : Terms) (actors : _) (dones : _) → AreFit t actors self.now.workers.items
-            → AreKept self.now.workers.items dones → of_op (ends_each actors dones) actor op ≡ Some result.now }
+        ensures by_history { (t : Terms) (backed : Bool) (actors : _) (dones : _)
+            → AreFit t backed actors self.now.workers.items
+            → AreKept backed actors self.now.workers.items dones
+            → of_op (ends_each backed actors dones) actor op ≡ Some result.now }
     {
         self.end_so_far(actor, op)
     }
@@ -55,8 +57,10 @@ impl<D: Backing> Phase<D> {
         requires there { IsSome (of_op (sectors_shown self.now.workers.items) actor op) }
         requires over { HasEnded self.now.workers.items actor op }
         ensures sectors { of_op (sectors_shown self.now.workers.items) actor op ≡ Some result.now }
-        ensures by_history { (t : Terms) (actors : _) (dones : _) → AreFit t actors self.now.workers.items
-            → AreKept self.now.workers.items dones → of_op (told_each actors dones) actor op ≡ Some result.now }
+        ensures by_history { (t : Terms) (backed : Bool) (actors : _) (dones : _)
+            → AreFit t backed actors self.now.workers.items
+            → AreKept backed actors self.now.workers.items dones
+            → of_op (told_each actors dones) actor op ≡ Some result.now }
     {
         self.sectors_so_far(actor, op)
     }

@@ -16,7 +16,7 @@ ghost use Rattle.zr_core.specs.Machines.{rounds_of, KeepsValues, PhaseSteps};
 ghost use Rattle.zr_core.specs.Playing.{playing, lines_shown, HasEndedAs};
 ghost use Rattle.zr_core.specs.Rests.{device_by, blocks_by, IsTime, IsAtRest, RestsAs, begun};
 ghost use Rattle.zr_core.specs.Runs.{turns_of, Plays, RunsOut, IsBusy, AllOver, left_of};
-ghost use Rattle.zr_core.specs.States.{AreKept, CanGoOn, HasRule, IsPrepared, IsReachedFrom, IsSetUpOn, TurnsOnce};
+ghost use Rattle.zr_core.specs.States.{CanGoOn, HasKept, HasRule, IsPrepared, IsReachedFrom, IsSetUpOn, TurnsOnce};
 
 use crate::disk::World;
 use crate::limits::MOST_CHAIN;
@@ -45,13 +45,14 @@ impl<D: Backing> World<D> {
             ≡ blocks_by self.old.spare self.old.pages self.old.row.cells }
         ensures pages { self.new.pages ≡ self.old.pages }
         ensures limit { self.new.limit ≡ self.old.limit }
+        ensures backed { self.new.backed ≡ self.old.backed }
         ensures clock { IfOk result (λ phase. phase.clock ≡ now) }
         ensures can { IfOk result (λ phase. CanGoOn (playing self.new phase actors.now)) }
         ensures set_up { IfOk result (λ phase. IsSetUpOn self.old.row.cells (playing self.new phase actors.now)) }
 
         // What the phase begins with is the disk as it rests, whatever it is known as.
         ensures start { IfOk result (λ phase. (g : Begin) → RestsAs g self.old.pages self.old.row.cells
-            → IsPrepared (begun g actors.now now) (playing self.new phase actors.now)) }
+            → IsPrepared (begun g self.old.backed actors.now now) (playing self.new phase actors.now)) }
         ensures rest { OnErr result (IsAtRest self.new.pages self.new.noted.items self.new.row.cells) }
         ensures same { OnErr result (KeepsValues self.old.row.cells self.new.row.cells) }
         ensures rests_as { OnErr result ((g : Begin) → RestsAs g self.old.pages self.old.row.cells
@@ -61,7 +62,7 @@ impl<D: Backing> World<D> {
         phases_go_on();
         disks_begin();
         let counts = count_pieces(self.alloc, self.pages, actors)?;
-        let workers = new_workers(self.alloc, self.pages, MOST_CHAIN, actors)?;
+        let workers = new_workers(self.alloc, self.pages, self.backed, MOST_CHAIN, actors)?;
         let noted = noted_pages(self.alloc, &counts)?;
         reserve_all(&mut self.row, self.pages, &counts, &self.noted, &noted)?;
         self.noted = noted;
@@ -78,8 +79,9 @@ impl<D: Backing> World<D> {
         ensures same { (playing self.new phase.new actors.now).terms ≡ (playing self.old phase.old actors.now).terms }
         ensures spare { self.new.spare ≡ self.old.spare }
         ensures limit { self.new.limit ≡ self.old.limit }
+        ensures backed { self.new.backed ≡ self.old.backed }
         ensures can { CanGoOn (playing self.new phase.new actors.now) }
-        ensures turn { (dones : _) → AreKept phase.old.workers.items dones
+        ensures turn { (dones : _) → HasKept (playing self.old phase.old actors.now) dones
             → TurnsOnce actor (playing self.old phase.old actors.now) (playing self.new phase.new actors.now) result dones }
         ensures rule { (g : Begin) → HasRule g (playing self.old phase.old actors.now)
             → HasRule g (playing self.new phase.new actors.now) }
@@ -95,6 +97,7 @@ impl<D: Backing> World<D> {
         let mut hand = self.row.hand(actor);
         worker.advance(
             self.pages,
+            self.backed,
             now,
             actors[actor as usize].as_slice(),
             &mut hand,
@@ -185,8 +188,9 @@ impl<D: Backing> World<D> {
         ensures same { (playing self.new phase.new actors.now).terms ≡ (playing self.old phase.old actors.now).terms }
         ensures spare { self.new.spare ≡ self.old.spare }
         ensures limit { self.new.limit ≡ self.old.limit }
+        ensures backed { self.new.backed ≡ self.old.backed }
         ensures can { CanGoOn (playing self.new phase.new actors.now) }
-        ensures runs { (dones : _) → AreKept phase.old.workers.items dones
+        ensures runs { (dones : _) → HasKept (playing self.old phase.old actors.now) dones
             → RunsOut (turns_of schedule.now) (playing self.old phase.old actors.now)
             (playing self.new phase.new actors.now) dones }
         ensures over { AllOver actors.now phase.new.workers.items }
@@ -198,7 +202,7 @@ impl<D: Backing> World<D> {
 
         // From the phase's start: what it prints is what the machine's run does.
         ensures steps { (before : _) → IsSetUpOn before (playing self.old phase.old actors.now)
-            → (rounds : ℕ) × PhaseSteps (playing self.old phase.old actors.now).terms actors.now before
+            → (rounds : ℕ) × PhaseSteps (playing self.old phase.old actors.now).terms self.old.backed actors.now before
             (turns_of schedule.now ++ rounds_of (length actors.now) rounds)
             (lines_shown (playing self.new phase.new actors.now)) self.new.row.cells }
         ensures ended { (g : Begin) → HasRule g (playing self.old phase.old actors.now)

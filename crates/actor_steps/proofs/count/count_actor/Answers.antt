@@ -10,11 +10,11 @@ op_at c = at_index c.args.ops.now c.loop-op.op-index c.op-item.result
     omega arith) c.op-item.is
 
 pub count_op-requires-clause-fits : goal.count_op-requires-clause-fits
-count_op-requires-clause-fits c p lt =
+count_op-requires-clause-fits c backed p lt =
     let a = (goal.at.count_op-requires-clause-fits c).After-op-item in
-    let q = c.loop-op.invariant.counted p lt in
-    let f = c.requires.fits p lt in
-    let n = program_next c.args.size p c.loop-op.op-index c.args.ops.now c.op-item.result
+    let q = c.loop-op.invariant.counted backed p lt in
+    let f = c.requires.fits backed p lt in
+    let n = program_next c.args.size backed p c.loop-op.op-index c.args.ops.now c.op-item.result
     (op_at a) in
     omega arith
 
@@ -23,10 +23,10 @@ loop-op-preserved c =
     let a = (goal.at.loop-op-preserved c).After-op-item in
     let i = c.loop-op.invariant in record {
       only = c.in_ok-count_op.ensures.only;
-      counted = λ p lt.
-          let q = i.counted p lt in
-          let e = c.in_ok-count_op.ensures.counted p lt in
-          let n = program_next c.args.size p c.loop-op.op-index c.args.ops.now c.op-item.result
+      counted = λ backed p lt.
+          let q = i.counted backed p lt in
+          let e = c.in_ok-count_op.ensures.counted backed p lt in
+          let n = program_next c.args.size backed p c.loop-op.op-index c.args.ops.now c.op-item.result
           (op_at a) in
           omega arith;
     }

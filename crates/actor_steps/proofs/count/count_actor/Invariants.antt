@@ -1,4 +1,4 @@
-use Rattle.std.proofs.Common.{◌≡◌, ℕ, ◌+◌, ◌<◌, drop}
+use Rattle.std.proofs.Common.{◌≡◌, ℕ, Bool, ◌+◌, ◌<◌, drop}
 use Rattle.call_history.specs.Parts.{program}
 use Rattle.actor_steps.specs.Counts.{pieces_on, count_at, HasOnlyCounts}
 use Rattle.actor_steps.proofs.count.count_actor.Given as goal
@@ -6,7 +6,7 @@ use Rattle.actor_steps.proofs.count.count_actor.Given as goal
 abbrev pub invariant-loop-op : goal.invariant-loop-op
 invariant-loop-op l = record {
   only : HasOnlyCounts l.size l.counts;
-  counted : (p : ℕ) → p < l.size
-      → count_at l.counts p + pieces_on l.size p (program l.size 0 (drop l.op-index l.ops))
-      ≡ count_at l.initial.counts p + pieces_on l.size p (program l.size 0 l.ops);
+  counted : (backed : Bool) (p : ℕ) → p < l.size
+      → count_at l.counts p + pieces_on l.size p (program l.size backed 0 (drop l.op-index l.ops))
+      ≡ count_at l.initial.counts p + pieces_on l.size p (program l.size backed 0 l.ops);
 }

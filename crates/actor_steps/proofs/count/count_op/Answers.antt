@@ -21,9 +21,9 @@ loop-piece-init c =
     record {
       only = c.requires.only;
       below = subst (Below size) (sym walk) (pages_below size op inside c.requires.request);
-      counted = λ p lt.
+      counted = λ backed p lt.
           ap (λ ps. count_at c.args.counts.now p + carried_on size op p ps) walk
-          ∙ ap (λ (k : ℕ). count_at c.args.counts.now p + k) (carried_of size op inside p);
+          ∙ ap (λ (k : ℕ). count_at c.args.counts.now p + k) (carried_of size op inside backed p);
     }
 
 pub count_piece-requires : goal.count_piece-requires
@@ -33,8 +33,8 @@ count_piece-requires c =
     let page : ℕ = c.in-Some.piece.page.0 in
     let steps = c.in-Some.ensures.steps in
     let below = subst (Below c.args.size) steps i.below in
-    let q = i.counted page below.0 in
-    let f = c.requires.fits page below.0 in
+    let q = i.counted true page below.0 in
+    let f = c.requires.fits true page below.0 in
     let n = carried_first c.args.size c.args.op.now inside page c.in-Some.piece
     c.loop-piece.piece-iterator c.next.new.self
     true steps (sym c.has_event.ensures ∙ c.if-has_event.true) in
@@ -48,8 +48,8 @@ loop-piece-preserved c =
     let below = subst (Below c.args.size) steps i.below in record {
       only = i.only;
       below = below.1;
-      counted = λ p lt.
-          let q = i.counted p lt in
+      counted = λ backed p lt.
+          let q = i.counted backed p lt in
           let n = carried_first c.args.size c.args.op.now inside p c.in-Some.piece c.loop-piece.piece-iterator
           c.next.new.self false steps (sym c.has_event.ensures ∙ c.if-has_event.false) in
           omega arith;
@@ -67,8 +67,8 @@ loop-piece-preserved-in-Continue-1 c =
     let below = subst (Below c.args.size) steps i.below in record {
       only = only_more counts new page u c.args.size below.0 i.only;
       below = below.1;
-      counted = λ p lt.
-          let q = i.counted p lt in
+      counted = λ backed p lt.
+          let q = i.counted backed p lt in
           let n = carried_first c.args.size c.args.op.now inside p c.in-Some.piece c.loop-piece.piece-iterator
           c.next.new.self true steps (sym c.has_event.ensures ∙ c.if-has_event.true) in
           let m = count_more counts new page u p in omega arith;

@@ -11,10 +11,10 @@ ops_at c = at_index c.args.ops.now c.loop-actor.actor-index c.actor-item.result
     ∙ ap Some (sym c.as_slice.ensures)
 
 pub count_actor-requires-clause-fits : goal.count_actor-requires-clause-fits
-count_actor-requires-clause-fits c p lt =
+count_actor-requires-clause-fits c backed p lt =
     let a = (goal.at.count_actor-requires-clause-fits c).After-as_slice in
-    let q = c.loop-actor.invariant.counted p lt in
-    let f = few_pieces c.args.size p c.args.ops.now c.requires in
-    let n = each_next c.args.size p c.loop-actor.actor-index c.args.ops.now c.as_slice.result.now
+    let q = c.loop-actor.invariant.counted backed p lt in
+    let f = few_pieces c.args.size backed p c.args.ops.now c.requires in
+    let n = each_next c.args.size backed p c.loop-actor.actor-index c.args.ops.now c.as_slice.result.now
     (ops_at a) in
     omega arith

@@ -1,4 +1,4 @@
-use Rattle.std.proofs.Common.{◌≡◌, Some, slice_get, arith}
+use Rattle.std.proofs.Common.{◌≡◌, true, Some, slice_get, arith}
 use Rattle.actor_steps.proofs.Places.{at_index, todo_first, place_first, few_first}
 use Rattle.actor_steps.proofs.place.first_piece.Goals as goal
 use Rattle.actor_steps.proofs.place.first_piece.Goals.{After-index-ops-nr}
@@ -17,20 +17,20 @@ pages_to_do-requires c =
     (at_nr (goal.at.pages_to_do-requires c).After-index-ops-nr)
 
 pub returns-clause-todo : goal.returns-clause-todo
-returns-clause-todo c =
+returns-clause-todo c backed =
     let at = at_nr (goal.at.returns-clause-todo c).After-index-ops-nr in
-    todo_first c.args.size c.args.ops.now c.args.nr c.index-ops-nr.result at
+    todo_first c.args.size backed c.args.ops.now c.args.nr c.index-ops-nr.result at
     c.first_page.result c.pages_to_do.result c.first_page.ensures c.pages_to_do.ensures
 
 pub returns-clause-place : goal.returns-clause-place
 returns-clause-place c =
     let at = at_nr (goal.at.returns-clause-place c).After-index-ops-nr in
-    place_first c.args.size c.args.ops.now c.args.nr c.index-ops-nr.result at
+    place_first c.args.size true c.args.ops.now c.args.nr c.index-ops-nr.result at
     c.first_page.result c.pages_to_do.result c.first_page.ensures c.pages_to_do.ensures
 
 pub returns-clause-few : goal.returns-clause-few
 returns-clause-few c =
     let at = at_nr (goal.at.returns-clause-few c).After-index-ops-nr in
-    few_first c.args.size c.args.ops.now c.args.nr c.index-ops-nr.result at
+    few_first c.args.size true c.args.ops.now c.args.nr c.index-ops-nr.result at
     c.first_page.result c.pages_to_do.result c.first_page.ensures c.pages_to_do.ensures
     (c.requires.requests c.args.nr c.index-ops-nr.result at)

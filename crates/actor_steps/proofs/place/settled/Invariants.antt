@@ -5,7 +5,7 @@ use Rattle.actor_steps.proofs.place.settled.Given as goal
 abbrev pub invariant-loop-place : goal.invariant-loop-place
 invariant-loop-place l =
     IsPlace l.ops l.place
-    × (todo_at l.size l.ops l.place ≡ todo_at l.size l.ops l.fn.from)
+    × (todo_at l.size l.backed l.ops l.place ≡ todo_at l.size l.backed l.ops l.fn.from)
     × IsOnward l.fn.from l.place
 
 abbrev pub decreases-loop-place : goal.decreases-loop-place

@@ -12,7 +12,7 @@ loop-op-preserved c =
     omega arith) c.op-item.is in record {
       len = (let q = p.len in let r = i.len in omega arith);
       room = (let q = p.capacity in let r = i.room in omega arith);
-      replies = reply_more c.args.size c.args.ops.now c.loop-op.op-index c.op-item.result
+      replies = reply_more c.args.size c.args.backed c.args.ops.now c.loop-op.op-index c.op-item.result
           c.loop-op.replies.items c.push_reserved.new.self.items c.in_ok-new_reply.field-0 at
           p.items i.replies c.in_ok-new_reply.ensures;
     }

@@ -6,5 +6,5 @@ abbrev pub invariant-loop-op : goal.invariant-loop-op
 invariant-loop-op l = record {
   len : vec_len l.replies ≡ l.op-index;
   room : length l.ops ≤ vec_capacity l.replies;
-  replies : AreNewReplies l.size (take l.op-index l.ops) l.replies.items;
+  replies : AreNewReplies l.size l.backed (take l.op-index l.ops) l.replies.items;
 }

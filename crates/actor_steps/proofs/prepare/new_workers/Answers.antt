@@ -1,4 +1,6 @@
-use Rattle.std.proofs.Common.{◌≡◌, Some, slice_get, sym, ap, ◌∙◌, arith}
+use Rattle.std.proofs.Common.{◌≡◌, List, [], Some, slice_get, refl, sym, ap, ◌∙◌, subst, arith}
+use Rattle.actor_steps.specs.declared.worker.Worker.{Worker}
+use Rattle.actor_steps.specs.Preparing.{AreNewWorkers}
 use Rattle.actor_steps.proofs.Places.{at_index}
 use Rattle.actor_steps.proofs.Beginners.{worker_more, few_of}
 use Rattle.actor_steps.proofs.prepare.new_workers.Goals as goal
@@ -9,6 +11,16 @@ ops_at : (g : _) (c : After-as_slice g)
 ops_at g c = at_index c.args.ops.now c.loop-actor.actor-index c.actor-item.result
     (let t = c.loop-actor-test.true in omega arith) c.actor-item.is
     ∙ ap Some (sym c.as_slice.ensures)
+
+pub loop-actor-init : goal.loop-actor-init
+loop-actor-init g c =
+    let e = c.in_ok-workers.ensures in record {
+      len = e.len;
+      room = omega (arith, e.capacity);
+      workers = subst (λ (ws : List (Worker _)).
+          AreNewWorkers c.args.size c.args.backed c.args.chain [] ws) (sym e.items)
+          (record { count = refl; each = λ a ops w at there. absurd (cc) });
+    }
 
 pub push_worker-requires-clause-requests : goal.push_worker-requires-clause-requests
 push_worker-requires-clause-requests g c =
@@ -38,7 +50,7 @@ loop-actor-preserved g c =
     let p = c.in_ok-push_worker.ensures in record {
       len = (let q = p.len in let r = i.len in omega arith);
       room = (let q = p.capacity in let r = i.room in omega arith);
-      workers = worker_more c.args.size c.args.chain c.args.ops.now c.loop-actor.actor-index _
+      workers = worker_more c.args.size c.args.backed c.args.chain c.args.ops.now c.loop-actor.actor-index _
           c.as_slice.result.now c.loop-actor.workers.items c.push_worker.new.workers.items p.added.0
           i.len (ops_at g a) (let t = c.loop-actor-test.true in omega arith) p.added.2 i.workers
           p.added.1;

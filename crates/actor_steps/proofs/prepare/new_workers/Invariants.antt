@@ -6,5 +6,5 @@ abbrev pub invariant-loop-actor : goal.invariant-loop-actor
 invariant-loop-actor g l = record {
   len : vec_len l.workers ≡ l.actor-index;
   room : length l.ops ≤ vec_capacity l.workers;
-  workers : AreNewWorkers l.size l.chain (take l.actor-index l.ops) l.workers.items;
+  workers : AreNewWorkers l.size l.backed l.chain (take l.actor-index l.ops) l.workers.items;
 }

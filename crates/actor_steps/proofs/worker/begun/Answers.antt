@@ -6,7 +6,7 @@ use Rattle.page_steps.specs.declared.stage.Work.TheVariants as work
 use Rattle.page_steps.specs.Calls.{Asks}
 use Rattle.actor_steps.specs.declared.call.Call.TheVariants as call
 use Rattle.actor_steps.proofs.Places.{at_index, touches_here, is_touched}
-use Rattle.actor_steps.proofs.Begun.{begun_count, begun_as, begun_idle, begun_compact, begun_for}
+use Rattle.actor_steps.proofs.Begun.{begun_count, begun_as, begun_idle, begun_writeback, begun_compact, begun_for}
 use Rattle.actor_steps.proofs.worker.begun.Goals as goal
 use Rattle.actor_steps.proofs.worker.begun.Goals.{After-index-ops-nr}
 
@@ -22,8 +22,8 @@ touched : (g : _) (c : After-index-ops-nr g) → is_maintenance c.index-ops-nr.r
     c.args.place.page)
 touched g c request =
     is_touched c.index-ops-nr.result c.args.place.page request
-    (touches_here c.args.size c.args.ops.now c.args.place c.index-ops-nr.result (op_at g c)
-    c.requires.requests c.requires.place c.requires.settled request)
+    (touches_here c.args.size c.requires.settled.0 c.args.ops.now c.args.place c.index-ops-nr.result (op_at g c)
+    c.requires.requests c.requires.place c.requires.settled.1 request)
 
 pub is_beyond-requires : goal.is_beyond-requires
 is_beyond-requires g c = asked g (goal.at.is_beyond-requires g c).After-index-ops-nr
@@ -118,6 +118,16 @@ returns-in-Idle g c =
     (op_at g (goal.at.returns-in-Idle g c).After-index-ops-nr) (call.Idle c.new.result) _ refl
     (begun_idle c.args.size c.args.now _ c.index-ops-nr.result c.args.place.page c.args.fresh.now
     c.new.result _ c.requires.some c.new.ensures c.in-Idle.is)
+
+pub returns-in-Writeback : goal.returns-in-Writeback
+returns-in-Writeback g c =
+    begun_for c.args.size c.args.now (record { actor = c.args.actor; op = c.args.place.nr })
+    c.args.place.page c.args.fresh.now c.args.ops.now c.args.place.nr c.index-ops-nr.result
+    (op_at g (goal.at.returns-in-Writeback g c).After-index-ops-nr)
+    (call.Writeback c.new-in-Writeback.result) _ refl
+    (begun_writeback c.args.size c.args.now _ c.index-ops-nr.result c.args.place.page
+    c.args.fresh.now c.new-in-Writeback.result _ c.requires.some c.new-in-Writeback.ensures
+    c.in-Writeback.is)
 
 pub returns-in-Compact : goal.returns-in-Compact
 returns-in-Compact g c =

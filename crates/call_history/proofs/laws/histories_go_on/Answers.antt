@@ -8,8 +8,8 @@ pub returns-clause-follows : goal.returns-clause-follows
 returns-clause-follows c t ps ds p rest d f is so = follows_on (EndsSo t) ps ds p rest d f is so
 
 pub returns-clause-named : goal.returns-clause-named
-returns-clause-named c t pages ops ds p rest f =
-    next_named (EndsSo t) pages ops ds p rest f
+returns-clause-named c t pages backed ops ds p rest f =
+    next_named (EndsSo t) pages backed ops ds p rest f
 
 pub returns-clause-got : goal.returns-clause-got
 returns-clause-got c nr xs ys = got_append nr xs ys

@@ -2,6 +2,7 @@ use Rattle.std.proofs.Common.{refl, arith}
 use Rattle.disk_rest.proofs.Asked.{are_requests}
 use Rattle.disk_rest.proofs.Onward.{starts}
 use Rattle.disk_rest.proofs.Pieces.{pieces_most}
+use Rattle.plain_disk.specs.Rests.{is_backed}
 use Rattle.joint_rule.specs.Ends.{begin_at}
 use Rattle.disk_rest.proofs.laws.phases_begin.Goals as goal
 
@@ -18,5 +19,5 @@ returns-clause-proper c r actors row st asks some few short =
       least = st.plain.least;
       most = st.plain.most;
       few = few;
-      pieces = λ p lt. let most = pieces_most r.size p actors in omega arith;
+      pieces = λ p lt. let most = pieces_most r.size p (is_backed r) actors in omega arith;
     })

@@ -20,8 +20,8 @@ returns-in-LimitPages-clause-item g c =
     rw c.in-LimitPages.is
     (attr_told (disk_of clock d) (disk_of clock m) _ _ c.args.out.now _ (Ok tt) (
       refl,
-      is_limited clock d.spare m.spare d.pages m.pages d.limit m.limit d.row.cells m.row.cells
-          set.spare set.pages c.requires.rest.rests (λ none. ap (λ row. row.cells) (set.none none))
+      is_limited clock d.backed m.backed d.spare m.spare d.pages m.pages d.limit m.limit d.row.cells m.row.cells
+          set.spare set.pages set.backed c.requires.rest.rests (λ none. ap (λ row. row.cells) (set.none none))
           c.in-LimitPages.pages set.limit set.cells,
     )
     (Tells-none c.args.out.now))
@@ -42,8 +42,8 @@ returns-in-LowerMax-clause-item g c =
     rw c.in-LowerMax.is
     (attr_told (disk_of clock d) (disk_of clock m) _ _ c.args.out.now _ (Ok tt) (
       refl,
-      is_lowered clock d.spare m.spare d.pages m.pages d.limit m.limit d.row.cells m.row.cells
-          set.spare set.pages c.requires.rest.rests (λ none. ap (λ row. row.cells) (set.none none))
+      is_lowered clock d.backed m.backed d.spare m.spare d.pages m.pages d.limit m.limit d.row.cells m.row.cells
+          set.spare set.pages set.backed c.requires.rest.rests (λ none. ap (λ row. row.cells) (set.none none))
           set.limit set.cells,
     )
     (Tells-none c.args.out.now))

@@ -1,9 +1,9 @@
-use Rattle.std.proofs.Common.{◌≡◌, ◌<◌, ◌≤◌, true, false, Ok, sym, arith}
+use Rattle.std.proofs.Common.{◌≡◌, ◌<◌, ◌≤◌, true, false, Ok, sym, ◌∙◌, arith}
 use Rattle.std.specs.Prelude.{nat_lt}
 use Rattle.std.proofs.lemmas.Bool.Decides.{nat_tests}
 use Rattle.std.proofs.lemmas.Result.{err_from_is_err_and}
 use Rattle.job_text.specs.declared.job.Attr.TheVariants.{Backing}
-use Rattle.job_session.specs.Stepped.{disk_of, backed}
+use Rattle.job_session.specs.Stepped.{disk_of, with_backing}
 use Rattle.job_session.proofs.Jobs.{items_stop, backing_busy_now, backing_past, backing_given, attr_told}
 use Rattle.job_session.proofs.Sending.{Tells-none}
 use Rattle.job_session.proofs.items.set_backing.Goals as goal
@@ -42,9 +42,11 @@ returns-clause-item g c clock =
     let fits : c.args.blocks ≤ d.device.blocks =
     omega (arith, c.if-device_blocks-blocks.false, c.device_blocks.ensures) in
     let past : nat_lt d.device.blocks c.args.blocks ≡ false = grind (arith, nat_tests, fits) in
-    let same : m ≡ backed d c.args.blocks = λ i. record {
+    let some : nat_lt 0 c.args.blocks ≡ true = (let le = c.requires.may.0 in grind (arith, nat_tests, le)) in
+    let same : m ≡ with_backing d c.args.blocks = λ i. record {
       size = set.pages i;
       limit = set.limit i;
+      backed = (set.backed ∙ sym some) i;
       clock = clock;
       row = (set.row i).cells;
       device = set.device i;

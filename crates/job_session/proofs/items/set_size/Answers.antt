@@ -33,6 +33,6 @@ returns-clause-item g c clock =
     let none : d.size ≡ 0 = omega (arith, c.if-pages-gt0.false, c.pages.ensures) in
     attr_told d (disk_of clock m) (DiskPages c.args.pages) _ c.args.out.now _ (Ok tt)
     (size_given d.size d (disk_of clock m) c.args.pages none
-    (is_new_disk d m.spare m.pages c.args.pages m.limit m.row.cells set.pages some set.limit m.early
+    (is_new_disk d m.backed m.spare m.pages c.args.pages m.limit m.row.cells set.pages some set.limit set.backed m.early
     set.device set.blocks set.values set.new))
     (Tells-none c.args.out.now)

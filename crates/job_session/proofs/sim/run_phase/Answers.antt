@@ -54,7 +54,7 @@ finish-requires g c =
           (c.as_slice.ensures ∙ ap (λ (x : PhaseText). x.actors) text)
           (c.as_slice-2.ensures ∙ ap (λ (x : PhaseText). x.schedule) text) out
           (c.in-Some.ensures.ready r.0 r.1 r.2) c.run.ensures.same c.run.ensures.spare
-          c.run.ensures.limit c.run.ensures.can c.run.ensures.over c.run.ensures.rest
+          c.run.ensures.limit c.run.ensures.backed c.run.ensures.can c.run.ensures.over c.run.ensures.rest
           c.run.ensures.steps;
     }
 
@@ -68,11 +68,11 @@ returns-clause-runs g c d t ready =
     let run = c.run.ensures in
     let back = comes_back d t c.start.new.self c.in-Some.running.world c.run.new.self
     c.in-Some.running.phase c.run.new.phase c.as_slice.result.now c.as_slice-2.result.now actors
-    schedule out started run.same run.spare run.limit run.can run.over run.rest run.steps in (
+    schedule out started run.same run.spare run.limit run.backed run.can run.over run.rest run.steps in (
       back.turns,
       are_own d t c.start.new.self c.in-Some.running.world c.run.new.self c.in-Some.running.phase
           c.run.new.phase c.as_slice.result.now c.as_slice-2.result.now actors schedule out started
-          run.same run.spare run.limit run.can run.over run.rest run.steps,
+          run.same run.spare run.limit run.backed run.can run.over run.rest run.steps,
       subst (λ (p : Place). FinishIs p c.finish.new.self
           (g.K.Sink.written c.args.sink.now) (g.K.Sink.written c.finish.new.out)
           (g.K.Sink.fault_count c.args.sink.now) (g.K.Sink.fault_count c.finish.new.out)

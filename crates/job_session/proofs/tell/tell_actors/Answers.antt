@@ -10,17 +10,17 @@ loop-actor-init g c = SoFar-start _ _
 
 pub overflow_cast-ops : goal.overflow_cast-ops
 overflow_cast-ops g c =
-    let few = few_ops _ _ _ c.requires.fit.1 _ _ _ c.loop-actor-test.true c.index-actors-actor.is
+    let few = few_ops _ _ _ _ c.requires.fit.2 _ _ _ c.loop-actor-test.true c.index-actors-actor.is
     c.as_slice.ensures in
     omega (arith, few)
 
 pub tell_actor-requires : goal.tell_actor-requires
 tell_actor-requires g c = record {
-  ends = ends_size _ _ _ c.requires.fit.1 _ _ _ c.loop-actor-test.true c.index-actors-actor.is
+  ends = ends_size _ _ _ _ c.requires.fit.2 _ _ _ c.loop-actor-test.true c.index-actors-actor.is
       c.as_slice.ensures;
-  sectors = sectors_size _ _ _ c.requires.fit.1 _ _ _ c.loop-actor-test.true c.index-actors-actor.is
+  sectors = sectors_size _ _ _ _ c.requires.fit.2 _ _ _ c.loop-actor-test.true c.index-actors-actor.is
       c.as_slice.ensures;
-  over = ended _ _ _ c.requires.fit.1 _ _ _ c.loop-actor-test.true c.index-actors-actor.is
+  over = ended _ _ _ _ c.requires.fit.2 _ _ _ c.loop-actor-test.true c.index-actors-actor.is
       c.as_slice.ensures c.requires.over;
 }
 
@@ -30,20 +30,20 @@ returns-in_err-tell_actor g c =
     rw (p.1, p.2)
     (SoFar-cut _ _ _ _ _ c.loop-actor.invariant _ _ _
     (next_actor c.loop-actor.actor _ _
-    (omega (arith, c.loop-actor-test.true, ends_count _ _ _ c.requires.fit.1))
-    (omega (arith, c.loop-actor-test.true, sectors_count _ _ _ c.requires.fit.1)))
+    (omega (arith, c.loop-actor-test.true, ends_count _ _ _ _ c.requires.fit.2))
+    (omega (arith, c.loop-actor-test.true, sectors_count _ _ _ _ c.requires.fit.2)))
     c.in_err-tell_actor.ensures)
 
 pub loop-actor-preserved : goal.loop-actor-preserved
 loop-actor-preserved g c =
     SoFar-more _ _ _ _ _ c.loop-actor.invariant _ _
     (next_actor c.loop-actor.actor _ _
-    (omega (arith, c.loop-actor-test.true, ends_count _ _ _ c.requires.fit.1))
-    (omega (arith, c.loop-actor-test.true, sectors_count _ _ _ c.requires.fit.1)))
+    (omega (arith, c.loop-actor-test.true, ends_count _ _ _ _ c.requires.fit.2))
+    (omega (arith, c.loop-actor-test.true, sectors_count _ _ _ _ c.requires.fit.2)))
     c.in_ok-tell_actor.ensures
 
 pub returns : goal.returns
 returns g c =
     SoFar-all _ _ _ _ c.loop-actor.invariant
     (no_actor c.loop-actor.actor _ _
-    (omega (arith, c.loop-actor-test.false, ends_count _ _ _ c.requires.fit.1)))
+    (omega (arith, c.loop-actor-test.false, ends_count _ _ _ _ c.requires.fit.2)))

@@ -4,7 +4,6 @@ use Rattle.page_steps.specs.Nexts.{pinning}
 use Rattle.page_steps.specs.declared.stage.Scratch.{Scratch}
 use Rattle.page_steps.proofs.Moves.{ends}
 use Rattle.page_steps.proofs.Merges.{work_merged}
-use Rattle.page_steps.proofs.Pooled.{lends, place_there}
 use Rattle.page_steps.proofs.Given.{can_pin}
 use Rattle.page_steps.proofs.Formed.{pinned_here}
 use Rattle.page_steps.proofs.pins.pin.Goals as goal
@@ -13,22 +12,11 @@ pub give_by-requires : goal.give_by-requires
 give_by-requires g c =
     let a = c.args in
     c.requires.allows.give _ _ _ refl
-    (can_pin a.head a.scratch.now a.entry a.object a.pool c.pin-cell.new.self c.pin-cell.result
-    c.requires.fit.0.kept
-    (lends a.pool c.pin-cell.new.self a.object.handle.0 c.pin-cell.result c.pin-cell.ensures.cell
-    c.pin-cell.ensures.pool))
+    (can_pin a.head a.scratch.now a.entry a.object a.pool c.pin_object-cell.new.pool
+    c.pin_object-cell.result c.requires.fit.0.kept c.pin_object-cell.ensures.lends)
 
 pub read_cell-requires : goal.read_cell-requires
-read_cell-requires g c =
-    let a = c.args in
-    let l = lends a.pool c.pin-cell.new.self a.object.handle.0 c.pin-cell.result c.pin-cell.ensures.cell
-    c.pin-cell.ensures.pool in
-    record {
-      bytes = l.object.bytes;
-      stored = l.stored;
-      kept = c.requires.fit.1.kept l.object
-          (place_there a.pool a.object.handle.0 l.id l.ix l.cells l.object l.place) l.place.handle_is;
-    }
+read_cell-requires g c = c.pin_object-cell.ensures.read
 
 pub returns : goal.returns
 returns g c =
@@ -41,13 +29,11 @@ returns g c =
     } in
     let read = c.read_stage.ensures in
     let go = work_merged a.head a.scratch.now m in
-    ends (pinning a.object c.pin-cell.result) c.requires tt refl
-    (can_pin a.head a.scratch.now a.entry a.object a.pool c.pin-cell.new.self c.pin-cell.result
-    c.requires.fit.0.kept
-    (lends a.pool c.pin-cell.new.self a.object.handle.0 c.pin-cell.result c.pin-cell.ensures.cell
-    c.pin-cell.ensures.pool))
+    ends (pinning a.object c.pin_object-cell.result) c.requires tt refl
+    (can_pin a.head a.scratch.now a.entry a.object a.pool c.pin_object-cell.new.pool
+    c.pin_object-cell.result c.requires.fit.0.kept c.pin_object-cell.ensures.lends)
     c.give_by.ensures read.fit read.going
     (λ x w. read.work x (go x (λ k few low high. refl) refl w)) read.table (λ x. tt)
-    (λ x w. pinned_here a.head a.scratch.now m c.read_stage.new.scratch a.entry a.object c.pin-cell.result a.pool
-    c.read_stage.result (holds.Class c.pin-cell.new.self) c.read_cell.ensures read x
+    (λ x w. pinned_here a.head a.scratch.now m c.read_stage.new.scratch a.entry a.object c.pin_object-cell.result a.pool
+    c.read_stage.result (holds.Class c.pin_object-cell.new.pool) c.read_cell.ensures read x
     (go x (λ k few low high. refl) refl w))

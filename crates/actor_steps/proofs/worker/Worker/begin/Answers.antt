@@ -7,16 +7,16 @@ use Rattle.actor_steps.proofs.worker.Worker.begin.Goals as goal
 pub begun-requires : goal.begun-requires
 begun-requires g c =
     record {
-      some = c.requires.fit.some;
-      requests = c.requires.fit.requests;
-      few = c.requires.fit.few;
+      some = c.requires.fit.1.some;
+      requests = c.requires.fit.1.requests;
+      few = c.requires.fit.1.few;
       more = c.requires.more;
-      place = c.requires.fit.place;
-      settled = c.requires.fit.settled;
+      place = c.requires.fit.1.place;
+      settled = (c.requires.fit.0, c.requires.fit.1.settled);
     }
 
 pub returns : goal.returns
-returns g c =
+returns g c backed fit =
     let v = c.args.self.now in
     let ops = c.args.ops.now in
     let op = there_is ops v.place.nr c.requires.more in
@@ -25,9 +25,9 @@ returns g c =
       call = λ e. absurd (let q : None ≡ Some c.begun.result = sym e in cc);
       place = refl;
       table = refl;
-      fit = begun_fit t ops v (sym c.requires.none) c.requires.fit op.0 op.1 c.begun.new.fresh
+      fit = begun_fit t backed ops v (sym c.requires.none) fit op.0 op.1 c.begun.new.fresh
           c.begun.result begins;
-      same = begun_here t ops v (sym c.requires.none) c.requires.fit op.0 op.1 c.begun.new.fresh
+      same = begun_here t backed ops v (sym c.requires.none) fit op.0 op.1 c.begun.new.fresh
           c.begun.result begins;
       keeps = λ done keeps. record {
         ends = keeps.ends;

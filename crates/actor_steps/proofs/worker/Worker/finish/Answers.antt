@@ -17,7 +17,7 @@ op_at g c = at_index c.args.ops.now c.args.self.now.place.nr c.index-ops-nr.resu
 
 pub keep-requires-clause-touched : goal.keep-requires-clause-touched
 keep-requires-clause-touched g c request =
-    touches_here c.args.size c.args.ops.now c.args.self.now.place c.index-ops-nr.result
+    touches_here c.args.size c.args.backed c.args.ops.now c.args.self.now.place c.index-ops-nr.result
     (op_at g (goal.at.keep-requires-clause-touched g c).After-index-ops-nr)
     c.requires.requests c.requires.place c.requires.settled request
 
@@ -29,7 +29,7 @@ keep-requires-clause-room g c r there =
 pub returns : goal.returns
 returns g c =
     let w = c.args.self.now in
-    let rest = todo_at c.args.size c.args.ops.now (behind w.place) in
+    let rest = todo_at c.args.size c.args.backed c.args.ops.now (behind w.place) in
     let next = c.next_place-self.ensures in
     let now : ℕ = c.next_place-self.result.nr in record {
       actor = refl;

@@ -1,4 +1,5 @@
 use Rattle.std.proofs.Common.{refl, ap, ◌∙◌, arith}
+use Rattle.backing_dev.specs.Dev.{DeviceState}
 use Rattle.job_text.specs.Jobs.{nothing_used}
 use Rattle.job_session.specs.Stepped.{without_pages, disk_of}
 use Rattle.job_session.proofs.Legal.{first_rest}
@@ -13,11 +14,11 @@ returns-clause-new g c =
       whole = refl;
       none = refl;
       quiet = refl;
-      disk = bare_disk (disk_of 0 c.new.result) new.pages new.limit refl new.cells new.blocks
+      disk = bare_disk (disk_of 0 c.new.result) new.pages new.limit new.backed refl new.cells new.blocks
           ∙ ap without_pages new.device;
       first = first_rest _;
       is_first = first_is _;
-      stands = first_stands _;
+      stands = first_stands _ (omega arith);
     }
 
 pub returns-clause-between : goal.returns-clause-between
@@ -34,6 +35,7 @@ returns-clause-between g c =
           timed = refl;
           may = c.requires.lawful;
         };
-        stands = first_some (disk_of 0 c.new.result) new.pages new.limit refl new.cells new.blocks;
+        stands = first_some (disk_of 0 c.new.result) new.pages new.limit new.backed refl new.cells new.blocks
+            (ap (λ (d : DeviceState). d.writes) new.device);
       },
     )

@@ -34,6 +34,6 @@ returns-clause-ready g c =
       text,
       record { item = next; time = refl; may = c.requires.at.may; stands = c.requires.at.stands },
       started_by d c.prepare.new.self c.in_ok-phase.phase text.actors c.as_slice.result.now
-          c.as_slice.ensures ready.pages ready.clock ready.limit ready.device ready.blocks ready.can
+          c.as_slice.ensures ready.pages ready.clock ready.limit ready.backed ready.device ready.blocks ready.can
           ready.set_up ready.start,
     )

@@ -81,20 +81,22 @@ terms o c = record { size = c.args.self.now.pages; chain = MOST_CHAIN; clock = c
 pub returns-clause-set_up : goal.returns-clause-set_up
 returns-clause-set_up o c =
     let a = (goal.at.returns-clause-set_up o c).After-reserve_all in
-    set_up_on (terms o a) c.args.actors.now c.args.self.now.row.cells c.reserve_all.new.row.cells
+    set_up_on (terms o a) c.args.self.now.backed c.args.actors.now c.args.self.now.row.cells c.reserve_all.new.row.cells
     c.in_ok-workers.workers.items c.args.self.now.limit c.args.self.now.spare c.in_ok-counts.counts
     c.in_ok-noted.noted.items
-    c.in_ok-workers.ensures c.in_ok-counts.ensures.counted c.in_ok-reserve_all.ensures.reserved
+    c.in_ok-workers.ensures (c.in_ok-counts.ensures.counted c.args.self.now.backed)
+    c.in_ok-reserve_all.ensures.reserved
     (no_entry c.args.self.now.pages c.args.self.now.noted.items c.args.self.now.row.cells
     c.requires.rest)
 
 pub returns-clause-start : goal.returns-clause-start
 returns-clause-start o c g rests =
     let a = (goal.at.returns-clause-start o c).After-reserve_all in
-    prepared (terms o a) c.args.actors.now c.args.self.now.row.cells c.reserve_all.new.row.cells
+    prepared (terms o a) c.args.self.now.backed c.args.actors.now c.args.self.now.row.cells c.reserve_all.new.row.cells
     c.in_ok-workers.workers.items c.args.self.now.limit c.args.self.now.spare c.in_ok-counts.counts
     c.in_ok-noted.noted.items
-    c.in_ok-workers.ensures c.in_ok-counts.ensures.counted c.in_ok-reserve_all.ensures.reserved
+    c.in_ok-workers.ensures (c.in_ok-counts.ensures.counted c.args.self.now.backed)
+    c.in_ok-reserve_all.ensures.reserved
     (no_entry c.args.self.now.pages c.args.self.now.noted.items c.args.self.now.row.cells
     c.requires.rest)
     g rests c.requires.work c.requires.time refl c.phases_go_on.ensures.next c.disks_begin.ensures.proper
@@ -102,10 +104,11 @@ returns-clause-start o c g rests =
 pub returns-clause-can : goal.returns-clause-can
 returns-clause-can o c =
     let a = (goal.at.returns-clause-can o c).After-reserve_all in
-    may_go_on (terms o a) c.args.actors.now c.args.self.now.row.cells c.reserve_all.new.row.cells
+    may_go_on (terms o a) c.args.self.now.backed c.args.actors.now c.args.self.now.row.cells c.reserve_all.new.row.cells
     c.in_ok-workers.workers.items c.args.self.now.limit c.args.self.now.spare c.in_ok-counts.counts
     c.in_ok-noted.noted.items
-    c.in_ok-workers.ensures c.in_ok-counts.ensures.counted c.in_ok-reserve_all.ensures.reserved
+    c.in_ok-workers.ensures (c.in_ok-counts.ensures.counted c.args.self.now.backed)
+    c.in_ok-reserve_all.ensures.reserved
     (no_entry c.args.self.now.pages c.args.self.now.noted.items c.args.self.now.row.cells
     c.requires.rest)
     c.args.self.now.noted.items c.requires.rest c.requires.none c.requires.work

@@ -18,7 +18,7 @@ loop-actor-preserved o c =
     let i = c.loop-actor.invariant in
     let t = c.step-turn.ensures in record {
       plays = then_turn _ _ _ c.loop-actor.actor i.plays
-          (plays_once c.loop-actor.actor _ _ c.step-turn.result t.same t.limit t.spare t.can t.turn);
+          (plays_once c.loop-actor.actor _ _ c.step-turn.result t.same t.limit t.backed t.spare t.can t.turn);
       falls = λ dones kept. turn_more c.sums_move.ensures.moves
           (state_of (playing c.args.self.now c.args.phase.now c.args.actors.now) dones)
           (playing c.loop-actor.self c.loop-actor.phase c.args.actors.now)

@@ -34,6 +34,9 @@ returns-clause-same o c = (all_turns o (goal.at.returns-clause-same o c).After-f
 pub returns-clause-limit : goal.returns-clause-limit
 returns-clause-limit o c = (all_turns o (goal.at.returns-clause-limit o c).After-finish).limit
 
+pub returns-clause-backed : goal.returns-clause-backed
+returns-clause-backed o c = (all_turns o (goal.at.returns-clause-backed o c).After-finish).backed
+
 pub returns-clause-spare : goal.returns-clause-spare
 returns-clause-spare o c = (all_turns o (goal.at.returns-clause-spare o c).After-finish).spare
 
@@ -57,7 +60,7 @@ returns-clause-rule o c g j = rule_now o (goal.at.returns-clause-rule o c).After
 
 finished : (o : _) (c : After-finish o) (dones : List (List Done)) → AllFinished (state_of (last o c) dones)
 finished o c dones = let x = last o c in
-    all_finished x.terms x.actors x.cells x.workers dones c.finish.ensures.over
+    all_finished x.terms x.backed x.actors x.cells x.workers dones c.finish.ensures.over
 
 pub returns-clause-ended : goal.returns-clause-ended
 returns-clause-ended o c g j =

@@ -17,12 +17,14 @@ pub invariant_of-self-clause-early : goal.invariant_of-self-clause-early
 invariant_of-self-clause-early o c =
     let a = (goal.at.invariant_of-self-clause-early o c).After-set_enable in
     let x = c.args.self.now in
+    let was = (no_pages x.pages x.spare c.in-Some.spare x.early c.in-Some.ensures.value).1 in
     early_zero x.pages _ c.requires.none record {
       free = subst AreFree (sym (states_are o a)) (all_free c.args.blocks);
       fits = let n = ap length (states_are o a) ∙ length-replicate c.args.blocks Free in
           let d = ap (λ s. (device_by s x.pages x.row.cells).blocks) c.in-Some.ensures.value in
           let f = c.requires.fits in omega arith;
-      reads = (no_pages x.pages x.spare c.in-Some.spare x.early c.in-Some.ensures.value).1.reads;
+      reads = was.reads;
+      writes = was.writes;
     }
 
 pub returns-clause-blocks : goal.returns-clause-blocks

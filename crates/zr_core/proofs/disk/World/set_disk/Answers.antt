@@ -47,7 +47,7 @@ full o c =
     let s = is_spare o c in
     row_new c.args.pages c.args.self.now.limit c.in-Some.spare.device c.in-Some.spare.blocks f.0
     c.in_ok-row.row.cells c.put_device.new.row.cells (f.1 c.in-Some.spare.device) f.2
-    c.put_device.ensures.cells s.free s.fits s.reads
+    c.put_device.ensures.cells s.free s.fits s.reads s.writes
 
 rests : (o : _) (c : After-put_device o)
     → RestsAs (new_disk c.args.pages c.args.self.now.limit c.in-Some.spare.device) c.args.pages

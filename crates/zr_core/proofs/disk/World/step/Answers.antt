@@ -9,7 +9,7 @@ use Rattle.actor_steps.specs.Workers.{here, next_event, IsFit, terms_of}
 use Rattle.joint_rule.specs.Begins.{Begin}
 use Rattle.zr_core.specs.Playing.{playing}
 use Rattle.zr_core.specs.Rests.{names_of}
-use Rattle.zr_core.specs.States.{Playing, AreKept, HasRule, TurnsOnce}
+use Rattle.zr_core.specs.States.{Playing, HasKept, HasRule, TurnsOnce}
 use Rattle.zr_core.proofs.Lists.{at_index}
 use Rattle.zr_core.proofs.Names.{names_some}
 use Rattle.zr_core.proofs.States.{fit_set}
@@ -46,7 +46,7 @@ cells_are o c = ap (λ (r : Row DiskHeld). r.cells) c.hand-hand.ensures.row
 
 -- the worker's terms are the phase's
 fit_at : (o : _) (c : After-as_slice o)
-    → IsFit (before o c).terms c.as_slice.result.now c.index_mut-worker.result.now
+    → IsFit (before o c).terms (before o c).backed c.as_slice.result.now c.index_mut-worker.result.now
 fit_at o c = c.requires.can.fit.each c.args.actor c.as_slice.result.now c.index_mut-worker.result.now
     (ops_at o c) (worker_at o c)
 
@@ -75,15 +75,15 @@ seat o c = record {
 
 pub advance-requires-clause-fit : goal.advance-requires-clause-fit
 advance-requires-clause-fit o c = let a = (goal.at.advance-requires-clause-fit o c).After-as_slice in
-    subst (λ (t : Terms). IsFit t c.as_slice.result.now c.index_mut-worker.result.now)
+    subst (λ (t : Terms). IsFit t c.args.self.now.backed c.as_slice.result.now c.index_mut-worker.result.now)
     (sym (terms_are o a)) (fit_at o a)
 
 -- what is next by the worker's terms is next by the phase's
 planned : (o : _) (c : After-as_slice o) {p : Plan}
     → next_event (terms_of c.args.self.now.pages c.args.phase.now.clock c.index_mut-worker.result.now)
-    c.as_slice.result.now c.index_mut-worker.result.now ≡ p
-    → next_event (before o c).terms c.as_slice.result.now c.index_mut-worker.result.now ≡ p
-planned o c what = ap (λ (t : Terms). next_event t c.as_slice.result.now c.index_mut-worker.result.now)
+    c.args.self.now.backed c.as_slice.result.now c.index_mut-worker.result.now ≡ p
+    → next_event (before o c).terms c.args.self.now.backed c.as_slice.result.now c.index_mut-worker.result.now ≡ p
+planned o c what = ap (λ (t : Terms). next_event t c.args.self.now.backed c.as_slice.result.now c.index_mut-worker.result.now)
     (sym (terms_are o c)) ∙ what
 
 pub advance-requires-clause-allows : goal.advance-requires-clause-allows
@@ -93,7 +93,7 @@ advance-requires-clause-allows o c =
     let w = c.index_mut-worker.result.now in record {
       take = λ k f what told. may_take x c.args.actor _ _ _ (seat o a) k (planned o a what);
       fits = λ k f v h what told takes.
-          subst (λ (t : Terms). StageFits t (here t.size c.as_slice.result.now w []) v)
+          subst (λ (t : Terms). StageFits t (here t.size c.args.self.now.backed c.as_slice.result.now w []) v)
           (sym (terms_are o a))
           (may_fit x c.args.actor _ _ _ (seat o a) c.values_fit.ensures.fits k v (planned o a what)
           takes.2.home);
@@ -130,6 +130,7 @@ abbrev is_now : (o : _) → After-advance o → Playing o.row.D.Denot
 is_now o c = record {
   terms = (was o c).terms;
   limit = (was o c).limit;
+  backed = (was o c).backed;
   spare = (was o c).spare;
   noted = (was o c).noted;
   actors = c.args.actors.now;
@@ -141,7 +142,7 @@ turned : (o : _) (c : After-advance o) → Seat (was o c) c.args.actor c.as_slic
     c.index_mut-worker.result.now c.hand-hand.result.row.now
     → terms_of c.args.self.now.pages c.args.phase.now.clock c.index_mut-worker.result.now
     ≡ (was o c).terms
-    → (dones : List (List Done)) → AreKept c.args.phase.now.workers.items dones
+    → (dones : List (List Done)) → HasKept (was o c) dones
     → TurnsOnce c.args.actor (was o c) (is_now o c) c.advance.result dones
 turned o c s same dones kept =
     turns_once (was o c) c.args.actor _ _ _ s c.hand-hand.result c.advance.new.hand
@@ -158,29 +159,29 @@ pub returns-clause-rule : goal.returns-clause-rule
 returns-clause-rule o c g j =
     let a = (goal.at.returns-clause-rule o c).After-advance in
     let s = (goal.at.returns-clause-rule o c).After-as_slice in
-    rule_on (was o a) (is_now o a) refl refl c.args.actor c.advance.result
+    rule_on (was o a) (is_now o a) refl refl refl c.args.actor c.advance.result
     (turned o a (seat o s) (terms_are o s)) c.rule_keeps.ensures.turn g j
 
 pub returns-clause-reached : goal.returns-clause-reached
 returns-clause-reached o c start r =
     let a = (goal.at.returns-clause-reached o c).After-advance in
     let s = (goal.at.returns-clause-reached o c).After-as_slice in
-    reached_on (was o a) (is_now o a) refl refl c.args.actor c.advance.result
+    reached_on (was o a) (is_now o a) refl refl refl c.args.actor c.advance.result
     (turned o a (seat o s) (terms_are o s)) start r
 
 pub returns-clause-can : goal.returns-clause-can
 returns-clause-can o c =
     let a = (goal.at.returns-clause-can o c).After-advance in
     let s = (goal.at.returns-clause-can o c).After-as_slice in record {
-      fit = fit_set (was o a).terms c.args.actors.now c.args.phase.now.workers.items c.args.actor
-          c.as_slice.result.now c.index_mut-worker.result.now c.advance.new.self c.requires.can.fit
+      fit = fit_set (was o a).terms c.args.self.now.backed c.args.actors.now
+          c.args.phase.now.workers.items c.args.actor c.as_slice.result.now c.index_mut-worker.result.now c.advance.new.self c.requires.can.fit
           (ops_at o s) (worker_at o s)
-          (subst (λ (t : Terms). IsFit t c.as_slice.result.now c.advance.new.self) (terms_are o s)
-          c.advance.ensures.fit);
+          (subst (λ (t : Terms). IsFit t c.args.self.now.backed c.as_slice.result.now
+          c.advance.new.self) (terms_are o s) c.advance.ensures.fit);
       pieces = c.requires.can.pieces;
       ruled = inr (
         (ruled o s).0,
-        rule_on (was o a) (is_now o a) refl refl c.args.actor c.advance.result
+        rule_on (was o a) (is_now o a) refl refl refl c.args.actor c.advance.result
             (turned o a (seat o s) (terms_are o s)) c.rule_keeps.ensures.turn (ruled o s).0 (ruled o s).1,
       );
     }

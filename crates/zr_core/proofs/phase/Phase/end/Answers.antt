@@ -4,7 +4,7 @@ use Rattle.zr_core.proofs.Shown.{all_ends}
 use Rattle.zr_core.proofs.phase.Phase.end.Goals as goal
 
 pub returns-clause-by_history : goal.returns-clause-by_history
-returns-clause-by_history o c t actors dones fit kept =
+returns-clause-by_history o c t backed actors dones fit kept =
     ap (λ all. of_op all c.args.actor c.args.op)
-    (all_ends t actors c.args.self.now.workers.items dones fit kept)
+    (all_ends t backed actors c.args.self.now.workers.items dones fit kept)
     ∙ c.end_so_far.ensures

@@ -4,7 +4,7 @@ use Rattle.zr_core.proofs.Shown.{all_told}
 use Rattle.zr_core.proofs.phase.Phase.sectors.Goals as goal
 
 pub returns-clause-by_history : goal.returns-clause-by_history
-returns-clause-by_history o c t actors dones fit kept =
+returns-clause-by_history o c t backed actors dones fit kept =
     ap (λ all. of_op all c.args.actor c.args.op)
-    (all_told t actors c.args.self.now.workers.items dones fit kept)
+    (all_told t backed actors c.args.self.now.workers.items dones fit kept)
     ∙ c.sectors_so_far.ensures
