@@ -4,9 +4,11 @@
 #
 #   bench/plain.sh [PROGRAM]
 #
-# The job: 16,384 pages, a quarter each same-filled, packed in 1120 bytes, huge and packed in 2656 bytes, each written
-# and read whole. Both programs run by turns, and what they print has to be the same. The times are of the processor, for
-# the program and for the system beside it: the least and the middle of 15 runs.
+# Two jobs of 16,384 pages, a quarter each same-filled, packed in 1120 bytes, huge and packed in 2656 bytes. The first is
+# read, and writes and reads each page whole. The second is the one that the words `gen 16384 1` ask for: between the
+# writes and the reads the huge pages are written back and the pools compacted, and of its output the reports alone are
+# printed. Both programs run by turns, and what they print has to be the same. The times are of the processor, for the
+# program and for the system beside it: the least and the middle of 15 runs.
 set -u
 source "$(dirname "${BASH_SOURCE[0]}")/jobs.sh"
 
@@ -25,17 +27,23 @@ awk 'BEGIN {
   for (p = 0; p < n; p++) print "read " 8 * p " 8"
   print "run\nmm_stat"
 }' >"$job"
-"$plain" <"$job" >"$folder/plain.out"
-"$program" run <"$job" >"$out"
-cmp "$folder/plain.out" "$out" || exit 1
 
+# The words of both programs; the job is the standard input.
+compare() {
+  "$plain" "$@" <"$job" >"$folder/plain.out"
+  "$program" "$@" <"$job" >"$out"
+  cmp "$folder/plain.out" "$out" || exit 1
+  rm -f "$folder"/*.times
+  for _ in $(seq 15); do
+    { time "$program" "$@" <"$job" >/dev/null; } 2>>"$folder/program.times"
+    { time "$plain" "$@" <"$job" >/dev/null; } 2>>"$folder/plain.times"
+  done
+  printf '\n%s\n%-10s %8s %8s\n' "$*" program least middle
+  for name in program plain; do
+    awk '{ printf "%.3f\n", $1 + $2 }' "$folder/$name.times" | sort -n |
+      awk -v name="$name" '{ t[NR] = $1 } END { printf "%-10s %8s %8s\n", name, t[1], t[int((NR + 1) / 2)] }'
+  done
+}
 TIMEFORMAT='%3U %3S'
-for _ in $(seq 15); do
-  { time "$program" run <"$job" >/dev/null; } 2>>"$folder/program.times"
-  { time "$plain" <"$job" >/dev/null; } 2>>"$folder/plain.times"
-done
-printf '%-10s %8s %8s\n' program least middle
-for name in program plain; do
-  awk '{ printf "%.3f\n", $1 + $2 }' "$folder/$name.times" | sort -n |
-    awk -v name="$name" '{ t[NR] = $1 } END { printf "%-10s %8s %8s\n", name, t[1], t[int((NR + 1) / 2)] }'
-done
+compare run
+compare gen 16384 1

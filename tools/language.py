@@ -97,6 +97,8 @@ VALUES = {
     "LIMIT": Value(size, lambda pages: pages <= 2 ** 28, "at most 2^28 pages"),
     "BLOCKS": Value(number, lambda blocks: 1 <= blocks <= 65_536, "1 to 65,536 blocks"),
     "NUMBER": Value(number, lambda value: value == 0, "0"),
+    "UNITS": Value(number, lambda units: units <= 2 ** 32, "at most 2^32 writes"),
+    "SWITCH": Value(number, lambda value: value <= 1, "0 or 1"),
     "TIME": Value(number, lambda seconds: seconds < 2 ** 64, "below 2^64"),
     "AGE": Value(number, lambda seconds: seconds < 2 ** 64, "below 2^64"),
     "START": Value(number, lambda sector: sector < 2 ** 32, "a sector below 2^32"),
@@ -113,6 +115,8 @@ FORMS = [form.split() for form in (
     "disksize SIZE",
     "mem_limit LIMIT",
     "backing BLOCKS",
+    "writeback_limit UNITS",
+    "writeback_limit_enable SWITCH",
     "mem_used_max NUMBER",
     "clock TIME",
     "mm_stat",
@@ -128,11 +132,15 @@ FORMS = [form.split() for form in (
     "discard START COUNT",
     "idle all",
     "idle AGE",
+    "writeback idle",
+    "writeback huge",
+    "writeback huge_idle",
     "compact",
     "schedule TURN..",
     "run",
 )]
-OPERATIONS = ("write", "read", "discard", "idle", "compact")
+OPERATIONS = ("write", "read", "discard", "idle", "writeback", "compact")
+NO_REQUESTS = ("idle", "writeback", "compact")  # operations without sectors
 REPORTS = ("mm_stat", "io_stat", "bd_stat", "states", "classes")
 
 
@@ -195,14 +203,20 @@ def seq_sector(base: int, step: int, index: int) -> bytes:
 
 @dataclass(frozen=True)
 class Op:
-    """An operation: its word, its request, the bytes that it puts into each sector of the request, its line, and the
-    age of `idle`, if it has one. `idle` and `compact` are no requests: they have no sectors."""
+    """An operation: its word, its request, the bytes that it puts into each sector of the request, its line, the age of
+    `idle`, if it has one, and the mode of `writeback`. `idle`, `writeback` and `compact` are no requests: they have no
+    sectors."""
     word: str
     start: int
     count: int
     sector: Callable[[int], bytes]
     text: str
     age: Optional[int] = None
+    mode: str = ""
+
+    def is_request(self) -> bool:
+        """Whether it has sectors."""
+        return self.word not in NO_REQUESTS
 
     def pages(self) -> range:
         """The pages on which the request has sectors."""
@@ -245,6 +259,16 @@ class Backing(NamedTuple):
     blocks: int
 
 
+class Budget(NamedTuple):
+    """An item of a job: so many writes to the backing device are allowed from now on, where the limit is enabled."""
+    units: int
+
+
+class EnableBudget(NamedTuple):
+    """An item of a job: the limit on writes to the backing device acts from now on, or doesn't."""
+    is_on: bool
+
+
 class LowerMax(NamedTuple):
     """An item of a job: the greatest number of frames charged is from now on what is charged now."""
 
@@ -267,7 +291,7 @@ class Phase:
     schedule: list[Turns] = field(default_factory=list)
 
 
-Item = Union[Size, Limit, Backing, LowerMax, Clock, Report, Phase]
+Item = Union[Size, Limit, Backing, Budget, EnableBudget, LowerMax, Clock, Report, Phase]
 AFTER_SCHEDULE = "after a `schedule` come only more of it and `run`"
 
 
@@ -330,6 +354,16 @@ class Reader:
         self.want(self.phase is None, "order", "`backing` stands outside a phase")
         self.items.append(Backing(values["BLOCKS"][0]))
 
+    def says_writeback_limit(self, values: dict[str, list[Any]], words: list[str]) -> None:
+        """`writeback_limit UNITS`: any time outside a phase, before and after a backing and the disk's size."""
+        self.want(self.phase is None, "order", "`writeback_limit` stands outside a phase")
+        self.items.append(Budget(values["UNITS"][0]))
+
+    def says_writeback_limit_enable(self, values: dict[str, list[Any]], words: list[str]) -> None:
+        """`writeback_limit_enable SWITCH`: any time outside a phase, before and after a backing and the disk's size."""
+        self.want(self.phase is None, "order", "`writeback_limit_enable` stands outside a phase")
+        self.items.append(EnableBudget(values["SWITCH"][0] == 1))
+
     def says_mem_used_max(self, values: dict[str, list[Any]], words: list[str]) -> None:
         """`mem_used_max 0`: any time outside a phase, before and after the disk's size."""
         self.want(self.phase is None, "order", "`mem_used_max` stands outside a phase")
@@ -358,16 +392,17 @@ class Reader:
         self.phase.actors.append([])
 
     def says_operation(self, values: dict[str, list[Any]], words: list[str]) -> None:
-        """`write`, `read`, `discard`, `idle`, `compact`: of the last actor."""
+        """`write`, `read`, `discard`, `idle`, `writeback`, `compact`: of the last actor."""
         self.want(self.phase is not None, "order", "an operation stands after an `actor`")
         assert self.phase is not None
         self.want(not self.phase.schedule, "order", AFTER_SCHEDULE)
         text = " ".join(words[:4] + [".."] if words[3:4] == ["hex"] else words)
-        op = Op(words[0], *request_of(values), stuff_of(values), text, values.get("AGE", [None])[0])
+        mode = words[1] if words[0] == "writeback" else ""
+        op = Op(words[0], *request_of(values), stuff_of(values), text, values.get("AGE", [None])[0], mode)
         self.use("operations", 1)
         self.use("pieces", len(op.pages()))
         self.use("sectors to read", op.count if op.word == "read" else 0)
-        self.use("pages to scan", self.pages if op.word == "idle" else 0)
+        self.use("pages to scan", self.pages if op.word in ("idle", "writeback") else 0)
         self.phase.actors[-1].append(op)
 
     def says_schedule(self, values: dict[str, list[Any]], words: list[str]) -> None:

@@ -1,10 +1,12 @@
-"""How pages are kept, by docs/MACHINE.md: forms, size classes, pools, the account. A part of the model (tools/model.py).
+"""How pages are kept, by docs/PAGES.md: forms, size classes, pools, the account, the backing device. A part of the
+model (tools/model.py).
 
   1. packing: lines, pages, and back
   2. kept forms
   3. size classes
   4. pools: zspages, objects, moves
   5. the account
+  6. the blocks and the backing device
 
 All values are plain data that no function changes: what an event puts in a value's place is a new value.
 """
@@ -144,7 +146,12 @@ class Stored(NamedTuple):
     is_huge: bool
 
 
-Kept = Union[None, Same, Stored]  # none: never written, or discarded
+class OnDevice(NamedTuple):
+    """Kept in a block of the backing device."""
+    block: int
+
+
+Kept = Union[None, Same, Stored, OnDevice]  # none: never written, or discarded
 
 
 class Pooled(NamedTuple):
@@ -382,3 +389,70 @@ class Account(NamedTuple):
     def io_stat(self) -> list[int]:
         """The fields of `io_stat`."""
         return [self.failed_reads, self.failed_writes, self.invalid_io, self.notify_free]
+
+
+# ---- 6. the blocks and the backing device
+
+FREE, HELD, OWNED = "free", "held", "owned"  # a block may be held by a writeback, or owned by a page
+
+
+class Blocks(NamedTuple):
+    """The blocks of the backing device that are used, each with its state: without any, the disk has no backing. And
+    the limit on writes to the device: whether it acts, and how many more it allows."""
+    states: Tuple[str, ...] = ()
+    has_limit: bool = False
+    budget: int = 0
+
+    def with_blocks(self, number: int) -> Blocks:
+        """With so many blocks, all free; the limit on writes stays."""
+        return self._replace(states=(FREE,) * number)
+
+    def is_spent(self) -> bool:
+        """Whether the limit on writes allows no other one."""
+        return self.has_limit and self.budget == 0
+
+    def least_free(self) -> Optional[int]:
+        """The least block that is free; none where none is."""
+        return self.states.index(FREE) if FREE in self.states else None
+
+    def reserved(self, block: int) -> Blocks:
+        """With a free block held: that is one write more, of which no limit gives any back."""
+        return self.with_state(block, HELD)._replace(budget=self.budget - self.has_limit)
+
+    def with_state(self, block: int, state: str) -> Blocks:
+        """With another state of a block."""
+        return self._replace(states=self.states[:block] + (state,) + self.states[block + 1:])
+
+
+class Device(NamedTuple):
+    """The backing device: the pages in its blocks up to the last one that was written, how many reads and writes
+    succeeded, how many calls failed, and which of the following reads and writes will fail, by their numbers from 1."""
+    pages: Tuple[Page, ...] = ()
+    reads: int = 0
+    writes: int = 0
+    faults: int = 0
+    bad_reads: Tuple[int, ...] = ()
+    bad_writes: Tuple[int, ...] = ()
+
+    def page(self, block: int) -> Page:
+        """The page in a block."""
+        return self.pages[block] if block < len(self.pages) else ZERO_PAGE
+
+    def read(self) -> tuple[Device, bool]:
+        """The device after a read, and whether it succeeded."""
+        is_bad, later = called(self.bad_reads)
+        return self._replace(bad_reads=later, reads=self.reads + 1 - is_bad, faults=self.faults + is_bad), not is_bad
+
+    def written(self, block: int, page: Page) -> tuple[Device, bool]:
+        """The device after a write, and whether it succeeded. What a block has after a write that failed is left open;
+        here it is bytes ff."""
+        is_bad, later = called(self.bad_writes)
+        pages = self.pages + (ZERO_PAGE,) * (block + 1 - len(self.pages))
+        put = (b"\xff" * SECTOR,) * SECTORS if is_bad else page
+        device = self._replace(bad_writes=later, pages=pages[:block] + (put,) + pages[block + 1:])
+        return device._replace(writes=self.writes + 1 - is_bad, faults=self.faults + is_bad), not is_bad
+
+
+def called(bad: Tuple[int, ...]) -> tuple[bool, Tuple[int, ...]]:
+    """Whether the next call is one of those that fail, and those that fail after it, counted from there."""
+    return 1 in bad, tuple(number - 1 for number in bad if number > 1)

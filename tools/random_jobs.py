@@ -13,9 +13,14 @@ EDGES = (0, 1, 7, 8, 9, 15, 16)
 COUNTS = (1, 1, 2, 3, 4, 7, 8, 8, 8, 9, 16, 16, 24)
 LIMITS = ("0", "1", "4K", "4k", "8K", "8K", "12K", "16K", "20K", "24K", "1M", "1G", "1099511627776", "0G")
 AGES = ("all", "all", "all", "0", "1", "4", "5", "05", "9", "18446744073709551615")
+MODES = ("idle", "idle", "huge", "huge_idle")
 REPORTS = ("mm_stat", "io_stat", "bd_stat", "states", "classes")
-# Blocks of the backing device that are used: up to those that it has, or more.
-BLOCKS = ("1", "2", "7", "16", "0016", "100", "4095", "4096", "4096", "4096", "4097", "65536")
+# Blocks of the backing device that are used: few, so that none is free at times, up to those that it has, or more.
+BLOCKS = ("1", "1", "1", "2", "2", "3", "7", "0016", "100", "4095", "4096", "4096", "4097", "65536")
+# How many writes to the device are allowed, and whether that counts.
+BUDGETS = ("writeback_limit 0", "writeback_limit 1", "writeback_limit 1", "writeback_limit 2", "writeback_limit 03",
+           "writeback_limit 4294967296", "writeback_limit_enable 0", "writeback_limit_enable 1",
+           "writeback_limit_enable 1", "writeback_limit_enable 1")
 # What writes put so that pages are huge or packed in many sizes, beside the words and steps below.
 KEPT = (
     "seq 0 9e3779b97f4a7c15", "seq 0 9e3779b97f4a7c15", "seq f4240 1", "seq f4240 1000000", "seq f4240 100",
@@ -27,12 +32,17 @@ SCATTERED = {"seq f4240 1000000": 130, "seq f4240 1": 106}
 WORDS = ("0", "1", "ab", "FF", "1a2b3c4d", "ffffffffffffffff", "0000000000000001", "DeadBeef")
 STEPS = ("0", "1", "ff", "100000000", "ffffffffffffffff", "9e3779b97f4a7c15")
 
+# What pages are written by that are to be written back: huge ones and packed ones, and one in a while same-filled.
+WRITTEN = ("seq 0 9e3779b97f4a7c15", "seq 0 9e3779b97f4a7c15", "seq 5 9e3779b97f4a7c15", "seq f4240 1", "seq f4240 1",
+           "seq f4240 1000000", "seq 7 15000000", "fill 3")
+
 # Words that are wrong, or wrong in most places.
 STRANGE = (
     "", "x", "-1", "+1", "1.5", "0x1", "0", "00", "007", "2048", "2049", "4294967295", "4294967296",
     "18446744073709551616", "123456789012345678901234567890", "1K", "1k", "K", "4M", "1G", "1T", "262145", "0*1", "1*0",
     "*", "0*", "*1", "0*1*1", "0*16777217", "0*16777216", "63", "64", "99999999999999999", "00000000000000001", "fill",
     "seq", "hex", "mem_limit", "backing", "mem_used_max", "mm_stat", "bd_stat", "classes", "4096", "65536", "65537", "1048576M", "1048577M", "FILL", "read", "write", "discard", "compact", "run", "RUN", "actor", "disksize", "schedule", "idle", "all", "clock",
+    "writeback", "huge", "huge_idle", "HUGE",
     "\x0b", "\x0c", "\xa0", "\r", "\0", "\xff", "#", "run#", "a" * 60,
 )
 # Whole lines that are wrong in most places.
@@ -44,7 +54,9 @@ STRANGE_LINES = (
     "backing 1", "backing 4097", "backing 0", "backing 65537", "backing 18446744073709551616", "backing 1K", "backing",
     "backing 1 1", "bd_stat", "bd_stat 0",
     "mem_used_max 0", "mem_used_max 00", "mem_used_max 1", "mem_used_max 0K", "mem_used_max",
-    "io_stat", "states", "classes", "mm_stat 1", "io_stat mm_stat", "classes all", "compact", "compact 0", "writeback idle", "read 4294967295 2048", "read 0 0", "write 0 1 seq 1", "write 0 1 fill 1 2", "run run",
+    "io_stat", "states", "classes", "mm_stat 1", "io_stat mm_stat", "classes all", "compact", "compact 0",
+    "writeback idle", "writeback huge", "writeback huge_idle", "writeback", "writeback all", "writeback idle huge",
+    "writeback 5", "read 4294967295 2048", "read 0 0", "write 0 1 seq 1", "write 0 1 fill 1 2", "run run",
 )
 
 
@@ -83,14 +95,20 @@ class Maker:
         return start, count
 
     def operation(self) -> str:
-        """A read, a write, a discard, a compaction, or one that marks pages."""
+        """A read, a write, a discard, a compaction, or one that marks pages or writes them back."""
         if self.one_in(12):
             return "compact"
         if self.one_in(10):
             return f"idle {self.chance.choice(AGES)}"
+        if self.one_in(10):
+            return self.writeback()
         start, count = self.request()
         word = self.chance.choice(("write", "write", "write", "read", "read", "discard"))
         return f"{word} {start} {count}" + (f" {self.stuff(count)}" if word == "write" else "")
+
+    def writeback(self) -> str:
+        """A writeback."""
+        return f"writeback {self.chance.choice(MODES)}"
 
     def stuff(self, count: int) -> str:
         """What a write puts."""
@@ -157,6 +175,39 @@ class Maker:
             lines += self.meeting(actors)
         return lines + ["run"]
 
+    def filled(self) -> list[str]:
+        """A phase that writes most pages, so that they are in the pool, and marks them."""
+        pages = [page for page in range(self.sectors // 8) if not self.one_in(6)]
+        lines = ["actor"] + [f"write {8 * page} 8 {self.chance.choice(WRITTEN)}" for page in pages]
+        return lines + ["idle all"] * (not self.one_in(6)) + ["run"]
+
+    def writing_back(self) -> list[str]:
+        """A phase in which an actor writes pages back while others are at them, by turns that stop it at its visits: a
+        page takes it eight turns up to its mark, two for the device, and then eight or four."""
+        lines = ["actor"] + [self.writeback() for _ in range(self.chance.choice((1, 1, 2)))]
+        actors = self.chance.choice((1, 2, 2, 2, 3, 3, 4))
+        for _ in range(1, actors):
+            lines += ["actor"] + [self.visit() for _ in range(self.chance.randrange(1, 5))]
+        if actors > 1 and not self.one_in(6):
+            turns = [f"0*{self.chance.choice((3, 7, 8, 8, 8, 8, 9, 9, 10, 10, 11, 18, 26, 28))}"]
+            for _ in range(self.chance.randrange(2, 16)):
+                actor = self.chance.randrange(actors)
+                turns.append(f"{actor}*{self.chance.choice((1, 2, 2, 4, 6, 8, 8, 10, 12))}")
+            lines.append("schedule " + " ".join(turns))
+        return lines + ["run"]
+
+    def visit(self) -> str:
+        """What an actor does on pages while another one writes them back: it reads, writes or discards one, marks all,
+        or writes back itself."""
+        if self.one_in(6):
+            return f"idle {self.chance.choice(AGES)}"
+        if self.one_in(5):
+            return self.writeback()
+        page, count = self.chance.randrange(self.sectors // 8), self.chance.choice((1, 3, 8, 8, 8))
+        word = self.chance.choice(("read", "write", "write", "write", "discard"))
+        count = 8 if word == "discard" else count
+        return f"{word} {8 * page} {count}" + (f" {self.chance.choice(WRITTEN)}" if word == "write" else "")
+
     def page_call(self) -> str:
         """A read, a write or a discard of a page, mostly of one that is left. A read and a write of a part pin it."""
         page = self.chance.choice(self.kept) if not self.one_in(4) else self.chance.randrange(self.sectors // 8)
@@ -184,6 +235,7 @@ class Maker:
         """What stands between phases, and before the disk: limits, mostly small ones, lowered maxima, and reports."""
         lines = [f"mem_limit {self.chance.choice(LIMITS)}"] if self.one_in(3) else []
         lines += ["mem_used_max 0", "mm_stat"] if self.one_in(6) else []
+        lines += [self.chance.choice(BUDGETS) for _ in range(2)] if self.one_in(4) else []
         if self.one_in(2):
             self.clock += self.chance.choice((0, 1, 1, 4, 5, 6, 10))
             lines += [f"clock {self.clock}"]
@@ -207,6 +259,8 @@ class Maker:
         """The lines of a job."""
         if self.one_in(3):
             return self.compacted()
+        if self.one_in(2):
+            return self.written_back()
         lines = self.between() + self.first(self.pages())
         for _ in range(self.chance.randrange(1, 4)):
             lines += self.later() + (self.threshold() if self.one_in(12) else self.phase())
@@ -218,6 +272,16 @@ class Maker:
         lines = self.first(self.chance.randrange(6, 25)) + self.scattered() + self.later()
         for _ in range(self.chance.randrange(2, 5)):
             lines += (self.scattered() if self.one_in(2) else []) + self.compacting() + self.later()
+        return lines + self.read_back() + list(REPORTS)
+
+    def written_back(self) -> list[str]:
+        """The lines of a job with writebacks of pages to which others come meanwhile, and with reports. The backing has
+        few blocks, or as many as there are pages."""
+        pages = self.chance.choice((1, 1, 2, 2, 3, 4, 5, 9))
+        blocks = self.chance.choice((1, max(pages - 1, 1), pages, 2 * pages))
+        lines = [f"backing {blocks}", self.disk(pages)] + self.filled() + self.later()
+        for _ in range(self.chance.randrange(2, 5)):
+            lines += (self.filled() if self.one_in(2) else []) + self.writing_back() + self.later()
         return lines + self.read_back() + list(REPORTS)
 
     def dressed(self, line: str) -> str:

@@ -17,7 +17,7 @@ from dataclasses import dataclass, field, replace
 from itertools import groupby
 from typing import Hashable, Iterable, Iterator, Optional, Type, Union
 
-from judge import compaction_breaches, page_breaches, report_breaches
+from judge import compaction_breaches, device_breaches, page_breaches, report_breaches
 from language import Item, Phase
 from model import EVENT, Machine, lines_of, results_of
 from trace import count, joined, schedule_text
@@ -46,12 +46,10 @@ def after_event(machine: Machine, actor: int) -> Optional[Machine]:
 
 
 def key_of(machine: Machine) -> Hashable:
-    """All that a state is, to be compared. Of pages that the phase has no call on nothing changes."""
+    """All that a state is, to be compared."""
     actors = tuple((local.at, local.stage, local.carried, tuple(local.held.items()), tuple(local.ends),
                     tuple(map(tuple, local.reads))) for local in machine.locals)
-    slots = tuple(machine.entry(page) for page in machine.called)
-    others = frozenset((lock, value) for lock, value in machine.row.items() if lock.kind != "slot")
-    return actors, slots, others, tuple(sorted(machine.holder.items()))
+    return actors, frozenset(machine.row.items()), tuple(sorted(machine.holder.items()))
 
 
 @dataclass
@@ -157,6 +155,8 @@ class Explorer:
         wrong = list(page_breaches(machine))
         if any(report_breaches(machine)) or any(compaction_breaches(machine)):
             wrong.append("the account and the pools aren't those of the pages")
+        if any(device_breaches(machine)):
+            wrong.append("the blocks and the device aren't those of the pages")
         lines = dict(labelled(machine, ""))
         later = results_of(self.after, dict(machine.row), machine.pages, self.kind)
         lines.update(labelled_later(later, self.number))

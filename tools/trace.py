@@ -5,10 +5,11 @@ import sys
 from itertools import groupby
 from typing import Iterable, Iterator, NamedTuple, NoReturn, Sequence
 
+from actors import Entry, Local, Piece, Tag
 from judge import short
 from language import Fault, Item, Phase, Turns, read_job
-from memory import Account, Kept, Page, Pool, Same
-from model import EVENT, MISS, Entry, Machine, Piece, Tag, Turn
+from memory import FREE, HELD, OWNED, Account, Blocks, Device, Kept, OnDevice, Page, Pool, Same
+from model import EVENT, MISS, Machine, Turn
 
 
 def fail(tool: str, message: str) -> NoReturn:
@@ -73,7 +74,15 @@ def kept_text(kept: Kept) -> str:
         return "empty"
     if isinstance(kept, Same):
         return "same-filled"
+    if isinstance(kept, OnDevice):
+        return f"on the device, in block {kept.block}"
     return f"{'huge' if kept.is_huge else f'packed in {kept.length:,} bytes'}, class {kept.number}"
+
+
+def marks_text(entry: Entry) -> str:
+    """The marks of an entry, each after a comma; nothing, where it has none."""
+    return (", idle" if entry.is_idle else "") + (f", under writeback to block {entry.under}" if entry.under is not None
+                                                  else "")
 
 
 def work_text(piece: Piece) -> str:
@@ -82,10 +91,46 @@ def work_text(piece: Piece) -> str:
     return f"{verb} {span(piece.first, piece.first + piece.count - 1)}"
 
 
+def entry_text(turn: Turn, taken: Entry, given: Entry) -> str:
+    """What a giving has made of an entry."""
+    if given.is_idle and not taken.is_idle:
+        return "marks the page idle"
+    if given.under is not None and taken.under is None:
+        return f"marks the page with block {given.under}"
+    if isinstance(given.kept, OnDevice) and given.kept != taken.kept:
+        return f"keeps the page in block {given.kept.block}"
+    if len(given.order) > len(taken.order) and turn.piece is not None:
+        return "notes the read" if turn.stage == "Missed" else work_text(turn.piece)
+    if turn.stage == "Visiting Losing":
+        if given.under is not None:
+            return f"finds the mark of block {given.under}"
+        return "finds its mark gone" if taken.under is None else "removes its mark"
+    return "leaves the page"
+
+
+def blocks_text(taken: Blocks, given: Blocks) -> str:
+    """What a giving has made of the blocks."""
+    changed = [block for block, state in enumerate(given.states) if taken.states[block] != state]
+    if not changed:
+        return "finds the limit spent" if taken.is_spent() else "finds no free block"
+    block = changed[0]
+    texts = {HELD: f"reserves block {block}", OWNED: f"makes block {block} the page's", FREE: f"frees block {block}"}
+    return texts[given.states[block]]
+
+
+def device_text(local: Local, turn: Turn, has_failed: bool) -> str:
+    """What an actor has done with the device."""
+    is_read = turn.stage == "Fetching"
+    call, block = ("read", local.old_block()) if is_read else ("write", local.own_block())
+    return f"fails to {call} block {block}" if has_failed else f"{call}s block {block}"
+
+
 def account_text(stage: str, taken: Account, given: Account) -> str:
     """What a giving has made of the account."""
     if stage == "Refusing":
         return "counts a request beyond the disk"
+    if stage == "Counting":
+        return "counts that the device failed"
     if stage == "Both" and given.failed_writes > taken.failed_writes:
         return "is refused at the limit"
     if stage == "Both":
@@ -111,20 +156,26 @@ GIVINGS = {
     "Pinning": "pins the object",
     "Unpinning": "unpins the object",
     "Freeing": "frees the old object",
+    "Visiting Pinning": "pins the object",
+    "Visiting Unpinning": "unpins the object",
+    "Visiting Freeing": "frees the object",
 }
 
 
-def giving_text(turn: Turn) -> str:
-    """What was done with a value before it was given; nothing, where that was done earlier."""
+def giving_text(machine: Machine, turn: Turn) -> str:
+    """What was done with a value before it was given, in a turn that was just made; nothing, where that was done
+    earlier."""
     assert turn.piece is not None
     if isinstance(turn.taken, Account) and isinstance(turn.given, Account):
         return account_text(turn.stage, turn.taken, turn.given)
     if turn.stage == "Moving" and isinstance(turn.taken, Pool) and isinstance(turn.given, Pool):
         return move_text(turn.taken, turn.given)
     if isinstance(turn.taken, Entry) and isinstance(turn.given, Entry):
-        if turn.given.is_idle and not turn.taken.is_idle:
-            return "marks the page idle"
-        return "leaves the page" if len(turn.given.order) == len(turn.taken.order) else work_text(turn.piece)
+        return entry_text(turn, turn.taken, turn.given)
+    if isinstance(turn.taken, Blocks) and isinstance(turn.given, Blocks):
+        return blocks_text(turn.taken, turn.given)
+    if isinstance(turn.taken, Device) and isinstance(turn.given, Device):
+        return device_text(machine.locals[turn.actor], turn, turn.given.faults > turn.taken.faults)
     return GIVINGS.get(turn.stage, "")
 
 
@@ -136,7 +187,7 @@ def event_text(machine: Machine, turn: Turn) -> str:
         return "nothing: it is finished"
     if turn.given is None:
         return f"{machine.takes} {turn.lock}"
-    done = giving_text(turn)
+    done = giving_text(machine, turn)
     return f"{done}, {machine.gives} {turn.lock}" if done else f"{machine.gives} {turn.lock}"
 
 

@@ -63,7 +63,7 @@ def sources_in_crates() -> Iterator[Breach]:
 
 def few_lines() -> Iterator[Breach]:
     """A file has at most 800 lines; a made page may have more."""
-    made = set(pages.made_pages())
+    made = set(pages.made_pages() + pages.whole_pages())
     for path in files.tracked():
         count = len(files.text(path).splitlines())
         if count > MOST_LINES and path not in made:

@@ -25,6 +25,7 @@ LAYERS = {
 TOP_CALL = ("job_session", "sim_main", "done", "refused")
 PARTS = [
     ("What a job is", ["job_text.IsJob"]),
+    ("What the generated job is", ["job_text.generated"]),
     ("In which form a page has to be kept", ["slot_entry.page_weight"]),
     ("What a report says", ["plain_disk.report"]),
     ("What an output may say", ["job_session.Legal"]),
@@ -214,6 +215,7 @@ MADE: dict[str, Callable[[], str]] = {
     "proved": proved,
     "definitions": definitions,
 }
+WHOLE = re.compile(r"This page is made by `tools/\w+`")
 MARK = re.compile(
     r"^<!-- made by \.ci/made: (?P<name>.*) -->\n.*?^<!-- end of (?P=name) -->$", re.MULTILINE | re.DOTALL
 )
@@ -232,6 +234,11 @@ def renewed(page: str) -> str:
 
 def made_pages() -> list[str]:
     return [path for path in files.tracked() if path.endswith(".md") and MARK.search(files.text(path))]
+
+
+def whole_pages() -> list[str]:
+    """The pages that a script of tools/ makes whole, as they say themselves."""
+    return [path for path in files.tracked() if path.endswith(".md") and WHOLE.search(files.text(path))]
 
 
 def others() -> list[str]:

@@ -1,7 +1,8 @@
 -- Equal words: a word is kept of them, or nothing where they are 0.
-use Rattle.std.proofs.Common.{◌≡◌, ◌≢◌, ℕ, ◌^◌, ◌<◌, List, [], ◌∷◌, length, get_or, take, replicate, Bool, true, false, not, eqb, refl, sym, ap, subst, ◌∙◌, arith, lit<, length-take}
+use Rattle.std.proofs.Common.{◌≡◌, ◌≢◌, ℕ, ◌^◌, ◌<◌, List, [], ◌∷◌, length, get_or, take, replicate, Bool, true, false, not, eqb, ◌&&◌, inl, inr, refl, sym, ap, subst, ◌∙◌, arith, lit<, length-take}
 use Rattle.std.proofs.Math.Nat.{mod-eq_of_lt}
-use Rattle.std.proofs.lemmas.Bool.{eqb-true}
+use Rattle.std.proofs.lemmas.Bool.{cases_Bool, eqb-true}
+use Rattle.std.proofs.lemmas.Grind.{same_number_lists, get_or_default_zero}
 use Rattle.std.specs.Prelude.{cond, slice_index}
 use Rattle.std.proofs.lemmas.List.{take_all, get_or-replicate}
 use Rattle.std.proofs.lemmas.Simd.{get_or_wider, Each1-chunk, Each1-get_or, Each1-replicate}
@@ -11,8 +12,8 @@ use Rattle.bdi_line.specs.Coded.{code_number, FitsCode, IsCoded, IsByteLine}
 use Rattle.bdi_line.specs.Packed.{is_all, fits, wider, first_code, code_of, payload_under}
 use Rattle.bdi_line.specs.declared.codes.Code.{Code}
 use Rattle.bdi_line.specs.declared.codes.Code.TheVariants.{Zeros, Repeated, B8D1}
-use Rattle.bdi_line.proofs.Digits.{digits-number, number-digits, number_lt, digits_below, length-digits, bytes_back}
-use Rattle.bdi_line.proofs.Least.{coded_line, true_fits, fits_true}
+use Rattle.bdi_line.proofs.Digits.{digits-number, number-digits, number_lt, digits_below, length-digits, length-values, bytes_back}
+use Rattle.bdi_line.proofs.Least.{coded_line, both, true_fits, fits_true}
 use Rattle.bdi_line.proofs.Unique.{bytes_of_line, zero_line, repeated_line, coded_unique, under}
 
 -- ---- the code of such a line
@@ -60,6 +61,54 @@ zeros_are_bytes =
 
 pub zeros_coded : (p : List ℕ) → p ≡ [] → IsCoded (replicate 64 0) Zeros p
 zeros_coded p e = coded_by (replicate 64 0) p Zeros refl (zeros_code (replicate 64 0) refl) e
+
+-- equal words of which the first is 0
+zero_words : (line : List ℕ) → IsByteLine line → FitsCode Repeated line
+    → slice_index (values 8 8 line) 0 ≡ 0 → replicate 64 0 ≡ line
+zero_words line bytes repeated none =
+    let zeros : replicate 8 0 ≡ values 8 8 line =
+    same_number_lists (replicate 8 0) (values 8 8 line) (sym (length-values 8 8 line)) (λ j lt.
+    get_or-replicate 8 j 0 0 lt ∙ sym none ∙ sym (repeated j lt)) in
+    ap (λ l. digits_l 256 64 (number_l (2 ^ 64) l)) zeros
+    ∙ bytes_back 8 8 line bytes.0 (bytes_of_line line bytes) (lit< tt) refl
+
+-- a line is of zeros exactly where its words are equal and the first is 0
+zeros_by_word : (line : List ℕ) → IsByteLine line
+    → is_all 0 line ≡ (fits Repeated line && eqb (slice_index (values 8 8 line) 0) 0)
+unfolding values
+zeros_by_word line bytes = elim (cases_Bool (is_all 0 line)) [
+  | inl full ↦
+      full ∙ ap (λ l. fits Repeated l && eqb (slice_index (values 8 8 l) 0) 0)
+      (zero_line line bytes (true_fits Zeros line full))
+  | inr part ↦
+      part ∙ sym (not_true _ (λ e.
+      let is = both _ _ e in
+      let same = zero_words line bytes (true_fits Repeated line is.0) (eqb-true _ 0 is.1) in
+      let no : true ≡ false = ap (is_all 0) same ∙ part in
+      absurd (cc)))
+]
+
+by_two : (a b : Bool) (x y z : Code) → cond (a && b) x (cond a y z) ≡ cond a (cond b x y) z
+by_two true b x y z = refl
+by_two false b x y z = refl
+
+-- so the code of a line is told by its words
+pub code_by_words : (line : List ℕ) → length line ≡ 64 → ((k : ℕ) → slice_index line k < 256)
+    → code_of line
+    ≡ cond (fits Repeated line) (cond (eqb (slice_index (values 8 8 line) 0) 0) Zeros Repeated)
+    (first_code (λ c. fits c line) (B8D1 ∷ wider))
+unfolding code_of
+code_by_words line long below =
+    let bytes : IsByteLine line = (
+      long,
+      λ k d lt.
+          let e = get_or_default_zero line k d lt in
+          let b = below k in
+          omega (arith, e, b),
+    ) in
+    ap (λ b. cond b Zeros (first_code (λ c. fits c line) (Repeated ∷ B8D1 ∷ wider)))
+    (zeros_by_word line bytes)
+    ∙ by_two (fits Repeated line) (eqb (slice_index (values 8 8 line) 0) 0) Zeros Repeated _
 
 -- ---- a word
 

@@ -8,14 +8,14 @@ use mir.Syntax.{Width}
 use mir.Val.{bits, hbits}
 
 -- sum and difference of two lanes
-abbrev sum_in : Width → ℕ → ℕ → ℕ
+abbrev pub sum_in : Width → ℕ → ℕ → ℕ
 sum_in w a b = (a + b) % 2 ^ bits w
 
-abbrev less_in : Width → ℕ → ℕ → ℕ
+abbrev pub less_in : Width → ℕ → ℕ → ℕ
 less_in w a b = (a + (2 ^ bits w - b)) % 2 ^ bits w
 
 -- the marks of the lanes that reach q
-abbrev reach : Width → ℕ → ℕ → List ℕ → List Bool
+abbrev pub reach : Width → ℕ → ℕ → List ℕ → List Bool
 reach w n q xs = map (top (hbits w))
     (zip2 (λ a b. cond (leb a b) (2 ^ bits w - 1) 0) (replicate n q) xs)
 

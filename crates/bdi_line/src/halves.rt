@@ -3,7 +3,7 @@
 ghost use Rattle.std.specs.Prelude.{◌≡◌, ℕ, ◌+◌, ◌*◌, ◌/◌, ◌%◌, ◌^◌, ◌<◌, ◌≤◌, ◌==◌, nat_le, map, cond, length, slice_index, is_some, IfSome, IsTrue};
 ghost use Rattle.std.specs.Simd.Lanes.{digits_l, number_l, chunk};
 ghost use Rattle.bdi_line.specs.Line.{values, is_large, base_of, low_bytes};
-ghost use Rattle.bdi_line.specs.Packed.{marks_of, delta_of, is_near};
+ghost use Rattle.bdi_line.specs.Packed.{marks_of, is_near};
 ghost use Rattle.bdi_line.specs.Written.{AreFar, IsParted};
 
 use std::simd::prelude::*;
@@ -45,25 +45,35 @@ fn marks_of_halves(values: u32x16, bound: u32, span: u32) -> u64
         .to_bitmask()
 }
 
-// The first value that is marked, or 0.
+// The first value that is marked, or 0. Most lines that fit begin with it.
 #[inline]
 fn base_of_halves(values: u32x16, marks: u64, bound: u32) -> u32
     requires { marks ≡ marks_of (is_large bound (2 ^ 32)) values }
     ensures { result ≡ base_of bound (2 ^ 32) values }
 {
     let first = marks.trailing_zeros() as usize;
+    if first == 0 {
+        return values[0];
+    }
     if first < 16 { values[first] } else { 0 }
 }
 
-// What is kept of each value.
+// The values beside their base, near it or not.
 #[inline]
-fn deltas_of_halves(values: u32x16, bound: u32, span: u32, base: u32) -> u32x16
+fn part_halves(values: u32x16, bound: u32, span: u32) -> HalfSplit
     requires positive { 0 < bound }
     requires span { span ≡ 2 * bound }
-    ensures { result ≡ map (delta_of bound (2 ^ 32) base) values }
+    ensures { IsParted bound (2 ^ 32) values result.marks result.base result.deltas }
 {
     let large = (values + u32x16::splat(bound)).simd_ge(u32x16::splat(span));
-    large.select(values - u32x16::splat(base), values)
+    let marks = large.to_bitmask();
+    let base = base_of_halves(values, marks, bound);
+    let deltas = large.select(values - u32x16::splat(base), values);
+    HalfSplit {
+        marks,
+        base,
+        deltas,
+    }
 }
 
 // Whether both are large and the second isn't near the first: most lines that do not fit are told
@@ -94,17 +104,11 @@ pub(crate) fn split_halves(values: u32x16, bound: u32, span: u32) -> Option<Half
     if is_far_half(values[0], values[2], bound, span) {
         return None;
     }
-    let marks = marks_of_halves(values, bound, span);
-    let base = base_of_halves(values, marks, bound);
-    let deltas = deltas_of_halves(values, bound, span, base);
-    if marks_of_halves(deltas, bound, span) != 0 {
+    let split = part_halves(values, bound, span);
+    if marks_of_halves(split.deltas, bound, span) != 0 {
         return None;
     }
-    Some(HalfSplit {
-        marks,
-        base,
-        deltas,
-    })
+    Some(split)
 }
 
 /// The low byte of each delta.

@@ -36,7 +36,7 @@ pub fn pack_line(line: &[u8; 64], out: &mut ArrayVec<u8, 4128>) -> Code
 /// Appends the line's payload, and answers its code. The smallest codes are tried where the line is
 /// read, the others in a function of their own.
 #[inline(always)]
-#[tactic(auto, unfolding(crate::specs::Packed::code_of))]
+#[tactic(auto, using(crate::proofs::Equal::code_by_words))]
 pub(crate) fn pack_into<const N: usize>(line: &[u8; 64], out: &mut ArrayVec<u8, N>) -> Code
     requires { array_vec_len out.old + 64 ≤ N }
     ensures code { result ≡ code_of line.now }
@@ -45,12 +45,14 @@ pub(crate) fn pack_into<const N: usize>(line: &[u8; 64], out: &mut ArrayVec<u8, 
     ensures room { array_vec_len out.new ≤ array_vec_len out.old + 64 }
     ensures grows { array_vec_len out.old ≤ array_vec_len out.new }
 {
-    if is_zero(u8x64::from_array(*line)) {
-        return Code::Zeros;
-    }
     let words = words_of(line);
     if is_repeated(words) {
-        put(out, &line[..8]);
+        if words[0] == 0 {
+            return Code::Zeros;
+        }
+        let mut front = [0; 8];
+        front.copy_from_slice(&line[..8]);
+        put(out, &front);
         return Code::Repeated;
     }
     if put_b8d1(words, out) {
@@ -90,17 +92,14 @@ fn pack_wider<const N: usize>(line: &[u8; 64], out: &mut ArrayVec<u8, N>) -> Cod
     Code::Raw
 }
 
-#[inline]
-fn is_zero(bytes: u8x64) -> bool
-    ensures { result ≡ is_all 0 bytes }
-{
-    bytes.simd_ne(u8x64::splat(0)).to_bitmask() == 0
-}
-
+// Most lines whose words are not all the same are told so by their first two.
 #[inline]
 fn is_repeated(words: u64x8) -> bool
     ensures { result ≡ is_all (slice_index words 0) words }
 {
+    if words[0] != words[1] {
+        return false;
+    }
     words.simd_ne(u64x8::splat(words[0])).to_bitmask() == 0
 }
 

@@ -8,7 +8,7 @@
 ghost use Rattle.std.specs.Prelude.{◌≡◌, ℕ, ◌+◌, ◌*◌, ◌/◌, ◌%◌, ◌^◌, ◌<◌, ◌≤◌, ◌==◌, nat_le, map, cond, length, slice_index, is_some, IfSome, IsTrue};
 ghost use Rattle.std.specs.Simd.Lanes.{digits_l, number_l, chunk};
 ghost use Rattle.bdi_line.specs.Line.{values, is_large, base_of, low_bytes};
-ghost use Rattle.bdi_line.specs.Packed.{marks_of, delta_of, is_near};
+ghost use Rattle.bdi_line.specs.Packed.{marks_of, is_near};
 ghost use Rattle.bdi_line.specs.Written.{AreFar, IsParted};
 
 use std::simd::prelude::*;
@@ -50,25 +50,35 @@ fn marks_of_words(values: u64x8, bound: u64, span: u64) -> u64
         .to_bitmask()
 }
 
-// The first value that is marked, or 0.
+// The first value that is marked, or 0. Most lines that fit begin with it.
 #[inline]
 fn base_of_words(values: u64x8, marks: u64, bound: u64) -> u64
     requires { marks ≡ marks_of (is_large bound (2 ^ 64)) values }
     ensures { result ≡ base_of bound (2 ^ 64) values }
 {
     let first = marks.trailing_zeros() as usize;
+    if first == 0 {
+        return values[0];
+    }
     if first < 8 { values[first] } else { 0 }
 }
 
-// What is kept of each value.
+// The values beside their base, near it or not.
 #[inline]
-fn deltas_of_words(values: u64x8, bound: u64, span: u64, base: u64) -> u64x8
+fn part_words(values: u64x8, bound: u64, span: u64) -> WordSplit
     requires positive { 0 < bound }
     requires span { span ≡ 2 * bound }
-    ensures { result ≡ map (delta_of bound (2 ^ 64) base) values }
+    ensures { IsParted bound (2 ^ 64) values result.marks result.base result.deltas }
 {
     let large = (values + u64x8::splat(bound)).simd_ge(u64x8::splat(span));
-    large.select(values - u64x8::splat(base), values)
+    let marks = large.to_bitmask();
+    let base = base_of_words(values, marks, bound);
+    let deltas = large.select(values - u64x8::splat(base), values);
+    WordSplit {
+        marks,
+        base,
+        deltas,
+    }
 }
 
 // Whether both are large and the second isn't near the first: most lines that do not fit are told
@@ -99,28 +109,25 @@ pub(crate) fn split_words(values: u64x8, bound: u64, span: u64) -> Option<WordSp
     if is_far_word(values[0], values[2], bound, span) {
         return None;
     }
-    let marks = marks_of_words(values, bound, span);
-    let base = base_of_words(values, marks, bound);
-    let deltas = deltas_of_words(values, bound, span, base);
-    if marks_of_words(deltas, bound, span) != 0 {
+    let split = part_words(values, bound, span);
+    if marks_of_words(split.deltas, bound, span) != 0 {
         return None;
     }
-    Some(WordSplit {
-        marks,
-        base,
-        deltas,
-    })
+    Some(split)
 }
 
-/// The low byte of each delta.
+/// The low byte of each delta. They are stored at once, since `to_array` of 8 bytes takes a step
+/// for each.
 #[inline]
 pub(crate) fn low_1_of_words(deltas: u64x8) -> [u8; 8]
     ensures { result ≡ low_bytes 1 deltas }
 {
+    let mut bytes = [0; 8];
     deltas
         .to_le_bytes()
         .swizzle::<8>([0, 8, 16, 24, 32, 40, 48, 56])
-        .to_array()
+        .copy_to_slice(&mut bytes);
+    bytes
 }
 
 /// The low two bytes of each delta.

@@ -99,7 +99,7 @@ module _ (t : Ground) (b : Bounds) where
   -- only a compaction ends as one
   idle_so : (op : Op) (end : OpEnd) → is_compaction op ≡ false → MayEndSo t b op end → MovesNone end
   idle_so op (ends.Compacted moves frames) other may =
-      absurd (let q : true ≡ false = sym may.0 ∙ other in cc)
+      absurd (let q : true ≡ false = sym may.0.0 ∙ other in cc)
   idle_so op _ other may = tt
 
   idle_else : (op : Op) (end : OpEnd) → is_compaction op ≡ false → MayEnd t b op end → MovesNone end

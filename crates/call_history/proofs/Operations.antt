@@ -144,13 +144,13 @@ module _ (t : Ground) (b : Bounds) where
   -- such an end is one that the operation may have, and it stands in no order
   single_may : (op : Op) (end : OpEnd) → MayBeSingle t op end → KeepsTo t b (over.Whole end)
       → MayEndSo t b op end
-  single_may op ends.Range may keeps = may
-  single_may op (ends.Marked pages) may keeps = may
-  single_may op (ends.Written wrote lost) may keeps = may
-  single_may op (ends.Budget wrote lost) may keeps = may
-  single_may op (ends.NoBlock wrote lost) may keeps = may
+  single_may op ends.Range may keeps = (may, keeps)
+  single_may op (ends.Marked pages) may keeps = (may, keeps)
+  single_may op (ends.Written wrote lost) may keeps = (may, keeps)
+  single_may op (ends.Budget wrote lost) may keeps = (may, keeps)
+  single_may op (ends.NoBlock wrote lost) may keeps = (may, keeps)
   single_may op (ends.WriteEio fault wrote lost) may keeps = (may, keeps)
-  single_may op (ends.Compacted moves frames) may keeps = may
+  single_may op (ends.Compacted moves frames) may keeps = (may, keeps)
   single_may op _ may keeps = absurd may
 
   pub single_stands : (op : Op) (end : OpEnd) (p : ℕ) → MayBeSingle t op end

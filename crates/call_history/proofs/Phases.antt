@@ -12,11 +12,11 @@ use Rattle.zr_base.specs.Plain.{Finds, count_of, start_of, is_beyond, is_mainten
 use Rattle.zr_base.specs.Pieces.{first_page, pages_of}
 use Rattle.mem_account.specs.declared.weight.Weight.{Weight}
 use Rattle.mem_account.specs.Counters.{Counters, at_most_end}
-use Rattle.plain_disk.specs.Ends.{Ground, Bounds, is_single, MayEndAll, MayEndEach, due_from, ends_sum, failed_read, failed_write, starved, tells_fault, left_back, written, compacted, beyond}
+use Rattle.plain_disk.specs.Ends.{Ground, Bounds, is_single, MayEndAll, MayEndEach, due_from, ends_sum, failed_read, failed_write, starved, tells_fault, left_back, written, tried, cut_short, compacted, beyond}
 use Rattle.plain_disk.specs.Output.{phase_lines}
 use Rattle.plain_disk.specs.Calls.{calls_sum, may_fetch}
 use Rattle.plain_disk.specs.Rests.{SoFar, Rest, stats}
-use Rattle.plain_disk.specs.Phases.{Given, FindsHeld, calls_on, found_in, nth_order, sector_read, due, begun, phase_sum, phase_ground, bounds, new_back, LeavesDevice, Leaves, IsPhase}
+use Rattle.plain_disk.specs.Phases.{Given, FindsHeld, calls_on, found_in, nth_order, sector_read, due, begun, phase_sum, phase_ground, bounds, new_back, LeavesDevice, Leaves, IsPhase, set_after, KeepsBudget}
 use Rattle.call_history.specs.declared.part.Part.{Part}
 use Rattle.call_history.specs.declared.part.PartEnd.{PartEnd}
 use Rattle.call_history.specs.declared.part.Done.{Done}
@@ -33,7 +33,7 @@ use Rattle.plain_disk.specs.Compactions.{are_tight, MoveNone, moves_after, IsAlo
 use Rattle.plain_disk.specs.Idles.{Aged, pages_at, pages_after, AreMarked, may_write}
 use Rattle.call_history.proofs.Alone.{tell}
 use Rattle.call_history.proofs.Marks.{tell_marks}
-use Rattle.call_history.proofs.Sums.{IsSteady, failed_read-is, failed_write-is, starved-is, tells_fault-is, left_back-is, written-is, compacted-is, beyond-is, all_sum}
+use Rattle.call_history.proofs.Sums.{IsSteady, failed_read-is, failed_write-is, starved-is, tells_fault-is, left_back-is, written-is, tried-is, cut_short-is, compacted-is, beyond-is, all_sum}
 
 -- ---- lists
 
@@ -159,8 +159,8 @@ module _ (form : List ℕ → Weight) (r : Rest) (actors : List (List Op)) (find
     (dones : List (List Done)) (orders : List (List Tag)) (m : Rest) (some : HasSomeEach actors)
     (held : FindsHeld r actors orders finds)
     (agree : Agree (phase_ground form r actors)
-    (bounds form r (begun r actors finds) orders m.device.faults) (begun r actors finds) dones
-    orders) where
+    (bounds form r (begun r actors finds) orders m.device.faults (dones_sum left_back dones))
+    (begun r actors finds) dones orders) where
   abbrev g : Given
   g = begun r actors finds
 
@@ -168,7 +168,7 @@ module _ (form : List ℕ → Weight) (r : Rest) (actors : List (List Op)) (find
   t = phase_ground form r actors
 
   abbrev b : ℕ → Bounds
-  b = bounds form r g orders m.device.faults
+  b = bounds form r g orders m.device.faults (dones_sum left_back dones)
 
   record Actor (a : ℕ) : Type 0 where
     ops : List Op
@@ -364,6 +364,10 @@ module _ (form : List ℕ → Weight) (r : Rest) (actors : List (List Op)) (find
           (λ i. (ends_are starved starved-is i, ends_are written written-is i)) told.device;
       few_back = subst (λ (n : ℕ). new_back r actors orders m ≤ n)
           (ends_are left_back left_back-is) told.few_back;
+      on_device = told.on_device;
+      budget = subst (λ (n : ℕ × ℕ). KeepsBudget r.set n.0 n.1)
+          (λ i. (ends_are tried tried-is i, ends_are cut_short cut_short-is i)) told.budget;
+      set = told.set ∙ ap (set_after r.set) (ends_are tried tried-is);
     }
 
     -- where there is one actor, its operations say what its pieces do
@@ -408,9 +412,11 @@ module _ (form : List ℕ → Weight) (r : Rest) (actors : List (List Op)) (find
       orders = orders;
       finds = finds;
       held = held;
-      may = all_may 0 actors dones agree.count (λ i ops done e e'.
+      may = subst (λ (n : ℕ). MayEndEach t (bounds form r g orders m.device.faults n) 0 actors
+          ends_now) (ends_are left_back left_back-is)
+          (all_may 0 actors dones agree.count (λ i ops done e e'.
           subst (λ (k : ℕ). MayEndAll t (b k) ops (ends_from t.backed 0 ops done)) (sym (zero-add i))
-          (both i ops done e e').1);
+          (both i ops done e e').1));
       faults_differ = λ f.
           subst (λ (n : ℕ). n ≤ 1) (ends_are (tells_fault f) (tells_fault-is f))
           (agree.faults_differ f);

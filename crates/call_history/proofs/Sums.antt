@@ -6,7 +6,7 @@ use Rattle.zr_base.specs.declared.op.Op.{Op}
 use Rattle.zr_base.specs.declared.op.Op.TheVariants.{Write, Read}
 use Rattle.zr_base.specs.declared.op.OpEnd.{OpEnd}
 use Rattle.zr_base.specs.declared.op.OpEnd.TheVariants as ends
-use Rattle.plain_disk.specs.Ends.{ops_sum, ends_sum, failed_read, failed_write, starved, tells_fault, left_back, written, compacted, beyond}
+use Rattle.plain_disk.specs.Ends.{ops_sum, ends_sum, failed_read, failed_write, starved, tells_fault, left_back, written, tried, cut_short, compacted, beyond}
 use Rattle.call_history.specs.declared.part.Part.{Part}
 use Rattle.call_history.specs.declared.part.PartEnd.{PartEnd}
 use Rattle.call_history.specs.declared.part.PartEnd.TheVariants as over
@@ -125,6 +125,22 @@ written-steady op _ n = refl
 pub written-is : IsSteady written
 written-is =
     record { whole = λ op. refl; void = λ op. refl; steady = written-steady }
+
+tried-steady : (op : Op) (x : PartEnd) (n : ℕ) → tried op (op_end x n) ≡ tried op (op_end x 0)
+tried-steady op over.Carried n = refl
+tried-steady op _ n = refl
+
+pub tried-is : IsSteady tried
+tried-is = record { whole = λ op. refl; void = λ op. refl; steady = tried-steady }
+
+cut_short-steady : (op : Op) (x : PartEnd) (n : ℕ)
+    → cut_short op (op_end x n) ≡ cut_short op (op_end x 0)
+cut_short-steady op over.Carried n = refl
+cut_short-steady op _ n = refl
+
+pub cut_short-is : IsSteady cut_short
+cut_short-is =
+    record { whole = λ op. refl; void = λ op. refl; steady = cut_short-steady }
 
 -- ---- sums
 

@@ -6,13 +6,13 @@ use Rattle.zr_base.specs.declared.op.OpEnd.{OpEnd}
 use Rattle.zr_base.specs.Plain.{Finds, named}
 use Rattle.mem_account.specs.declared.weight.Weight.{Weight}
 use Rattle.mem_account.specs.Counters.{Counters}
-use Rattle.plain_disk.specs.Ends.{Ground}
+use Rattle.plain_disk.specs.Ends.{Ground, left_back}
 use Rattle.plain_disk.specs.Output.{phase_lines}
 use Rattle.plain_disk.specs.Rests.{Rest, is_backed, stats}
 use Rattle.plain_disk.specs.Phases.{Given, FindsHeld, IsPhase, begun, phase_ground, bounds}
 use Rattle.call_history.specs.declared.part.Part.{Part}
 use Rattle.call_history.specs.declared.part.Done.{Done}
-use Rattle.call_history.specs.Parts.{program, EndsSo, Follows, left_by, is_on, is_carried, stands_so, got_of, done_sum}
+use Rattle.call_history.specs.Parts.{program, EndsSo, Follows, left_by, is_on, is_carried, stands_so, got_of, done_sum, dones_sum}
 use Rattle.call_history.specs.Shows.{ShowsPage, Carries, SeesSo, Grown, tag_by, got_from}
 use Rattle.call_history.specs.Histories.{Agree, HasSomeEach, ends_each, told_each}
 use Rattle.call_history.specs.Tallies.{Tallies}
@@ -43,7 +43,8 @@ TellsPhase =
     (dones : List (List Done)) (orders : List (List Tag)) (c : Counters) (m : Rest)
     → HasSomeEach actors → FindsHeld r actors orders finds
     → Agree (phase_ground form r actors)
-    (bounds form r (begun r actors finds) orders m.device.faults) (begun r actors finds) dones orders
+    (bounds form r (begun r actors finds) orders m.device.faults (dones_sum left_back dones))
+    (begun r actors finds) dones orders
     → Tallies form r (begun r actors finds) dones orders c m
     → IsPhase form r actors
     (phase_lines (ends_each (is_backed r) actors dones) (told_each actors dones) orders) m

@@ -12,7 +12,7 @@ use Rattle.call_history.specs.declared.part.PartEnd.TheVariants as over
 use Rattle.call_history.specs.declared.part.Done.{Done}
 use Rattle.zr_base.specs.Pieces.{first_page, pages_of}
 use Rattle.zr_base.specs.Plain.{start_of, count_of, is_void, has_event}
-use Rattle.plain_disk.specs.Ends.{Ground, Bounds, is_single, MayWant, MayBeAtLimit, MayFault, MayBeSingle}
+use Rattle.plain_disk.specs.Ends.{Ground, Bounds, is_single, MayWant, MayBeAtLimit, MayFault, MayBeSingle, IsWithin}
 
 -- the pieces with events of an operation on so many pages, from a page on
 abbrev pub parts_from : ℕ → Op → ℕ → ℕ → List Part
@@ -80,7 +80,7 @@ EndsSo t p (over.Whole end) = (is_single t.size p.op ≡ true) × MayBeSingle t 
 abbrev pub KeepsTo : Ground → Bounds → PartEnd → Type 0
 KeepsTo t b (over.AtLimit charged need limit) = limit < t.chain * b.reach
 KeepsTo t b (over.Eio fault) = fault ≤ b.faults
-KeepsTo t b (over.Whole (ends.WriteEio fault wrote lost)) = fault ≤ b.faults
+KeepsTo t b (over.Whole end) = IsWithin t b end
 KeepsTo t b _ = ⊤
 
 -- the pieces that are over, and those that are left, are those of the program; each ended in a way

@@ -4,10 +4,10 @@ use Rattle.zr_base.specs.declared.op.Tag.{Tag}
 use Rattle.mem_account.specs.declared.weight.Weight.{Weight}
 use Rattle.mem_account.specs.Counters.{Counters, at_most_end}
 use Rattle.mem_account.specs.Tally.{IsTally}
-use Rattle.plain_disk.specs.Ends.{failed_read, failed_write, starved, left_back, written, beyond, compacted}
+use Rattle.plain_disk.specs.Ends.{failed_read, failed_write, starved, left_back, written, tried, cut_short, beyond, compacted}
 use Rattle.plain_disk.specs.Calls.{calls_sum, made_huge, freed, may_fetch}
 use Rattle.plain_disk.specs.Rests.{Rest, kept_pages, frames_of, so_far_of}
-use Rattle.plain_disk.specs.Phases.{Given, calls_on, phase_sum, new_back, LeavesPages, LeavesDevice}
+use Rattle.plain_disk.specs.Phases.{Given, calls_on, phase_sum, new_back, set_after, KeepsBudget, IsOnDevice, LeavesPages, LeavesDevice}
 use Rattle.plain_disk.specs.Idles.{may_write}
 use Rattle.call_history.specs.declared.part.Done.{Done}
 use Rattle.call_history.specs.Alone.{IsAloneOver}
@@ -38,5 +38,8 @@ pub record Tallies (form : List ℕ → Weight) (r : Rest) (g : Given)
       (phase_sum (λ p. calls_sum may_fetch (calls_on g p)) r orders + dones_sum starved dones)
       (dones_sum written dones)
   pub few_back : new_back r g.actors orders m ≤ dones_sum left_back dones
+  pub on_device : IsOnDevice m
+  pub budget : KeepsBudget r.set (dones_sum tried dones) (dones_sum cut_short dones)
+  pub set : m.set ≡ set_after r.set (dones_sum tried dones)
   pub alone : (done : List Done) → dones ≡ done ∷ [] → IsAloneOver form r g.finds
       (may_write g.backed g.actors) done m

@@ -5,6 +5,7 @@ use Rattle.std.proofs.lemmas.Option.{slice_get_within}
 use Rattle.zr_base.specs.Plain.{zero_sector, IsSector}
 use Rattle.mem_account.specs.Counters.{Counters, no_counts}
 use Rattle.backing_dev.specs.Dev.{DeviceState}
+use Rattle.block_map.specs.BlockMap.{BlockMap}
 use Rattle.class_pool.specs.Pool.{PoolState}
 use Rattle.plain_disk.specs.Rests.{Rest, stats}
 use Rattle.lock_row.specs.declared.names.Held.TheVariants as holds
@@ -12,13 +13,13 @@ use Rattle.page_steps.specs.Steps.{DiskHeld}
 use Rattle.slot_entry.specs.Forms.{page_weight}
 use Rattle.joint_rule.specs.Begins.{Begin}
 use Rattle.joint_rule.specs.Laws.{NewIsAtRest, NewCountsNothing}
-use Rattle.joint_rule.specs.Starts.{AtRest}
+use Rattle.joint_rule.specs.Starts.{AtRest, IsMapOf}
 use Rattle.joint_rule.specs.Starts.{IsNew as IsNewValue}
 use Rattle.joint_rule.specs.Ends.{begin_at, used_in, account_in, account_of, new_rest}
 use Rattle.joint_rule.specs.Weights.{used_each}
 use Rattle.disk_rest.specs.Rows.{Row, used_at, without_calls, without_orders}
 use Rattle.disk_rest.specs.Resting.{StandsFor}
-use Rattle.disk_rest.proofs.Places.{pool_at, account_there, device_there, value_is}
+use Rattle.disk_rest.proofs.Places.{pool_at, account_there, map_there, device_there, value_is}
 use Rattle.disk_rest.proofs.Matches.{was_at, emptied_long, emptied_at}
 
 zero_is : IsSector zero_sector
@@ -45,7 +46,9 @@ module _ (r : Rest) (n : ℕ) (row : Row) (at_rest : NewIsAtRest)
     (new : (k : ℕ) → k < length row → (v : DiskHeld) × (slice_get row k ≡ Some (Some v))
     × IsNewValue (begin_at (new_rest n r.set r.device) []) k v)
     (limit : (k : ℕ) (c : Counters) → slice_get row k ≡ Some (Some (holds.Account c))
-    → c.limit ≡ r.set.limit) where
+    → c.limit ≡ r.set.limit)
+    (maps : (k : ℕ) (x : BlockMap) → slice_get row k ≡ Some (Some (holds.Blocks x))
+    → IsMapOf (begin_at (new_rest n r.set r.device) []) x) where
   abbrev m : Rest
   m = new_rest n r.set r.device
 
@@ -100,4 +103,5 @@ module _ (r : Rest) (n : ℕ) (row : Row) (at_rest : NewIsAtRest)
     used = no_used;
     account = nothing_yet_counted;
     device = device_here;
+    map = let x = map_there g row rest in (x.map, x.at, maps (n + 256) x.map x.at);
   }

@@ -22,11 +22,12 @@ use Rattle.joint_rule.specs.Begins.{Begin, finding, Proper, IsRoomy}
 use Rattle.joint_rule.specs.Laws.{FinishedIsAtRest, FinishedAgrees, FinishedFinds, FinishedTallies, RestGoesOn, EntryGoesOn, NextIsProper}
 use Rattle.joint_rule.specs.Rule.{Rule}
 use Rattle.joint_rule.specs.Starts.{AtRest, Renewed, slots, accounts, pools, maps, devices}
-use Rattle.joint_rule.specs.Ends.{begin_at, AllFinished, orders_of, histories, idle_in, account_of, device_in, rest_after}
+use Rattle.joint_rule.specs.Ends.{begin_at, AllFinished, orders_of, histories, idle_in, account_of, device_in, budget_in, rest_after}
 use Rattle.disk_rest.specs.Rows.{Row, NoPieceLeft, AreOrders, order_at, without_calls, without_orders}
 use Rattle.disk_rest.specs.Resting.{IsPlain, StandsFor}
 use Rattle.disk_rest.proofs.Asked.{no_requests}
 use Rattle.disk_rest.proofs.Places.{device_there, value_is}
+use Rattle.disk_rest.proofs.Maps.{at_end, blocks_kept, limit_kept}
 use Rattle.disk_rest.proofs.Matches.{matched, emptied_long, emptied_at}
 
 -- an actor without a piece is finished
@@ -116,7 +117,7 @@ module _ (laws : Ending) (r : Rest) (actors : List (List Op)) (w : State DiskHel
   }
 
   next_proper : Proper h
-  next_proper = laws.proper r actors [] r.set w proper rule finished no_requests roomy
+  next_proper = laws.proper r actors [] m.set w proper rule finished no_requests roomy
       (omega arith)
 
   plain : IsPlain m
@@ -133,7 +134,7 @@ module _ (laws : Ending) (r : Rest) (actors : List (List Op)) (w : State DiskHel
   renewed k (holds.Slot e) at =
       let emptied : EntryState = record e { order = []; room = 0 } in
       slots e emptied refl refl
-      (laws.entry r actors [] r.set w k e emptied proper rule finished at
+      (laws.entry r actors [] m.set w k e emptied proper rule finished at
       refl refl refl refl refl)
   renewed k (holds.Class x) at = pools x refl refl
   renewed k (holds.Account x) at = accounts x x refl refl refl (λ le. le)
@@ -155,6 +156,7 @@ module _ (laws : Ending) (r : Rest) (actors : List (List Op)) (w : State DiskHel
   pub leaves : TellsAccount → StandsFor m w.row
   leaves tells =
       let d = device_there gf w.row rest in
+      let x = at_end gf w rule.ruled over rest in
       record {
         plain = plain;
         rest = goes_on;
@@ -163,4 +165,13 @@ module _ (laws : Ending) (r : Rest) (actors : List (List Op)) (w : State DiskHel
         account = account_right tells;
         device = d.at ∙ ap (λ (x : DeviceState). Some (Some (holds.Device x)))
             (sym (device_is (r.size + 257) d.device d.at));
+        map = (
+          x.map,
+          x.at,
+          record {
+            blocks = blocks_kept gf w rule.ruled over rest;
+            budget = sym (ap (budget_in r.set.budget) (value_is w.row (r.size + 256) (holds.Blocks x.map) x.at));
+            budgeted = limit_kept gf w rule.ruled over rest;
+          },
+        );
       }

@@ -2,6 +2,7 @@ pub mod Counted
 pub mod Places
 pub mod Forms
 pub mod Matches
+pub mod Maps
 pub mod Left
 pub mod Reports
 pub mod Bare

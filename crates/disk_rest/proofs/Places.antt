@@ -3,6 +3,7 @@ use Rattle.std.proofs.Common.{◌≡◌, ℕ, ◌+◌, ◌<◌, Some, None, slic
 use Rattle.std.proofs.lemmas.Option.{get_or_from_slice_get}
 use Rattle.mem_account.specs.Counters.{Counters}
 use Rattle.backing_dev.specs.Dev.{DeviceState}
+use Rattle.block_map.specs.BlockMap.{BlockMap}
 use Rattle.class_pool.specs.Pool.{PoolState}
 use Rattle.lock_row.specs.declared.names.Held.TheVariants as holds
 use Rattle.slot_entry.specs.Entries.{EntryState}
@@ -43,6 +44,11 @@ pub record PoolAt (g : Begin) (row : Row) (k : ℕ) : Type 0 where
 pub record AccountAt (g : Begin) (row : Row) : Type 0 where
   pub counters : Counters
   pub at : slice_get row (g.given.size + 255) ≡ Some (Some (holds.Account counters))
+
+-- The map of blocks.
+pub record MapAt (g : Begin) (row : Row) : Type 0 where
+  pub map : BlockMap
+  pub at : slice_get row (g.given.size + 256) ≡ Some (Some (holds.Blocks map))
 
 -- The device.
 pub record DeviceAt (g : Begin) (row : Row) : Type 0 where
@@ -94,6 +100,18 @@ module _ (g : Begin) (row : Row) (rest : AtRest g row) where
   pub account_there : AccountAt g row
   account_there =
       let t = there (g.given.size + 255) (omega arith) in account_by t.value t.at t.home
+
+  map_by : (v : DiskHeld) → slice_get row (g.given.size + 256) ≡ Some (Some v)
+      → AtHome g (g.given.size + 256) v → MapAt g row
+  map_by (holds.Slot e) at home = absurd (let s = home.sound.page in omega arith)
+  map_by (holds.Class q) at home =
+      absurd (let s = home.sound.0 in let c = home.sound.1.class in omega arith)
+  map_by (holds.Account c) at home = absurd (let s = home.sound in omega arith)
+  map_by (holds.Blocks x) at home = record { map = x; at = at }
+  map_by (holds.Device x) at home = absurd (let s = home.sound.0 in omega arith)
+
+  pub map_there : MapAt g row
+  map_there = let t = there (g.given.size + 256) (omega arith) in map_by t.value t.at t.home
 
   device_by : (v : DiskHeld) → slice_get row (g.given.size + 257) ≡ Some (Some v)
       → AtHome g (g.given.size + 257) v → DeviceAt g row

@@ -16,7 +16,7 @@ use Rattle.disk_rest.specs.Rows.{Row, used_at}
 use Rattle.disk_rest.proofs.Places.{value_is}
 
 -- a sum over a row of values that weigh nothing
-row_none : (f : ℕ → DiskHeld → ℕ) (row : Row)
+pub row_none : (f : ℕ → DiskHeld → ℕ) (row : Row)
     → ((k : ℕ) (v : DiskHeld) → slice_get row k ≡ Some (Some v) → f k v ≡ 0)
     → row_sum f row ≡ 0
 row_none f [] none = refl

@@ -1,5 +1,5 @@
 -- What a finished phase and a row at rest tell: statements that the laws claim.
-use Rattle.std.specs.Prelude.{◌≡◌, ℕ, ◌+◌, ◌-◌, ◌^◌, ◌<◌, ◌≤◌, ◌==◌, List, [], ◌∷◌, length, sum_by, count_by, slice_get, slice_set, Some}
+use Rattle.std.specs.Prelude.{◌≡◌, ℕ, ◌+◌, ◌-◌, ◌^◌, ◌<◌, ◌≤◌, ◌==◌, Bool, List, [], ◌∷◌, length, sum_by, count_by, slice_get, slice_set, Some}
 use Rattle.zr_base.specs.declared.op.Tag.{Tag}
 use Rattle.zr_base.specs.declared.op.Op.{Op}
 use Rattle.zr_base.specs.Plain.{IsRequest}
@@ -7,6 +7,7 @@ use Rattle.mem_account.specs.Counters.{Counters, no_counts}
 use Rattle.size_class.specs.Groups.{group_of}
 use Rattle.zspage.specs.Cells.{used_of}
 use Rattle.class_pool.specs.Pool.{PoolState, objects, is_in_group}
+use Rattle.block_map.specs.BlockMap.{BlockMap}
 use Rattle.plain_disk.specs.Output.{device_calls, phase_lines}
 use Rattle.plain_disk.specs.Rests.{Rest, is_backed, kept_at, stats, Report, bd_stat, states, classes, report}
 use Rattle.plain_disk.specs.Phases.{IsPhase}
@@ -20,7 +21,7 @@ use Rattle.slot_entry.specs.Forms.{page_weight}
 use Rattle.joint_rule.specs.Begins.{Proper}
 use Rattle.joint_rule.specs.Joint.{PoolFits}
 use Rattle.joint_rule.specs.Rule.{Rule}
-use Rattle.joint_rule.specs.Starts.{IsStart}
+use Rattle.joint_rule.specs.Starts.{IsStart, IsMapOf}
 use Rattle.joint_rule.specs.Starts.{IsNew as IsNewValue}
 use Rattle.joint_rule.specs.Ends.{begin_at, histories, rest_after, new_rest}
 use Rattle.joint_rule.specs.Weights.{used_each}
@@ -109,6 +110,8 @@ BeginsDisk = (r : Rest) (n : ℕ) (row : Row) → 4 ≤ r.set.chain → r.set.ch
     × IsNewValue (begin_at (new_rest n r.set r.device) []) k v)
     → ((k : ℕ) (c : Counters) → slice_get row k ≡ Some (Some (holds.Account c))
     → c.limit ≡ r.set.limit)
+    → ((k : ℕ) (x : BlockMap) → slice_get row k ≡ Some (Some (holds.Blocks x))
+    → IsMapOf (begin_at (new_rest n r.set r.device) []) x)
     → IsNew r n (new_rest n r.set r.device) × StandsFor (new_rest n r.set r.device) row
 
 -- a row of which only orders have changed stands for the same rest
@@ -122,6 +125,20 @@ SetsLimit = (r : Rest) (row : Row) (n : ℕ) (c : Counters) → StandsFor r row
     → slice_get row (r.size + 255) ≡ Some (Some (holds.Account c))
     → StandsFor (sets r (record r.set { limit = n }))
     (slice_set row (r.size + 255) (Some (holds.Account (record c { limit = n }))))
+
+-- where the map has another number of writes left, or its limit is on or off, the row stands for the
+-- rest with these
+abbrev pub SetsBudget : Type 0
+SetsBudget = (r : Rest) (row : Row) (n : ℕ) (on : Bool) (x : BlockMap) → StandsFor r row
+    → slice_get row (r.size + 256) ≡ Some (Some (holds.Blocks x))
+    → StandsFor (sets r (record r.set { budget = n; budgeted = on }))
+    (slice_set row (r.size + 256) (Some (holds.Blocks (record x { budget = n; enabled = on }))))
+
+-- the map has the blocks and the writes that the rest says
+abbrev pub MapTells : Type 0
+MapTells = (r : Rest) (row : Row) → StandsFor r row
+    → (x : BlockMap) × (slice_get row (r.size + 256) ≡ Some (Some (holds.Blocks x)))
+    × IsMapOf (begin_at r []) x
 
 -- where the time isn't before, the row stands for the rest with this time
 abbrev pub SetsClock : Type 0

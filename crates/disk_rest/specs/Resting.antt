@@ -2,6 +2,7 @@
 use Rattle.std.specs.Prelude.{◌≡◌, ℕ, ◌+◌, ◌*◌, ◌<◌, ◌≤◌, true, List, [], length, Some, slice_get}
 use Rattle.zr_base.specs.declared.op.Op.{Op}
 use Rattle.zr_base.specs.Plain.{zero_sector, IsSector}
+use Rattle.block_map.specs.BlockMap.{BlockMap}
 use Rattle.plain_disk.specs.Rests.{Rest, stats}
 use Rattle.lock_row.specs.declared.names.Held.TheVariants as holds
 use Rattle.lock_row.specs.declared.names.State.{State}
@@ -9,7 +10,7 @@ use Rattle.slot_entry.specs.Entries.{EntryState}
 use Rattle.slot_entry.specs.Forms.{page_weight}
 use Rattle.page_steps.specs.Steps.{DiskHeld, Here}
 use Rattle.joint_rule.specs.Rule.{owed}
-use Rattle.joint_rule.specs.Starts.{AtRest, Starts}
+use Rattle.joint_rule.specs.Starts.{AtRest, IsMapOf, Starts}
 use Rattle.joint_rule.specs.Ends.{begin_at, account_of}
 use Rattle.disk_rest.specs.Rows.{Row, used_at, without_orders, KeepsValues}
 
@@ -24,7 +25,7 @@ pub record IsPlain (r : Rest) : Type 0 where
 
 -- The row stands for the rest: with empty orders it is one on which a phase may begin, each entry is
 -- marked idle as the rest says, each pool has the rest's used cells, the account has counted the rest's
--- statistics, and the device is the rest's.
+-- statistics, the device is the rest's, and the map has the blocks and the writes that it says.
 pub record StandsFor (r : Rest) (row : Row) : Type 0 where
   pub plain : IsPlain r
   pub rest : AtRest (begin_at r []) (without_orders row)
@@ -33,6 +34,8 @@ pub record StandsFor (r : Rest) (row : Row) : Type 0 where
   pub used : (k : ℕ) → k < 255 → used_at r.size row k ≡ r.used k
   pub account : account_of r.size row ≡ stats page_weight r
   pub device : slice_get row (r.size + 257) ≡ Some (Some (holds.Device r.device))
+  pub map : (x : BlockMap) × (slice_get row (r.size + 256) ≡ Some (Some (holds.Blocks x)))
+      × IsMapOf (begin_at r []) x
 
 -- A phase of these actors is set up on a row: the values are kept, the orders are empty, with room
 -- for the phase's pieces, and no actor has had a turn.

@@ -1,5 +1,6 @@
 mod Digits
 mod Filled
+mod Firsts
 mod LineLaws
 mod Marks
 mod Numbers

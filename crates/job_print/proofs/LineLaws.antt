@@ -23,7 +23,7 @@ use Rattle.job_print.specs.declared.line.OutLine.{OutLine}
 use Rattle.job_print.specs.declared.line.OutLine.TheVariants as lines
 use Rattle.job_print.specs.Texts.{hex_digit, hex_byte, word_digits, spaced, tag_word, end_words, memory_numbers, calls_numbers, device_numbers, cell_words, use_words, cause_word, refusal_words, name_of, words_of, is_filled}
 use Rattle.job_print.specs.Proper.{IsProperTag, IsProperStat, AreLong, AreShort, IsProper}
-use Rattle.job_print.specs.Reading.{all_in, number_in, short_in, below, bytes_in, word_in, other_sector, tag_in, end_in, letters_in, cause_in, op_in, fill_in, hex_in, order_in, memory_of, memory_in, calls_of, calls_in, device_of, device_in, refusal_in, refused_in, state_in, stat_by, class_number_in, numbered_class, are_names, class_in, fault_in, usage_in, named_in, line_by, line_in}
+use Rattle.job_print.specs.Reading.{all_in, number_in, short_in, below, bytes_in, word_in, other_sector, tag_in, end_in, letters_in, cause_in, op_in, fill_in, hex_in, order_in, memory_of, memory_in, calls_of, calls_in, device_of, device_in, refusal_in, refused_in, state_in, stat_by, class_number_in, numbered_class, are_names, class_in, fault_in, is_run, is_gen, usage_in, named_in, line_by, line_in}
 use Rattle.job_print.proofs.Filled.{fill_test, other_test}
 use Rattle.job_print.proofs.Digits.{some_when, bytes-hex, bytes_some, word-digits, word_some}
 use Rattle.job_print.proofs.Numbers.{none_when, number-decimal, number_some, short-decimal, short_some, below_some}
@@ -454,20 +454,43 @@ fault_some (number ∷ cause ∷ []) line e =
     })))
 fault_some words line e = cc
 
+-- the words of the second form of the command line
+gen_words : (bar program word pages seed : List ℕ) → is_gen bar program word pages seed ≡ true
+    → (bar ≡ codes "|") × (program ≡ codes "zramsim") × (word ≡ codes "gen")
+    × (pages ≡ codes "PAGES") × (seed ≡ codes "SEED")
+gen_words bar program word pages seed e =
+    let a = and_parts _ (bytes_eq seed (codes "SEED")) e in
+    let b = and_parts _ (bytes_eq pages (codes "PAGES")) a.0 in
+    let c = and_parts _ (bytes_eq word (codes "gen")) b.0 in
+    let d = and_parts (bytes_eq bar (codes "|")) (bytes_eq program (codes "zramsim")) c.0 in (
+      WordLaws.same_bytes bar (codes "|") d.0,
+      WordLaws.same_bytes program (codes "zramsim") d.1,
+      WordLaws.same_bytes word (codes "gen") c.1,
+      WordLaws.same_bytes pages (codes "PAGES") b.1,
+      WordLaws.same_bytes seed (codes "SEED") a.1,
+    )
+
 usage_some : (words : List (List ℕ)) (line : OutLine) → usage_in words ≡ Some line
     → IsRead (codes "usage:") words line
 unfolding usage_in name_of words_of
-usage_some (program ∷ word ∷ []) line e =
-    let parts = some_when (bytes_eq program (codes "zramsim") && bytes_eq word (codes "run")) _ line e in
-    let tests = and_parts _ _ parts.0 in
-    let a = WordLaws.same_bytes program (codes "zramsim") tests.0 in
-    let b = WordLaws.same_bytes word (codes "run") tests.1 in
-    subst (IsRead (codes "usage:") (program ∷ word ∷ [])) (WordLaws.some_is lines.Usage line parts.1)
-    (record {
+usage_some (program ∷ word ∷ bar ∷ again ∷ other ∷ pages ∷ seed ∷ []) line e =
+    let parts = some_when (is_run program word && is_gen bar again other pages seed) _ line e in
+    let tests = and_parts (is_run program word) (is_gen bar again other pages seed) parts.0 in
+    let run = and_parts (bytes_eq program (codes "zramsim")) (bytes_eq word (codes "run")) tests.0 in
+    let gen = gen_words bar again other pages seed tests.1 in
+    subst (IsRead (codes "usage:") (program ∷ word ∷ bar ∷ again ∷ other ∷ pages ∷ seed ∷ []))
+    (WordLaws.some_is lines.Usage line parts.1) (record {
       named = refl;
-      worded = ap (λ w. w ∷ codes "run" ∷ []) (sym a) ∙ ap (λ w. program ∷ w ∷ []) (sym b);
+      worded = joined (WordLaws.same_bytes program (codes "zramsim") run.0)
+          (WordLaws.same_bytes word (codes "run") run.1) gen.0 gen.1 gen.2 gen.3 gen.4;
       proper = tt;
     })
+  where
+    joined : program ≡ codes "zramsim" → word ≡ codes "run" → bar ≡ codes "|"
+        → again ≡ codes "zramsim" → other ≡ codes "gen" → pages ≡ codes "PAGES"
+        → seed ≡ codes "SEED" → words_of lines.Usage
+        ≡ program ∷ word ∷ bar ∷ again ∷ other ∷ pages ∷ seed ∷ []
+    joined p q r s t u v = cc
 usage_some words line e = cc
 
 -- ---- lines

@@ -400,11 +400,20 @@ fault_in (line ∷ cause ∷ []) = do
   Some (lines.Job (record { line = n; cause = c }))
 fault_in words = None
 
+-- whether the words are those of the first form of the command line
+abbrev pub is_run : List ℕ → List ℕ → Bool
+is_run program word = bytes_eq program (codes "zramsim") && bytes_eq word (codes "run")
+
+-- whether the words are a bar and those of the second form
+abbrev pub is_gen : List ℕ → List ℕ → List ℕ → List ℕ → List ℕ → Bool
+is_gen bar program word pages seed =
+    bytes_eq bar (codes "|") && bytes_eq program (codes "zramsim") && bytes_eq word (codes "gen")
+    && bytes_eq pages (codes "PAGES") && bytes_eq seed (codes "SEED")
+
 -- the words after `usage:`
 unfoldable pub usage_in : List (List ℕ) → Option OutLine
-usage_in (program ∷ word ∷ []) =
-    if bytes_eq program (codes "zramsim") && bytes_eq word (codes "run")
-    then Some lines.Usage else None
+usage_in (program ∷ word ∷ bar ∷ again ∷ other ∷ pages ∷ seed ∷ []) =
+    if is_run program word && is_gen bar again other pages seed then Some lines.Usage else None
 usage_in words = None
 
 -- the words after the first

@@ -133,7 +133,8 @@ words_of (lines.Refused refusal) = refusal_words refusal
 words_of (lines.State page letters touched) = decimal page ∷ letters ∷ decimal touched ∷ []
 words_of (lines.Class stat) = cell_words stat ++ use_words stat
 words_of (lines.Job fault) = decimal fault.line ∷ cause_word fault.cause ∷ []
-words_of lines.Usage = codes "zramsim" ∷ codes "run" ∷ []
+words_of lines.Usage = codes "zramsim" ∷ codes "run" ∷ codes "|" ∷ codes "zramsim" ∷ codes "gen"
+    ∷ codes "PAGES" ∷ codes "SEED" ∷ []
 
 -- each word after a space
 abbrev pub spaced : List (List ℕ) → List ℕ

@@ -1,6 +1,7 @@
 //! The lines of an output, and their text, both ways.
 #![tactic(auto)]
 
+mod find;
 mod hex;
 mod laws;
 mod line;

@@ -2,8 +2,9 @@
 
 ghost use Rattle.std.specs.Prelude.{◌≡◌, ◌==◌, [], ◌∷◌, length, map, IfOk};
 ghost use Rattle.std.specs.List.{slice_split};
-ghost use Rattle.job_print.specs.Reading.{op_in, word_in, fill_in, sector_in, class_number_in, hex_in, order_in, memory_in, calls_in, device_in, refused_in, state_in, are_names, numbered_class, class_in, fault_in, usage_in, named_in, line_in};
+ghost use Rattle.job_print.specs.Reading.{op_in, word_in, fill_in, sector_in, class_number_in, hex_in, order_in, memory_in, calls_in, device_in, refused_in, state_in, are_names, numbered_class, class_in, fault_in, is_run, is_gen, usage_in, named_in, line_in};
 
+use crate::find::find;
 use crate::line::OutLine;
 use crate::number::{number, numbers, short, shorts};
 use crate::put::is_filled;
@@ -281,13 +282,29 @@ fn fault_line(words: &[&[u8]]) -> Option<OutLine>
     }
 }
 
+fn is_run(program: &[u8], word: &[u8]) -> bool
+    ensures { result ≡ is_run program.now word.now }
+{
+    program == b"zramsim".as_slice() && word == b"run".as_slice()
+}
+
+fn is_gen(bar: &[u8], program: &[u8], word: &[u8], pages: &[u8], seed: &[u8]) -> bool
+    ensures { result ≡ is_gen bar.now program.now word.now pages.now seed.now }
+{
+    bar == b"|".as_slice()
+        && program == b"zramsim".as_slice()
+        && word == b"gen".as_slice()
+        && pages == b"PAGES".as_slice()
+        && seed == b"SEED".as_slice()
+}
+
 #[tactic(auto, unfolding(crate::specs::Reading::usage_in))]
 fn usage_line(words: &[&[u8]]) -> Option<OutLine>
     ensures { result ≡ usage_in (map (λ word. word.now) words.now) }
 {
     match words {
-        [program, word] => {
-            if *program == b"zramsim".as_slice() && *word == b"run".as_slice() {
+        [program, word, bar, again, other, pages, seed] => {
+            if is_run(program, word) && is_gen(bar, again, other, pages, seed) {
                 Some(OutLine::Usage)
             } else {
                 None
@@ -335,7 +352,14 @@ fn words(alloc: Global, line: &[u8]) -> Result<Vec<&[u8]>, AllocError>
     ensures { IfOk result (λ v. map (λ word. word.now) v.items
         ≡ slice_split (λ c. c == 32) line.now) }
 {
-    line.split(|c| *c == b' ').collect(alloc)
+    let mut words = Vec::new(alloc);
+    let mut rest = line;
+    while let Some(at) = find(b' ', rest) {
+        words.push(&rest[..at])?;
+        rest = &rest[at + 1..];
+    }
+    words.push(rest)?;
+    Ok(words)
 }
 
 /// What a line is, without the byte that ends it.

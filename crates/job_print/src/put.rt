@@ -445,6 +445,6 @@ pub fn put_fault(out: &mut Vec<u8>, fault: JobFault) -> Result<(), AllocError>
 pub fn put_usage(out: &mut Vec<u8>) -> Result<(), AllocError>
     ensures { OnOk result (out.new.items ≡ out.old.items ++ usage_text) }
 {
-    out.extend_from_slice(b"usage: zramsim run\n")?;
+    out.extend_from_slice(b"usage: zramsim run | zramsim gen PAGES SEED\n")?;
     Ok(())
 }

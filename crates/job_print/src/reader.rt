@@ -1,11 +1,12 @@
 //! The strict reader of outputs.
 
-ghost use Rattle.std.specs.Prelude.{◌≡◌, ℕ, ◌+◌, ◌<◌, ◌≤◌, ◌^◌, ◌==◌, ◌++◌, List, Err, None, IfOk, IfSome, length, drop, position};
+ghost use Rattle.std.specs.Prelude.{◌≡◌, ℕ, ◌+◌, ◌<◌, ◌≤◌, ◌^◌, ◌++◌, List, Err, None, IfOk, IfSome, length, drop};
 ghost use Rattle.job_print.specs.declared.line.OutLine.{OutLine as Line};
 ghost use Rattle.job_print.specs.Texts.{out_line};
 ghost use Rattle.job_print.specs.Proper.{IsProper};
 ghost use Rattle.job_print.specs.Outputs.{IsText, IsFaulty, HasFault};
 
+use crate::find::find;
 use crate::line::{OutLine, OutText};
 use crate::lines::line;
 use crate::words::push;
@@ -20,13 +21,6 @@ pub enum OutFault {
     Memory(AllocError),
 }
 
-// Where the first line of a text ends.
-fn line_end(text: &[u8]) -> Option<usize>
-    ensures { result ≡ position (λ byte. byte == 10) text.now }
-{
-    text.iter().position(|byte| *byte == b'\n')
-}
-
 // The line that a text begins with, and how many bytes it has.
 fn first_line(alloc: Global, text: &[u8]) -> Result<Option<(OutLine, usize)>, AllocError>
     ensures proper { IfOk result (λ o. IfSome o (λ found. IsProper found.0)) }
@@ -36,7 +30,7 @@ fn first_line(alloc: Global, text: &[u8]) -> Result<Option<(OutLine, usize)>, Al
     ensures within { IfOk result (λ o. IfSome o (λ found. found.1 ≤ length text.now)) }
     ensures none { IfOk result (λ o. o ≡ None → IsFaulty text.now) }
 {
-    let Some(at) = line_end(text) else {
+    let Some(at) = find(b'\n', text) else {
         return Ok(None);
     };
     match line(alloc, &text[..at])? {

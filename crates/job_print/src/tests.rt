@@ -46,7 +46,7 @@ fn is_text(back: &Result<Vec<u8>, u32>, text: &[u8]) -> bool {
 fn prints_what_it_read(rt: HostRuntime) -> Result<(), Fail> {
     let table = [
         "",
-        "usage: zramsim run\n",
+        "usage: zramsim run | zramsim gen PAGES SEED\n",
         "job 0 toomany\n",
         "job 4294967295 word\njob 1 number\njob 2 range\njob 3 nodisk\njob 10 order\n",
         "op 0 0 ok\nop 63 999999 range\n",
@@ -169,7 +169,8 @@ fn tells_the_first_faulty_line(rt: HostRuntime) -> Result<(), Fail> {
             1,
         ),
         ("job 1 why\n", 1),
-        ("usage: zramsim run\nusage: zramsim\n", 2),
+        ("usage: zramsim run\n", 1),
+        ("usage: zramsim run | zramsim gen PAGES SEEDS\n", 1),
     ];
     for (text, number) in table {
         let back = read_back(rt.alloc(), text.as_bytes())?;

@@ -1,8 +1,9 @@
 //! The words of a line, read back.
 
-ghost use Rattle.std.specs.Prelude.{◌≡◌, ◌+◌, ◌*◌, ◌++◌, [], ◌∷◌, ◌==◌, length, map, position, Some, None, OnOk, IfOk, if◌then◌else◌};
-ghost use Rattle.job_print.specs.Reading.{digit_in, byte_in, bytes_in, tag_in, all_in, limit_in, limit_end_in, memory_end_in, eio_in, fault_end_in, pair_in, written_in, write_fault_in, four_end_in, cut_end_in, six_end_in, compacted_in, triple_end_in, marked_end_in, plain_end_in, end_in, letters_in, is_letter, cause_in, refusal_in};
+ghost use Rattle.std.specs.Prelude.{◌≡◌, ◌+◌, ◌*◌, ◌++◌, [], ◌∷◌, nat_lt, length, map, Some, None, OnOk, IfOk, if◌then◌else◌};
+ghost use Rattle.job_print.specs.Reading.{digit_in, bytes_in, tag_in, all_in, limit_in, limit_end_in, memory_end_in, eio_in, fault_end_in, pair_in, written_in, write_fault_in, four_end_in, cut_end_in, six_end_in, compacted_in, triple_end_in, marked_end_in, plain_end_in, end_in, letters_in, is_letter, cause_in, refusal_in};
 
+use crate::find::find;
 use crate::line::{Refusal, TagList};
 use crate::number::{number, numbers, short};
 use job_text::Cause;
@@ -19,50 +20,38 @@ pub(crate) fn push<T: Drop>(list: &mut List<T>, item: T) -> Result<(), AllocErro
     }
 }
 
-fn digit(c: u8) -> Option<u8>
-    ensures { result ≡ digit_in c }
+// The value of a lower-case digit, and 255 of any other byte.
+fn digit(c: u8) -> u8
+    ensures { digit_in c ≡ (if nat_lt result 16 then Some result else None) }
 {
     match c {
-        b'0'..=b'9' => Some(c - b'0'),
-        b'a'..=b'f' => Some(c - 87),
-        _ => None,
+        b'0'..=b'9' => c - b'0',
+        b'a'..=b'f' => c - 87,
+        _ => 255,
     }
 }
 
-#[tactic(auto, unfolding(crate::specs::Reading::byte_in))]
-fn byte(high: u8, low: u8) -> Option<u8>
-    ensures { result ≡ byte_in high low }
-{
-    let high = digit(high)?;
-    let low = digit(low)?;
-    Some(16 * high + low)
-}
-
-/// Bytes by two lower-case digits each.
+/// Bytes by two lower-case digits each. Whether all are digits is asked at the end, so that many
+/// are read at once.
 pub(crate) fn bytes(digits: &[u8], into: &mut [u8]) -> bool
     requires { length digits.now ≡ 2 * length into.old }
     ensures { bytes_in digits.now ≡ (if result then Some into.new else None) }
 {
+    let mut greatest: u8 = 0;
     for k in 0..into.len() {
-        match byte(digits[2 * k], digits[2 * k + 1]) {
-            Some(b) => into[k] = b,
-            None => return false,
-        }
+        let high = digit(digits[2 * k]);
+        let low = digit(digits[2 * k + 1]);
+        greatest = greatest.max(high).max(low);
+        into[k] = 16 * (high % 16) + low % 16;
     }
-    true
-}
-
-fn colon(word: &[u8]) -> Option<usize>
-    ensures { result ≡ position (λ c. c == 58) word.now }
-{
-    word.iter().position(|c| *c == b':')
+    greatest < 16
 }
 
 #[tactic(auto, unfolding(crate::specs::Reading::tag_in))]
 fn tag(word: &[u8]) -> Option<Tag>
     ensures { result ≡ tag_in word.now }
 {
-    let colon = colon(word)?;
+    let colon = find(b':', word)?;
     let actor = short(&word[..colon])?;
     let op = short(&word[colon + 1..])?;
     Some(Tag { actor, op })

@@ -1,12 +1,12 @@
 -- A disk without pages: nothing is printed, and nothing changes but the limit.
-use Rattle.std.proofs.Common.{◌≡◌, ℕ, ◌+◌, ◌^◌, ◌<◌, ◌≤◌, Bool, List, [], ◌∷◌, length, Option, Some, slice_get, refl, sym, ap, ◌∙◌, subst, arith}
+use Rattle.std.proofs.Common.{◌≡◌, ℕ, ◌+◌, ◌-◌, ◌^◌, ◌<◌, ◌≤◌, Bool, true, false, cond, List, [], ◌∷◌, length, Option, Some, slice_get, refl, sym, ap, ◌∙◌, subst, arith}
 use Rattle.std.proofs.lemmas.Option.{slice_get_within}
 use Rattle.zr_base.specs.Plain.{as_held}
 use Rattle.mem_account.specs.Counters.{at_most_end}
 use Rattle.backing_dev.specs.Dev.{DeviceState}
 use Rattle.plain_disk.specs.Output.{OutLine}
-use Rattle.plain_disk.specs.Rests.{Rest, nothing_yet, frames_of, IsUsed}
-use Rattle.plain_disk.specs.Phases.{LeavesDevice, IsPhase}
+use Rattle.plain_disk.specs.Rests.{Settings, Rest, nothing_yet, frames_of, IsUsed}
+use Rattle.plain_disk.specs.Phases.{LeavesDevice, set_after, IsPhase}
 use Rattle.plain_disk.specs.Legal.{IsUnused}
 use Rattle.lock_row.specs.Machine.Turn.{finished, missed, taken, given}
 use Rattle.lock_row.specs.declared.names.State.{State}
@@ -58,6 +58,9 @@ not_below n lt = omega (arith, lt)
 least : (n : ℕ) → n ≡ 0 → n ≤ 0
 least n is = omega (arith, is)
 
+at_least : (n : ℕ) → 0 ≤ n
+at_least n = omega arith
+
 no_less : (n : ℕ) → n ≤ n
 no_less n = omega arith
 
@@ -69,6 +72,14 @@ no_more n = omega arith
 
 at_end : (n : ℕ) → n < 2 ^ 64 → n ≡ at_most_end (n + 0)
 at_end n short = omega arith
+
+-- nothing was written to the device, so as many writes are left
+set_still : (s : Settings) → s ≡ set_after s 0
+set_still s = λ i. record s { budget = left s.budgeted s.budget i }
+  where
+    left : (on : Bool) (n : ℕ) → n ≡ cond on (n - 0) n
+    left true n = omega arith
+    left false n = refl
 
 -- the device is left as it is
 device_still : (d : DeviceState) → d.writes < 2 ^ 64 → LeavesDevice d d 0 0
@@ -136,11 +147,20 @@ module _ (r : Rest) (none : r.size ≡ 0) (unused : IsUnused r)
           within = λ rose. absurd (not_below _ rose);
           few = λ rose. absurd (not_below _ rose);
         };
-        set = refl;
       };
       so_far = refl;
       device = device_still r.device short;
       few_back = least 0 refl;
+      on_device = λ blocks honest told. record {
+        block = λ p. 0;
+        apart = λ p q lt also there too same. absurd (not_below _ lt);
+        bytes = λ p lt there. absurd (not_below _ lt);
+      };
+      budget = record {
+        within = λ on. at_least r.set.budget;
+        whole = λ cut. absurd (not_below _ cut);
+      };
+      set = set_still r.set;
     };
     alone = λ ops es one ends. absurd (cc);
   }

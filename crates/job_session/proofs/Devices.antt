@@ -11,9 +11,9 @@ use Rattle.joint_rule.specs.Begins.{Begin}
 use Rattle.joint_rule.specs.Starts.{IsNew}
 use Rattle.joint_rule.specs.Ends.{device_in, device_of}
 use Rattle.zr_core.specs.declared.spare.Spare.{Spare}
-use Rattle.zr_core.specs.Rests.{no_device, blocks_in, IsEarly, device_by, blocks_by, IsBare, RestsAs, new_disk}
+use Rattle.zr_core.specs.Rests.{no_device, blocks_in, IsEarly, device_by, blocks_by, IsBare, RestsAs, new_disk, with_map}
 use Rattle.zr_core.specs.Rows.{AreNew}
-use Rattle.job_session.specs.Stepped.{Disk, IsNewDisk, IsLimited, IsLowered, map_of, IsRunOn}
+use Rattle.job_session.specs.Stepped.{Disk, IsNewDisk, IsLimited, IsLowered, IsBudgeted, map_of, IsRunOn}
 
 module _ {D : Type 0} where
   -- what stands beside the row of a disk
@@ -128,7 +128,7 @@ pub is_new_disk : {D : Type 0} (d : Disk) (backed : Bool) (s : Option (Spare D))
     (row : List (Option DiskHeld)) → pages ≡ n → 1 ≤ n → limit ≡ d.limit → backed ≡ d.backed → IsEarly pages s
     → device_by s pages row ≡ d.device → blocks_by s pages row ≡ d.blocks
     → AreNew (new_disk n d.limit d.device) (n + 258) row
-    → RestsAs (new_disk n d.limit d.device) n row → IsNewDisk d n (disk_by d.clock backed s pages limit row)
+    → RestsAs (with_map (new_disk n d.limit d.device) d.blocks) n row → IsNewDisk d n (disk_by d.clock backed s pages limit row)
 is_new_disk d backed s pages n limit row size some same as_backed early device blocks are rests = record {
   size = size;
   limit = same;
@@ -192,6 +192,29 @@ module _ {D : Type 0} (clock : ℕ) (backed still : Bool) (s t : Option (Spare D
         none = none;
         account = set;
       }
+
+-- a disk of which only the map of blocks has changed
+pub is_budgeted : {D : Type 0} (clock : ℕ) (backed still : Bool) (s t : Option (Spare D))
+    (pages after limit now : ℕ) (old new : List (Option DiskHeld)) (n : ℕ) (on : Bool)
+    → after ≡ pages → now ≡ limit → still ≡ backed
+    → device_by t after new ≡ device_by s pages old
+    → blocks_by t after new ≡ record (blocks_by s pages old) { budget = n; enabled = on }
+    → (pages ≡ 0 → new ≡ old)
+    → ((x : BlockMap) → slice_get old (pages + 256) ≡ Some (Some (holds.Blocks x))
+    → new ≡ slice_set old (pages + 256)
+    (Some (holds.Blocks (record x { budget = n; enabled = on }))))
+    → IsBudgeted (disk_by clock backed s pages limit old) n on (disk_by clock still t after now new)
+is_budgeted clock backed still s t pages after limit now old new n on size same as_backed device
+    blocks none map = record {
+      size = size;
+      limit = same;
+      backed = as_backed;
+      clock = refl;
+      device = device;
+      blocks = blocks;
+      none = none;
+      map = map;
+    }
 
 -- a disk on which a phase was set up and run
 pub is_run_on : {D : Type 0} (d : Disk) (clock : ℕ) (backed : Bool) (t u : Option (Spare D))

@@ -144,6 +144,9 @@ module _ (legal : JobsAreLegal) where
       (Own : Type 0) → MayStand d.size d.clock mine → Stepped d mine turns lines m
       → (Own → AreOwn mine turns) → Extends front (front ++ mine) d turns Own lines m
   extends_by front mine d m turns lines Own may stepped own = record {
+    between = mine;
+    parts = refl;
+    alone = stepped;
     legal = λ first last ls is stands.
         let all = legal may.used last d mine turns lines m may.may may.sized may.timed stands stepped
         in (all.0, legal_append front mine first last all.0 ls lines is all.1, all.2);

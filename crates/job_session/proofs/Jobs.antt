@@ -5,7 +5,7 @@ use Rattle.std.specs.Prelude.{nat_lt}
 use Rattle.plain_disk.specs.Output.{OutLine, disksize_busy, backing_busy, backing_range, refused}
 use Rattle.zr_core.specs.Machines.{PhaseSteps}
 use Rattle.job_text.specs.declared.job.Attr.{Attr}
-use Rattle.job_text.specs.declared.job.Attr.TheVariants.{DiskPages, LimitPages, Backing, Clock, LowerMax}
+use Rattle.job_text.specs.declared.job.Attr.TheVariants.{DiskPages, LimitPages, Backing, WritebackLimit, WritebackLimitEnable, Clock, LowerMax}
 use Rattle.job_text.specs.declared.job.Report.{Report}
 use Rattle.job_text.specs.declared.job.Item.{Item}
 use Rattle.job_text.specs.declared.job.Item.TheVariants as items
@@ -125,6 +125,8 @@ pub attr_keeps : (d m : Disk) (attr : Attr) (lines : List OutLine) → AttrSteps
 attr_keeps d m (DiskPages n) lines s = λ some. size_some d.size d m n lines refl s some
 attr_keeps d m (LimitPages n) lines s = s.1.size
 attr_keeps d m (Backing n) lines s = backing_same d.size (nat_lt d.device.blocks n) d m n lines s
+attr_keeps d m (WritebackLimit n) lines s = s.1.size
+attr_keeps d m (WritebackLimitEnable on) lines s = s.1.size
 attr_keeps d m (Clock n) lines s = ap (λ (x : Disk). x.size) s.1
 attr_keeps d m LowerMax lines s = s.1.size
 
@@ -146,6 +148,8 @@ pub attr_times : (d m : Disk) (attr : Attr) (lines : List OutLine) → AttrSteps
 attr_times d m (DiskPages n) lines s = size_time d.size d m n lines s
 attr_times d m (LimitPages n) lines s = s.1.clock
 attr_times d m (Backing n) lines s = backing_time d.size (nat_lt d.device.blocks n) d m n lines s
+attr_times d m (WritebackLimit n) lines s = s.1.clock
+attr_times d m (WritebackLimitEnable on) lines s = s.1.clock
 attr_times d m (Clock n) lines s = ap (λ (x : Disk). x.clock) s.1
 attr_times d m LowerMax lines s = s.1.clock
 

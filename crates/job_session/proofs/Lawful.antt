@@ -11,7 +11,7 @@ use Rattle.zr_base.specs.Plain.{IsRequest}
 use Rattle.zr_base.specs.declared.limits.TheConstants.{MOST_ACTORS, MOST_OPERATIONS}
 use Rattle.actor_steps.specs.Places.{AreRequests, IsWork, operations}
 use Rattle.job_text.specs.declared.job.Attr.{Attr}
-use Rattle.job_text.specs.declared.job.Attr.TheVariants.{DiskPages, LimitPages, Backing, Clock, LowerMax}
+use Rattle.job_text.specs.declared.job.Attr.TheVariants.{DiskPages, LimitPages, Backing, WritebackLimit, WritebackLimitEnable, Clock, LowerMax}
 use Rattle.job_text.specs.declared.job.Item.{Item}
 use Rattle.job_text.specs.declared.job.Item.TheVariants as items
 use Rattle.job_text.specs.Jobs.{Used, with_attr, with_phase, with_op, with_ops, with_actors, with_text, HasDisk, MaySet, MayOperate, MayAct, MayTurn, MayFollow}
@@ -127,6 +127,8 @@ abbrev pub KeepsPages : Item → ℕ → ℕ → Type 0
 KeepsPages (items.Attr (DiskPages n)) before after = 1 ≤ n → 1 ≤ after
 KeepsPages (items.Attr (LimitPages n)) before after = after ≡ before
 KeepsPages (items.Attr (Backing n)) before after = after ≡ before
+KeepsPages (items.Attr (WritebackLimit n)) before after = after ≡ before
+KeepsPages (items.Attr (WritebackLimitEnable on)) before after = after ≡ before
 KeepsPages (items.Attr (Clock n)) before after = after ≡ before
 KeepsPages (items.Attr LowerMax) before after = after ≡ before
 KeepsPages (items.Report report) before after = after ≡ before
@@ -139,6 +141,8 @@ sized_on u (DiskPages n) before after keeps may sized none =
     let some = keeps may.0 in absurd (omega (arith, none, some))
 sized_on u (LimitPages n) before after keeps may sized none = sized (sym keeps ∙ none)
 sized_on u (Backing n) before after keeps may sized none = sized (sym keeps ∙ none)
+sized_on u (WritebackLimit n) before after keeps may sized none = sized (sym keeps ∙ none)
+sized_on u (WritebackLimitEnable on) before after keeps may sized none = sized (sym keeps ∙ none)
 sized_on u (Clock n) before after keeps may sized none = sized (sym keeps ∙ none)
 sized_on u LowerMax before after keeps may sized none = sized (sym keeps ∙ none)
 
@@ -147,6 +151,8 @@ abbrev pub KeepsTimeOf : Item → ℕ → ℕ → Type 0
 KeepsTimeOf (items.Attr (DiskPages n)) before after = after ≡ before
 KeepsTimeOf (items.Attr (LimitPages n)) before after = after ≡ before
 KeepsTimeOf (items.Attr (Backing n)) before after = after ≡ before
+KeepsTimeOf (items.Attr (WritebackLimit n)) before after = after ≡ before
+KeepsTimeOf (items.Attr (WritebackLimitEnable on)) before after = after ≡ before
 KeepsTimeOf (items.Attr (Clock n)) before after = after ≡ n
 KeepsTimeOf (items.Attr LowerMax) before after = after ≡ before
 KeepsTimeOf (items.Report report) before after = after ≡ before
@@ -159,6 +165,8 @@ pub timed_on : (u : Used) (attr : Attr) (before after : ℕ)
 timed_on u (DiskPages n) before after keeps timed = timed ∙ sym keeps
 timed_on u (LimitPages n) before after keeps timed = timed ∙ sym keeps
 timed_on u (Backing n) before after keeps timed = timed ∙ sym keeps
+timed_on u (WritebackLimit n) before after keeps timed = timed ∙ sym keeps
+timed_on u (WritebackLimitEnable on) before after keeps timed = timed ∙ sym keeps
 timed_on u (Clock n) before after keeps timed = sym keeps
 timed_on u LowerMax before after keeps timed = timed ∙ sym keeps
 

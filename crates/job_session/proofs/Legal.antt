@@ -1,12 +1,15 @@
 -- A job item by item: where the disk stands for a rest, each item's lines are legal.
 use Rattle.std.proofs.Common.{◌≡◌, ◌⊎◌, ℕ, ◌+◌, ◌≤◌, Bool, true, false, zero, suc, List, [], ◌∷◌, length, Option, Some, None, slice_get, slice_set, unwrap_or, refl, sym, ap, ◌∙◌, subst, inl, inr, arith}
 use Rattle.std.specs.Prelude.{nat_lt}
+use Rattle.std.proofs.lemmas.List.{length-replicate}
 use Rattle.std.proofs.lemmas.Option.{get_or_from_slice_get}
 use Rattle.zr_base.specs.declared.limits.TheConstants.{MOST_PAGES, MOST_ACTORS}
 use Rattle.zr_base.specs.declared.op.Op.{Op}
 use Rattle.zr_base.specs.declared.op.Op.TheVariants.{Write, Read, Discard, Idle, Writeback, Compact}
 use Rattle.zr_base.specs.Plain.{IsRequest}
 use Rattle.mem_account.specs.Counters.{Counters, no_counts}
+use Rattle.block_map.specs.declared.state.BlockState.TheVariants.{Free}
+use Rattle.block_map.specs.BlockMap.{BlockMap}
 use Rattle.mem_account.specs.Stat.{mm_stat_of, io_stat_of}
 use Rattle.backing_dev.specs.Dev.{DeviceState}
 use Rattle.plain_disk.specs.Output.{OutLine, memory, calls, device_calls}
@@ -19,16 +22,17 @@ use Rattle.page_steps.specs.Steps.{DiskHeld, Terms}
 use Rattle.slot_entry.specs.Forms.{page_weight}
 use Rattle.joint_rule.specs.Begins.{terms}
 use Rattle.joint_rule.specs.Laws.{StartHasRule, ReachedHasRule}
+use Rattle.joint_rule.specs.Starts.{IsMapOf}
 use Rattle.joint_rule.specs.Ends.{begin_at, device_of, rest_after, new_rest}
 use Rattle.disk_rest.specs.Resting.{StandsFor}
 use Rattle.disk_rest.specs.Printed.{row_report}
-use Rattle.disk_rest.specs.Laws.{PrintsPhase, LeavesRest, PrintsReports, PrintsNothing, AccountTells, BeginsPhase, BeginsProper, BeginsDisk, SetsLimit, SetsClock, LowersMax}
+use Rattle.disk_rest.specs.Laws.{PrintsPhase, LeavesRest, PrintsReports, PrintsNothing, AccountTells, BeginsPhase, BeginsProper, BeginsDisk, SetsLimit, SetsBudget, SetsClock, LowersMax, MapTells}
 use Rattle.zr_core.specs.declared.limits.TheConstants.{MOST_CHAIN}
 use Rattle.zr_core.specs.Machines.{PhaseSteps}
-use Rattle.zr_core.specs.Rests.{account_in, account_of, new_disk}
+use Rattle.zr_core.specs.Rests.{account_in, account_of, blocks_in, new_disk}
 use Rattle.zr_core.specs.Rows.{AreNew}
 use Rattle.job_text.specs.declared.job.Attr.{Attr}
-use Rattle.job_text.specs.declared.job.Attr.TheVariants.{DiskPages, LimitPages, Backing, Clock, LowerMax}
+use Rattle.job_text.specs.declared.job.Attr.TheVariants.{DiskPages, LimitPages, Backing, WritebackLimit, WritebackLimitEnable, Clock, LowerMax}
 use Rattle.job_text.specs.declared.job.Report.{Report}
 use Rattle.job_text.specs.declared.job.Report.TheVariants as reports
 use Rattle.job_text.specs.declared.job.Item.{Item}
@@ -36,7 +40,7 @@ use Rattle.job_text.specs.declared.job.Item.TheVariants as items
 use Rattle.job_text.specs.Jobs.{Used, with_attr, with_phase, with_op, with_ops, with_text, MaySet, KeepsTime, MayOperate, MayAct, MayFollow}
 use Rattle.job_session.specs.Legal.{Legal, plain_report, plain_item}
 use Rattle.job_session.specs.Stands.{IsBare, HasRow, Stands}
-use Rattle.job_session.specs.Stepped.{Disk, terms_of, report_of, IsNewDisk, IsLimited, IsLowered, with_backing, SizeSteps, BackingSteps, AttrSteps, IsRunOn, Stepped}
+use Rattle.job_session.specs.Stepped.{Disk, terms_of, report_of, IsNewDisk, IsLimited, IsLowered, IsBudgeted, with_backing, SizeSteps, BackingSteps, AttrSteps, map_of, IsRunOn, Stepped}
 use Rattle.job_session.proofs.Bare.{phase_nowhere, phase_without}
 use Rattle.job_session.proofs.Jobs.{attr_keeps, attr_times}
 use Rattle.job_session.proofs.Lawful.{no_item, sized_on, timed_on, requests_each, work_by, few_operations, none_without, disk_by, clock_by}
@@ -73,6 +77,24 @@ account_some limit (suc n) row c some is =
     ap (account_in (record no_counts { limit = limit }))
     (get_or_from_slice_get row (suc n + 255) (Some (holds.Account c)) None is)
 
+-- the map of a disk with pages is the one in its place
+map_some : (x : BlockMap) (size : ℕ) (row : List (Option DiskHeld)) (y : BlockMap) → 1 ≤ size
+    → slice_get row (size + 256) ≡ Some (Some (holds.Blocks y)) → map_of x size row ≡ y
+map_some x zero row y some is = absurd (omega (arith, some))
+map_some x (suc n) row y some is =
+    ap blocks_in (get_or_from_slice_get row (suc n + 256) (Some (holds.Blocks y)) None is)
+
+-- where a rest uses as many blocks and has as many writes left as another, the map of one is the map of
+-- the other
+map_on : (r m : Rest) (x y : BlockMap) → m.set.backing ≡ r.set.backing
+    → m.set.budget ≡ r.set.budget → m.set.budgeted ≡ r.set.budgeted → y ≡ x
+    → IsMapOf (begin_at r []) x → IsMapOf (begin_at m []) y
+map_on r m x y backing budget budgeted same is = record {
+  blocks = ap (λ (z : BlockMap). length z.states) same ∙ is.blocks ∙ sym backing;
+  budget = ap (λ (z : BlockMap). z.budget) same ∙ is.budget ∙ sym budget;
+  budgeted = ap (λ (z : BlockMap). z.enabled) same ∙ is.budgeted ∙ sym budgeted;
+}
+
 -- What is known of phases, of new disks, of limits, of times, of lowered maxima and of reports.
 pub record Laws : Type 0 where
   pub starts : StartHasRule
@@ -83,10 +105,12 @@ pub record Laws : Type 0 where
   pub leaves : LeavesRest
   pub new : BeginsDisk
   pub limits : SetsLimit
+  pub budgets : SetsBudget
   pub clocks : SetsClock
   pub max : LowersMax
   pub reports : PrintsReports
   pub account : AccountTells
+  pub map : MapTells
   pub nothing : PrintsNothing
 
 module _ (laws : Laws) where
@@ -99,7 +123,8 @@ module _ (laws : Laws) where
   new_stands r d m n some most s new =
       let row = subst (λ (x : DeviceState). AreNew (new_disk n d.limit x) (n + 258) m.row)
       (sym s.device) new.row in
-      let both = disk_on laws.new r n d.limit m.row s.chain s.limit row new.account in (
+      let both = disk_on laws.new r n d.limit m.row s.chain s.limit row new.account d.blocks new.map
+      s.map in (
         both.0,
         record {
           size = sym new.size;
@@ -109,6 +134,7 @@ module _ (laws : Laws) where
           clock = s.clock ∙ sym new.clock;
           chain = s.chain;
           device = s.device ∙ sym new.device;
+          map = map_on r (new_rest n r.set r.device) d.blocks m.blocks refl refl refl new.blocks s.map;
           row = inr (record { some = omega (arith, some, new.size); stands = both.1 });
         },
       )
@@ -152,6 +178,8 @@ module _ (laws : Laws) where
     clock = s.clock ∙ sym is.clock;
     chain = s.chain;
     device = s.device ∙ sym is.device;
+    map = map_on r (sets r (record r.set { limit = n })) d.blocks m.blocks refl refl refl is.blocks
+        s.map;
     row = limited_row r d m n s is s.row;
   }
 
@@ -190,7 +218,55 @@ module _ (laws : Laws) where
     clock = s.clock ∙ sym is.clock;
     chain = s.chain;
     device = s.device ∙ sym is.device;
+    map = map_on r (lowered r) d.blocks m.blocks refl refl refl is.blocks s.map;
     row = lowered_row r d m s is s.row;
+  }
+
+  -- ---- the limit on writebacks
+
+  budgeted_row : (r : Rest) (d m : Disk) (n : ℕ) (on : Bool) → Stands r d → IsBudgeted d n on m
+      → IsBare r d ⊎ HasRow r d
+      → IsBare (sets r (record r.set { budget = n; budgeted = on })) m
+      ⊎ HasRow (sets r (record r.set { budget = n; budgeted = on })) m
+  budgeted_row r d m n on s is (inl bare) = inl (record {
+    none = is.size ∙ bare.none;
+    empty = is.none bare.none ∙ bare.empty;
+    unused = record {
+      used = bare.unused.used;
+      most = bare.unused.most;
+      so_far = bare.unused.so_far;
+    };
+    writes = bare.writes;
+  })
+  budgeted_row r d m n on s is (inr has) =
+      let there = laws.map r d.row has.stands in
+      let x : BlockMap = there.0 in
+      let there_too = ap (λ (k : ℕ). slice_get d.row (k + 256)) (sym s.size) ∙ there.1 in
+      let row = is.map x there_too
+      ∙ ap (λ (k : ℕ). slice_set d.row (k + 256)
+      (Some (holds.Blocks (record x { budget = n; enabled = on })))) (sym s.size) in
+      inr (record {
+        some = omega (arith, has.some, is.size);
+        stands = subst (StandsFor (sets r (record r.set { budget = n; budgeted = on }))) (sym row)
+            (laws.budgets r d.row n on x has.stands there.1);
+      })
+
+  budget_stands : (r : Rest) (d m : Disk) (n : ℕ) (on : Bool) → Stands r d → IsBudgeted d n on m
+      → Stands (sets r (record r.set { budget = n; budgeted = on })) m
+  budget_stands r d m n on s is = record {
+    size = s.size ∙ sym is.size;
+    most = omega (arith, s.most, is.size);
+    limit = s.limit ∙ sym is.limit;
+    backed = s.backed ∙ sym is.backed;
+    clock = s.clock ∙ sym is.clock;
+    chain = s.chain;
+    device = s.device ∙ sym is.device;
+    map = record {
+      blocks = ap (λ (x : BlockMap). length x.states) is.blocks ∙ s.map.blocks;
+      budget = ap (λ (x : BlockMap). x.budget) is.blocks;
+      budgeted = ap (λ (x : BlockMap). x.enabled) is.blocks;
+    };
+    row = budgeted_row r d m n on s is s.row;
   }
 
   -- ---- the time
@@ -221,6 +297,7 @@ module _ (laws : Laws) where
     clock = refl;
     chain = s.chain;
     device = s.device;
+    map = map_on r (sets r (record r.set { clock = n })) d.blocks d.blocks refl refl refl refl s.map;
     row = clocked_row r d n (omega (arith, later, s.clock)) s.row;
   }
 
@@ -292,6 +369,15 @@ module _ (laws : Laws) where
     terms_are : terms_of d ≡ terms (begin_at r actors)
     terms_are = λ i. record { size = sym s.size i; chain = sym s.chain i; clock = sym s.clock i }
 
+    -- the map of the row that it leaves
+    run_map : 1 ≤ d.size → (n : Rest) → n.size ≡ r.size → StandsFor n m.row
+        → IsMapOf (begin_at n []) m.blocks
+    run_map some n size stands =
+        let there = laws.map n m.row stands in
+        let at = ap (λ (k : ℕ). slice_get m.row (k + 256)) (sym (size ∙ s.size)) ∙ there.1 in
+        map_on n n there.0 m.blocks refl refl refl
+        (run.blocks ∙ map_some d.blocks d.size m.row there.0 some at) there.2
+
     phase_stands : HasRow r d → After
     phase_stands has =
         let both = phase_on r actors d.row laws.starts laws.reached laws.begin laws.prints laws.leaves
@@ -313,6 +399,7 @@ module _ (laws : Laws) where
             clock = s.clock ∙ sym run.clock;
             chain = s.chain;
             device = (λ i. device_of (s.device i) (s.size i) m.row) ∙ sym run.device;
+            map = run_map has.some (rest_after r actors both.0 m.row) refl both.2;
             row = inr (record { some = omega (arith, has.some, run.size); stands = both.2 });
           },
         )
@@ -336,6 +423,8 @@ module _ (laws : Laws) where
             clock = s.clock ∙ sym run.clock;
             chain = s.chain;
             device = s.device ∙ sym (run.device ∙ (λ i. device_of d.device (bare.none i) (over.1 i)));
+            map = map_on r r d.blocks m.blocks refl refl refl
+                (run.blocks ∙ ap (λ (k : ℕ). map_of d.blocks k m.row) bare.none) s.map;
             row = inl (record {
               none = run.size ∙ bare.none;
               empty = over.1;
@@ -394,6 +483,11 @@ module _ (laws : Laws) where
     clock = s.clock;
     chain = s.chain;
     device = s.device;
+    map = record {
+      blocks = length-replicate n Free;
+      budget = s.map.budget;
+      budgeted = s.map.budgeted;
+    };
     row = inl (backed_row r d n none s.row);
   }
 
@@ -423,6 +517,18 @@ module _ (laws : Laws) where
       λ k. (x : Rest) × GivesBacking k.0 (nat_lt k.1 n) r n lines x × Stands x m in
       subst P (λ i. (sym s.size i, (sym s.device i).blocks))
       (backing_stands d.size (nat_lt d.device.blocks n) r d m n lines refl s steps)
+  attr_stands u r d m (WritebackLimit n) lines timed may later s steps = (
+    sets r (record r.set { budget = n }),
+    (steps.0, refl),
+    subst (λ (on : Bool). Stands (sets r (record r.set { budget = n; budgeted = on })) m)
+        s.map.budgeted (budget_stands r d m n d.blocks.enabled s steps.1),
+  )
+  attr_stands u r d m (WritebackLimitEnable on) lines timed may later s steps = (
+    sets r (record r.set { budgeted = on }),
+    (steps.0, refl),
+    subst (λ (n : ℕ). Stands (sets r (record r.set { budget = n; budgeted = on })) m)
+        s.map.budget (budget_stands r d m d.blocks.budget on s steps.1),
+  )
   attr_stands u r d m (Clock n) lines timed may later s steps = (
     sets r (record r.set { clock = n }),
     (steps.0, refl),

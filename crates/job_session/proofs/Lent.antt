@@ -7,7 +7,7 @@ use Rattle.plain_disk.specs.Rests.{Rest}
 use Rattle.plain_disk.specs.Legal.{GivesDisk, GivesBacking, ItemIsLegal}
 use Rattle.slot_entry.specs.Forms.{page_weight}
 use Rattle.job_text.specs.declared.job.Attr.{Attr}
-use Rattle.job_text.specs.declared.job.Attr.TheVariants.{DiskPages, LimitPages, Backing, Clock, LowerMax}
+use Rattle.job_text.specs.declared.job.Attr.TheVariants.{DiskPages, LimitPages, Backing, WritebackLimit, WritebackLimitEnable, Clock, LowerMax}
 use Rattle.job_text.specs.declared.job.Item.{Item}
 use Rattle.job_text.specs.declared.job.Item.TheVariants as items
 use Rattle.job_session.specs.Legal.{Legal, plain_item}
@@ -36,6 +36,8 @@ attr_refs r (DiskPages n) lines m is = size_refs r.size r n lines m is
 attr_refs r (LimitPages n) lines m is = ap (λ (x : Rest). refs x.device) is.1
 attr_refs r (Backing n) lines m is =
     backing_refs r.size (nat_lt r.device.blocks n) r n lines m is
+attr_refs r (WritebackLimit n) lines m is = ap (λ (x : Rest). refs x.device) is.1
+attr_refs r (WritebackLimitEnable on) lines m is = ap (λ (x : Rest). refs x.device) is.1
 attr_refs r (Clock n) lines m is = ap (λ (x : Rest). refs x.device) is.1
 attr_refs r LowerMax lines m is = ap (λ (x : Rest). refs x.device) is.1
 

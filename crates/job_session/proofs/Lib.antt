@@ -3,6 +3,8 @@ pub mod Standing
 pub mod Bare
 pub mod Lawful
 pub mod Legal
+pub mod Complete
+pub mod Budgets
 pub mod Lines
 pub mod Orders
 pub mod Reports
@@ -16,3 +18,5 @@ pub mod Extends
 pub mod Sent
 pub mod SoFar
 pub mod Calls
+pub mod Passing
+pub mod Last

@@ -5,6 +5,7 @@ use Rattle.std.proofs.lemmas.Option.{slice_get_within}
 use Rattle.zr_base.specs.declared.op.Op.{Op}
 use Rattle.zr_base.specs.Plain.{Finds}
 use Rattle.mem_account.specs.Counters.{Counters, no_counts}
+use Rattle.block_map.specs.BlockMap.{BlockMap}
 use Rattle.backing_dev.specs.Dev.{DeviceState}
 use Rattle.plain_disk.specs.Output.{OutLine}
 use Rattle.plain_disk.specs.Rests.{Rest, is_backed}
@@ -16,7 +17,7 @@ use Rattle.lock_row.specs.declared.names.State.{State}
 use Rattle.page_steps.specs.Steps.{DiskHeld, Here}
 use Rattle.slot_entry.specs.Forms.{page_weight}
 use Rattle.joint_rule.specs.Begins.{Proper, terms}
-use Rattle.joint_rule.specs.Starts.{Starts, IsNew}
+use Rattle.joint_rule.specs.Starts.{Starts, IsMapOf, IsNew}
 use Rattle.joint_rule.specs.Laws.{StartHasRule, ReachedHasRule}
 use Rattle.disk_rest.specs.Rows.{AreOrders}
 use Rattle.joint_rule.specs.Ends.{begin_at, rest_after, new_rest}
@@ -104,6 +105,11 @@ account_place : (n limit : ℕ) (device : DeviceState) (k : ℕ) (c : Counters)
     → IsNew (new_disk n limit device) k (holds.Account c) → k ≡ n + 255
 account_place n limit device k c is = is.0
 
+-- and so is its map of blocks
+map_place : (n limit : ℕ) (device : DeviceState) (k : ℕ) (x : BlockMap)
+    → IsNew (new_disk n limit device) k (holds.Blocks x) → k ≡ n + 256
+map_place n limit device k x is = is.0
+
 some_some : (v u : DiskHeld) → (◌≡◌ {A = Option (Option DiskHeld)} (Some (Some v)) (Some (Some u)))
     → v ≡ u
 some_some v u is = cc
@@ -112,7 +118,9 @@ module _ (new : BeginsDisk) (r : Rest) (n limit : ℕ) (row : List (Option DiskH
     (chain : r.set.chain ≡ MOST_CHAIN) (same : r.set.limit ≡ limit)
     (are : AreNew (new_disk n limit r.device) (n + 258) row)
     (account : slice_get row (n + 255)
-    ≡ Some (Some (holds.Account (record no_counts { limit = limit })))) where
+    ≡ Some (Some (holds.Account (record no_counts { limit = limit }))))
+    (blocks : BlockMap) (map : slice_get row (n + 256) ≡ Some (Some (holds.Blocks blocks)))
+    (is_map : IsMapOf (begin_at r []) blocks) where
   limit_there : (k : ℕ) (c : Counters) → slice_get row k ≡ Some (Some (holds.Account c))
       → k < n + 258 → c.limit ≡ r.set.limit
   limit_there k c is lt =
@@ -129,6 +137,21 @@ module _ (new : BeginsDisk) (r : Rest) (n limit : ℕ) (row : List (Option DiskH
           → c.limit ≡ d.limit
       account_limit c d is = let e : c ≡ d = cc in ap (λ (x : Counters). x.limit) e
 
+  map_on : (k : ℕ) (x : BlockMap) → slice_get row k ≡ Some (Some (holds.Blocks x))
+      → k < n + 258 → IsMapOf (begin_at (new_rest n r.set r.device) []) x
+  map_on k x is lt =
+      let there = are.each k lt in
+      let v : there.0 ≡ holds.Blocks x = some_some there.0 (holds.Blocks x) (sym there.1 ∙ is) in
+      let place = map_place n limit r.device k x
+      (subst (IsNew (new_disk n limit r.device) k) v there.2) in
+      let same = some_some (holds.Blocks blocks) (holds.Blocks x)
+      (sym map ∙ ap (slice_get row) (sym place) ∙ is) in
+      subst (IsMapOf (begin_at (new_rest n r.set r.device) [])) (one_map blocks x same)
+      (record { blocks = is_map.blocks; budget = is_map.budget; budgeted = is_map.budgeted })
+    where
+      one_map : (x y : BlockMap) → (◌≡◌ {A = DiskHeld} (holds.Blocks x) (holds.Blocks y)) → x ≡ y
+      one_map x y is = cc
+
   pub disk_on : IsNewRest r n (new_rest n r.set r.device)
       × StandsFor (new_rest n r.set r.device) row
   disk_on =
@@ -136,10 +159,10 @@ module _ (new : BeginsDisk) (r : Rest) (n limit : ℕ) (row : List (Option DiskH
       (λ k lt.
       let there = are.each k (omega (arith, lt, are.size)) in
       (there.0, there.1, new_value r n limit chain k there.0 there.2))
-      (λ k c is. limit_there k c is (within k c is))
+      (λ k c is. limit_there k c is (within k (holds.Account c) is))
+      (λ k x is. map_on k x is (within k (holds.Blocks x) is))
     where
-      within : (k : ℕ) (c : Counters) → slice_get row k ≡ Some (Some (holds.Account c))
-          → k < n + 258
-      within k c is =
-          let lt = slice_get_within row k (Some (holds.Account c)) is in
+      within : (k : ℕ) (v : DiskHeld) → slice_get row k ≡ Some (Some v) → k < n + 258
+      within k v is =
+          let lt = slice_get_within row k (Some v) is in
           omega (arith, lt, are.size)

@@ -26,6 +26,7 @@ first_stands device short = record {
   clock = refl;
   chain = refl;
   device = refl;
+  map = record { blocks = refl; budget = refl; budgeted = refl };
   row = inl (record {
     none = refl;
     empty = refl;

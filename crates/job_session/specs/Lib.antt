@@ -1,7 +1,10 @@
 pub mod Legal
+pub mod Complete
+pub mod Budgets
 pub mod Stepped
 pub mod Stands
 pub mod Runs
 pub mod Telling
 pub mod Sessions
 pub mod Advances
+pub mod Generated

@@ -1,20 +1,23 @@
 -- The words of the top call: what was read and what was written, by the status.
-use Rattle.std.specs.Prelude.{◌≡◌, ◌⊎◌, ◌<◌, ℕ, Bool, true, false, IsTrue, List, [], ◌∷◌, ◌++◌, map, length, Option, Some, codes}
+use Rattle.std.specs.Prelude.{◌≡◌, ◌⊎◌, ◌-◌, ◌^◌, ◌<◌, ◌≤◌, ℕ, Bool, true, false, IsTrue, List, [], ◌∷◌, ◌++◌, map, length, drop, Option, Some, codes, ⊤}
 use Rattle.std.specs.Borrow.{Bor}
 use Rattle.std.specs.Io.KnownBytes.{Appends, Consumes, IsAtEnd}
 use Rattle.std.specs.Str.{bytes_eq}
+use Rattle.std.specs.Str.Parse.{IsNumeral, digits_value}
 use Rattle.backing_dev.specs.Dev.{DeviceState}
 use Rattle.plain_disk.specs.Output.{OutLine, any_refusal}
 use Rattle.job_text.specs.declared.fault.JobFault.{JobFault}
 use Rattle.job_text.specs.declared.job.Item.{Item}
 use Rattle.job_text.specs.Faults.{first_fault}
-use Rattle.job_text.specs.declared.limits.TheConstants.{MOST_BYTES}
+use Rattle.job_text.specs.declared.limits.TheConstants.{MOST_BYTES, MOST_GENERATED}
+use Rattle.job_text.specs.Generator.{generated}
 use Rattle.job_text.specs.Jobs.{IsJob}
 use Rattle.job_session.specs.declared.sim.Status.{Status}
 use Rattle.job_session.specs.declared.sim.Status.TheVariants as statuses
 use Rattle.plain_disk.specs.Rests.{Rest}
-use Rattle.plain_disk.specs.Legal.{IsFirst}
-use Rattle.job_session.specs.Legal.{Legal}
+use Rattle.plain_disk.specs.Legal.{IsFirst, first_settings}
+use Rattle.job_session.specs.Legal.{plain_item, Legal}
+use Rattle.job_session.specs.Complete.{HaveRoom, RefuseForMemory}
 use Rattle.job_session.specs.Stepped.{Disk, without_pages, Stepped, AreOwn}
 use Rattle.job_print.specs.Texts.{text, fault_text}
 
@@ -37,6 +40,36 @@ is_run_word (word ∷ other ∷ more) = false
 -- the words of the command line are the one word `run`
 abbrev pub IsRunWord : List (Bor (List ℕ)) → Type 0
 IsRunWord words = IsTrue (is_run_word (map (λ word. word.now) words))
+
+-- One or more decimal digits, which stand for this number.
+pub record IsDecimal (word : List ℕ) (n : ℕ) : Type 0 where
+  pub digits : IsNumeral 10 word
+  pub value : digits_value 10 word ≡ n
+
+-- Two words of decimal digits: the first stands for a number of pages from 1 to 16,384, the second for
+-- a seed below 2^64.
+pub record AreGenNumbers (first second : List ℕ) (pages seed : ℕ) : Type 0 where
+  pub for_pages : IsDecimal first pages
+  pub some : 1 ≤ pages
+  pub most : pages ≤ MOST_GENERATED
+  pub for_seed : IsDecimal second seed
+  pub fits : seed < 2 ^ 64
+
+-- The words of the command line are `gen` and two such words.
+pub record IsGenWords (words : List (Bor (List ℕ))) (pages seed : ℕ) : Type 0 where
+  pub first : List ℕ
+  pub second : List ℕ
+  pub three : map (λ word. word.now) words ≡ codes "gen" ∷ first ∷ second ∷ []
+  pub numbers : AreGenNumbers first second pages seed
+
+-- the words of the command line ask for a generated job, of whose pages and seed this holds
+abbrev pub IsGenWith : List (Bor (List ℕ)) → (ℕ → ℕ → Type 0) → Type 0
+IsGenWith words P = (pages : ℕ) × (seed : ℕ) × IsGenWords words pages seed × P pages seed
+
+-- The words of the command line are neither the one word `run`, nor `gen` with two such words.
+pub record IsOtherWords (words : List (Bor (List ℕ))) : Type 0 where
+  pub not_run : ¬ IsRunWord words
+  pub not_gen : (pages seed : ℕ) → ¬ IsGenWords words pages seed
 
 -- ---- the device
 
@@ -96,7 +129,8 @@ pub record IsRead (left left_after : Option (List ℕ)) (Is : List ℕ → Type 
 -- What was written is the text of lines that these items may print, from a rest without a disk on,
 -- and that their phases print by their own turns; some line says that something was refused, or none
 -- does. The device of the first rest is what is seen at entry, with no call counted, and that of the
--- last rest is what is seen at exit.
+-- last rest is what is seen at exit. Where the items ask for no more than there is, and the device
+-- hasn't failed, each refusal is one for want of memory.
 pub record IsWritten (job : List Item) (entry exit : Seen) (Writes : List ℕ → Type 0)
     (refused : Bool) : Type 0 where
   pub lines : List OutLine
@@ -112,6 +146,8 @@ pub record IsWritten (job : List Item) (entry exit : Seen) (Writes : List ℕ �
   pub over : disk.device ≡ last.device
   pub own : AreOwn job turns
   pub refused_is : refused ≡ any_refusal lines
+  pub complete : HaveRoom entry.blocks 0 first_settings (map plain_item job)
+      → exit.faults ≡ entry.faults → RefuseForMemory lines
   pub output : Writes (text lines)
 
 -- the text is a job, and what it may print was written
@@ -145,6 +181,28 @@ IsRun left left_after entry exit Writes refused =
 -- the same of a job that was given up
 abbrev pub IsCutRun : Option (List ℕ) → Option (List ℕ) → Seen → Seen → (List ℕ → Type 0) → Type 0
 IsCutRun left left_after entry exit Writes = IsRead left left_after (IsTextCut entry exit Writes)
+
+-- ---- a generated job
+
+-- the last three of an output's lines
+abbrev pub last_three : List OutLine → List OutLine
+last_three lines = drop (length lines - 3) lines
+
+-- What was written is the text of the last three lines of an output that the generated job may have;
+-- of its lines all stands that stands of those of a job that was read.
+pub record IsGenerated (pages seed : ℕ) (entry exit : Seen) (Writes : List ℕ → Type 0)
+    (refused : Bool) : Type 0 where
+  pub whole : IsWritten (generated pages seed) entry exit (λ bytes. ⊤) refused
+  pub output : Writes (text (last_three whole.lines))
+
+-- A generated job was given up. Either nothing was written, and the device is untouched, or what some
+-- first items of the job left; or a beginning was written of the last three lines of an output that
+-- the job may have.
+abbrev pub IsCutGenerated : ℕ → ℕ → Seen → Seen → Type 0 → Option (List ℕ) → Option (List ℕ) → Type 0
+IsCutGenerated pages seed entry exit Untouched written written_after =
+    (Appends written written_after []
+    × (Untouched ⊎ IsCut (generated pages seed) entry exit (λ bytes. ⊤)))
+    ⊎ ((refused : Bool) × IsGenerated pages seed entry exit (BeginsWith written written_after) refused)
 
 -- ---- a text that is none
 

@@ -50,11 +50,15 @@ done_at p = take p.at p.job
 abbrev pub left_at : Place → List Item
 left_at p = drop p.at p.job
 
--- On the disk d some first items of a job were done, and now these are: the lines extend every output
--- that the plain disk allows of the first ones, where d stands for its last rest, and every output of
--- the machine's that led to d, by these turns more. They are the job's own where Own holds.
+-- On the disk d some first items of a job were done, and now these are: those between them, by these
+-- turns, lead from d to m and print these lines. So the lines extend every output that the plain disk
+-- allows of the first ones, where d stands for its last rest, and every output of the machine's that
+-- led to d, by these turns more. They are the job's own where Own holds.
 pub record Extends (front whole : List Item) (d : Disk) (turns : List (List ℕ)) (Own : Type 0)
     (more : List OutLine) (m : Disk) : Type 0 where
+  pub between : List Item
+  pub parts : whole ≡ front ++ between
+  pub alone : Stepped d between turns more m
   pub legal : (first last : Rest) (lines : List OutLine) → Legal first front lines last
       → Stands last d → (r : Rest) × Legal first whole (lines ++ more) r × Stands r m
   pub stepped : (from : Disk) (others : List (List ℕ)) (lines : List OutLine)

@@ -3,6 +3,8 @@ use Rattle.std.specs.Prelude.{◌≡◌, ◌⊎◌, ◌^◌, ◌<◌, ◌≤◌,
 use Rattle.zr_base.specs.declared.limits.TheConstants.{MOST_PAGES}
 use Rattle.plain_disk.specs.Rests.{Rest, is_backed}
 use Rattle.plain_disk.specs.Legal.{IsUnused}
+use Rattle.joint_rule.specs.Starts.{IsMapOf}
+use Rattle.joint_rule.specs.Ends.{begin_at}
 use Rattle.disk_rest.specs.Resting.{StandsFor}
 use Rattle.zr_core.specs.declared.limits.TheConstants.{MOST_CHAIN}
 use Rattle.job_session.specs.Stepped.{Disk}
@@ -19,8 +21,8 @@ pub record HasRow (r : Rest) (d : Disk) : Type 0 where
   pub some : 1 ≤ d.size
   pub stands : StandsFor r d.row
 
--- The disk has the pages, the settings, the backing, the time and the device of the rest, and its row stands for it,
--- if there is one.
+-- The disk has the pages, the settings, the backing, the time, the device, the blocks and the writes
+-- that are left of the rest, and its row stands for it, if there is one.
 pub record Stands (r : Rest) (d : Disk) : Type 0 where
   pub size : r.size ≡ d.size
   pub most : d.size ≤ MOST_PAGES
@@ -29,4 +31,5 @@ pub record Stands (r : Rest) (d : Disk) : Type 0 where
   pub clock : r.set.clock ≡ d.clock
   pub chain : r.set.chain ≡ MOST_CHAIN
   pub device : r.device ≡ d.device
+  pub map : IsMapOf (begin_at r []) d.blocks
   pub row : IsBare r d ⊎ HasRow r d

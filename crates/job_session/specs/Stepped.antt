@@ -21,7 +21,7 @@ use Rattle.zr_core.specs.Rests.{account_of, no_blocks, blocks_in, device_by, blo
 use Rattle.zr_core.specs.Rows.{AreNew}
 use Rattle.zr_core.specs.Runs.{turns_of}
 use Rattle.job_text.specs.declared.job.Attr.{Attr}
-use Rattle.job_text.specs.declared.job.Attr.TheVariants.{DiskPages, LimitPages, Backing, Clock, LowerMax}
+use Rattle.job_text.specs.declared.job.Attr.TheVariants.{DiskPages, LimitPages, Backing, WritebackLimit, WritebackLimitEnable, Clock, LowerMax}
 use Rattle.job_text.specs.declared.job.Report.{Report}
 use Rattle.job_text.specs.declared.job.Report.TheVariants as reports
 use Rattle.job_text.specs.declared.job.Item.{Item}
@@ -119,6 +119,20 @@ pub record IsLowered (d m : Disk) : Type 0 where
   pub account : (c : Counters) → slice_get d.row (d.size + 255) ≡ Some (Some (holds.Account c))
       → m.row ≡ slice_set d.row (d.size + 255) (Some (holds.Account (record c { most = c.pages })))
 
+-- The disk with another number of writes that are left, where the limit on writebacks is on or off;
+-- its row has this map too, if there is one.
+pub record IsBudgeted (d : Disk) (n : ℕ) (on : Bool) (m : Disk) : Type 0 where
+  pub size : m.size ≡ d.size
+  pub limit : m.limit ≡ d.limit
+  pub backed : m.backed ≡ d.backed
+  pub clock : m.clock ≡ d.clock
+  pub device : m.device ≡ d.device
+  pub blocks : m.blocks ≡ record d.blocks { budget = n; enabled = on }
+  pub none : d.size ≡ 0 → m.row ≡ d.row
+  pub map : (x : BlockMap) → slice_get d.row (d.size + 256) ≡ Some (Some (holds.Blocks x))
+      → m.row ≡ slice_set d.row (d.size + 256)
+      (Some (holds.Blocks (record x { budget = n; enabled = on })))
+
 -- the disk to come uses so many blocks of the device, which are free
 abbrev pub with_backing : Disk → ℕ → Disk
 with_backing d n =
@@ -148,6 +162,9 @@ AttrSteps d (DiskPages n) lines m = SizeSteps d.size d n lines m
 AttrSteps d (LimitPages n) lines m = (lines ≡ []) × IsLimited d n m
 AttrSteps d (Backing n) lines m =
     BackingSteps d.size (nat_lt d.device.blocks n) d n lines m
+AttrSteps d (WritebackLimit n) lines m = (lines ≡ []) × IsBudgeted d n d.blocks.enabled m
+AttrSteps d (WritebackLimitEnable on) lines m =
+    (lines ≡ []) × IsBudgeted d d.blocks.budget on m
 AttrSteps d (Clock n) lines m = (lines ≡ []) × (m ≡ record d { clock = n })
 AttrSteps d LowerMax lines m = (lines ≡ []) × IsLowered d m
 

@@ -87,6 +87,14 @@ fn set_attr<K: Sink, D: Backing>(
             Ok(())
         }
         Attr::Backing(blocks) => set_backing(out, world, blocks),
+        Attr::WritebackLimit(units) => {
+            world.set_wb_limit(units);
+            Ok(())
+        }
+        Attr::WritebackLimitEnable(on) => {
+            world.set_wb_enable(on);
+            Ok(())
+        }
         Attr::Clock(seconds) => {
             *clock = seconds;
             Ok(())

@@ -4,6 +4,8 @@ ghost use Rattle.std.specs.Prelude.{◌≡◌, false};
 ghost use Rattle.job_text.specs.Jobs.{MayFollow};
 ghost use Rattle.plain_disk.specs.Rests.{Rest};
 ghost use Rattle.job_session.specs.Legal.{Legal};
+ghost use Rattle.job_session.specs.Complete.{IsComplete};
+ghost use Rattle.job_session.specs.Budgets.{BudgetIsSpent};
 ghost use Rattle.job_session.specs.Stands.{Stands};
 ghost use Rattle.job_session.specs.Stepped.{Stepped};
 
@@ -25,3 +27,11 @@ pub fn jobs_are_legal()
     rows_stand();
     rows_print();
 }
+
+/// A job that asks for no more than there is, over a device that doesn't fail, is refused for want of
+/// memory alone; and while the limit on writebacks is on and no line sets it, the writes that are
+/// tried are taken from what it has left.
+pub fn outputs_are_bounded()
+    ensures complete { IsComplete }
+    ensures spent { BudgetIsSpent }
+{}

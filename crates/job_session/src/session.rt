@@ -70,8 +70,8 @@ pub struct Session<D: Backing> {
     pub(crate) stage: Stage<D>,
 }
 
-// The status of a job that has ended.
-fn ended(refused: bool) -> Status
+/// The status of a job that has ended.
+pub(crate) fn ended(refused: bool) -> Status
     ensures { result ≡ ended_status refused }
 {
     match refused {

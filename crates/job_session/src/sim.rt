@@ -4,15 +4,17 @@
 //! |---|---|---|
 //! | 0 `Done` | the job was read to its end and carried out | the text of lines that it may print |
 //! | 1 `Refused` | the same, but some operation was refused | the same; some line tells of it |
-//! | 2 `Words` | the words aren't the one word `run`; nothing is read | the usage line |
+//! | 2 `Words` | the words are neither `run` nor `gen` with its two numbers | the usage line |
 //! | 3 `Job` | the text is no job, or too long for one | the line of its first fault |
 //! | 4 `ReadFault` | the source failed | nothing |
 //! | 5 `WriteFault` | the sink failed, or took nothing | a beginning of what 0 to 3 would write |
 //! | 6 `NoMemory` | there was no memory left | nothing, or a beginning of what 0 or 1 would write |
 //!
-//! The backing device is used where the text is a job, and is untouched else.
+//! For `run` the job is read from the source. For `gen` it is the one that the generator makes,
+//! nothing is read, and of the output the last three lines alone are written. The backing device is
+//! used where there is a job, and is untouched else.
 //!
-//! Of the lines at 0 and 1 the contract says two facts. They are *legal*: by each page's order,
+//! Of the lines of the output at 0 and 1 the contract says two facts. They are *legal*: by each page's order,
 //! each read tells what the plain disk holds (`Legal`), which can be checked without knowing of
 //! locks and turns. They are *stepped*: the machine prints them where each phase makes the turns of
 //! its schedule, and then rounds (`Stepped`, `AreOwn`).
@@ -25,13 +27,15 @@ ghost use Rattle.job_session.specs.Stands.{Stands};
 ghost use Rattle.job_session.specs.Stepped.{Disk, without_pages, IsBySchedule};
 ghost use Rattle.job_session.specs.Sessions.{place, session_disk, IsHome, IsBetween, IsReady, FinishIs};
 ghost use Rattle.job_session.specs.Advances.{SessionRan, outcome_of};
-ghost use Rattle.job_session.specs.Runs.{status_number, seen, WriteCause, BeginsWith, IsRunWord, IsWritten, IsRun, IsCut, IsCutRun, IsRefused};
+ghost use Rattle.job_session.specs.Runs.{status_number, seen, WriteCause, BeginsWith, IsRunWord, IsGenWith, IsOtherWords, IsWritten, IsRun, IsCut, IsCutRun, IsGenerated, IsCutGenerated, IsRefused};
 ghost use Rattle.job_session.specs.Telling.{StopCause, LineStops, TextEnds, TextStops};
 ghost use Rattle.job_print.specs.Texts.{usage_text, fault_text};
 
+use crate::generated::generate;
 use crate::io::{read_all, send};
 use crate::session::{Next, Running, Session};
 use crate::stop::{NoText, Stop, stopped};
+use crate::words::{Asked, asked_by};
 use backing_dev::Backing;
 use job_print::put_fault;
 use job_text::{Cause, Job, JobFault, PhaseText, ReadFault, read_job};
@@ -51,7 +55,7 @@ pub enum Status {
     Done,
     /// The same, but some operation was refused.
     Refused,
-    /// The words aren't in the grammar, which is the one word `run`.
+    /// The words aren't in the grammar: the one word `run`, or `gen` and two numbers.
     Words,
     /// The text is no job.
     Job,
@@ -85,20 +89,11 @@ impl Status {
 fn usage() -> &'static [u8]
     ensures { result.now ≡ usage_text }
 {
-    b"usage: zramsim run\n"
+    b"usage: zramsim run | zramsim gen PAGES SEED\n"
 }
 
-fn is_run(words: &[&str]) -> bool
-    ensures { IsTrue result ↔ IsRunWord words.now }
-{
-    match words {
-        [word] => *word == "run",
-        _ => false,
-    }
-}
-
-// Whether something was refused, where a job has ended at one of the statuses that a job has.
-fn outcome(status: Status) -> Result<bool, Stop>
+/// Whether something was refused, where a job has ended at one of the statuses that a job has.
+pub(crate) fn outcome(status: Status) -> Result<bool, Stop>
     ensures { result ≡ outcome_of status }
 {
     match status {
@@ -109,8 +104,11 @@ fn outcome(status: Status) -> Result<bool, Stop>
     }
 }
 
-// Runs the phase that is prepared, by its schedule and then by rounds.
-fn run_phase<K: Sink, D: Backing>(session: &mut Session<D>, sink: &mut K) -> Result<(), Status>
+/// Runs the phase that is prepared, by its schedule and then by rounds.
+pub(crate) fn run_phase<K: Sink, D: Backing>(
+    session: &mut Session<D>,
+    sink: &mut K,
+) -> Result<(), Status>
     requires ready { (d : Disk) × (text : PhaseText) × IsReady session.old d text }
     ensures runs { (d : Disk) (text : PhaseText) → IsReady session.old d text
         → (turns : List ℕ) × IsBySchedule text.actors text.schedule turns
@@ -228,8 +226,8 @@ fn run_text<K: Sink, D: Backing>(
 }
 
 /// Does all that `zramsim` does: it takes the words of the command line after the program's name,
-/// reads a job from `job`, runs it over the backing device `dev` and writes its output to `out`. It
-/// returns for every source, sink and device.
+/// reads a job from `job`, or makes one, runs it over the backing device `dev` and writes its output,
+/// or the end of it, to `out`. It returns for every source, sink and device.
 ///
 /// A job's text has at most 16,777,216 bytes; source and sink are asked for at most 64 KiB at once.
 pub fn sim_main<S: Source, K: Sink, D: Backing>(
@@ -242,24 +240,33 @@ pub fn sim_main<S: Source, K: Sink, D: Backing>(
     requires { K.has_stopped out.old ≡ false }
 
     // The job was read to its end, and what it may print was written, over the device as it was and
-    // as it is.
-    ensures done { result ≡ Status.Done → IsRunWord words.now
+    // as it is; or the job was generated, and the last three lines of what it may print were written.
+    ensures done { result ≡ Status.Done → (IsRunWord words.now
         × IsRun (S.left job.old) (S.left job.new)
         (seen D.block_count D.contents D.fault_count D.calls dev.old)
         (seen D.block_count D.contents D.fault_count D.calls dev.new)
-        (Appends (K.written out.old) (K.written out.new)) false }
-    ensures refused { result ≡ Status.Refused → IsRunWord words.now
+        (Appends (K.written out.old) (K.written out.new)) false)
+        ⊎ IsGenWith words.now (λ pages seed. IsGenerated pages seed
+        (seen D.block_count D.contents D.fault_count D.calls dev.old)
+        (seen D.block_count D.contents D.fault_count D.calls dev.new)
+        (Appends (K.written out.old) (K.written out.new)) false) }
+    ensures refused { result ≡ Status.Refused → (IsRunWord words.now
         × IsRun (S.left job.old) (S.left job.new)
         (seen D.block_count D.contents D.fault_count D.calls dev.old)
         (seen D.block_count D.contents D.fault_count D.calls dev.new)
-        (Appends (K.written out.old) (K.written out.new)) true }
+        (Appends (K.written out.old) (K.written out.new)) true)
+        ⊎ IsGenWith words.now (λ pages seed. IsGenerated pages seed
+        (seen D.block_count D.contents D.fault_count D.calls dev.old)
+        (seen D.block_count D.contents D.fault_count D.calls dev.new)
+        (Appends (K.written out.old) (K.written out.new)) true) }
 
-    // Any other words are answered by the usage line alone, nothing is read, and the device is left
-    // alone.
-    ensures words { result ≡ Status.Words → ¬ IsRunWord words.now
+    // Any other words are answered by the usage line alone, and the device is left alone. Nothing is
+    // read but for the word `run`.
+    ensures words { result ≡ Status.Words → IsOtherWords words.now
         × Appends (K.written out.old) (K.written out.new) usage_text }
-    ensures other_words { ¬ IsRunWord words.now → (job.new ≡ job.old) × (dev.new ≡ dev.old)
+    ensures other_words { IsOtherWords words.now → (job.new ≡ job.old) × (dev.new ≡ dev.old)
         × (result ≡ Status.Words ⊎ result ≡ Status.WriteFault) }
+    ensures unread { ¬ IsRunWord words.now → job.new ≡ job.old }
 
     // A text that is no job, or too long for one, is answered by the one line of its first fault.
     ensures job { result ≡ Status.Job → IsRunWord words.now
@@ -273,32 +280,44 @@ pub fn sim_main<S: Source, K: Sink, D: Backing>(
     ensures write { result ≡ Status.WriteFault
         → WriteCause (K.fault_count out.old) (K.fault_count out.new) (K.has_stopped out.new) }
 
-    // What was written then is a beginning of the usage line, of the line of the first fault, or of
-    // an output that the job may print, cut after the item in work.
+    // What was written then is a beginning of the usage line, of the line of the first fault, of an
+    // output that the job may print, cut after the item in work, or of the last three lines of one.
     ensures cut_write { result ≡ Status.WriteFault
-        → (¬ IsRunWord words.now × BeginsWith (K.written out.old) (K.written out.new) usage_text)
+        → (IsOtherWords words.now × BeginsWith (K.written out.old) (K.written out.new) usage_text)
         ⊎ (IsRunWord words.now
         × ((IsRefused (S.left job.old) (S.left job.new)
         (BeginsWith (K.written out.old) (K.written out.new)) × (dev.new ≡ dev.old))
         ⊎ IsCutRun (S.left job.old) (S.left job.new)
         (seen D.block_count D.contents D.fault_count D.calls dev.old)
         (seen D.block_count D.contents D.fault_count D.calls dev.new)
-        (BeginsWith (K.written out.old) (K.written out.new)))) }
-    ensures cut_memory { result ≡ Status.NoMemory → IsRunWord words.now
+        (BeginsWith (K.written out.old) (K.written out.new))))
+        ⊎ IsGenWith words.now (λ pages seed. (refused : _) × IsGenerated pages seed
+        (seen D.block_count D.contents D.fault_count D.calls dev.old)
+        (seen D.block_count D.contents D.fault_count D.calls dev.new)
+        (BeginsWith (K.written out.old) (K.written out.new)) refused) }
+    ensures cut_memory { result ≡ Status.NoMemory → (IsRunWord words.now
         × ((Appends (K.written out.old) (K.written out.new) [] × (dev.new ≡ dev.old))
         ⊎ IsCutRun (S.left job.old) (S.left job.new)
         (seen D.block_count D.contents D.fault_count D.calls dev.old)
         (seen D.block_count D.contents D.fault_count D.calls dev.new)
-        (BeginsWith (K.written out.old) (K.written out.new))) }
+        (BeginsWith (K.written out.old) (K.written out.new))))
+        ⊎ IsGenWith words.now (λ pages seed. IsCutGenerated pages seed
+        (seen D.block_count D.contents D.fault_count D.calls dev.old)
+        (seen D.block_count D.contents D.fault_count D.calls dev.new) (dev.new ≡ dev.old)
+        (K.written out.old) (K.written out.new)) }
 
     // The device is reached by the same references in every case.
     ensures same { D.references dev.new ≡ D.references dev.old }
 {
-    if !is_run(words) {
-        return match send(out, usage()) {
-            Ok(()) => Status::Words,
-            Err(Failed) => Status::WriteFault,
-        };
+    match asked_by(words) {
+        Asked::Run => {}
+        Asked::Gen { pages, seed } => return generate(alloc, pages, seed, out, dev),
+        Asked::Nothing => {
+            return match send(out, usage()) {
+                Ok(()) => Status::Words,
+                Err(Failed) => Status::WriteFault,
+            };
+        }
     }
     let run = match read_all(alloc, job) {
         Ok(text) => run_text(alloc, &text, out, dev),

@@ -9,6 +9,8 @@ use zr_base::{MemSink, MemSource};
 const JOB: &str =
     "disksize 4K\nactor\nwrite 0 4 fill 1\nwrite 3 1 fill 2\nread 2 3\nread 8 1\nrun\n";
 
+const USAGE: &str = "usage: zramsim run | zramsim gen PAGES SEED\n";
+
 const OUTPUT: &str =
     "op 0 0 ok\nop 0 1 ok\nop 0 2 ok\nfill 0000000000000001\nfill 0000000000000002\nfill 0000000000000000\nop 0 3 range\norder 0 0:0 0:1 0:2\n";
 
@@ -31,20 +33,55 @@ fn ends(
 #[test]
 fn runs_jobs(rt: HostRuntime) -> Result<(), Fail> {
     let run: &[&str] = &["run"];
-    let usage = "usage: zramsim run\n";
-    let table: [(&[&str], &str, &[u64], usize, Status, &str); 8] = [
+    let table: [(&[&str], &str, &[u64], usize, Status, &str); 7] = [
         (run, JOB, &[], 1000, Status::Refused, OUTPUT),
         (run, "run\n", &[], 1000, Status::Done, ""),
         (run, "\nstop\n", &[], 1000, Status::Job, "job 2 word\n"),
-        (&[], JOB, &[], 1000, Status::Words, usage),
-        (&["run", "now"], JOB, &[], 1000, Status::Words, usage),
-        (&["gen", "0", "0"], JOB, &[], 1000, Status::Words, usage),
+        (&[], JOB, &[], 1000, Status::Words, USAGE),
+        (&["run", "now"], JOB, &[], 1000, Status::Words, USAGE),
         (run, JOB, &[1], 1000, Status::ReadFault, ""),
         (run, JOB, &[], 3, Status::WriteFault, "op "),
     ];
     for (words, text, failing, room, status, wanted) in table {
         let end = ends(rt.alloc(), words, text, failing, room, wanted)?;
         assert_eq!(rt; end, (status, true), "at {text}");
+    }
+    Ok(())
+}
+
+const REPORTS: &str = "mm_stat 65536 15104 24576 0 40960 4 0 0 4\nio_stat 0 0 0 0\nbd_stat 4 4 4\n";
+
+// Generated jobs, and words that ask for none; a source that fails at once isn't read.
+#[test]
+fn generates_jobs(rt: HostRuntime) -> Result<(), Fail> {
+    let table: [(&[&str], usize, Status, &str); 13] = [
+        (&["gen", "16", "0"], 1000, Status::Done, REPORTS),
+        (&["gen", "0016", "00"], 1000, Status::Done, REPORTS),
+        (
+            &["gen", "16", "18446744073709551615"],
+            1000,
+            Status::Done,
+            REPORTS,
+        ),
+        (&["gen", "16", "0"], 3, Status::WriteFault, "mm_"),
+        (&["gen", "0", "0"], 1000, Status::Words, USAGE),
+        (&["gen", "16385", "0"], 1000, Status::Words, USAGE),
+        (
+            &["gen", "16", "18446744073709551616"],
+            1000,
+            Status::Words,
+            USAGE,
+        ),
+        (&["gen", "+16", "0"], 1000, Status::Words, USAGE),
+        (&["gen", "16", ""], 1000, Status::Words, USAGE),
+        (&["gen", "10", "f"], 1000, Status::Words, USAGE),
+        (&["gen", "16"], 1000, Status::Words, USAGE),
+        (&["gen", "16", "0", "0"], 1000, Status::Words, USAGE),
+        (&["Gen", "16", "0"], 3, Status::WriteFault, "usa"),
+    ];
+    for (words, room, status, wanted) in table {
+        let end = ends(rt.alloc(), words, JOB, &[1], room, wanted)?;
+        assert_eq!(rt; end, (status, true), "at {wanted}");
     }
     Ok(())
 }
@@ -114,6 +151,34 @@ fn tells_the_device(rt: HostRuntime) -> Result<(), Fail> {
     for (job, status, wanted) in table {
         let ended = ends(rt.alloc(), &["run"], job, &[], 1000, wanted)?;
         assert_eq!(rt; ended, (status, true), "at {job}");
+    }
+    Ok(())
+}
+
+// Jobs over a device whose first read or first write fails.
+#[test]
+fn tells_faults_of_the_device(rt: HostRuntime) -> Result<(), Fail> {
+    let table: [(&str, &[u64], &[u64], &str); 2] = [
+        (
+            "backing 1\ndisksize 4K\nactor\nwrite 0 4 fill 1\nidle all\nwriteback idle\nread 0 1\nread 0 1\nrun\nio_stat\nbd_stat\n",
+            &[1],
+            &[],
+            "op 0 0 ok\nop 0 1 marked 1\nop 0 2 wrote 1 lost 0\nop 0 3 eio 1 done 0\nop 0 4 ok\nfill 0000000000000001\norder 0 0:0 0:3 0:4\nio_stat 1 0 0 0\nbd_stat 1 1 1\n",
+        ),
+        (
+            "backing 1\ndisksize 4K\nactor\nwrite 0 4 fill 1\nidle all\nwriteback idle\nwriteback idle\nrun\nbd_stat\n",
+            &[],
+            &[1],
+            "op 0 0 ok\nop 0 1 marked 1\nop 0 2 eio 1 wrote 0 lost 0\nop 0 3 wrote 1 lost 0\norder 0 0:0\nbd_stat 1 0 1\n",
+        ),
+    ];
+    for (job, bad_reads, bad_writes, wanted) in table {
+        let mut source = MemSource::new(rt.alloc(), job.as_bytes(), &[])?;
+        let mut out = MemSink::new(rt.alloc(), 1000, &[])?;
+        let mut dev = MemBacking::new(rt.alloc(), 1, bad_reads, bad_writes)?;
+        let status = sim_main(rt.alloc(), &["run"], &mut source, &mut out, &mut dev);
+        let wrote = out.bytes() == wanted.as_bytes();
+        assert_eq!(rt; (status, wrote), (Status::Refused, true), "at {job}");
     }
     Ok(())
 }

@@ -11,14 +11,14 @@ use Rattle.zr_base.specs.Plain.{InBounds}
 use Rattle.zr_base.specs.declared.op.Mode.{Mode}
 use Rattle.zr_base.specs.declared.op.Turns.{Turns}
 use Rattle.zr_base.specs.declared.limits.TheConstants.{MOST_PAGES, MOST_SECTORS, MOST_ACTORS}
-use Rattle.job_text.specs.declared.limits.TheConstants.{MOST_BLOCKS, MOST_LIMIT_PAGES}
+use Rattle.job_text.specs.declared.limits.TheConstants.{MOST_BLOCKS, MOST_BUDGET, MOST_LIMIT_PAGES}
 use Rattle.job_text.specs.declared.job.Report.{Report}
 use Rattle.job_text.specs.declared.fault.Cause.{Cause}
 use Rattle.job_text.specs.declared.fault.Cause.TheVariants as causes
 use Rattle.job_text.specs.declared.fault.NotTaken.{NotTaken}
 use Rattle.job_text.specs.declared.line.Line.{Line}
 use Rattle.job_text.specs.Numbers.{digit_value, byte_at, is_number, size_pages, number_of, are_digits, bytes_by, turn_of}
-use Rattle.job_text.specs.Lines.{Form, blank_form, disk_form, limit_form, backing_form, clock_form, max_form, report_form, actor_form, fill_form, seq_form, hex_form, read_form, discard_form, idle_all_form, idle_form, writeback_form, compact_form, schedule_form, run_form, alone, with_word, report_named, report_in, read_in, discard_in, idle_with, idle_in, mode_named, writeback_with, writeback_in, fill_in, seq_in, hex_in, stuff_in, write_in, schedule_in, named_in, form_of, fill_sectors, is_malformed, meaning, are_bounds, may_give, is_out_of_range, line_with, line_of}
+use Rattle.job_text.specs.Lines.{Form, blank_form, disk_form, limit_form, backing_form, budget_form, budgeted_form, clock_form, max_form, report_form, actor_form, fill_form, seq_form, hex_form, read_form, discard_form, idle_all_form, idle_form, writeback_form, compact_form, schedule_form, run_form, alone, with_word, report_named, report_in, read_in, discard_in, idle_with, idle_in, mode_named, writeback_with, writeback_in, fill_in, seq_in, hex_in, stuff_in, write_in, schedule_in, named_in, form_of, fill_sectors, is_malformed, meaning, are_bounds, may_give, is_out_of_range, line_with, line_of}
 use Rattle.job_text.specs.Jobs.{MayTurn}
 use Rattle.job_text.specs.Answers.{Answers, IsInRange}
 
@@ -33,6 +33,8 @@ HasWords blank_form = Unit {0}
 HasWords (disk_form size) = Unit {0}
 HasWords (limit_form size) = Unit {0}
 HasWords (backing_form number) = Unit {0}
+HasWords (budget_form number) = Unit {0}
+HasWords (budgeted_form number) = Unit {0}
 HasWords (clock_form number) = Unit {0}
 HasWords (max_form number) = Unit {0}
 HasWords (report_form report) = Unit {0}
@@ -114,6 +116,9 @@ form-lawful (disk_form size) has well good = sized (size_pages size) MOST_PAGES 
 form-lawful (limit_form size) has well good =
     leb-true (size_pages size) MOST_LIMIT_PAGES (not-false _ good)
 form-lawful (backing_form number) has well good = sized (number_of number) MOST_BLOCKS good
+form-lawful (budget_form number) has well good =
+    leb-true (number_of number) MOST_BUDGET (not-false _ good)
+form-lawful (budgeted_form number) has well good = tt
 form-lawful (clock_form number) has well good =
     ltb-true (number_of number) (2 ^ 64) (not-false _ good)
 form-lawful (max_form number) has well good = tt
@@ -241,6 +246,9 @@ form-words (name ∷ words) =
     when (bytes_eq name (codes "disksize")) _ _ (one-word disk_form words (λ size. tt))
     (when (bytes_eq name (codes "mem_limit")) _ _ (one-word limit_form words (λ size. tt))
     (when (bytes_eq name (codes "backing")) _ _ (one-word backing_form words (λ number. tt))
+    (when (bytes_eq name (codes "writeback_limit")) _ _ (one-word budget_form words (λ number. tt))
+    (when (bytes_eq name (codes "writeback_limit_enable")) _ _
+    (one-word budgeted_form words (λ number. tt))
     (when (bytes_eq name (codes "clock")) _ _ (one-word clock_form words (λ number. tt))
     (when (bytes_eq name (codes "mem_used_max")) _ _ (one-word max_form words (λ number. tt))
     (when (bytes_eq name (codes "actor")) _ _ (alone-words actor_form words tt)
@@ -252,7 +260,7 @@ form-words (name ∷ words) =
     (when (bytes_eq name (codes "compact")) _ _ (alone-words compact_form words tt)
     (when (bytes_eq name (codes "schedule")) _ _ (schedule-words words)
     (when (bytes_eq name (codes "run")) _ _ (alone-words run_form words tt)
-    (report-words (report_named name) words))))))))))))))
+    (report-words (report_named name) words))))))))))))))))
 
 line-lawful-by : (form : Form) → HasWords form → (m b : Bool) → is_malformed form ≡ m
     → is_out_of_range form ≡ b

@@ -8,7 +8,7 @@ use Rattle.zr_base.specs.declared.limits.TheConstants.{MOST_OPERATIONS}
 use Rattle.zr_base.specs.Pieces.{pages_of}
 use Rattle.job_text.specs.declared.limits.TheConstants.{MOST_PIECES, MOST_SCANNED, MOST_SECTORS_READ}
 use Rattle.job_text.specs.declared.job.Attr.{Attr}
-use Rattle.job_text.specs.declared.job.Attr.TheVariants.{DiskPages, LimitPages, Backing, Clock, LowerMax}
+use Rattle.job_text.specs.declared.job.Attr.TheVariants.{DiskPages, LimitPages, Backing, WritebackLimit, WritebackLimitEnable, Clock, LowerMax}
 use Rattle.job_text.specs.declared.job.Item.{Item}
 use Rattle.job_text.specs.declared.job.Item.TheVariants as items
 use Rattle.job_text.specs.Jobs.{Used, nothing_used, with_attr, with_phase, with_op, with_ops, with_actors, with_text, sectors_to_read, pages_to_scan, MayOperate, MayAct, HasDisk, MayFollow}
@@ -89,6 +89,8 @@ attr_keeps : (u : Used) (attr : Attr) (more : List Item)
 attr_keeps u (DiskPages pages) more = refl
 attr_keeps u (LimitPages pages) more = refl
 attr_keeps u (Backing blocks) more = refl
+attr_keeps u (WritebackLimit units) more = refl
+attr_keeps u (WritebackLimitEnable on) more = refl
 attr_keeps u (Clock seconds) more = refl
 attr_keeps u LowerMax more = refl
 

@@ -8,7 +8,7 @@ use Rattle.zr_base.specs.declared.op.Turns.{Turns}
 use Rattle.zr_base.specs.declared.limits.TheConstants.{MOST_ACTORS}
 use Rattle.job_text.specs.declared.limits.TheConstants.{MOST_TURNS}
 use Rattle.job_text.specs.declared.job.Attr.{Attr}
-use Rattle.job_text.specs.declared.job.Attr.TheVariants.{DiskPages, LimitPages, Backing, Clock, LowerMax}
+use Rattle.job_text.specs.declared.job.Attr.TheVariants.{DiskPages, LimitPages, Backing, WritebackLimit, WritebackLimitEnable, Clock, LowerMax}
 use Rattle.job_text.specs.declared.job.Item.{Item}
 use Rattle.job_text.specs.declared.job.Item.TheVariants as items
 use Rattle.job_text.specs.declared.begun.Begun.{Begun}
@@ -22,6 +22,8 @@ not_back : (u : Used) (attr : Attr) → KeepsTime u attr → is_set_back u attr 
 not_back u (DiskPages pages) keeps = refl
 not_back u (LimitPages pages) keeps = refl
 not_back u (Backing blocks) keeps = refl
+not_back u (WritebackLimit units) keeps = refl
+not_back u (WritebackLimitEnable on) keeps = refl
 not_back u (Clock seconds) keeps = le-ltb _ _ keeps
 not_back u LowerMax keeps = refl
 

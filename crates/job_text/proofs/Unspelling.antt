@@ -10,7 +10,7 @@ use Rattle.zr_base.specs.declared.op.Turns.{Turns}
 use Rattle.zr_base.specs.declared.limits.TheConstants.{MOST_ACTORS}
 use Rattle.job_text.specs.declared.limits.TheConstants.{MOST_TURNS}
 use Rattle.job_text.specs.declared.job.Attr.{Attr}
-use Rattle.job_text.specs.declared.job.Attr.TheVariants.{DiskPages, LimitPages, Backing, Clock, LowerMax}
+use Rattle.job_text.specs.declared.job.Attr.TheVariants.{DiskPages, LimitPages, Backing, WritebackLimit, WritebackLimitEnable, Clock, LowerMax}
 use Rattle.job_text.specs.declared.job.Item.{Item}
 use Rattle.job_text.specs.declared.job.Item.TheVariants as items
 use Rattle.job_text.specs.declared.begun.Begun.{Begun}
@@ -32,6 +32,8 @@ keeps_time : (u : Used) (attr : Attr) → is_set_back u attr ≡ false → Keeps
 keeps_time u (DiskPages pages) off = tt
 keeps_time u (LimitPages pages) off = tt
 keeps_time u (Backing blocks) off = tt
+keeps_time u (WritebackLimit units) off = tt
+keeps_time u (WritebackLimitEnable on) off = tt
 keeps_time u (Clock seconds) off = ltb-false _ _ off
 keeps_time u LowerMax off = tt
 

@@ -7,10 +7,10 @@ use Rattle.zr_base.specs.declared.op.Op.{Op}
 use Rattle.zr_base.specs.declared.op.Op.TheVariants.{Write, Read, Discard, Idle, Writeback, Compact}
 use Rattle.zr_base.specs.declared.op.Turns.{Turns}
 use Rattle.zr_base.specs.declared.limits.TheConstants.{MOST_PAGES, MOST_ACTORS, MOST_OPERATIONS}
-use Rattle.job_text.specs.declared.limits.TheConstants.{MOST_BLOCKS, MOST_BYTES, MOST_LIMIT_PAGES, MOST_PHASES, MOST_PIECES, MOST_SCANNED, MOST_SECTORS_READ, MOST_TURNS}
+use Rattle.job_text.specs.declared.limits.TheConstants.{MOST_BLOCKS, MOST_BUDGET, MOST_BYTES, MOST_LIMIT_PAGES, MOST_PHASES, MOST_PIECES, MOST_SCANNED, MOST_SECTORS_READ, MOST_TURNS}
 use Rattle.job_text.specs.declared.fault.Cause.{Cause}
 use Rattle.job_text.specs.declared.job.Attr.{Attr}
-use Rattle.job_text.specs.declared.job.Attr.TheVariants.{DiskPages, LimitPages, Backing, Clock, LowerMax}
+use Rattle.job_text.specs.declared.job.Attr.TheVariants.{DiskPages, LimitPages, Backing, WritebackLimit, WritebackLimitEnable, Clock, LowerMax}
 use Rattle.job_text.specs.declared.job.Report.{Report}
 use Rattle.job_text.specs.declared.job.Item.{Item}
 use Rattle.job_text.specs.declared.job.Item.TheVariants as items
@@ -123,6 +123,8 @@ abbrev pub is_disk_size : Attr → Bool
 is_disk_size (DiskPages pages) = true
 is_disk_size (LimitPages pages) = false
 is_disk_size (Backing blocks) = false
+is_disk_size (WritebackLimit units) = false
+is_disk_size (WritebackLimitEnable on) = false
 is_disk_size (Clock seconds) = false
 is_disk_size LowerMax = false
 
@@ -131,6 +133,8 @@ abbrev pub pages_with : Used → Attr → ℕ
 pages_with u (DiskPages pages) = if u.disk then u.pages else pages
 pages_with u (LimitPages pages) = u.pages
 pages_with u (Backing blocks) = u.pages
+pages_with u (WritebackLimit units) = u.pages
+pages_with u (WritebackLimitEnable on) = u.pages
 pages_with u (Clock seconds) = u.pages
 pages_with u LowerMax = u.pages
 
@@ -139,6 +143,8 @@ abbrev pub clock_with : Used → Attr → ℕ
 clock_with u (DiskPages pages) = u.clock
 clock_with u (LimitPages pages) = u.clock
 clock_with u (Backing blocks) = u.clock
+clock_with u (WritebackLimit units) = u.clock
+clock_with u (WritebackLimitEnable on) = u.clock
 clock_with u (Clock seconds) = seconds
 clock_with u LowerMax = u.clock
 
@@ -197,11 +203,13 @@ has_turns_left u turns = nat_le (u.turns + turns_in turns) MOST_TURNS
 -- ---- the order of items
 
 -- an attribute in its range: a disk of one page at least, any limit on memory, one block at least of
--- a backing device, any time, and none too great
+-- a backing device, any limit on writebacks, on or off, any time, and none too great
 abbrev pub MaySet : Attr → Type 0
 MaySet (DiskPages pages) = (1 ≤ pages) × (pages ≤ MOST_PAGES)
 MaySet (LimitPages pages) = pages ≤ MOST_LIMIT_PAGES
 MaySet (Backing blocks) = (1 ≤ blocks) × (blocks ≤ MOST_BLOCKS)
+MaySet (WritebackLimit units) = units ≤ MOST_BUDGET
+MaySet (WritebackLimitEnable on) = ⊤
 MaySet (Clock seconds) = seconds < 2 ^ 64
 MaySet LowerMax = ⊤
 
@@ -210,6 +218,8 @@ abbrev pub is_set_back : Used → Attr → Bool
 is_set_back u (DiskPages pages) = false
 is_set_back u (LimitPages pages) = false
 is_set_back u (Backing blocks) = false
+is_set_back u (WritebackLimit units) = false
+is_set_back u (WritebackLimitEnable on) = false
 is_set_back u (Clock seconds) = nat_lt seconds u.clock
 is_set_back u LowerMax = false
 
@@ -218,6 +228,8 @@ abbrev pub KeepsTime : Used → Attr → Type 0
 KeepsTime u (DiskPages pages) = ⊤
 KeepsTime u (LimitPages pages) = ⊤
 KeepsTime u (Backing blocks) = ⊤
+KeepsTime u (WritebackLimit units) = ⊤
+KeepsTime u (WritebackLimitEnable on) = ⊤
 KeepsTime u (Clock seconds) = u.clock ≤ seconds
 KeepsTime u LowerMax = ⊤
 

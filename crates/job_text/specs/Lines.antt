@@ -9,9 +9,9 @@ use Rattle.zr_base.specs.declared.op.Mode.TheVariants as modes
 use Rattle.zr_base.specs.declared.op.Stuff.TheVariants.{Fill, Seq, Hex}
 use Rattle.zr_base.specs.declared.op.Turns.{Turns}
 use Rattle.zr_base.specs.declared.limits.TheConstants.{MOST_PAGES, MOST_SECTORS, MOST_ACTORS}
-use Rattle.job_text.specs.declared.limits.TheConstants.{MOST_BLOCKS, MOST_LIMIT_PAGES, MOST_TURNS}
+use Rattle.job_text.specs.declared.limits.TheConstants.{MOST_BLOCKS, MOST_BUDGET, MOST_LIMIT_PAGES, MOST_TURNS}
 use Rattle.job_text.specs.declared.job.Attr.{Attr}
-use Rattle.job_text.specs.declared.job.Attr.TheVariants.{DiskPages, LimitPages, Backing, Clock, LowerMax}
+use Rattle.job_text.specs.declared.job.Attr.TheVariants.{DiskPages, LimitPages, Backing, WritebackLimit, WritebackLimitEnable, Clock, LowerMax}
 use Rattle.job_text.specs.declared.job.Report.{Report}
 use Rattle.job_text.specs.declared.job.Report.TheVariants.{MmStat, IoStat, BdStat, States, Classes}
 use Rattle.job_text.specs.declared.line.Line.{Line}
@@ -49,6 +49,8 @@ pub data Form : Type 0 where
   disk_form : (size : List ℕ) → Form
   limit_form : (size : List ℕ) → Form
   backing_form : (number : List ℕ) → Form
+  budget_form : (number : List ℕ) → Form
+  budgeted_form : (number : List ℕ) → Form
   clock_form : (number : List ℕ) → Form
   max_form : (number : List ℕ) → Form
   report_form : Report → Form
@@ -166,6 +168,8 @@ named_in name words =
     if bytes_eq name (codes "disksize") then with_word disk_form words
     else if bytes_eq name (codes "mem_limit") then with_word limit_form words
     else if bytes_eq name (codes "backing") then with_word backing_form words
+    else if bytes_eq name (codes "writeback_limit") then with_word budget_form words
+    else if bytes_eq name (codes "writeback_limit_enable") then with_word budgeted_form words
     else if bytes_eq name (codes "clock") then with_word clock_form words
     else if bytes_eq name (codes "mem_used_max") then with_word max_form words
     else if bytes_eq name (codes "actor") then alone actor_form words
@@ -198,6 +202,8 @@ is_malformed blank_form = false
 is_malformed (disk_form size) = not (is_size size)
 is_malformed (limit_form size) = not (is_size size)
 is_malformed (backing_form number) = not (is_number number)
+is_malformed (budget_form number) = not (is_number number)
+is_malformed (budgeted_form number) = not (is_number number)
 is_malformed (clock_form number) = not (is_number number)
 is_malformed (max_form number) = not (is_number number)
 is_malformed (report_form report) = false
@@ -223,6 +229,8 @@ meaning blank_form = Blank
 meaning (disk_form size) = Attribute (DiskPages (size_pages size))
 meaning (limit_form size) = Attribute (LimitPages (size_pages size))
 meaning (backing_form number) = Attribute (Backing (number_of number))
+meaning (budget_form number) = Attribute (WritebackLimit (number_of number))
+meaning (budgeted_form number) = Attribute (WritebackLimitEnable (number_of number == 1))
 meaning (clock_form number) = Attribute (Clock (number_of number))
 meaning (max_form number) = Attribute LowerMax
 meaning (report_form report) = Tell report
@@ -243,12 +251,14 @@ meaning (schedule_form turns) = Schedule (map turn_of turns)
 meaning run_form = Run
 
 -- a disk's size of one page at least and of no more than the most, a limit on memory up to the
--- greatest, one block at least of a backing device and no more than the most, seconds that 8 bytes
--- hold, or a maximum that is lowered
+-- greatest, one block at least of a backing device and no more than the most, a limit on writebacks up
+-- to the greatest, or whether it is on, seconds that 8 bytes hold, or a maximum that is lowered
 abbrev pub may_set : Attr → Bool
 may_set (DiskPages pages) = nat_le 1 pages && nat_le pages MOST_PAGES
 may_set (LimitPages pages) = nat_le pages MOST_LIMIT_PAGES
 may_set (Backing blocks) = nat_le 1 blocks && nat_le blocks MOST_BLOCKS
+may_set (WritebackLimit units) = nat_le units MOST_BUDGET
+may_set (WritebackLimitEnable on) = true
 may_set (Clock seconds) = nat_lt seconds (2 ^ 64)
 may_set LowerMax = true
 
@@ -288,8 +298,9 @@ has_bad_value (Operation op) = not (may_ask op)
 has_bad_value (Schedule turns) = not (list_all may_give turns)
 has_bad_value Run = false
 
--- the number of a form that takes 0 alone is another
+-- the number of a form that takes 0 alone, or 0 and 1 alone, is another
 abbrev pub has_other_number : Form → Bool
+has_other_number (budgeted_form number) = not (nat_le (number_of number) 1)
 has_other_number (max_form number) = not (number_of number == 0)
 has_other_number form = false
 

@@ -14,6 +14,10 @@ pub enum Attr {
     LimitPages(u64),
     /// How many blocks of 4096 bytes of the backing device are used, 1 to 65,536.
     Backing(u32),
+    /// How many blocks of 4096 bytes writebacks may still write while their limit is on, up to 2^32.
+    WritebackLimit(u64),
+    /// Whether the limit on writebacks is on; off at the start of a job.
+    WritebackLimitEnable(bool),
     /// The time from now on, in seconds, not below the time before; 0 at the start of a job.
     Clock(u64),
     /// The greatest memory that the disk took so far is from now on what it takes now.

@@ -10,6 +10,9 @@ pub const MOST_LIMIT_PAGES: u64 = 268_435_456;
 /// The most blocks of a backing device that a job uses; a block has 4096 bytes.
 pub const MOST_BLOCKS: u32 = 65_536;
 
+/// The greatest limit on writebacks, in units of 4096 bytes: 16 TiB.
+pub const MOST_BUDGET: u64 = 4_294_967_296;
+
 /// The most phases of a job.
 pub const MOST_PHASES: u32 = 1000;
 

@@ -2,14 +2,14 @@
 
 ghost use Rattle.std.specs.Prelude.{◌≡◌, ℕ, List, map, IfOk, if◌then◌else◌};
 ghost use Rattle.job_text.specs.Lines.{without_return, before_comment, words_of, line_by, line_with, line_of, report_named, are_bounds, fill_sectors};
-ghost use Rattle.job_text.specs.Lines.{Form, disk_form, limit_form, backing_form, clock_form, max_form, report_form, actor_form, fill_form, seq_form, hex_form, read_form, discard_form, idle_all_form, idle_form, compact_form, schedule_form, run_form};
+ghost use Rattle.job_text.specs.Lines.{Form, disk_form, limit_form, backing_form, budget_form, budgeted_form, clock_form, max_form, report_form, actor_form, fill_form, seq_form, hex_form, read_form, discard_form, idle_all_form, idle_form, compact_form, schedule_form, run_form};
 ghost use Rattle.job_text.specs.Lines.{alone, with_word, report_in, read_in, discard_in, idle_with, idle_in, mode_named, writeback_with, writeback_in, fill_in, seq_in, hex_in, stuff_in, write_in, schedule_in, named_in};
 ghost use Rattle.job_text.specs.Answers.{Answers, IsInRange, hash_in};
 
 use crate::fault::{Cause, NotTaken};
 use crate::job::{Attr, Report, TurnList};
 use crate::joined::{are_hex, bytes, joined};
-use crate::limits::{MOST_BLOCKS, MOST_LIMIT_PAGES};
+use crate::limits::{MOST_BLOCKS, MOST_BUDGET, MOST_LIMIT_PAGES};
 use crate::number::{exact, number, pages, word64};
 use crate::turns::{are_turns, turns};
 use std::alloc::{AllocError, Global};
@@ -115,6 +115,30 @@ fn backing(word: &[u8]) -> Result<Line, Cause>
     let blocks = number(word)?;
     if 1 <= blocks && blocks <= MOST_BLOCKS as u64 {
         Ok(Line::Attribute(Attr::Backing(blocks as u32)))
+    } else {
+        Err(Cause::Range)
+    }
+}
+
+#[tactic(auto, unfolding(crate::specs::Lines::is_malformed, crate::specs::Lines::meaning))]
+fn budget(word: &[u8]) -> Result<Line, Cause>
+    ensures { result ≡ line_by (budget_form word.now) }
+{
+    let units = number(word)?;
+    if units <= MOST_BUDGET {
+        Ok(Line::Attribute(Attr::WritebackLimit(units)))
+    } else {
+        Err(Cause::Range)
+    }
+}
+
+#[tactic(auto, unfolding(crate::specs::Lines::is_malformed, crate::specs::Lines::meaning))]
+fn budgeted(word: &[u8]) -> Result<Line, Cause>
+    ensures { result ≡ line_by (budgeted_form word.now) }
+{
+    let on = number(word)?;
+    if on <= 1 {
+        Ok(Line::Attribute(Attr::WritebackLimitEnable(on == 1)))
     } else {
         Err(Cause::Range)
     }
@@ -300,6 +324,26 @@ fn backing_line(words: &[&[u8]]) -> Result<Line, NotTaken>
 {
     match words {
         [word] => Ok(backing(word)?),
+        _ => Err(NotTaken::Faulty(Cause::Word)),
+    }
+}
+
+fn budget_line(words: &[&[u8]]) -> Result<Line, NotTaken>
+    ensures { Answers (line_with (with_word budget_form (map (λ word. word.now) words.now)))
+        result }
+{
+    match words {
+        [word] => Ok(budget(word)?),
+        _ => Err(NotTaken::Faulty(Cause::Word)),
+    }
+}
+
+fn budgeted_line(words: &[&[u8]]) -> Result<Line, NotTaken>
+    ensures { Answers (line_with (with_word budgeted_form (map (λ word. word.now) words.now)))
+        result }
+{
+    match words {
+        [word] => Ok(budgeted(word)?),
         _ => Err(NotTaken::Faulty(Cause::Word)),
     }
 }
@@ -490,6 +534,10 @@ fn named_line(alloc: Global, name: &[u8], words: &[&[u8]]) -> Result<Line, NotTa
         limit_line(words)
     } else if name == b"backing".as_slice() {
         backing_line(words)
+    } else if name == b"writeback_limit".as_slice() {
+        budget_line(words)
+    } else if name == b"writeback_limit_enable".as_slice() {
+        budgeted_line(words)
     } else if name == b"clock".as_slice() {
         clock_line(words)
     } else if name == b"mem_used_max".as_slice() {

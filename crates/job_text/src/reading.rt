@@ -43,7 +43,12 @@ fn is_disk_size(attr: Attr) -> bool
 {
     match attr {
         Attr::DiskPages(_) => true,
-        Attr::LimitPages(_) | Attr::Backing(_) | Attr::Clock(_) | Attr::LowerMax => false,
+        Attr::LimitPages(_)
+        | Attr::Backing(_)
+        | Attr::WritebackLimit(_)
+        | Attr::WritebackLimitEnable(_)
+        | Attr::Clock(_)
+        | Attr::LowerMax => false,
     }
 }
 
@@ -125,7 +130,12 @@ impl Reading {
     {
         match attr {
             Attr::Clock(seconds) => seconds < self.clock,
-            Attr::DiskPages(_) | Attr::LimitPages(_) | Attr::Backing(_) | Attr::LowerMax => false,
+            Attr::DiskPages(_)
+            | Attr::LimitPages(_)
+            | Attr::Backing(_)
+            | Attr::WritebackLimit(_)
+            | Attr::WritebackLimitEnable(_)
+            | Attr::LowerMax => false,
         }
     }
 
@@ -137,7 +147,12 @@ impl Reading {
     {
         match attr {
             Attr::DiskPages(pages) => if self.has_disk { self.pages } else { pages },
-            Attr::LimitPages(_) | Attr::Backing(_) | Attr::Clock(_) | Attr::LowerMax => self.pages,
+            Attr::LimitPages(_)
+            | Attr::Backing(_)
+            | Attr::WritebackLimit(_)
+            | Attr::WritebackLimitEnable(_)
+            | Attr::Clock(_)
+            | Attr::LowerMax => self.pages,
         }
     }
 
@@ -147,9 +162,12 @@ impl Reading {
     {
         match attr {
             Attr::Clock(seconds) => seconds,
-            Attr::DiskPages(_) | Attr::LimitPages(_) | Attr::Backing(_) | Attr::LowerMax => {
-                self.clock
-            }
+            Attr::DiskPages(_)
+            | Attr::LimitPages(_)
+            | Attr::Backing(_)
+            | Attr::WritebackLimit(_)
+            | Attr::WritebackLimitEnable(_)
+            | Attr::LowerMax => self.clock,
         }
     }
 

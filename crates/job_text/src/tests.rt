@@ -35,6 +35,9 @@ fn tells_jobs(rt: HostRuntime) -> Result<(), Fail> {
         "clock 0\nclock 00\nclock 18446744073709551615\nclock 18446744073709551615\nmm_stat",
         "disksize 4K\nactor\nidle all\nidle 0\nidle 18446744073709551615\nrun\nclock 5 # later",
         "disksize 4K\nactor\nwriteback idle\nwriteback huge\nwriteback huge_idle # both\nrun",
+        "writeback_limit 0\nwriteback_limit 4294967296\nwriteback_limit 007 # before a disk",
+        "writeback_limit_enable 0\nwriteback_limit_enable 1\nwriteback_limit_enable 01\nrun",
+        "disksize 4K\nwriteback_limit 1\nbacking 1\nwriteback_limit_enable 1\nactor\nrun\nwriteback_limit 1\nmm_stat\nwriteback_limit_enable 000",
         "disksize 4K\ndisksize 4K\nrun\n\ndisksize 1G\nactor\nrun\ndisksize 4K",
     ];
     for text in table {
@@ -235,6 +238,84 @@ fn tells_faults_of_writebacks(rt: HostRuntime) -> Result<(), Fail> {
     Ok(())
 }
 
+#[test]
+fn tells_faults_of_budgets(rt: HostRuntime) -> Result<(), Fail> {
+    let table = [
+        ("writeback_limit", 1, Cause::Word),
+        ("writeback_limit 1 1", 1, Cause::Word),
+        ("writeback_limit x 1", 1, Cause::Word),
+        ("run\nWRITEBACK_LIMIT 1", 2, Cause::Word),
+        ("writeback_limits 1", 1, Cause::Word),
+        ("disksize 4K\nactor\nwriteback_limit", 3, Cause::Word),
+        ("writeback_limit_enable", 1, Cause::Word),
+        ("writeback_limit_enable 0 1", 1, Cause::Word),
+        ("run\nwriteback_limit_enabl 1", 2, Cause::Word),
+        ("disksize 4K\nactor\nwriteback_limit_enable", 3, Cause::Word),
+        ("writeback_limit 1K", 1, Cause::Number),
+        ("writeback_limit -1", 1, Cause::Number),
+        ("writeback_limit none", 1, Cause::Number),
+        ("disksize 4K\nactor\nwriteback_limit 0x1", 3, Cause::Number),
+        ("writeback_limit_enable on", 1, Cause::Number),
+        ("writeback_limit_enable -0", 1, Cause::Number),
+        (
+            "disksize 4K\nactor\nwriteback_limit_enable true",
+            3,
+            Cause::Number,
+        ),
+        (
+            "writeback_limit 4294967296\nwriteback_limit 4294967297",
+            2,
+            Cause::Range,
+        ),
+        ("writeback_limit 18446744073709551615", 1, Cause::Range),
+        ("writeback_limit 18446744073709551616", 1, Cause::Range),
+        (
+            "disksize 4K\nactor\nwriteback_limit 4294967297",
+            3,
+            Cause::Range,
+        ),
+        ("writeback_limit_enable 2", 1, Cause::Range),
+        (
+            "writeback_limit_enable 1\nwriteback_limit_enable 10",
+            2,
+            Cause::Range,
+        ),
+        (
+            "writeback_limit_enable 18446744073709551617",
+            1,
+            Cause::Range,
+        ),
+        (
+            "disksize 4K\nactor\nwriteback_limit_enable 3",
+            3,
+            Cause::Range,
+        ),
+        ("disksize 4K\nactor\nwriteback_limit 1", 3, Cause::Order),
+        (
+            "disksize 4K\nactor\nschedule 0\nwriteback_limit 1",
+            4,
+            Cause::Order,
+        ),
+        (
+            "disksize 4K\nactor\nwriteback_limit_enable 1",
+            3,
+            Cause::Order,
+        ),
+        (
+            "disksize 4K\nactor\nread 0 1\nwriteback_limit_enable 0",
+            4,
+            Cause::Order,
+        ),
+        ("writeback_limit 1\nactor\nrun", 2, Cause::NoDisk),
+        ("writeback_limit_enable 1\nactor\nrun", 2, Cause::NoDisk),
+    ];
+    for (text, line, cause) in table {
+        let wanted = Some(JobFault { line, cause });
+        assert_eq!(rt; fault_in(rt.alloc(), text)?, wanted, "at {text}");
+    }
+    Ok(())
+}
+
 // 64 bytes that say nothing.
 const COMMENT: &str = "###############################################################\n";
 
@@ -397,6 +478,8 @@ fn attr_shown(alloc: Global, attr: Attr) -> Result<String, AllocError> {
         Attr::DiskPages(pages) => format!(in alloc; "pages {pages}; "),
         Attr::LimitPages(pages) => format!(in alloc; "limit {pages}; "),
         Attr::Backing(blocks) => format!(in alloc; "backing {blocks}; "),
+        Attr::WritebackLimit(units) => format!(in alloc; "budget {units}; "),
+        Attr::WritebackLimitEnable(on) => format!(in alloc; "budgeted {on}; "),
         Attr::Clock(seconds) => format!(in alloc; "clock {seconds}; "),
         Attr::LowerMax => format!(in alloc; "lower; "),
     }
@@ -471,6 +554,10 @@ fn reads_values(rt: HostRuntime) -> Result<(), Fail> {
         (
             "backing 1\ndisksize 4K\nactor\nwriteback idle\n\twriteback huge # now\nwriteback huge_idle\nrun",
             "backing 1; pages 1; actor; writeback idle; writeback huge; writeback both; run; ",
+        ),
+        (
+            "writeback_limit 007\ndisksize 4K\nwriteback_limit_enable 1\nwriteback_limit 4294967296\nwriteback_limit_enable 00",
+            "budget 7; pages 1; budgeted true; budget 4294967296; budgeted false; ",
         ),
         (
             "clock 18446744073709551615\ndisksize 4K\nactor\nidle 18446744073709551615\nrun",

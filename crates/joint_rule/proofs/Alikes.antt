@@ -4,14 +4,14 @@ use Rattle.call_history.specs.Parts.{done_sum}
 use Rattle.call_history.specs.declared.part.Part.{Part}
 use Rattle.call_history.specs.declared.part.PartEnd.{PartEnd}
 use Rattle.joint_rule.proofs.Trips.{NoTrip, plain_entered}
-use Rattle.joint_rule.specs.Weights.{BlockWeigh, block_uses, carried_at, carried_by, carries, carries_at, use_in, writes_in, writes_told, written_at, written_by, wrote_in, wrote_told}
+use Rattle.joint_rule.specs.Weights.{BlockWeigh, block_uses, carried_at, carried_by, carries, carries_at, reserves_in, reserves_told, use_in, writes_in, writes_told, written_at, written_by, wrote_in, wrote_told}
 use Rattle.lock_row.specs.declared.names.At.{At}
 use Rattle.lock_row.specs.declared.names.At.TheVariants.{Start, Visiting}
 use Rattle.lock_row.specs.declared.names.Step.{Step}
 use Rattle.lock_row.specs.declared.names.Step.TheVariants as step
 use Rattle.lock_row.specs.declared.names.Trip.{Trip}
 use Rattle.page_steps.specs.Steps.{DiskHeld, Here, Terms, after_take, arrived_at, begun_at, entry_in, entry_or, first_at, first_trip, is_mark_of, landed_at, taken_at, took, visited_at, mode_of}
-use Rattle.plain_disk.specs.Ends.{left_back, written}
+use Rattle.plain_disk.specs.Ends.{left_back, tried, written}
 use Rattle.page_steps.specs.Pages.{next_form}
 use Rattle.slot_entry.specs.Entries.{EntryState, is_eligible}
 use Rattle.slot_entry.specs.Forms.{PageForm}
@@ -30,6 +30,7 @@ pub record AlikeAt (was now : At) : Type 0 where
       → carried_by s b bytes now page ≡ carried_by s b bytes was page
   pub wrote : wrote_in now ≡ wrote_in was
   pub writes : (fail : Option PartEnd) → writes_in now fail ≡ writes_in was fail
+  pub reserves : reserves_in now ≡ reserves_in was
 
 same_alike : (at : At) → AlikeAt at at
 same_alike at = record {
@@ -39,6 +40,7 @@ same_alike at = record {
   carried = λ s b bytes page. refl;
   wrote = refl;
   writes = λ fail. refl;
+  reserves = refl;
 }
 
 from_start : (at : At) → NoTrip at → AlikeAt Start at
@@ -50,6 +52,7 @@ from_start at i = record {
   carried = λ s b bytes page. refl;
   wrote = refl;
   writes = λ fail. refl;
+  reserves = refl;
 }
 
 plain_alike : (was now : At) → NoTrip was → NoTrip now → AlikeAt was now
@@ -60,6 +63,7 @@ plain_alike was now i k = let x = from_start was i in let y = from_start now k i
   carried = λ s b bytes page. y.carried s b bytes page ∙ sym (x.carried s b bytes page);
   wrote = y.wrote ∙ sym x.wrote;
   writes = λ fail. y.writes fail ∙ sym (x.writes fail);
+  reserves = y.reserves ∙ sym x.reserves;
 }
 
 arrived_alike : (b : Bool) (x : Trip) → AlikeAt (Visiting step.Arriving x) (arrived_at b x)
@@ -70,6 +74,7 @@ arrived_alike true x = record {
   carried = λ s b bytes page. refl;
   wrote = refl;
   writes = λ fail. refl;
+  reserves = refl;
 }
 arrived_alike false x = record {
   uses = λ f. refl;
@@ -78,6 +83,7 @@ arrived_alike false x = record {
   carried = λ s b bytes page. refl;
   wrote = refl;
   writes = λ fail. refl;
+  reserves = refl;
 }
 
 landed_alike : (fail : Option PartEnd) (x : Trip) (e : EntryState)
@@ -90,6 +96,7 @@ landed_alike None x e = elim (cases_Bool (is_mark_of x.block e.under)) [
     carried = λ s b bytes page. refl;
     wrote = refl;
     writes = λ fail. refl;
+    reserves = refl;
   })
   | inr off ↦ rw off (record {
     uses = λ f. refl;
@@ -98,6 +105,7 @@ landed_alike None x e = elim (cases_Bool (is_mark_of x.block e.under)) [
     carried = λ s b bytes page. refl;
     wrote = refl;
     writes = λ fail. refl;
+    reserves = refl;
   })
 ]
 landed_alike (Some end) x e = record {
@@ -107,6 +115,7 @@ landed_alike (Some end) x e = record {
   carried = λ s b bytes page. refl;
   wrote = refl;
   writes = λ fail. refl;
+  reserves = refl;
 }
 
 visited_alike : (s : Step) (x : Trip) (op : Op) (e : EntryState) (fail : Option PartEnd)
@@ -120,6 +129,7 @@ visited_alike s x op e fail = record {
   carried = λ s b bytes page. refl;
   wrote = refl;
   writes = λ fail. refl;
+  reserves = refl;
 }
 
 -- a writeback begins with nothing
@@ -131,6 +141,7 @@ first_trip_alike true = record {
   carried = λ s b bytes page. refl;
   wrote = refl;
   writes = no_writes;
+  reserves = refl;
 } where
   no_writes : (fail : Option PartEnd)
       → writes_in (arrived_at true first_trip) fail ≡ writes_in Start fail
@@ -143,6 +154,7 @@ first_trip_alike false = record {
   carried = λ s b bytes page. refl;
   wrote = refl;
   writes = no_writes;
+  reserves = refl;
 } where
   no_writes : (fail : Option PartEnd)
       → writes_in (arrived_at false first_trip) fail ≡ writes_in Start fail
@@ -213,6 +225,7 @@ pub record Alike (l m : Here) : Type 0 where
   pub carried : (s b : ℕ) (bytes : List ℕ) → carried_at s b bytes m ≡ carried_at s b bytes l
   pub wrote : wrote_told m ≡ wrote_told l
   pub writes : writes_told m ≡ writes_told l
+  pub reserves : reserves_told m ≡ reserves_told l
 
 pub take_alike : (t : Terms) (l : Here) (v : DiskHeld) → Alike l (took t l v)
 take_alike t l v =
@@ -223,4 +236,5 @@ take_alike t l v =
       carried = λ s b bytes. x.carried s b bytes l.page;
       wrote = ap (λ (n : ℕ). done_sum left_back l.done + n) x.wrote;
       writes = ap (λ (n : ℕ). done_sum written l.done + n) (x.writes l.fail);
+      reserves = ap (λ (n : ℕ). done_sum tried l.done + n) x.reserves;
     }

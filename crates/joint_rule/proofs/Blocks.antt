@@ -123,6 +123,17 @@ module _ (g : Begin) where
   under_device f i (holds.Blocks x) s z = refl
   under_device f i (holds.Device d) s z = absurd (not_there (size + 257) i s.0 z)
 
+  -- who holds the map has all that it weighs
+  pub map_here : (w : State DiskHeld) (j : Joint g w) (a : ℕ) (l : Here)
+      (who : slice_get w.locals a ≡ Some l) (x : BlockMap) (rest : List (LockNo × DiskHeld))
+      → l.held ≡ (lock.Blocks, holds.Blocks x) ∷ rest → (f : BlockMap → ℕ)
+      → held_sum (spot size) (on_blocks f) rest ≡ 0 → total (spot size) (on_blocks f) none w ≡ f x
+  map_here w j a l who x rest held f z =
+      let r = ap (held_sum (spot size) (at_place (spot size lock.Blocks))) held in
+      let k = same_self (size + 256) in
+      let t = lone g w j a l who lock.Blocks (on_blocks f) (under_blocks f) (omega arith) in
+      let s = ap (held_sum (spot size) (on_blocks f)) held in omega arith
+
   in_map : (b i : ℕ) (v : DiskHeld) → Sound g i v
       → used_blocks (owning (b + 1) b) i v ≤ map_size i v
   in_map b i (holds.Slot e) s = omega arith
@@ -133,7 +144,7 @@ module _ (g : Begin) where
 
 -- ---- bytes
 
-bit_is : (b : Bool) → 0 < bit b → b ≡ true
+pub bit_is : (b : Bool) → 0 < bit b → b ≡ true
 bit_is true lt = refl
 bit_is false lt = absurd (omega arith)
 
@@ -149,7 +160,7 @@ has_is : (contents : Option (List (List ℕ))) (b : ℕ) (c page : List ℕ) →
 has_is None b c page has lt = inr refl
 has_is (Some pages) b c page has lt = inl (bytes_are c (slice_get pages b) page has lt)
 
-lies_self : (b : ℕ) (c : List ℕ) → lies_by b c (kept.Wb b) c ≡ 1
+pub lies_self : (b : ℕ) (c : List ℕ) → lies_by b c (kept.Wb b) c ≡ 1
 lies_self b c = rw (eq-eqb b b refl) (ap bit (list_self c))
 
 -- ---- what an actor holds

@@ -72,12 +72,12 @@ stops_trip y (ends.WriteEio fault wrote lost) i = tt
 stops_trip y x i = absurd i
 
 pub is_refused : (r : Reserve) (x : Trip) (end : OpEnd) → refused_end r x ≡ Some end
-    → IsRefused end × StopsSo x end
+    → IsRefused end
 is_refused (Got b) x end e = absurd (cc)
-is_refused BudgetSpent x end e = let q : ends.Budget x.wrote x.lost ≡ end = cc in
-    subst (λ (z : OpEnd). IsRefused z × StopsSo x z) q (tt, (refl, refl))
-is_refused NoBlock x end e = let q : ends.NoBlock x.wrote x.lost ≡ end = cc in
-    subst (λ (z : OpEnd). IsRefused z × StopsSo x z) q (tt, (refl, refl))
+is_refused BudgetSpent x end e =
+    let q : ends.Budget x.wrote x.lost ≡ end = cc in subst IsRefused q tt
+is_refused NoBlock x end e =
+    let q : ends.NoBlock x.wrote x.lost ≡ end = cc in subst IsRefused q tt
 
 -- ---- what a giving tells
 
@@ -166,7 +166,7 @@ module _ (g : Begin) (ok : Known g) (w : State DiskHeld) (j : Joint g w) (a : �
         at = at;
         course = on_so p rest step.Seen _ _ m_is refl refl refl refl;
       }
-  course_of (visit.refrains p rest x e y r end todo at held is v_is m_is) =
+  course_of (visit.refrains p rest x e y r end todo at held answer is v_is m_is) =
       let st = stage g ok w j a l who p rest todo _ (Visiting step.Reserving x) held at in record {
         p = p;
         rest = rest;
@@ -177,7 +177,7 @@ module _ (g : Begin) (ok : Known g) (w : State DiskHeld) (j : Joint g w) (a : �
         at = at;
         course = halts step.Quitting x end (ap (λ (i : Here). i.done) m_is)
             (ap (λ (i : Here). i.todo) m_is) (ap (λ (i : Here). i.at) m_is) st.fails
-            (ap (λ (i : Here). i.fail) m_is) (is_refused r x end is).0;
+            (ap (λ (i : Here). i.fail) m_is) (is_refused r x end is);
       }
   course_of (visit.quits p rest x e end todo at held bad v_is m_is) =
       let st = stage g ok w j a l who p rest todo _ (Visiting step.Quitting x) held at in record {
@@ -403,7 +403,7 @@ module _ (g : Begin) (ok : Known g) (w : State DiskHeld) (j : Joint g w) (a : �
     weighs_of (visit.reserves p rest x e y b todo at held answer v_is m_is) =
         weigh_by lock.Blocks _ _ _ _ (lock_is p rest step.Reserving x _ _ todo held at refl) v_is
         held (after_is _ m_is) (λ h i. omega arith) (λ f. omega arith) (omega arith) (omega arith)
-    weighs_of (visit.refrains p rest x e y r end todo at held is v_is m_is) =
+    weighs_of (visit.refrains p rest x e y r end todo at held answer is v_is m_is) =
         weigh_by lock.Blocks _ _ _ _ (lock_is p rest step.Reserving x _ _ todo held at refl) v_is
         held (after_is _ m_is) (λ h i. omega arith) (λ f. omega arith) (omega arith) (omega arith)
     weighs_of (visit.quits p rest x e end todo at held bad v_is m_is) =
@@ -499,7 +499,7 @@ module _ (g : Begin) (ok : Known g) (w : State DiskHeld) (j : Joint g w) (a : �
           (lock_is p rest step.Passing x _ _ todo held at refl) v_is (onward_held p rest _ on)
       carries_of (visit.reserves p rest x e y b todo at held answer v_is m_is) =
           beside_carries lock.Blocks _ x e e refl refl held (after_is _ m_is) (plain_value _ v_is tt)
-      carries_of (visit.refrains p rest x e y r end todo at held is v_is m_is) =
+      carries_of (visit.refrains p rest x e y r end todo at held answer is v_is m_is) =
           beside_carries lock.Blocks _ x e e refl refl held (after_is _ m_is) (plain_value _ v_is tt)
       carries_of (visit.quits p rest x e end todo at held bad v_is m_is) =
           slot_carries x e e refl refl held

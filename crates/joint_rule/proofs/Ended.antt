@@ -1,6 +1,6 @@
 -- What a finished phase tells: its histories agree with its orders, and the account with the rest.
 use Rattle.joint_rule.proofs.Written.{plain_writes, plain_wrote}
-use Rattle.std.proofs.Common.{◌≡◌, ◌+◌, ◌*◌, ◌-◌, ◌/◌, ◌≤◌, ◌<◌, ◌∷◌, ◌++◌, ◌∙◌, ℕ, zero, suc, Bool, true, false, cond, eqb, List, [], length, take, sum_by, Option, Some, None, slice_get, refl, sym, ap, subst, arith, inl, inr, zero-add, ◌&&◌, not}
+use Rattle.std.proofs.Common.{◌≡◌, ◌+◌, ◌*◌, ◌-◌, ◌/◌, ◌≤◌, ◌<◌, ◌∷◌, ◌++◌, ◌∙◌, ℕ, zero, suc, Bool, cond, eqb, List, [], length, take, sum_by, Option, Some, None, slice_get, refl, sym, ap, subst, arith, inl, inr, zero-add, ◌&&◌, not}
 use Rattle.plain_disk.specs.Idles.{KeepsMark, is_marked_in, may_write}
 use Rattle.zr_base.specs.Plain.{Finds}
 use Rattle.joint_rule.proofs.Idles.{ages_end}
@@ -16,24 +16,26 @@ use Rattle.call_history.specs.declared.part.Part.{Part}
 use Rattle.call_history.specs.declared.part.PartEnd.{PartEnd}
 use Rattle.class_pool.specs.Pool.{PoolState, used_cells}
 use Rattle.joint_rule.proofs.Facts.{Known}
+use Rattle.joint_rule.proofs.KeptForms.{claim_class, claim_one, form_weight_is, kept_weight, obj_pooled, of_kind, pooled_one, wb_pooled}
 use Rattle.joint_rule.proofs.Gets.{count_locals}
-use Rattle.joint_rule.proofs.Pages.{holds_after, kept_is, pooled_weight}
+use Rattle.joint_rule.proofs.Pages.{holds_after, kept_is}
 use Rattle.joint_rule.proofs.Pools.{some_cell, sum_zero}
 use Rattle.joint_rule.proofs.Ranges.{range_by, range_lone, range_map, range_sum, row_part, weight_at}
 use Rattle.joint_rule.proofs.Rests.{at_rest, left, over, at_start}
-use Rattle.joint_rule.proofs.Starts.{account_at, account_sum, device_at, device_sum}
+use Rattle.joint_rule.proofs.OnDevice.{on_device_is}
+use Rattle.joint_rule.proofs.Budget.{keeps_budget, left_after, plain_reserves}
+use Rattle.joint_rule.proofs.Starts.{account_at, account_sum, device_at, device_sum, map_at, map_sum}
 use Rattle.joint_rule.proofs.Sums.{row_le, total_split}
 use Rattle.joint_rule.proofs.Places.{IsEntry, IsPoolOf, class_kind, entry_kind}
 use Rattle.joint_rule.proofs.Zspages.{each_used, free_most, tight_least, used_length, used_sum}
 use Rattle.joint_rule.specs.Alone.{is_calm}
-use Rattle.joint_rule.specs.Begins.{finding, Begin, back_at, ever, form_at, found_after, ground_of, image}
-use Rattle.joint_rule.specs.Ends.{AllFinished, account_in, account_of, begin_at, device_in, histories, order_in, orders_of, rest_after, used_in, value_at, idle_in, back_in}
-use Rattle.joint_rule.specs.Weights.{used_each, device_writes, writes_told, wrote_told, new_back_at}
+use Rattle.joint_rule.specs.Begins.{finding, Begin, back_at, ever, form_at, found_after, ground_of, image, content}
+use Rattle.joint_rule.specs.Ends.{AllFinished, account_in, account_of, begin_at, device_in, histories, order_in, orders_of, rest_after, used_in, value_at, idle_in, back_in, budget_in}
+use Rattle.joint_rule.specs.Weights.{used_each, device_writes, foreign_at, was_back, writes_told, wrote_told, new_back_at, cuts_told, map_budget, reserves_told}
 use Rattle.joint_rule.specs.Joint.{AtHome, KeepsDevice}
 use Rattle.joint_rule.specs.Rule.{OfOrder, Ruled, ShowsOrder, done_by, dones, reach_at}
-use Rattle.joint_rule.specs.Stages.{IsForm}
 use Rattle.joint_rule.specs.Starts.{AtRest}
-use Rattle.joint_rule.specs.Weights.{Backs, Count, FailedReads, FailedWrites, Fixed, FreedPages, HugeWrites, Huges, Limit, News, OutOfRange, PackedBytes, Packs, Refusal, Sames, Weigh, cell_weight, claim_by, compactions, counter, device_faults, device_reads, each_one, ever_at, fails_so, faults_told, fetched_now, fetches_noted, fetches_told, fixed, fixed_count, freed_at, freed_by, loose_pools, measure, mosts, news_count, news_counter, news_of, none, noted, on_account, on_device, on_entry, on_pool, one, order_news, pages, refusal_count, refusal_counter, refusal_of, refusals, refused_by, stored, told_ahead, told_at}
+use Rattle.joint_rule.specs.Weights.{Backs, Count, FailedReads, FailedWrites, Fixed, FreedPages, HugeWrites, Huges, Limit, News, OutOfRange, PackedBytes, Packs, Refusal, Sames, cell_weight, claim_by, compactions, counter, device_faults, device_reads, each_one, ever_at, fails_so, faults_told, fetched_now, fetches_noted, fetches_told, fixed, fixed_count, freed_at, freed_by, loose_pools, measure, mosts, news_count, news_counter, news_of, none, noted, on_account, on_device, on_entry, on_pool, one, order_news, pages, refusal_count, refusal_counter, refusal_of, refusals, refused_by, stored, told_ahead, told_at}
 use Rattle.lock_row.specs.Totals.{by_option, locals_sum, row_sum, total}
 use Rattle.lock_row.specs.declared.names.At.{At}
 use Rattle.lock_row.specs.declared.names.At.TheVariants.{Counting, Failing, Ready}
@@ -43,15 +45,15 @@ use Rattle.mem_account.specs.declared.weight.Weight.{Weight}
 use Rattle.page_steps.specs.Steps.{DiskHeld, Here, spot}
 use Rattle.plain_disk.specs.Calls.{after_all, calls_sum, ever_pooled, kept_as, may_fetch}
 use Rattle.plain_disk.specs.Compactions.{IsLeast, pooled_pages, with_free}
-use Rattle.plain_disk.specs.Ends.{compacted, starved, tells_fault, left_back, written}
-use Rattle.plain_disk.specs.Forms.{is_pooled, of_class}
-use Rattle.plain_disk.specs.Phases.{FindsHeld, IsMost, LeavesDevice, bounds, calls_on, held_after, nth_order, phase_sum, reach, KeepsBack, back_after, new_back}
+use Rattle.plain_disk.specs.Ends.{Bounds, compacted, starved, tells_fault, left_back, written, cut_short, tried}
+use Rattle.plain_disk.specs.Forms.{is_pooled, of_class, page_bytes}
+use Rattle.plain_disk.specs.Phases.{FindsHeld, IsMost, LeavesDevice, bounds, calls_on, foreign, held_after, nth_order, phase_sum, reach, taken, KeepsBack, back_after, new_back, set_after}
 use Rattle.plain_disk.specs.Rests.{AreUsed, Rest, frames_of, kept_at, kept_pages, page_of}
-use Rattle.size_class.specs.Classes.{chain_of, per_of, stands_of}
-use Rattle.slot_entry.specs.Entries.{EntryState, weight_of, is_obj, is_wb}
-use Rattle.slot_entry.specs.Forms.{Blank, PageForm, Pooled, Word, class_for, form_weight, object_class, page_weight}
+use Rattle.size_class.specs.Classes.{chain_of, per_of}
+use Rattle.slot_entry.specs.Entries.{EntryState, weight_of, is_wb}
+use Rattle.slot_entry.specs.Forms.{form_weight, page_weight}
 use Rattle.slot_entry.specs.declared.kept.Kept.{Kept}
-use Rattle.std.proofs.lemmas.Bool.{and_from, cases_Bool, cases_eq, cases_lt, eq-eqb, ne_eqb}
+use Rattle.std.proofs.lemmas.Bool.{and_from, cases_eq, cases_lt, eq-eqb, ne_eqb}
 use Rattle.std.proofs.lemmas.List.{length-map}
 use Rattle.std.proofs.lemmas.List.FromFn.{get_or-map-range_with_len, length-map-range_with_len}
 use Rattle.std.proofs.lemmas.Option.{get_or_from_slice_get}
@@ -61,7 +63,6 @@ use Rattle.zr_base.specs.declared.op.OpEnd.{OpEnd}
 use Rattle.zr_base.specs.declared.op.Tag.{Tag}
 use Rattle.zspage.specs.Cells.{UsedCell, used_of}
 use Rattle.lock_row.specs.declared.names.Held.TheVariants as holds
-use Rattle.slot_entry.specs.declared.kept.Kept.TheVariants as kept
 use Rattle.mem_account.specs.declared.weight.Weight.TheVariants as weight
 
 -- ---- lists
@@ -94,80 +95,7 @@ locals_same f h [] e = refl
 locals_same f h (l ∷ ls) e = let r = locals_same f h ls (λ a. e (suc a)) in let q = e 0 l refl in
     omega arith
 
--- ---- kept forms
-
--- a page on the device has the weight of one there, and another that of its form
-kept_weight : (k : Kept) (b : Bool) (w : Weight) → is_wb k ≡ b
-    → (is_wb k ≡ false → weight_of k ≡ w) → weight_of k ≡ cond b weight.Back w
-kept_weight kept.Empty b w e f = f refl ∙ ap (λ (x : Bool). cond x weight.Back w) e
-kept_weight (kept.Same v) b w e f = f refl ∙ ap (λ (x : Bool). cond x weight.Back w) e
-kept_weight (kept.Obj o) b w e f = f refl ∙ ap (λ (x : Bool). cond x weight.Back w) e
-kept_weight (kept.Wb i) b w e f = ap (λ (x : Bool). cond x weight.Back w) e
-
-module _ (chain : ℕ) where
-  form_weight_is : (f : PageForm) (k : Kept) → IsForm chain f k → is_wb k ≡ false
-      → weight_of k ≡ form_weight f
-  form_weight_is Blank kept.Empty i n = refl
-  form_weight_is Blank (kept.Same w) i n = absurd i
-  form_weight_is Blank (kept.Obj o) i n = absurd i
-  form_weight_is (Word v) kept.Empty i n = absurd i
-  form_weight_is (Word v) (kept.Same w) i n = refl
-  form_weight_is (Word v) (kept.Obj o) i n = absurd i
-  form_weight_is (Pooled bytes huge) kept.Empty i n = absurd i
-  form_weight_is (Pooled bytes huge) (kept.Same w) i n = absurd i
-  form_weight_is (Pooled bytes huge) (kept.Obj o) i n = λ j.
-      cond (i.2 j) weight.Huge (weight.Packed (i.1 j))
-  form_weight_is f (kept.Wb b) i n = absurd (cc)
-
-  -- 1 for an object of class k
-  abbrev pub of_kind : ℕ → Weigh
-  of_kind k c h b = cond (eqb c k) 1 0
-
-  of_pooled : (k : ℕ) (bytes : List ℕ) (huge : Bool) → cond {A = ℕ}
-      (eqb (object_class chain bytes huge) k) 1 0 ≡ of_class chain k
-      (form_weight (Pooled bytes huge))
-  unfolding class_for
-  of_pooled k bytes true = refl
-  of_pooled k bytes false = ap (λ (m : ℕ). cond {A = ℕ} (eqb (stands_of chain (m / 16)) k) 1 0)
-      (let q : length bytes - 9 ≡ length bytes + 8 - 17 = omega arith in q)
-
-  claim_class : (k : ℕ) (f : PageForm) (x : Kept) (b : List ℕ) → IsForm chain f x
-      → claim_by (of_kind k) x b ≡ of_class chain k (weight_of x)
-  claim_class k f kept.Empty b i = refl
-  claim_class k f (kept.Same w) b i = refl
-  claim_class k f (kept.Wb n) b i = refl
-  claim_class k Blank (kept.Obj o) b i = absurd i
-  claim_class k (Word v) (kept.Obj o) b i = absurd i
-  claim_class k (Pooled bytes huge) (kept.Obj o) b i = ap
-      (λ (c : ℕ). cond {A = ℕ} (eqb c k) 1 0) i.0 ∙ of_pooled k bytes huge
-      ∙ sym (ap (of_class chain k) (form_weight_is (Pooled bytes huge) (kept.Obj o) i refl))
-
--- 1 for a page in the pool
-abbrev pooled_one : Weight → ℕ
-pooled_one w = cond (is_pooled w) 1 0
-
-claim_one : (k : Kept) (b : List ℕ) → claim_by each_one k b ≡ pooled_one (weight_of k)
-claim_one kept.Empty b = refl
-claim_one (kept.Same w) b = refl
-claim_one (kept.Obj o) b = elim (cases_Bool o.huge) [ inl on ↦ rw on refl | inr off ↦ rw off refl ]
-claim_one (kept.Wb n) b = refl
-
--- an object is that of a page in the pool
-obj_pooled : (k : Kept) → is_obj k ≡ true → is_pooled (weight_of k) ≡ true
-obj_pooled kept.Empty e = absurd (cc)
-obj_pooled (kept.Same w) e = absurd (cc)
-obj_pooled (kept.Obj o) e = elim (cases_Bool o.huge) [ inl on ↦ rw on refl | inr off ↦ rw off refl ]
-obj_pooled (kept.Wb n) e = absurd (cc)
-
--- so is one in a block
-wb_pooled : (chain : ℕ) (f : PageForm) (k : Kept) → IsForm chain f k → is_wb k ≡ true
-    → is_pooled (form_weight f) ≡ true
-wb_pooled chain Blank (kept.Wb b) i e = absurd i
-wb_pooled chain (Word w) (kept.Wb b) i e = absurd i
-wb_pooled chain (Pooled bytes huge) (kept.Wb b) i e = pooled_weight (Pooled bytes huge) tt
-wb_pooled chain f kept.Empty i e = absurd (cc)
-wb_pooled chain f (kept.Same w) i e = absurd (cc)
-wb_pooled chain f (kept.Obj o) i e = absurd (cc)
+-- ---- pages
 
 bytes_same : (f h : ℕ → List ℕ) (a n : ℕ) → ((s : ℕ) → a ≤ s → s < a + n → f s ≡ h s)
     → flat_map f (range_with_len a n) ≡ flat_map h (range_with_len a n)
@@ -358,16 +286,26 @@ module _ (r : Rest) (actors : List (List Op)) (finds : ℕ → Finds)
   -- ---- the pages of the rest
 
   -- the page of the rest is the one that the calls leave
+  bytes_left : (p : ℕ) → page_bytes (after_all (calls_on g.given p) (page_of r p)
+      (nth_order orders p)).holds p ≡ page_bytes m.holds p
+  bytes_left p = bytes_same (after_all (calls_on g.given p) (page_of r p)
+      (nth_order orders p)).holds m.holds (8 * p) 8
+      (λ s le lt. holds_after g p (page_of r p) (nth_order orders p) s
+      ∙ ap (λ (q : ℕ). held_after g.given q (nth_order orders q) s)
+      (let q : p ≡ s / 8 = omega arith in q))
+
   kept_same : (p : ℕ)
       → kept_as page_weight p (after_all (calls_on g.given p) (page_of r p) (nth_order orders p))
       ≡ kept_as page_weight p (page_of m p)
   kept_same p = ap (λ (bytes : List ℕ). cond (after_all (calls_on g.given p) (page_of r p)
-      (nth_order orders p)).blank weight.Empty (page_weight bytes))
-      (bytes_same (after_all (calls_on g.given p) (page_of r p) (nth_order orders p)).holds m.holds
-      (8 * p) 8
-      (λ s le lt. holds_after g p (page_of r p) (nth_order orders p) s
-      ∙ ap (λ (q : ℕ). held_after g.given q (nth_order orders q) s)
-      (let q : p ≡ s / 8 = omega arith in q)))
+      (nth_order orders p)).blank weight.Empty (page_weight bytes)) (bytes_left p)
+
+  page_is : (p : ℕ) (e : EntryState) → p < size → value_at row p ≡ Some (holds.Slot e)
+      → page_bytes m.holds p ≡ content g p e.order
+  unfolding content
+  page_is p e lt is = sym (bytes_left p)
+      ∙ ap (λ (order : List Tag). page_bytes (found_after g p order).holds p)
+      (order_is p lt ∙ ap order_in (sym (entries p lt).1 ∙ is))
 
   form_weighs : (p : ℕ) (lt : p < size) → form_weight (form_at g p (entries p lt).0.order)
       ≡ kept_as page_weight p (page_of m p)
@@ -406,7 +344,7 @@ module _ (r : Rest) (actors : List (List Op)) (finds : ℕ → Finds)
 
   -- ---- bounds
 
-  reach_is : (reach_at g w).reach ≡ reach page_weight r g.given orders
+  reach_is : total (spot size) (ever_at g) one w ≡ reach page_weight r g.given orders
   reach_is =
       let a = total_split size (ever_at g) one w in
       let z = left_over (ever_at g) none (λ a l e. refl) in
@@ -417,11 +355,41 @@ module _ (r : Rest) (actors : List (List Op)) (finds : ℕ → Finds)
       (nth_order orders p)) 1 0) 0 size in
       let d = count_locals w.locals in let h = rule.joint.actors in omega arith
 
-  faults_are : (reach_at g w).faults ≡ m.device.faults
+  faults_are : total (spot size) device_faults none w ≡ m.device.faults
   faults_are = left_over device_faults none (λ a l e. refl) ∙ device_weighs (λ d. d.faults)
 
-  pub agree : Agree (ground_of g) (bounds page_weight r g.given orders m.device.faults)
-      g.given (histories w.locals) orders
+  wrote_are : locals_sum wrote_told w.locals ≡ dones_sum left_back (histories w.locals)
+  wrote_are = locals_same wrote_told (λ l. done_sum left_back l.done) w.locals
+      (λ a l e. let z = plain_wrote l.at (at_start g w rule fin a l e) in omega arith)
+      ∙ sym (dones_are left_back w.locals)
+
+  taken_are : total (spot size) (was_back g) one w + locals_sum wrote_told w.locals
+      ≡ taken r g.given (dones_sum left_back (histories w.locals))
+  taken_are =
+      let a = total_split size (was_back g) one w in
+      let z = left_over (was_back g) none (λ a l e. refl) in
+      let s = slots_sum (λ p k order. cond (r.back p) 1 0) (λ p. cond (r.back p) 1 0)
+      (λ p lt. refl) in
+      let b = range_by (λ p. cond (r.back p) 1 0) 0 size in let o = wrote_are in
+      let d = count_locals w.locals in let h = rule.joint.actors in omega arith
+
+  foreign_are : (a : ℕ) → total (spot size) (foreign_at a) none w ≡ sum_by (foreign a) orders
+  foreign_are a = left_over (foreign_at a) none (λ a l e. refl)
+      ∙ slots_sum (λ p k order. foreign a order) (λ p. foreign a (order_in (value_at row p)))
+      (λ p lt. sym (ap (λ (v : Option DiskHeld). foreign a (order_in v)) (entries p lt).1))
+      ∙ sym (range_map (foreign a) (λ p. order_in (value_at row p)) 0 size)
+
+  bounds_are : (a : ℕ) → reach_at g w a ≡ bounds page_weight r g.given orders m.device.faults
+      (dones_sum left_back (histories w.locals)) a
+  bounds_are a = λ i. record {
+    reach = reach_is i;
+    faults = faults_are i;
+    taken = taken_are i;
+    others = foreign_are a i;
+  }
+
+  pub agree : Agree (ground_of g) (bounds page_weight r g.given orders m.device.faults
+      (dones_sum left_back (histories w.locals))) g.given (histories w.locals) orders
   agree = record {
     count = length-map w.locals (λ (l : Here). l.done) ∙ rule.joint.actors;
     follows = λ a ops done named_ops is.
@@ -445,13 +413,12 @@ module _ (r : Rest) (actors : List (List Op)) (finds : ℕ → Finds)
         (λ a l e. let z = ap (λ (ps : List Part). fails_so (tells_fault f) ps l.fail)
         (over g w rule fin a l e) in omega arith) in
         let z = rule.faults f in omega arith;
-    keeps = λ a i d at. subst (λ (n : ℕ × ℕ). KeepsTo (ground_of g)
-        (record { reach = n.0; faults = n.1 }) d.end) (λ i. (reach_is i, faults_are i))
+    keeps = λ a i d at. subst (λ (b : Bounds). KeepsTo (ground_of g) b d.end) (bounds_are a)
         (kept_limits a (slice_get w.locals a) refl i d (ap (λ (ds : List Done). slice_get ds i)
         (sym (history_at w.locals a)) ∙ at));
   } where
     kept_limits : (a : ℕ) (o : Option Here) → slice_get w.locals a ≡ o → (i : ℕ) (d : Done)
-        → slice_get (dones w.locals a) i ≡ Some d → KeepsTo (ground_of g) (reach_at g w) d.end
+        → slice_get (dones w.locals a) i ≡ Some d → KeepsTo (ground_of g) (reach_at g w a) d.end
     kept_limits a None e i d at = absurd (let q : slice_get (let ds : List Done = [] in ds) i
         ≡ Some d = subst (λ (o : Option Here). slice_get (done_by o) i ≡ Some d) e at in cc)
     kept_limits a (Some l) e i d at = (rule.limits a l e).over i d
@@ -598,11 +565,6 @@ module _ (r : Rest) (actors : List (List Op)) (finds : ℕ → Finds)
         ∙ ap (λ (n : ℕ). at_most_end (g.device.writes + n)) written_are;
   }
 
-  wrote_are : locals_sum wrote_told w.locals ≡ dones_sum left_back (histories w.locals)
-  wrote_are = locals_same wrote_told (λ l. done_sum left_back l.done) w.locals
-      (λ a l e. let z = plain_wrote l.at (at_start g w rule fin a l e) in omega arith)
-      ∙ sym (dones_are left_back w.locals)
-
   back_here : (p : ℕ) (lt : p < size) → m.back p ≡ is_wb (entries p lt).0.kept
   back_here p lt = ap back_in (entries p lt).1
 
@@ -620,6 +582,29 @@ module _ (r : Rest) (actors : List (List Op)) (finds : ℕ → Finds)
   few_new : new_back r actors orders m ≤ dones_sum left_back (histories w.locals)
   few_new = let x = left_over (new_back_at g) none (λ a l e. refl) in let y = rule.back in
       let z = new_are in let s = wrote_are in omega arith
+
+  -- ---- the limit on writebacks
+
+  tried_are : locals_sum reserves_told w.locals ≡ dones_sum tried (histories w.locals)
+  tried_are = locals_same reserves_told (λ l. done_sum tried l.done) w.locals
+      (λ a l e. let z = plain_reserves l.at (at_start g w rule fin a l e) in omega arith)
+      ∙ sym (dones_are tried w.locals)
+
+  cuts_are : locals_sum cuts_told w.locals ≡ dones_sum cut_short (histories w.locals)
+  cuts_are = locals_same cuts_told (λ l. done_sum cut_short l.done) w.locals
+      (λ a l e. let z = ap (λ (ps : List Part). fails_so cut_short ps l.fail)
+      (over g w rule fin a l e) in omega arith)
+      ∙ sym (dones_are cut_short w.locals)
+
+  set_is : m.set ≡ set_after r.set (dones_sum tried (histories w.locals))
+  set_is =
+      let x = map_at g row rest.size rest.whole rest.home in
+      ap (λ (n : ℕ). record r.set { budget = n })
+      (ap (budget_in r.set.budget) (get_or_from_slice_get row (size + 256) _ None x.1)
+      ∙ sym (map_sum g row rest.size rest.whole rest.home (λ y. y.budget))
+      ∙ sym (left_over map_budget none (λ a l e. refl))
+      ∙ left_after g w rule.budget r.set refl refl (dones_sum tried (histories w.locals))
+      (dones_sum cut_short (histories w.locals)) tried_are cuts_are)
 
   -- ---- the account's maximum
 
@@ -735,7 +720,6 @@ module _ (r : Rest) (actors : List (List Op)) (finds : ℕ → Finds)
       touched = λ p lt. refl;
       used = used_right;
       most = most_is;
-      set = refl;
     };
     so_far = refl;
     tally = record {
@@ -756,5 +740,9 @@ module _ (r : Rest) (actors : List (List Op)) (finds : ℕ → Finds)
     notify_free = news_are FreedPages;
     device = leaves_device;
     few_back = few_new;
+    on_device = on_device_is g row rest m refl (λ p. refl) device_weighs page_is;
+    budget = keeps_budget g w rule.budget r.set refl refl (dones_sum tried (histories w.locals))
+        (dones_sum cut_short (histories w.locals)) tried_are cuts_are;
+    set = set_is;
     alone = alone_is;
   }

@@ -150,23 +150,23 @@ locals_none h (l ∷ ls) z = let r = locals_none h ls (λ a. z (suc a)) in let q
     omega arith
 
 module _ (g : Begin) (w : State DiskHeld) (j : Joint g w) (lim : Limits g w) (n : ℕ)
-    (lt : (reach_at g w).faults < n) where
-  now_tells : (l : Here) (ps : List Part) (x : Option PartEnd)
+    (lt : total (spot g.given.size) device_faults none w < n) where
+  now_tells : (a : ℕ) (l : Here) (ps : List Part) (x : Option PartEnd)
       → StageBy g ps (entry_in l.held) l.at l.fresh l.pin l.owed l.ahead l.behind l.page l.fail
-      → KeepsLimits g (reach_at g w) l → l.fail ≡ x → fails_so (tells_fault n) ps x ≡ 0
-  now_tells l ps None s k e = fails_none (tells_fault n) ps
-  now_tells l [] (Some x) s k e = refl
-  now_tells l (p ∷ ps) (Some x) s k e = end_tells (ground_of g) (reach_at g w) p x n
+      → KeepsLimits g (reach_at g w a) l → l.fail ≡ x → fails_so (tells_fault n) ps x ≡ 0
+  now_tells a l ps None s k e = fails_none (tells_fault n) ps
+  now_tells a l [] (Some x) s k e = refl
+  now_tells a l (p ∷ ps) (Some x) s k e = end_tells (ground_of g) (reach_at g w a) p x n
       (fail_ends g p l.at p.op x (subst (FailAt g p l.at p.op) e s.fails))
-      (subst (FailKeeps g (reach_at g w)) e k.now) lt
+      (subst (FailKeeps g (reach_at g w a)) e k.now) lt
 
   actor_tells : (a : ℕ) (l : Here) → slice_get w.locals a ≡ Some l → faults_told n l ≡ 0
   actor_tells a l who =
       let f = j.each.in_local a l who in let k = lim a l who in
-      let x = dones_tell (ground_of g) (reach_at g w) n l.done lt
+      let x = dones_tell (ground_of g) (reach_at g w a) n l.done lt
       (ends_over (EndsSo (ground_of g)) (program g.given.size g.given.backed 0 f.ops) l.done l.todo f.follows)
       k.over in
-      let y = now_tells l l.todo l.fail f.stage k refl in omega arith
+      let y = now_tells a l l.todo l.fail f.stage k refl in omega arith
 
   -- so nobody has told it
   untold : locals_sum (faults_told n) w.locals ≡ 0
@@ -189,7 +189,7 @@ module _ (g : Begin) (ok : Known g) (w : State DiskHeld) (j : Joint g w) (a : �
     same : ((n : ℕ) → faults_told n m ≡ faults_told n l) → Falls v m → Blames v m
     blames : (fault : ℕ) → ((n : ℕ) → faults_told n m
         ≡ faults_told n l + cond {A = ℕ} (eqb fault n) 1 0)
-        → (reach_at g w).faults < fault → Falls v m → Blames v m
+        → total (spot size) device_faults none w < fault → Falls v m → Blames v m
 
   same_blames : (v v₀ : DiskHeld) (m m₀ : Here) → v ≡ v₀ → m ≡ m₀ → Blames v₀ m₀ → Blames v m
   same_blames v v₀ m m₀ e f t = subst (λ (x : DiskHeld × Here). Blames x.0 x.1)
@@ -398,8 +398,8 @@ module _ (g : Begin) (ok : Known g) (w : State DiskHeld) (j : Joint g w) (a : �
   falls_of v m (blames fault told above falls) = falls
 
   pub faults_rise : (v : DiskHeld) (m : Here) → slice_get w.row (spot size k) ≡ Some None
-      → Blames v m → (reach_at g w).faults
-      ≤ (reach_at g (gone size w a l who k (Some v) m)).faults
+      → Blames v m → total (spot size) device_faults none w
+      ≤ total (spot size) device_faults none (gone size w a l who k (Some v) m)
   faults_rise v m there b =
       let r = ok.facts.give (spot size) device_faults none w a l k v m who there in
       let s = falls_of v m b in omega arith

@@ -1,4 +1,5 @@
 -- The rule of a phase where its calls find something else at tags that stand in no order.
+use Rattle.joint_rule.proofs.Budget.{budget_finding}
 use Rattle.lock_row.specs.declared.names.Step.{Step}
 use Rattle.lock_row.specs.declared.names.Step.TheVariants as step
 use Rattle.lock_row.specs.declared.names.Trip.{Trip}
@@ -15,7 +16,7 @@ use Rattle.joint_rule.specs.Begins.{Begin, FindsRight, back_at, content, ever, f
 use Rattle.joint_rule.specs.Joint.{AtHome, EntryFits, IsActor, Backs, Joint, Sound, Stands, Marks}
 use Rattle.joint_rule.specs.Rule.{FailKeeps, KeepsLimits, Most, OfOrder, Ruled, ShowsOrder, dones, reach_at}
 use Rattle.joint_rule.specs.Stages.{FailAt, FailBy, IsFault, IsForm, IsRefusal, MaySeeOther, MayFail, RightAt, ScanAt, Stage, StageBy, StandAt, BlankAt, locks_at, locks_by, BackAt, HasEvicted, HasMarks, HasWon, IsBack, IsCopied, IsPooled, IsQuit, MarkAt, MayQuit, QuitAt, StepAt, VisitAt, VisitsObject, VisitsPage, visit_locks}
-use Rattle.joint_rule.specs.Weights.{Each, HeldAll, Weigh, claim_by, claims, each_one, ever_at, fetches_noted, lies_at, lies_by, News, news_of, device_faults, fetches_told, fresh_claim, mosts, news_count, none, noted, on_entry, one, told_ahead, mark_at, mark_by, written_at}
+use Rattle.joint_rule.specs.Weights.{Each, HeldAll, Weigh, claim_by, claims, each_one, ever_at, fetches_noted, lies_at, lies_by, News, news_of, device_faults, fetches_told, fresh_claim, mosts, news_count, none, noted, on_entry, one, told_ahead, mark_at, mark_by, written_at, foreign_at, was_back, wrote_told}
 use Rattle.lock_row.specs.Totals.{held_sum, locals_sum, mass, row_sum, total}
 use Rattle.lock_row.specs.declared.names.At.{At}
 use Rattle.lock_row.specs.declared.names.At.TheVariants.{Counting, Failing, Leaving, Made, Marking, Missed, Pinned, Unpinning, Start, Refusing, Owing, Giving, Ready, Scanning, Visiting, Sweeping, Moving, Shrunk, Shrinking}
@@ -752,10 +753,12 @@ module _ (g : Begin) (finds : ℕ → Finds) where
           (sums (ever_at g) (ever_at h) one evers_alike) (m.few rose);
     }
 
-    reach_alike : reach_at g w ≡ reach_at h w
-    reach_alike = λ i. record {
+    reach_alike : (a : ℕ) → reach_at g w a ≡ reach_at h w a
+    reach_alike a = λ i. record {
       reach = sums (ever_at g) (ever_at h) one evers_alike i;
       faults = total (spot size) device_faults none w;
+      taken = total (spot size) (was_back g) one w + locals_sum wrote_told w.locals;
+      others = total (spot size) (foreign_at a) none w;
     }
 
     pub ruled_alike : Ruled g w → Ruled h w
@@ -773,12 +776,15 @@ module _ (g : Begin) (finds : ℕ → Finds) where
       freed = r.freed;
       news = λ q. r.news q ∙ ap (λ (n : ℕ). at_most_end (news_count q g.was + n))
           (sums (noted g q) (noted h q) (told_ahead q) (noted_alike q));
-      limits = λ a l e. keeps_alike (reach_at g w) (reach_at h w) reach_alike l (r.limits a l e);
+      limits = λ a l e. keeps_alike (reach_at g w a) (reach_at h w a) (reach_alike a) l
+          (r.limits a l e);
       faults = r.faults;
       fetches = let e = sums (fetches_noted g) (fetches_noted h) fetches_told fetches_alike in
           let f = r.fetches in omega arith;
       writes = r.writes;
       back = r.back;
+      budget = budget_finding g finds w r.budget;
+      lost = r.lost;
       alone = λ l e. only_alike w l own (ap (λ (ls : List Here). slice_get ls 0) e) (over l e)
           (r.alone l e);
     }

@@ -284,6 +284,13 @@ module _ (size : ℕ) where
   all_add f h [] = refl
   all_add f h (l ∷ ls) = let r = all_add f h ls in let s = held_add f h l.held in omega arith
 
+  -- the total of two weights together
+  pub total_add : (f h : ℕ → DiskHeld → ℕ) (w : State DiskHeld)
+      → total (spot size) (λ j v. f j v + h j v) none w
+      ≡ total (spot size) f none w + total (spot size) h none w
+  total_add f h w =
+      let r = row_add f h w.row in let s = all_add f h w.locals in omega arith
+
   no_low : (ls : List Here) → locals_sum (mass (spot size) (low_at 0) none) ls ≡ 0
   no_low [] = refl
   no_low (x ∷ xs) = let r = no_low xs in let s = held_nothing size x.held in omega arith

@@ -45,6 +45,11 @@ pub mod Sweeps
 pub mod Alone
 pub mod Faults
 pub mod Written
+pub mod Rises
+pub mod Taken
+pub mod Lost
+pub mod Limits
+pub mod Budget
 pub mod Fetches
 pub mod Aged
 pub mod Ages
@@ -57,6 +62,8 @@ pub mod Fitting
 pub mod Rests
 pub mod Ranges
 pub mod Idles
+pub mod KeptForms
+pub mod OnDevice
 pub mod Ended
 pub mod Renewals
 pub mod NewDisks

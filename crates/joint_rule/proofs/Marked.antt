@@ -11,7 +11,8 @@ use Rattle.joint_rule.specs.Begins.{Begin, content}
 use Rattle.joint_rule.specs.Joint.{Joint, Sound}
 use Rattle.joint_rule.specs.Laws.{has_won}
 use Rattle.joint_rule.specs.Stages.{HasSome, IsUnmarked, IsVisiting, NoneOf, QuitAt, Stage, StageBy, locks_at, locks_by}
-use Rattle.joint_rule.specs.Weights.{HeldAll, at_place, carries, carries_at, foreign, is_carrying, is_written, lies_at, mark_at, mark_by, marks_of, none, pair, same, shows_at, stored_at, written_at, written_by}
+use Rattle.plain_disk.specs.Phases.{foreign}
+use Rattle.joint_rule.specs.Weights.{HeldAll, at_place, carries, carries_at, is_carrying, is_written, lies_at, mark_at, mark_by, marks_of, none, pair, same, shows_at, stored_at, written_at, written_by}
 use Rattle.lock_row.specs.Totals.{held_sum, mass, total}
 use Rattle.lock_row.specs.declared.names.At.{At}
 use Rattle.lock_row.specs.declared.names.At.TheVariants.{Start, Visiting}

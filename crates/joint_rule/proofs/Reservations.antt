@@ -2,7 +2,7 @@
 use Rattle.joint_rule.proofs.Rounds.{lean_none, quit_ends}
 use Rattle.std.proofs.Common.{◌≡◌, ◌≢◌, ◌+◌, ◌≤◌, ◌<◌, ◌∷◌, ◌∙◌, ℕ, Bool, true, false, cond, is_none, List, [], length, Option, Some, None, slice_get, refl, sym, ap, subst, arith, inl, inr, length-set}
 use Rattle.backing_dev.specs.Dev.{DeviceState, FailsToWrite, WritesBlock}
-use Rattle.block_map.specs.BlockMap.{AnswersReserve, BlockMap, reserved, with_state}
+use Rattle.block_map.specs.BlockMap.{AnswersReserve, BlockMap, IsBudgetSpent, reserved, with_state}
 use Rattle.block_map.specs.declared.blocks.Reserve.{Reserve}
 use Rattle.block_map.specs.declared.blocks.Reserve.TheVariants.{BudgetSpent, Got, NoBlock}
 use Rattle.block_map.specs.declared.state.BlockState.TheVariants.{Free, Held, Owned}
@@ -11,7 +11,7 @@ use Rattle.call_history.specs.declared.part.PartEnd.{PartEnd}
 use Rattle.call_history.specs.declared.part.PartEnd.TheVariants.{Whole}
 use Rattle.joint_rule.proofs.Arrivals.{visit_stage}
 use Rattle.joint_rule.proofs.Blockings.{has_block_in, held_is, nothing_else, now_stored, other_block, other_stays}
-use Rattle.joint_rule.proofs.Blocks.{used_put}
+use Rattle.joint_rule.proofs.Blocks.{bit_is, map_here, used_put}
 use Rattle.joint_rule.proofs.Facts.{Known}
 use Rattle.joint_rule.proofs.Gifts.{Gift, all, fit, goes_on, stage}
 use Rattle.joint_rule.proofs.Rounds.{IsFree, SameHands, Went, ends_over, free_hands, give_device, give_map, no_one, went, writeback_single}
@@ -21,7 +21,7 @@ use Rattle.joint_rule.proofs.Visits.{Onward}
 use Rattle.joint_rule.specs.Begins.{Begin, ground_of}
 use Rattle.joint_rule.specs.Joint.{IsActor, Joint, KeepsDevice}
 use Rattle.joint_rule.specs.Stages.{NoneOf, Stage, MayQuit, StopsSo}
-use Rattle.joint_rule.specs.Weights.{BlockWeigh, block_claims, block_uses, carried_by, claims, device_size, each_one, ever_at, has_block, is_carrying, lies_at, map_size, mark_at, none, nothing, pair, same, shows_at, some_of, stored_at, use_at, use_in, used_blocks, used_from, written_at, written_by, carries_at, object_weight}
+use Rattle.joint_rule.specs.Weights.{BlockWeigh, block_claims, block_uses, carried_by, claims, device_size, each_one, ever_at, has_block, is_carrying, lies_at, map_budgeted, map_size, mark_at, none, nothing, pair, same, shows_at, some_of, stored_at, use_at, use_in, used_blocks, used_from, written_at, written_by, carries_at, object_weight}
 use Rattle.lock_row.specs.Totals.{by_option, held_sum, mass, total}
 use Rattle.lock_row.specs.declared.names.At.{At}
 use Rattle.lock_row.specs.declared.names.At.TheVariants.{Visiting}
@@ -136,38 +136,52 @@ module _ (g : Begin) (ok : Known g) (w : State DiskHeld) (j : Joint g w) (a : �
           let u = ap (use_in f) at in omega arith)
           (idle_kept step.Reserving step.Seen (with_block x b) l.fail _ at refl refl))
 
-      -- or none
-      ends_so : (r : Reserve) (end : OpEnd) → refused_end r x ≡ Some end
-          → MayBeSingle (ground_of g) p.op end × StopsSo x end
-      ends_so (Got b) end is = absurd (cc)
-      ends_so BudgetSpent end is = let q : ends.Budget x.wrote x.lost ≡ end = cc in
-          subst (λ (z : OpEnd). MayBeSingle (ground_of g) p.op z × StopsSo x z) q (
-            (sr.begun, (let t = sr.visits.trip.few in let u = sr.visits.trip.page in omega arith)),
-            (refl, refl),
-          )
-      ends_so NoBlock end is = let q : ends.NoBlock x.wrote x.lost ≡ end = cc in
-          subst (λ (z : OpEnd). MayBeSingle (ground_of g) p.op z × StopsSo x z) q (
-            (sr.begun, (let t = sr.visits.trip.few in let u = sr.visits.trip.page in omega arith)),
-            (refl, refl),
-          )
+      fewer : x.wrote + x.lost + 1 ≤ n
+      fewer = let t = sr.visits.trip.few in let u = sr.visits.trip.page in omega arith
 
-      pub give_refrains : (r : Reserve) (end : OpEnd) → refused_end r x ≡ Some end
-          → Gift g w a l lock.Blocks (holds.Blocks y)
-          (on l (Visiting step.Quitting x) ((slot x.page, holds.Slot e) ∷ []) l.fresh l.pin l.owed
-          l.ahead l.behind l.page (Some (Whole end)))
-      give_refrains r end is = give_map g w a l _
-          (goes_on g ok w j a l who p rest todo (Visiting step.Quitting x)
-          ((slot x.page, holds.Slot e) ∷ []) l.fresh l.pin l.owed l.ahead l.behind l.page
-          (Some (Whole end)) refl
-          (all g ok w j a l who p rest todo _ (Visiting step.Reserving x) held at).1
-          (visit_stage g p l.fresh l.pin l.owed l.ahead l.behind l.page (Some (Whole end)) e
-          step.Quitting x sr.made sr.pins sr.owes sr.counts
-          ((writeback_single n p.op sr.begun, (ends_so r end is).0), (ends_so r end is).1) sr.begun
-          (record { trip = sr.visits.trip; step = sr.visits.step })) held_lean)
-          (hands step.Quitting x (Some (Whole end))) refl refl _ y y held refl
-          (map_storage step.Quitting x (Some (Whole end)) y refl
-          (λ f. let u = ap (use_in f) at in omega arith)
-          (idle_kept step.Reserving step.Quitting x (Some (Whole end)) _ at refl refl))
+      -- or none
+      module _ (limit_is : total (spot n) map_budgeted none w ≡ cond {A = ℕ} g.budgeted 1 0) where
+        limited : IsBudgetSpent y → g.budgeted ≡ true
+        limited spent =
+            let z = map_here g w j a l who y _ held (λ i. cond {A = ℕ} i.enabled 1 0) refl in
+            let q = ap (λ (b : Bool). cond {A = ℕ} b 1 0) spent.0 in
+            bit_is g.budgeted (omega arith)
+
+        ends_so : (r : Reserve) (end : OpEnd) → AnswersReserve y r → refused_end r x ≡ Some end
+            → MayBeSingle (ground_of g) p.op end × StopsSo x end
+        ends_so (Got b) end answer is = absurd (cc)
+        ends_so BudgetSpent end answer is = let q : ends.Budget x.wrote x.lost ≡ end = cc in
+            subst (λ (z : OpEnd). MayBeSingle (ground_of g) p.op z × StopsSo x z) q (
+              ((sr.begun, fewer), limited answer),
+              (refl, refl, sr.visits.step.1),
+            )
+        ends_so NoBlock end answer is = let q : ends.NoBlock x.wrote x.lost ≡ end = cc in
+            subst (λ (z : OpEnd). MayBeSingle (ground_of g) p.op z × StopsSo x z) q (
+              (sr.begun, fewer),
+              (refl, refl, sr.visits.step.1),
+            )
+
+        pub give_refrains : (r : Reserve) (end : OpEnd) → AnswersReserve y r
+            → refused_end r x ≡ Some end
+            → Gift g w a l lock.Blocks (holds.Blocks y)
+            (on l (Visiting step.Quitting x) ((slot x.page, holds.Slot e) ∷ []) l.fresh l.pin l.owed
+            l.ahead l.behind l.page (Some (Whole end)))
+        give_refrains r end answer is = give_map g w a l _
+            (goes_on g ok w j a l who p rest todo (Visiting step.Quitting x)
+            ((slot x.page, holds.Slot e) ∷ []) l.fresh l.pin l.owed l.ahead l.behind l.page
+            (Some (Whole end)) refl
+            (all g ok w j a l who p rest todo _ (Visiting step.Reserving x) held at).1
+            (visit_stage g p l.fresh l.pin l.owed l.ahead l.behind l.page (Some (Whole end)) e
+            step.Quitting x sr.made sr.pins sr.owes sr.counts (
+              (writeback_single n p.op sr.begun, (ends_so r end answer is).0),
+              (ends_so r end answer is).1,
+            )
+            sr.begun
+            (record { trip = sr.visits.trip; step = sr.visits.step })) held_lean)
+            (hands step.Quitting x (Some (Whole end))) refl refl _ y y held refl
+            (map_storage step.Quitting x (Some (Whole end)) y refl
+            (λ f. let u = ap (use_in f) at in omega arith)
+            (idle_kept step.Reserving step.Quitting x (Some (Whole end)) _ at refl refl))
 
     -- the block is the page's
     module _ (at : l.at ≡ Visiting step.Committing x) (b : ℕ) (block : x.block ≡ Some b) where
@@ -405,7 +419,7 @@ module _ (g : Begin) (ok : Known g) (w : State DiskHeld) (j : Joint g w) (a : �
             (let y = r.count in let z = r.rose in let u = was_kept.faults in omega arith),
           ),
         ),
-        (refl, refl),
+        (refl, refl, ss.visits.step.0),
       )
 
       pub give_spoils : Gift g w a l lock.Device (holds.Device d') (landing (Some spoiled))

@@ -21,10 +21,10 @@ use Rattle.joint_rule.proofs.Places.{IsAccount, IsDevice, IsMap, account_kind, d
 use Rattle.joint_rule.specs.Alone.{IsCalm, compacting}
 use Rattle.joint_rule.specs.Begins.{Begin, ground_of, pieces_each, pieces_on, content, back_at}
 use Rattle.joint_rule.specs.Joint.{AtHome, IsActor, Joint, KeepsDevice, Sound}
-use Rattle.joint_rule.specs.Rule.{FailKeeps, OfOrder, Rule, Ruled, ShowsOrder, done_by, dones, owed, owed_by, reach_at}
+use Rattle.joint_rule.specs.Rule.{CountsBudget, FailKeeps, OfOrder, Rule, Ruled, ShowsOrder, done_by, dones, owed, owed_by, reach_at}
 use Rattle.joint_rule.specs.Stages.{StageBy, locks_by}
 use Rattle.joint_rule.specs.Starts.{IsStart}
-use Rattle.joint_rule.specs.Weights.{HeldAll, News, ahead, at_place, behind, block_claims, chains, claims, compactions, counters, device_reads, device_size, each_one, ever_at, fails_so, faults_told, fixed, fixed_count, freed_at, freed_by, fresh_claim, lies_at, loose_pools, map_size, measure, mosts, news_count, news_counter, none, noted, nothing, object_weight, on_account, on_blocks, on_device, order_news, outs, owing, pages, pinned, refusal_count, refusal_counter, refusal_of, refusals, refused_by, same, shown, some_of, stored, stored_at, told_ahead, told_at, used_blocks, block_uses, use_in, written_at, mark_at, carries_at, device_writes, new_back_at, writes_in, writes_told}
+use Rattle.joint_rule.specs.Weights.{HeldAll, News, ahead, at_place, behind, block_claims, chains, claims, compactions, counters, device_reads, device_size, each_one, ever_at, fails_so, faults_told, fixed, fixed_count, freed_at, freed_by, fresh_claim, lies_at, loose_pools, map_size, measure, mosts, news_count, news_counter, none, noted, nothing, object_weight, on_account, on_blocks, on_device, order_news, outs, owing, pages, pinned, refusal_count, refusal_counter, refusal_of, refusals, refused_by, same, shown, some_of, stored, stored_at, told_ahead, told_at, used_blocks, block_uses, use_in, written_at, mark_at, carries_at, device_writes, new_back_at, writes_in, writes_told, lost_in, cuts_told, reserves_in, reserves_told}
 use Rattle.lock_row.specs.Totals.{by_option, held_sum, locals_sum, mass, row_sum, total}
 use Rattle.lock_row.specs.declared.names.At.{At}
 use Rattle.lock_row.specs.declared.names.At.TheVariants.{Start}
@@ -36,7 +36,7 @@ use Rattle.mem_account.specs.Counters.{Counters, at_most_end}
 use Rattle.mem_account.specs.declared.weight.Weight.{Weight}
 use Rattle.page_steps.specs.Pages.{new_class}
 use Rattle.page_steps.specs.Steps.{DiskHeld, Here, class_by, entry_in, spot}
-use Rattle.plain_disk.specs.Ends.{compacted, tells_fault, written}
+use Rattle.plain_disk.specs.Ends.{compacted, cut_short, tells_fault, tried, written}
 use Rattle.zr_base.specs.declared.op.Op.{Op}
 use Rattle.zr_base.specs.declared.op.Tag.{Tag}
 use Rattle.lock_row.specs.declared.names.Held.TheVariants as holds
@@ -350,6 +350,29 @@ module _ (g : Begin) (ok : Known g) (w : State DiskHeld) (s : IsStart g w) where
   within_end : (a : ℕ) → a < 2 ^ 64 → a ≡ at_most_end (a + 0)
   within_end a lt = omega arith
 
+  -- the map of blocks is as the phase finds it, and nothing is reserved
+  start_budget : CountsBudget g w
+  start_budget =
+      let x = map_at g w.row s.rest.size s.rest.whole s.rest.home in
+      let of : (f : BlockMap → ℕ) → total (spot n) (on_blocks f) none w ≡ f x.0 = λ f.
+      only (on_blocks f) none (λ a l e. refl)
+      ∙ map_sum g w.row s.rest.size s.rest.whole s.rest.home f in
+      let is = s.map (n + 256) x.0 x.1 in
+      let left = of (λ y. y.budget) ∙ is.budget in
+      let told = locals_none reserves_told w.locals (λ a l e. let h = s.actors a l e in
+      (λ i. done_sum tried (h.done i) + reserves_in (h.at i))) in
+      let cuts = locals_none cuts_told w.locals (λ a l e. let h = s.actors a l e in
+      let ds : List Done = [] in
+      let y : cuts_told l ≡ done_sum cut_short ds + fails_so cut_short l.todo None =
+      (λ i. done_sum cut_short (h.done i) + fails_so cut_short l.todo (h.fail i)) in
+      let z = fails_none cut_short l.todo in omega arith) in record {
+        size = of (λ y. length y.states) ∙ is.blocks;
+        on = of (λ y. cond {A = ℕ} y.enabled 1 0) ∙ ap (λ (b : Bool). cond {A = ℕ} b 1 0) is.budgeted;
+        spent = λ on. omega arith;
+        same = λ off. left;
+        none = λ some_cut. absurd (omega arith);
+      }
+
   -- no page is new on the device
   both_no : (b : Bool) → cond {A = ℕ} (b && not (b && true)) 1 0 ≡ 0
   both_no true = refl
@@ -414,7 +437,7 @@ module _ (g : Begin) (ok : Known g) (w : State DiskHeld) (s : IsStart g w) where
     limits = λ a l e. let h = s.actors a l e in record {
       over = λ i d at. absurd (let q : slice_get (let ds : List Done = [] in ds) i ≡ Some d =
           subst (λ (ds : List Done). slice_get ds i ≡ Some d) h.done at in cc);
-      now = subst (FailKeeps g (reach_at g w)) (sym h.fail) tt;
+      now = subst (FailKeeps g (reach_at g w a)) (sym h.fail) tt;
     };
     faults = λ f. let z = locals_none (faults_told f) w.locals (λ a l e. let h = s.actors a l e in
         let ds : List Done = [] in
@@ -435,6 +458,8 @@ module _ (g : Begin) (ok : Known g) (w : State DiskHeld) (s : IsStart g w) where
         ∙ ap (λ (i : ℕ). at_most_end (g.device.writes + i)) (sym z);
     back = let x = only (new_back_at g) none (λ a l e. refl) in
         let y = row_none (new_back_at g) w.row not_new in omega arith;
+    budget = start_budget;
+    lost = λ a l e. let z = ap (λ (at : At). lost_in at l.fail) (s.actors a l e).at in omega arith;
     alone = λ l e.
         let h = s.actors 0 l (ap (λ (ls : List Here). slice_get ls 0) e) in record {
           still = subst (MoveNoneOver g.tight) (sym h.done) tt;

@@ -210,6 +210,21 @@ module _ (size : ℕ) where
   locals_two g (x ∷ xs) (suc a) (suc b) l n e f d = let h =
       locals_two g xs a b l n e f (λ i. d (ap suc i)) in omega arith
 
+  -- two places
+  pub row_two : (f : ℕ → DiskHeld → ℕ) (row : List (Option DiskHeld)) (i k : ℕ)
+      (x y : Option DiskHeld) → slice_get row i ≡ Some x → slice_get row k ≡ Some y → i ≢ k
+      → by_option (f i) x + by_option (f k) y ≤ row_sum f row
+  row_two f [] i k x y d e ne = absurd (cc)
+  row_two f (z ∷ zs) zero zero x y d e ne = absurd (ne refl)
+  row_two f (z ∷ zs) zero (suc k) x y d e ne =
+      let q : z ≡ x = cc in let r = ap (by_option (f 0)) q in
+      let h = row_le (λ j. f (suc j)) zs k y e in omega arith
+  row_two f (z ∷ zs) (suc i) zero x y d e ne =
+      let q : z ≡ y = cc in let r = ap (by_option (f 0)) q in
+      let h = row_le (λ j. f (suc j)) zs i x d in omega arith
+  row_two f (z ∷ zs) (suc i) (suc k) x y d e ne =
+      let h = row_two (λ j. f (suc j)) zs i k x y d e (λ s. ne (ap suc s)) in omega arith
+
   pub total_up : (P : ℕ → DiskHeld → Type 0) (p f : ℕ → DiskHeld → ℕ) (g h : Here → ℕ)
       → ((j : ℕ) (v : DiskHeld) → P j v → p j v ≤ f j v) → (w : State DiskHeld)
       → ((j : ℕ) (v : DiskHeld) → slice_get w.row j ≡ Some (Some v) → P j v)

@@ -12,7 +12,7 @@ use Rattle.page_steps.specs.Steps.{DiskHeld, Here}
 use Rattle.plain_disk.specs.Idles.{only_tag}
 use Rattle.std.proofs.lemmas.Bool.{and_from, and_parts, cases_Bool, eq-eqb, eqb-true}
 use Rattle.std.specs.List.{AllByRecursion}
-use Rattle.zr_base.specs.Plain.{Finds, IsSector, Look, content as sectors, same_tag}
+use Rattle.zr_base.specs.Plain.{Finds, IsSector, Look, same_tag}
 use Rattle.zr_base.specs.declared.op.Tag.{Tag}
 use Rattle.lock_row.specs.declared.names.Held.TheVariants as holds
 

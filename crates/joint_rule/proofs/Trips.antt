@@ -10,7 +10,8 @@ use Rattle.joint_rule.proofs.Pools.{pick, same_is, same_lists, same_self}
 use Rattle.joint_rule.proofs.Sums.{held_nothing, locals_two, row_nothing, some_local, total_mono}
 use Rattle.joint_rule.specs.Begins.{Begin, content}
 use Rattle.joint_rule.specs.Joint.{Joint, Sound}
-use Rattle.joint_rule.specs.Weights.{BlockWeigh, at_place, block_claims, block_uses, carried_at, carried_by, carries, carries_at, device_size, foreign, is_carrying, lies_at, map_size, mark_at, mark_by, marks_of, none, nothing, pair, same, shows_at, stored_at, use_at, use_by, use_in, used_blocks, used_from, written_at, written_by, is_written}
+use Rattle.plain_disk.specs.Phases.{foreign}
+use Rattle.joint_rule.specs.Weights.{BlockWeigh, at_place, block_claims, block_uses, carried_at, carried_by, carries, carries_at, device_size, is_carrying, lies_at, map_size, mark_at, mark_by, marks_of, none, nothing, pair, same, shows_at, stored_at, use_at, use_by, use_in, used_blocks, used_from, written_at, written_by, is_written}
 use Rattle.lock_row.specs.Totals.{by_option, mass, total}
 use Rattle.lock_row.specs.declared.names.At.{At}
 use Rattle.lock_row.specs.declared.names.At.TheVariants.{Visiting}
@@ -376,7 +377,7 @@ used_after b k (s ∷ xs) lt =
     (λ o. absurd (let e = o.1 in let no : ⊥ = omega arith in no)) (same_is b k) in omega arith
 
 -- each block has one use at most
-used_once : (b k : ℕ) (xs : List BlockState) → used_from (using b) k xs ≤ 1
+pub used_once : (b k : ℕ) (xs : List BlockState) → used_from (using b) k xs ≤ 1
 used_once b k [] = omega arith
 used_once b k (s ∷ xs) = let h = use_low b k s in ⊎_elim
     (λ z. let r = used_once b (suc k) xs in omega arith)

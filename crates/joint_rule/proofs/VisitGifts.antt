@@ -20,7 +20,8 @@ use Rattle.joint_rule.proofs.Visits.{Onward}
 use Rattle.joint_rule.specs.Begins.{Begin, content, form_at, image}
 use Rattle.joint_rule.specs.Joint.{AtHome, EntryFits, Joint, Sound}
 use Rattle.joint_rule.specs.Stages.{IsCarried, IsCopied, IsForm, IsNothing, IsObj, IsPooled, IsQuit, NoneOf, Stage, VisitsObject, VisitsPage, HasSome}
-use Rattle.joint_rule.specs.Weights.{Count, at_place, block_claims, block_uses, carried_at, carried_by, device_size, foreign, lies_at, lies_by, map_size, mark_at, mark_by, marks_of, measure, none, nothing, pair, same, shows_at, stored_at, use_in, used_blocks, written_at, written_by, block_by, claim_by}
+use Rattle.plain_disk.specs.Phases.{foreign}
+use Rattle.joint_rule.specs.Weights.{Count, at_place, block_claims, block_uses, carried_at, carried_by, device_size, lies_at, lies_by, map_size, mark_at, mark_by, marks_of, measure, none, nothing, pair, same, shows_at, stored_at, use_in, used_blocks, written_at, written_by, block_by, claim_by}
 use Rattle.lock_row.specs.Totals.{by_option, held_sum, mass, total}
 use Rattle.lock_row.specs.declared.names.At.{At}
 use Rattle.lock_row.specs.declared.names.At.TheVariants.{Visiting}

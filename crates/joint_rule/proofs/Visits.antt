@@ -60,7 +60,7 @@ pub data VisitEvent (g : Begin) (l : Here) (v : DiskHeld) (m : Here) : Type 0 wh
   refrains : (p : Part) (rest : List Part) (x : Trip) (e : EntryState) (y : BlockMap) (r : Reserve)
       (end : OpEnd) → l.todo ≡ p ∷ rest → l.at ≡ Visiting step.Reserving x
       → l.held ≡ (lock.Blocks, holds.Blocks y) ∷ (slot x.page, holds.Slot e) ∷ []
-      → refused_end r x ≡ Some end → v ≡ holds.Blocks y
+      → AnswersReserve y r → refused_end r x ≡ Some end → v ≡ holds.Blocks y
       → m ≡ on l (Visiting step.Quitting x) ((slot x.page, holds.Slot e) ∷ []) l.fresh l.pin l.owed
       l.ahead l.behind l.page (Some (Whole end))
       → VisitEvent g l v m
@@ -178,7 +178,7 @@ module _ (g : Begin) (ok : Known g) (l : Here) (v : DiskHeld) (m : Here) where
       (m_is ∙ (λ i. on l (Visiting step.Seen (with_block (trip_at (at i)) b)) (tail_of (held i))
       l.fresh l.pin l.owed l.ahead l.behind l.page l.fail))
   visit_of (visit.refrains p rest x e y r end todo at held answer is v_is m_is) =
-      refrains p rest x e y r end todo at held is v_is
+      refrains p rest x e y r end todo at held answer is v_is
       (m_is ∙ (λ i. on l (Visiting step.Quitting (trip_at (at i))) (tail_of (held i)) l.fresh l.pin
       l.owed l.ahead l.behind l.page (Some (Whole end))))
   visit_of (visit.quits p rest x e end todo at held bad v_is m_is) =

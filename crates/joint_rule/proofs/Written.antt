@@ -104,7 +104,7 @@ stop_tells y op (ends.WriteEio fault wrote lost) i =
     let a = i.0 in let b = i.1 in record { writes = (omega arith); wrote = a }
 stop_tells y op end i = absurd i
 
-quit_tells : (g : Begin) (p : Part) (y : Trip) (op : Op) (x : PartEnd) → IsQuit g p y (Some x)
+pub quit_tells : (g : Begin) (p : Part) (y : Trip) (op : Op) (x : PartEnd) → IsQuit g p y (Some x)
     → TellsTrip y op x
 quit_tells g p y op Carried i = absurd i
 quit_tells g p y op (AtLimit charged need limit) i = absurd i
@@ -426,7 +426,7 @@ module _ (g : Begin) (ok : Known g) (w : State DiskHeld) (j : Joint g w) (a : �
               ≡ writes_in (Visiting step.Reserving x) fail
           told None = refl
           told (Some end) = refl
-    visit_writes (visit.refrains p rest x e y r end todo at held is v_is m_is) =
+    visit_writes (visit.refrains p rest x e y r end todo at held answer is v_is m_is) =
         let st = stage g ok w j a l who p rest todo _ (Visiting step.Reserving x) held at in
         let r = beside lock.Blocks _ _ x e e held (ap (λ (i : Here). i.held) m_is) v_is
         (λ i. refl) (λ i. refl) (λ i. refl) (λ i. refl) (omega arith) in

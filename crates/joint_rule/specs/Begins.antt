@@ -18,8 +18,9 @@ use Rattle.page_steps.specs.Steps.{Terms}
 
 -- What a phase begins with: a plain disk and its calls; the pages on which no write stands; those that
 -- are on the device; those that are marked idle; when each page was touched; the most frames of a
--- chain; the time; the account's counters, the limit among them; the device; and whether each class is
--- known to have at most one zspage with a free cell.
+-- chain; the time; the account's counters, the limit among them; the device; how many blocks of it are
+-- used; how many writes the limit on writebacks has left, and whether it is on; and whether each class
+-- is known to have at most one zspage with a free cell.
 pub record Begin : Type 0 where
   pub given : Given
   pub blank : ℕ → Bool
@@ -30,6 +31,9 @@ pub record Begin : Type 0 where
   pub clock : ℕ
   pub was : Counters
   pub device : DeviceState
+  pub blocks : ℕ
+  pub budget : ℕ
+  pub budgeted : Bool
   pub tight : Bool
 
 -- the phase where its calls find this on each page
@@ -48,6 +52,8 @@ ground_of g = record {
   chain = g.chain;
   limit = g.was.limit;
   backed = g.given.backed;
+  blocks = g.blocks;
+  budgeted = g.budgeted;
   back = λ p. g.back p || may_write g.given.backed g.given.actors;
   faults = g.device.faults;
 }

@@ -33,6 +33,9 @@ begin_at r actors = record {
   clock = r.set.clock;
   was = stats page_weight r;
   device = r.device;
+  blocks = r.set.backing;
+  budget = r.set.budget;
+  budgeted = r.set.budgeted;
   tight = are_tight r.set.chain r.used;
 }
 
@@ -90,8 +93,13 @@ device_in d _ = d
 abbrev pub device_of : DeviceState → ℕ → List (Option DiskHeld) → DeviceState
 device_of d size row = device_in d (value_at row (size + 257))
 
+-- how many writes the map at a place has left, or this many where there is none
+abbrev pub budget_in : ℕ → Option DiskHeld → ℕ
+budget_in n (Some (holds.Blocks x)) = x.budget
+budget_in n _ = n
+
 -- The rest of the plain disk after a phase with these orders: pages by the calls, marks, which are on
--- the device, pools, counters and the device by the row.
+-- the device, pools, counters, the device and the writes that are left by the row.
 abbrev pub rest_by : Rest → Given → List (List Tag) → List (Option DiskHeld) → Rest
 rest_by r g orders row = record {
   size = r.size;
@@ -103,7 +111,7 @@ rest_by r g orders row = record {
   used = λ k. used_in (value_at row (r.size + k));
   most = (account_of r.size row).most;
   device = device_of r.device r.size row;
-  set = r.set;
+  set = record r.set { budget = budget_in r.set.budget (value_at row (r.size + 256)) };
   so_far = so_far_of (account_of r.size row);
 }
 

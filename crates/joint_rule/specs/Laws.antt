@@ -5,11 +5,13 @@ use Rattle.zr_base.specs.Plain.{zero_sector, IsSector}
 use Rattle.mem_account.specs.Counters.{no_counts}
 use Rattle.backing_dev.specs.Dev.{DeviceState}
 use Rattle.plain_disk.specs.Rests.{Settings, Rest, stats}
-use Rattle.plain_disk.specs.Phases.{begun, bounds, FindsHeld}
+use Rattle.plain_disk.specs.Phases.{begun, bounds, foreign, FindsHeld}
 use Rattle.plain_disk.specs.Legal.{sets}
 use Rattle.plain_disk.specs.Legal.{IsNew as IsNewDisk}
 use Rattle.class_pool.specs.Pool.{PoolState, objects}
 use Rattle.call_history.specs.declared.part.Part.{Part}
+use Rattle.plain_disk.specs.Ends.{left_back}
+use Rattle.call_history.specs.Parts.{dones_sum}
 use Rattle.call_history.specs.Histories.{Agree}
 use Rattle.call_history.specs.Tallies.{Tallies}
 use Rattle.lock_row.specs.declared.names.LockNo.{LockNo}
@@ -30,7 +32,7 @@ use Rattle.page_steps.specs.Steps.{DiskHeld, Here, spot, entry_in, plan, took}
 use Rattle.page_steps.specs.Givings.{Works}
 use Rattle.page_steps.specs.Fits.{StageFits}
 use Rattle.joint_rule.specs.Begins.{Begin, content, finding, FindsRight, terms, ground_of, AreRequests, IsRoomy, Proper}
-use Rattle.joint_rule.specs.Weights.{none, stored, each_one, stored_at, foreign}
+use Rattle.joint_rule.specs.Weights.{none, stored, each_one, stored_at}
 use Rattle.joint_rule.specs.Rule.{Rule}
 use Rattle.joint_rule.specs.Starts.{AtRest, IsStart, IsRenewed, Renewed, Matched, IsNextDisk, IsNew}
 use Rattle.joint_rule.specs.Ends.{begin_at, AllFinished, orders_of, histories, account_of, rest_after, new_rest}
@@ -166,7 +168,7 @@ FinishedAgrees = (r : Rest) (actors : List (List Op)) (w : State DiskHeld)
     → AllFinished (begin_at r actors) w
     → Agree (ground_of (begin_at r actors))
     (bounds page_weight r (begun r actors x.finds) (orders_of r.size w.row)
-    (rest_after r actors x.finds w.row).device.faults)
+    (rest_after r actors x.finds w.row).device.faults (dones_sum left_back (histories w.locals)))
     (begun r actors x.finds) (histories w.locals) (orders_of r.size w.row)
 
 -- and their calls have found what is held, over an honest device and where their page isn't on it

@@ -1,5 +1,5 @@
 -- The whole rule of a phase: the joint rule, orders and replies, and the counters of the account.
-use Rattle.std.specs.Prelude.{◌≡◌, ℕ, ◌+◌, ◌*◌, ◌<◌, ◌≤◌, false, List, [], length, take, Option, Some, None, slice_get, ⊤}
+use Rattle.std.specs.Prelude.{◌≡◌, ℕ, ◌+◌, ◌*◌, ◌<◌, ◌≤◌, true, false, cond, List, [], length, take, Option, Some, None, slice_get, ⊤}
 use Rattle.zr_base.specs.declared.op.Tag.{Tag}
 use Rattle.mem_account.specs.Counters.{at_most_end}
 use Rattle.plain_disk.specs.Ends.{Bounds}
@@ -14,7 +14,7 @@ use Rattle.lock_row.specs.Totals.{locals_sum, total}
 use Rattle.page_steps.specs.Steps.{DiskHeld, Here, spot}
 use Rattle.zr_base.specs.Plain.{Finds}
 use Rattle.joint_rule.specs.Begins.{Begin, FindsRight, finding, ground_of, content, back_at, pieces_on, pieces_each}
-use Rattle.joint_rule.specs.Weights.{HeldAll, Each, none, one, pages, device_faults, device_reads, device_writes, writes_told, wrote_told, new_back_at, faults_told, fetches_told, fetches_noted, ever_at, mosts, Refusal, refusal_count, refusal_counter, refusals, compactions, freed_by, News, noted, told_ahead, news_count, news_counter}
+use Rattle.joint_rule.specs.Weights.{HeldAll, Each, none, one, pages, device_faults, device_reads, device_writes, map_size, map_budgeted, map_budget, reserves_told, cuts_told, foreign_at, met_at, lost_in, passed_in, was_back, writes_told, wrote_told, new_back_at, faults_told, fetches_told, fetches_noted, ever_at, mosts, Refusal, refusal_count, refusal_counter, refusals, compactions, freed_by, News, noted, told_ahead, news_count, news_counter}
 use Rattle.joint_rule.specs.Joint.{Joint}
 use Rattle.joint_rule.specs.Alone.{Alone}
 
@@ -97,12 +97,15 @@ CountsNews g q w = total (spot g.given.size) (news_counter q) none w
 
 -- ---- limits
 
--- what the ends of pieces are measured by at a state: the pages that were in the pool, with actors, and
--- how many calls of the device have failed
-abbrev pub reach_at : Begin → State DiskHeld → Bounds
-reach_at g w = record {
+-- what the ends of an actor's pieces are measured by at a state: the pages that were in the pool, with
+-- actors; how many calls of the device have failed; the pages that were on the device before the phase
+-- or were written back, with actors; and the tags of others
+abbrev pub reach_at : Begin → State DiskHeld → ℕ → Bounds
+reach_at g w a = record {
   reach = total (spot g.given.size) (ever_at g) one w;
   faults = total (spot g.given.size) device_faults none w;
+  taken = total (spot g.given.size) (was_back g) one w + locals_sum wrote_told w.locals;
+  others = total (spot g.given.size) (foreign_at a) none w;
 }
 
 -- a refusal is within these bounds
@@ -117,7 +120,7 @@ pub record KeepsLimits (g : Begin) (b : Bounds) (l : Here) : Type 0 where
 
 -- each refusal at the limit had a limit below what pages and actors can have made
 abbrev pub Limits : Begin → State DiskHeld → Type 0
-Limits g w = (a : ℕ) (l : Here) → slice_get w.locals a ≡ Some l → KeepsLimits g (reach_at g w) l
+Limits g w = (a : ℕ) (l : Here) → slice_get w.locals a ≡ Some l → KeepsLimits g (reach_at g w a) l
 
 -- ---- the device
 
@@ -141,6 +144,27 @@ CountsWrites g w = total (spot g.given.size) device_writes none w
 abbrev pub FewBack : Begin → State DiskHeld → Type 0
 FewBack g w = total (spot g.given.size) (new_back_at g) none w ≤ locals_sum wrote_told w.locals
 
+-- ---- the limit on writebacks
+
+-- The map has the blocks that are used, and the limit is on or off as at the phase's start. Where it is
+-- on, the writes that it has left and the blocks that actors tell to have reserved are together what
+-- it had left; where it is off, it has as many left. Where it has cut a writeback, it is on, and none
+-- is left.
+pub record CountsBudget (g : Begin) (w : State DiskHeld) : Type 0 where
+  pub size : total (spot g.given.size) map_size none w ≡ g.blocks
+  pub on : total (spot g.given.size) map_budgeted none w ≡ cond g.budgeted 1 0
+  pub spent : g.budgeted ≡ true
+      → total (spot g.given.size) map_budget none w + locals_sum reserves_told w.locals ≡ g.budget
+  pub same : g.budgeted ≡ false → total (spot g.given.size) map_budget none w ≡ g.budget
+  pub none : 0 < locals_sum cuts_told w.locals
+      → (g.budgeted ≡ true) × (total (spot g.given.size) map_budget none w ≡ 0)
+
+-- a writeback in work has met no more pages whose mark was gone than the pages that it has passed and
+-- whose orders have tags of others
+abbrev pub FewLost : Begin → State DiskHeld → Type 0
+FewLost g w = (a : ℕ) (l : Here) → slice_get w.locals a ≡ Some l
+    → lost_in l.at l.fail ≤ total (spot g.given.size) (met_at a (passed_in l.at l.fail)) none w
+
 -- ---- the rule
 
 -- The rule that each state of a phase has, by what its calls find.
@@ -157,6 +181,8 @@ pub record Ruled (g : Begin) (w : State DiskHeld) : Type 0 where
   pub fetches : FewFetches g w
   pub writes : CountsWrites g w
   pub back : FewBack g w
+  pub budget : CountsBudget g w
+  pub lost : FewLost g w
   pub alone : Alone g w
 
 -- There is something that the calls find by which the state has the rule.

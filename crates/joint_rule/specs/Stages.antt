@@ -46,6 +46,11 @@ abbrev pub NoneOf : {X : Type 0} → Option X → Type 0
 NoneOf None = ⊤
 NoneOf (Some x) = ⊥
 
+-- there is something
+abbrev pub HasSome : {X : Type 0} → Option X → Type 0
+HasSome None = ⊥
+HasSome (Some x) = ⊤
+
 -- the page is kept as an object
 abbrev pub IsObj : Kept → Type 0
 IsObj (kept.Obj o) = ⊤
@@ -135,11 +140,13 @@ MayPin k (Some x) = Names k x
 
 -- ---- refusals
 
--- a writeback that stops before its last page tells so many pages written back and lost
+-- a writeback that stops before its last page tells so many pages written back and lost; it has a
+-- block where the device failed, and else none
 abbrev pub StopsSo : Trip → OpEnd → Type 0
-StopsSo y (ends.Budget wrote lost) = (wrote ≡ y.wrote) × (lost ≡ y.lost)
-StopsSo y (ends.NoBlock wrote lost) = (wrote ≡ y.wrote) × (lost ≡ y.lost)
-StopsSo y (ends.WriteEio fault wrote lost) = (wrote ≡ y.wrote) × (lost ≡ y.lost)
+StopsSo y (ends.Budget wrote lost) = (wrote ≡ y.wrote) × (lost ≡ y.lost) × NoneOf y.block
+StopsSo y (ends.NoBlock wrote lost) = (wrote ≡ y.wrote) × (lost ≡ y.lost) × NoneOf y.block
+StopsSo y (ends.WriteEio fault wrote lost) =
+    (wrote ≡ y.wrote) × (lost ≡ y.lost) × HasSome y.block
 StopsSo y _ = ⊥
 
 module _ (g : Begin) (p : Part) where
@@ -540,11 +547,6 @@ pub record VisitsObject (g : Begin) (x : Trip) (e : EntryState) : Type 0 where
   pub page : VisitsPage g x e
   pub object : IsObj e.kept
   pub clear : NoneOf e.under
-
--- a writeback has a block
-abbrev pub HasSome : {X : Type 0} → Option X → Type 0
-HasSome None = ⊥
-HasSome (Some x) = ⊤
 
 -- the page that it has copied is the one that is held
 abbrev pub IsCopied : Option (List ℕ) → List ℕ → Type 0

@@ -62,8 +62,14 @@ pub record Starts (g : Begin) (a : ℕ) (l : Here) : Type 0 where
   pub page : l.page ≡ None
   pub fail : l.fail ≡ None
 
+-- The map of blocks is as the phase finds it: so many blocks, and so many writes that are left.
+pub record IsMapOf (g : Begin) (x : BlockMap) : Type 0 where
+  pub blocks : length x.states ≡ g.blocks
+  pub budget : x.budget ≡ g.budget
+  pub budgeted : x.enabled ≡ g.budgeted
+
 -- The state before the first turn: orders are empty, with room for the phase's pieces, and the marks,
--- the account and the device are as the phase finds them.
+-- the account, the device and the map of blocks are as the phase finds them.
 pub record IsStart (g : Begin) (w : State DiskHeld) : Type 0 where
   pub rest : AtRest g w.row
   pub orders : (k : ℕ) (e : EntryState) → slice_get w.row k ≡ Some (Some (holds.Slot e))
@@ -76,6 +82,7 @@ pub record IsStart (g : Begin) (w : State DiskHeld) : Type 0 where
       → c ≡ g.was
   pub device : (k : ℕ) (d : DeviceState) → slice_get w.row k ≡ Some (Some (holds.Device d))
       → d ≡ g.device
+  pub map : (k : ℕ) (x : BlockMap) → slice_get w.row k ≡ Some (Some (holds.Blocks x)) → IsMapOf g x
   pub actors : (a : ℕ) (l : Here) → slice_get w.locals a ≡ Some l → Starts g a l
   pub count : length w.locals ≡ length g.given.actors
   pub tight : g.tight ≡ true → row_sum loose_pools w.row ≡ 0

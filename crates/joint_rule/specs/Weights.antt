@@ -1,5 +1,5 @@
 -- What values and actors weigh: the sums over them that the joint rule compares.
-use Rattle.std.specs.Prelude.{◌≡◌, ℕ, zero, suc, ◌+◌, ◌==◌, ◌&&◌, Bool, true, false, cond, not, is_none, is_some, option_map, List, [], ◌∷◌, length, sum_by, Option, Some, None, slice_get}
+use Rattle.std.specs.Prelude.{◌≡◌, ℕ, zero, suc, ◌+◌, ◌==◌, ◌&&◌, Bool, true, false, cond, not, is_none, is_some, nat_lt, option_map, List, [], ◌∷◌, length, sum_by, Option, Some, None, slice_get}
 use denote.RawPtr.{Ptr, block_ptr, null_ptr}
 use Rattle.zr_base.specs.declared.op.Tag.{Tag}
 use Rattle.zr_base.specs.declared.op.Op.{Op}
@@ -16,10 +16,10 @@ use Rattle.block_map.specs.BlockMap.{BlockMap}
 use Rattle.backing_dev.specs.Dev.{DeviceState}
 use Rattle.mem_account.specs.Tally.{same_of, packed_of, packed_bytes_of, huge_of, back_of}
 use Rattle.mem_account.specs.declared.weight.Weight.{Weight}
-use Rattle.plain_disk.specs.Ends.{failed_read, failed_write, starved, tells_fault, left_back, written, beyond, compacted}
+use Rattle.plain_disk.specs.Ends.{failed_read, failed_write, starved, tells_fault, left_back, written, tried, cut_short, beyond, compacted}
 use Rattle.plain_disk.specs.Compactions.{loose}
 use Rattle.plain_disk.specs.Calls.{Found, calls_sum, made_huge, freed, may_fetch}
-use Rattle.plain_disk.specs.Phases.{calls_on}
+use Rattle.plain_disk.specs.Phases.{calls_on, foreign}
 use Rattle.call_history.specs.declared.part.Part.{Part}
 use Rattle.call_history.specs.declared.part.PartEnd.{PartEnd}
 use Rattle.call_history.specs.Parts.{piece_gives, done_sum}
@@ -260,6 +260,14 @@ used_blocks f = on_blocks (λ x. used_from f 0 x.states)
 abbrev pub map_size : ℕ → DiskHeld → ℕ
 map_size = on_blocks (λ x. length x.states)
 
+-- 1 where the limit on writebacks is on
+abbrev pub map_budgeted : ℕ → DiskHeld → ℕ
+map_budgeted = on_blocks (λ x. cond x.enabled 1 0)
+
+-- how many writes it has left
+abbrev pub map_budget : ℕ → DiskHeld → ℕ
+map_budget = on_blocks (λ x. x.budget)
+
 -- how many the device has
 abbrev pub device_size : ℕ → DiskHeld → ℕ
 device_size = on_device (λ d. d.blocks)
@@ -352,11 +360,6 @@ mark_by s b bytes j under page = cond (s == j) (pair b bytes under (Some page)) 
 abbrev pub mark_at : Begin → ℕ → ℕ → List ℕ → ℕ → DiskHeld → ℕ
 mark_at g s b bytes j (holds.Slot e) = mark_by s b bytes j e.under (content g j e.order)
 mark_at g s b bytes j v = 0
-
--- how many tags of an order are other actors'
-abbrev pub foreign : ℕ → List Tag → ℕ
-foreign a [] = 0
-foreign a (t ∷ ts) = cond (t.actor == a) 0 1 + foreign a ts
 
 -- 1 for the mark of this block
 abbrev pub marks_of : ℕ → Option ℕ → ℕ
@@ -490,6 +493,47 @@ some_of (suc n) = 1
 -- the objects that an actor makes, and 1 where it owes frames
 abbrev pub leaning : Here → ℕ
 leaning l = fresh_claim each_one l + some_of l.owed
+
+-- ---- the limit on writebacks, and what they lose
+
+-- how often the writeback in work has reserved a block
+abbrev pub reserves_in : At → ℕ
+reserves_in (Visiting s x) = x.wrote + x.lost + by_option (λ b. 1) x.block
+reserves_in at = 0
+
+-- how often an actor tells to have reserved one
+abbrev pub reserves_told : Here → ℕ
+reserves_told l = done_sum tried l.done + reserves_in l.at
+
+-- the writebacks that it tells to be cut by their limit
+abbrev pub cuts_told : Here → ℕ
+cuts_told l = done_sum cut_short l.done + fails_so cut_short l.todo l.fail
+
+-- how many tags of an entry's order are other actors' than a
+abbrev pub foreign_at : ℕ → ℕ → DiskHeld → ℕ
+foreign_at a = on_entry (λ j k order. foreign a order)
+
+-- 1 for one of the first n pages whose order has a tag of an actor other than a
+abbrev pub met_at : ℕ → ℕ → ℕ → DiskHeld → ℕ
+met_at a n = on_entry (λ j k order. cond (nat_lt j n) (some_of (foreign a order)) 0)
+
+-- how many pages the writeback in work has met whose mark was gone, with the one in work
+abbrev pub lost_in : At → Option PartEnd → ℕ
+lost_in (Visiting step.Undoing x) None = x.lost + 1
+lost_in (Visiting step.Releasing x) None = x.lost + 1
+lost_in (Visiting s x) fail = x.lost
+lost_in at fail = 0
+
+-- how many pages it has passed, with the one whose mark was gone
+abbrev pub passed_in : At → Option PartEnd → ℕ
+passed_in (Visiting step.Undoing x) None = x.page + 1
+passed_in (Visiting step.Releasing x) None = x.page + 1
+passed_in (Visiting s x) fail = x.page
+passed_in at fail = 0
+
+-- 1 for an entry whose page was on the device before the phase
+abbrev pub was_back : Begin → ℕ → DiskHeld → ℕ
+was_back g = on_entry (λ j k order. cond (g.back j) 1 0)
 
 -- ---- the counters that are sums over pages
 

@@ -17,22 +17,29 @@ use Rattle.plain_disk.specs.Forms.{is_pooled, in_class}
 
 -- What ends are measured by from the phase's start on: the form of a page by its bytes, the disk's
 -- pages, the most frames of a chain, the limit in frames, where 0 is none, whether the disk has a
--- backing, which pages may be on the backing device, and how many of its calls have failed.
+-- backing, how many blocks of the device it uses, whether writebacks have a limit, which pages may be
+-- on the backing device, and how many of its calls have failed.
 pub record Ground : Type 0 where
   pub form : List ℕ → Weight
   pub size : ℕ
   pub chain : ℕ
   pub limit : ℕ
   pub backed : Bool
+  pub blocks : ℕ
+  pub budgeted : Bool
   pub back : ℕ → Bool
   pub faults : ℕ
 
 -- What the ends of an actor's operations are measured by at the phase's end: the number of pages
--- that have a form of the pool at some moment, with that of actors; and how many calls of the backing device
--- have failed.
+-- that have a form of the pool at some moment, with that of actors; how many calls of the backing
+-- device have failed; how many blocks pages and actors can have had, those of the pages that were on
+-- the device before the phase or were written back, and one for each actor; and how many tags of other
+-- actors stand in the orders.
 pub record Bounds : Type 0 where
   pub reach : ℕ
   pub faults : ℕ
+  pub taken : ℕ
+  pub others : ℕ
 
 -- ---- the ends of an operation
 
@@ -86,18 +93,20 @@ MayFault t (Write start count stuff) page fault =
 MayFault t (Read start count) page fault = IsFaultAt t page fault
 MayFault t _ page fault = ⊥
 
--- an operation wrote so many pages back and lost so many, of a disk of so many
+-- an operation tried to write so many pages back, of a disk of so many
 abbrev pub WritesBack : Op → ℕ → ℕ → Type 0
 WritesBack op pages size = (is_writeback op ≡ true) × (pages ≤ size)
 
 -- the ends of an operation that is over in one piece: `range` where it lies beyond the disk; new marks
--- of at most the disk's pages; at most as many pages written back, and fewer where it was cut; and a
--- compaction's numbers, which frees at most a chain's frames with each move
+-- of at most the disk's pages; at most as many pages written back, and fewer where it was cut, by the
+-- limit on writebacks only where there is one; and a compaction's numbers, which frees at most a
+-- chain's frames with each move
 abbrev pub MayBeSingle : Ground → Op → OpEnd → Type 0
 MayBeSingle t op ends.Range = is_beyond t.size op ≡ true
 MayBeSingle t op (ends.Marked pages) = (is_marking op ≡ true) × (pages ≤ t.size)
 MayBeSingle t op (ends.Written wrote lost) = WritesBack op (wrote + lost) t.size
-MayBeSingle t op (ends.Budget wrote lost) = WritesBack op (wrote + lost + 1) t.size
+MayBeSingle t op (ends.Budget wrote lost) =
+    WritesBack op (wrote + lost + 1) t.size × (t.budgeted ≡ true)
 MayBeSingle t op (ends.NoBlock wrote lost) = WritesBack op (wrote + lost + 1) t.size
 MayBeSingle t op (ends.WriteEio fault wrote lost) =
     WritesBack op (wrote + lost + 1) t.size × (t.faults < fault)
@@ -108,6 +117,18 @@ MayBeSingle t op _ = ⊥
 -- so many pieces of an operation on the disk were carried out, and not all
 abbrev pub IsCutAt : ℕ → Op → ℕ → Type 0
 IsCutAt pages op done = (is_single pages op ≡ false) × (done < pages_of op)
+
+-- what the end of an operation that is over in one piece says of the whole phase: a writeback lost no
+-- more pages than there are tags of other actors; no block was free only where the disk uses fewer
+-- than pages and actors can have had; and the count of faults that is told is at most the one at the
+-- phase's end
+abbrev pub IsWithin : Ground → Bounds → OpEnd → Type 0
+IsWithin t b (ends.Written wrote lost) = lost ≤ b.others
+IsWithin t b (ends.Budget wrote lost) = lost ≤ b.others
+IsWithin t b (ends.NoBlock wrote lost) =
+    (lost ≤ b.others) × (t.blocks < b.reach) × (t.blocks < b.taken)
+IsWithin t b (ends.WriteEio fault wrote lost) = (lost ≤ b.others) × (fault ≤ b.faults)
+IsWithin t b _ = ⊤
 
 -- The ends that an operation may have that does something. A refused piece is the next one after those
 -- that were carried out. At a refusal the limit is below the frames that the pages in the pool and the
@@ -120,9 +141,7 @@ MayEndSo t b op (ends.NoMemory done) = IsCutAt t.size op done
     × MayWant t.form op (first_page op + done)
 MayEndSo t b op (ends.Eio fault done) = IsCutAt t.size op done
     × MayFault t op (first_page op + done) fault × (fault ≤ b.faults)
-MayEndSo t b op (ends.WriteEio fault wrote lost) =
-    MayBeSingle t op (ends.WriteEio fault wrote lost) × (fault ≤ b.faults)
-MayEndSo t b op end = MayBeSingle t op end
+MayEndSo t b op end = MayBeSingle t op end × IsWithin t b end
 
 -- where it does nothing, a writeback has its own end
 abbrev pub MayEndBy : Bool → Ground → Bounds → Op → OpEnd → Type 0
@@ -220,6 +239,19 @@ written op (ends.Budget wrote lost) = wrote + lost
 written op (ends.NoBlock wrote lost) = wrote + lost
 written op (ends.WriteEio fault wrote lost) = wrote + lost
 written op _ = 0
+
+-- the writes of the device that it tried: one that failed is the last
+abbrev pub tried : Op → OpEnd → ℕ
+tried op (ends.Written wrote lost) = wrote + lost
+tried op (ends.Budget wrote lost) = wrote + lost
+tried op (ends.NoBlock wrote lost) = wrote + lost
+tried op (ends.WriteEio fault wrote lost) = wrote + lost + 1
+tried op _ = 0
+
+-- one for a writeback that its limit has cut
+abbrev pub cut_short : Op → OpEnd → ℕ
+cut_short op (ends.Budget wrote lost) = 1
+cut_short op _ = 0
 
 -- the frames that a compaction freed
 abbrev pub compacted : Op → OpEnd → ℕ

@@ -18,6 +18,10 @@ pub data Item : Type 0 where
   limit_to : ℕ → Item
   -- the greatest number of frames so far is from now on what the disk takes now
   lower_most : Item
+  -- so many writes of the device are left for writebacks, where they have a limit
+  budget_to : ℕ → Item
+  -- whether they have one from now on
+  budgeted_to : Bool → Item
   -- the time is this from now on, in seconds
   clock_to : ℕ → Item
   -- the lines of a report
@@ -25,10 +29,11 @@ pub data Item : Type 0 where
   -- the operations of the actors of a phase
   phase : List (List Op) → Item
 
--- what is set before the first item: no limit, the clock at 0, chains of at most four frames, and no
--- block of the backing device
+-- what is set before the first item: no limit, the clock at 0, chains of at most four frames, no
+-- block of the backing device, and no limit on writebacks
 abbrev pub first_settings : Settings
-first_settings = record { limit = 0; clock = 0; chain = 4; backing = 0 }
+first_settings =
+    record { limit = 0; clock = 0; chain = 4; backing = 0; budget = 0; budgeted = false }
 
 -- There is no zspage yet, and nothing has happened.
 pub record IsUnused (r : Rest) : Type 0 where
@@ -90,6 +95,10 @@ ItemIsLegal form r (backing n) lines m =
     GivesBacking r.size (nat_lt r.device.blocks n) r n lines m
 ItemIsLegal form r (limit_to n) lines m =
     (lines ≡ []) × (m ≡ sets r (record r.set { limit = n }))
+ItemIsLegal form r (budget_to n) lines m =
+    (lines ≡ []) × (m ≡ sets r (record r.set { budget = n }))
+ItemIsLegal form r (budgeted_to on) lines m =
+    (lines ≡ []) × (m ≡ sets r (record r.set { budgeted = on }))
 ItemIsLegal form r (clock_to n) lines m =
     (lines ≡ []) × (m ≡ sets r (record r.set { clock = n }))
 ItemIsLegal form r lower_most lines m = (lines ≡ []) × (m ≡ lowered r)

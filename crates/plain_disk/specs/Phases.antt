@@ -1,6 +1,6 @@
 -- What a phase may print, and the rest that it leaves: its ends, for each page an order of the
 -- calls on it, and for each read the bytes that the calls before it left.
-use Rattle.std.specs.Prelude.{◌≡◌, ℕ, ◌+◌, ◌*◌, ◌/◌, ◌<◌, ◌≤◌, ◌&&◌, ◌||◌, not, Bool, true, false, List, [], ◌∷◌, length, get_or, take, sum_by, count_by, Some, slice_get}
+use Rattle.std.specs.Prelude.{◌≡◌, ℕ, ◌+◌, ◌*◌, ◌-◌, ◌/◌, ◌<◌, ◌≤◌, ◌==◌, ◌&&◌, ◌||◌, not, Bool, true, false, List, [], ◌∷◌, length, get_or, take, sum_by, count_by, Some, slice_get, cond, if◌then◌else◌}
 use Rattle.std.specs.List.{range_with_len}
 use Rattle.zr_base.specs.declared.op.Tag.{Tag}
 use Rattle.zr_base.specs.declared.op.Op.{Op}
@@ -9,13 +9,13 @@ use Rattle.zr_base.specs.Plain.{Finds, IsSector, PageCalls, content, order_befor
 use Rattle.mem_account.specs.declared.weight.Weight.{Weight}
 use Rattle.mem_account.specs.Counters.{at_most_end}
 use Rattle.backing_dev.specs.Dev.{DeviceState, IsHonestDevice}
-use Rattle.plain_disk.specs.Ends.{Ground, Bounds, MayEndEach, due_from, ends_sum, failed_read, failed_write, starved, tells_fault, left_back, written, beyond, compacted}
+use Rattle.plain_disk.specs.Ends.{Ground, Bounds, MayEndEach, due_from, ends_sum, failed_read, failed_write, starved, tells_fault, left_back, written, tried, cut_short, beyond, compacted}
 use Rattle.plain_disk.specs.Output.{OutLine, phase_lines}
 use Rattle.plain_disk.specs.Calls.{Found, kept_as, leave_page, after_all, ever_pooled, calls_sum, made_huge, freed, may_fetch}
 use Rattle.plain_disk.specs.Compactions.{IsAlone}
 use Rattle.plain_disk.specs.Idles.{is_marked_in, may_write, KeepsMark}
-use Rattle.plain_disk.specs.Forms.{is_pooled}
-use Rattle.plain_disk.specs.Rests.{SoFar, Rest, is_backed, page_of, kept_at, kept_pages, frames_of, AreUsed}
+use Rattle.plain_disk.specs.Forms.{page_bytes, is_pooled}
+use Rattle.plain_disk.specs.Rests.{SoFar, Settings, Rest, is_backed, page_of, kept_at, kept_pages, frames_of, AreUsed}
 
 -- ---- orders and contents
 
@@ -96,6 +96,8 @@ phase_ground form r actors = record {
   chain = r.set.chain;
   limit = r.set.limit;
   backed = is_backed r;
+  blocks = r.set.backing;
+  budgeted = r.set.budgeted;
   back = λ p. r.back p || may_write (is_backed r) actors;
   faults = r.device.faults;
 }
@@ -110,10 +112,24 @@ ever form r g orders =
 abbrev pub reach : (List ℕ → Weight) → Rest → Given → List (List Tag) → ℕ
 reach form r g orders = ever form r g orders + length g.actors
 
+-- the blocks that pages and actors can have had, where so many pages were written back
+abbrev pub taken : Rest → Given → ℕ → ℕ
+taken r g wrote = count_by r.back (range_with_len 0 r.size) + wrote + length g.actors
+
+-- how many tags of actors other than this one stand in an order
+abbrev pub foreign : ℕ → List Tag → ℕ
+foreign a [] = 0
+foreign a (t ∷ ts) = cond (t.actor == a) 0 1 + foreign a ts
+
 -- what the ends of an actor's operations are measured by at the phase's end, where so many calls of
--- the device have failed
-abbrev pub bounds : (List ℕ → Weight) → Rest → Given → List (List Tag) → ℕ → ℕ → Bounds
-bounds form r g orders faults a = record { reach = reach form r g orders; faults = faults }
+-- the device have failed, and so many pages were written back
+abbrev pub bounds : (List ℕ → Weight) → Rest → Given → List (List Tag) → ℕ → ℕ → ℕ → Bounds
+bounds form r g orders faults wrote a = record {
+  reach = reach form r g orders;
+  faults = faults;
+  taken = taken r g wrote;
+  others = sum_by (foreign a) orders;
+}
 
 -- ---- the rest after a phase
 
@@ -189,12 +205,36 @@ pub record LeavesPages (form : List ℕ → Weight) (r : Rest) (g : Given)
       → m.touched p ≡ touched_by (nth_order orders p) r.set.clock (r.touched p)
   pub used : AreUsed r.set.chain (kept_pages form m) m.used
   pub most : IsMost r (reach form r g orders) m.most m.used
-  pub set : m.set ≡ r.set
 
 -- the pages that are on the device and weren't, or were given up by a call of their order
 abbrev pub new_back : Rest → List (List Op) → List (List Tag) → Rest → ℕ
 new_back r actors orders m = count_by
     (λ p. m.back p && not (back_after r actors p (nth_order orders p))) (range_with_len 0 r.size)
+
+-- what a phase that tried so many writes of the device leaves of what is set: they are no longer left
+-- of a limit on writebacks that is on
+abbrev pub set_after : Settings → ℕ → Settings
+set_after s n = record s { budget = if s.budgeted then s.budget - n else s.budget }
+
+-- A phase tried so many writes of the device: a limit on writebacks that is on had as many left, and
+-- none is left where it cut one.
+pub record KeepsBudget (s : Settings) (n cut : ℕ) : Type 0 where
+  pub within : s.budgeted ≡ true → n ≤ s.budget
+  pub whole : 0 < cut → n ≡ s.budget
+
+-- Blocks of their own have the bytes of the pages that are on the device.
+pub record HaveBlocks (r : Rest) (blocks : List (List ℕ)) : Type 0 where
+  pub block : ℕ → ℕ
+  pub apart : (p q : ℕ) → p < r.size → q < r.size → r.back p ≡ true → r.back q ≡ true
+      → block p ≡ block q → p ≡ q
+  pub bytes : (p : ℕ) → p < r.size → r.back p ≡ true
+      → slice_get blocks (block p) ≡ Some (page_bytes r.holds p)
+
+-- where the device is honest and tells the bytes of its blocks, the pages that are there have blocks
+-- of their own
+abbrev pub IsOnDevice : Rest → Type 0
+IsOnDevice r = (blocks : List (List ℕ)) → IsHonestDevice r.device
+    → r.device.contents ≡ Some blocks → HaveBlocks r blocks
 
 -- The rest that a phase with these ends and orders leaves.
 pub record Leaves (form : List ℕ → Weight) (r : Rest) (g : Given)
@@ -205,6 +245,9 @@ pub record Leaves (form : List ℕ → Weight) (r : Rest) (g : Given)
       (ends_sum written g.actors ends)
   -- the pages that are new on the device are at most those that were written back
   pub few_back : new_back r g.actors orders m ≤ ends_sum left_back g.actors ends
+  pub on_device : IsOnDevice m
+  pub budget : KeepsBudget r.set (ends_sum tried g.actors ends) (ends_sum cut_short g.actors ends)
+  pub set : m.set ≡ set_after r.set (ends_sum tried g.actors ends)
 
 -- ---- phases
 
@@ -217,7 +260,8 @@ pub record IsPhase (form : List ℕ → Weight) (r : Rest) (actors : List (List 
   pub finds : ℕ → Finds
   pub held : FindsHeld r actors orders finds
   pub may : MayEndEach (phase_ground form r actors)
-      (bounds form r (begun r actors finds) orders m.device.faults) 0 actors ends
+      (bounds form r (begun r actors finds) orders m.device.faults (ends_sum left_back actors ends)) 0
+      actors ends
   -- no two lines tell the same count of faults
   pub faults_differ : (f : ℕ) → ends_sum (tells_fault f) actors ends ≤ 1
   pub every_page : length orders ≡ r.size

@@ -42,12 +42,15 @@ nothing_yet = record {
 }
 
 -- What a job has set: the limit in frames, where 0 is none, the clock in seconds, the most frames of
--- a chain, and how many blocks of the backing device are used, where 0 is none.
+-- a chain, how many blocks of the backing device are used, where 0 is none, how many writes the limit
+-- on writebacks has left, and whether that limit is on.
 pub record Settings : Type 0 where
   pub limit : ℕ
   pub clock : ℕ
   pub chain : ℕ
   pub backing : ℕ
+  pub budget : ℕ
+  pub budgeted : Bool
 
 -- A disk between two items of a job: its pages, none before its size is given; what each sector
 -- holds; which pages are blank; which are on the backing device; which are marked idle; when each was

@@ -126,7 +126,11 @@ pub(crate) fn unpin<D: Backing, H: Hand<Value = DiskHeld<D>>>(
     (WritebackStage::Marking(x, entry), Progress::Moved)
 }
 
-/// Marks the page with the block, and gives its slot.
+/// Marks the page with the block, and gives its slot. From here on other actors' calls may come to
+/// the page. Each that is carried out removes the mark (`Entry::accessed`), and `land` looks whether
+/// this very mark still stands before the page is given up. By a mark without its block an old page
+/// would be committed: examples/race_writeback_new_page.job draws the shortest interleaving with a
+/// discard that does.
 pub(crate) fn mark<D: Backing, H: Hand<Value = DiskHeld<D>>>(
     head: WritebackHead,
     x: Trip,

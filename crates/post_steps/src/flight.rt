@@ -120,8 +120,11 @@ fn landed<D: Backing>(x: Trip, end: Option<PieceEnd>, entry: Entry) -> Writeback
     }
 }
 
-/// Takes the page's slot again. Where another actor's call came to the page since it was given, that call
-/// removed the mark (`Entry::accessed`); or the page may have been given up, and the block with it.
+/// Takes the page's slot again, which `mark` gave with the mark of the block. A call that was carried
+/// out on the page since then removed that mark (`Entry::accessed`), and another writeback may have
+/// marked the page anew. So the block is compared, which is held all the time and has no other mark,
+/// and not only whether there is a mark: examples/race_writeback_new_page.job draws the shortest
+/// interleaving with a discard for which it matters.
 pub(crate) fn land<D: Backing, H: Hand<Value = DiskHeld<D>>>(
     head: WritebackHead,
     x: Trip,

@@ -77,7 +77,9 @@ impl Entry {
         self.kept = kept;
     }
 
-    /// Notes an access at this time, which removes both marks.
+    /// Notes an access at this time, which removes both marks. A writeback that has marked the page
+    /// (`mark` of post_steps) looks for its mark when it comes back (`land`), and leaves the page where
+    /// that is gone: examples/race_writeback_new_page.job.
     pub fn accessed(&mut self, now: u64)
         ensures { self.new ≡ touched_at now self.old }
     {

@@ -6,6 +6,7 @@ use Rattle.zr_base.specs.declared.op.Tag.{Tag}
 use Rattle.zr_base.specs.declared.op.Op.{Op}
 use Rattle.zr_base.specs.declared.op.Op.TheVariants.{Write, Read, Discard, Idle, Writeback, Compact}
 use Rattle.zr_base.specs.Plain.{Look, Finds, PageCalls, content, named, has_whole, sector_after, sector_after_named, zero_sector, IsRequest, IsSector}
+use Rattle.mem_account.specs.Counters.{Counters}
 use Rattle.plain_disk.specs.Calls.{Found, after, after_all, blank_by}
 use Rattle.plain_disk.specs.Phases.{calls_on, held_after}
 use Rattle.actor_steps.specs.Places.{IsWork}
@@ -73,6 +74,22 @@ proper_finding g finds proper right = record {
   before = proper.before;
   puts = proper.puts;
   finds = right;
+  least = proper.least;
+  most = proper.most;
+  few = proper.few;
+  pieces = proper.pieces;
+}
+
+-- and so it is at another account, or another limit on writebacks
+pub proper_so : (g : Begin) (c : Counters) (n : ℕ) (on tight : Bool) → Proper g
+    → Proper (record g { was = c; budget = n; budgeted = on; tight = tight })
+proper_so g c n on tight proper = record {
+  some = proper.some;
+  times = proper.times;
+  blanks = proper.blanks;
+  before = proper.before;
+  puts = proper.puts;
+  finds = record { sectors = proper.finds.sectors; honest = proper.finds.honest };
   least = proper.least;
   most = proper.most;
   few = proper.few;

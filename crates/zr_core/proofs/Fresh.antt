@@ -17,7 +17,7 @@ use Rattle.joint_rule.specs.Begins.{Begin, Proper}
 use Rattle.joint_rule.specs.Laws.{NewIsAtRest, RequestsAreProper}
 use Rattle.joint_rule.specs.Starts.{AreFree, IsNew}
 use Rattle.zr_core.specs.Machines.{order_in, without_calls, without_orders}
-use Rattle.zr_core.specs.Rests.{slots_of, classes_of, last_locks, names_of, IsTime, RestsAs, IsAtRest, new_disk}
+use Rattle.zr_core.specs.Rests.{slots_of, classes_of, last_locks, names_of, IsTime, RestsAs, IsAtRest, new_disk, with_map}
 use Rattle.zr_core.specs.Rows.{AreNew}
 use Rattle.zr_core.proofs.Lists.{get_left, get_right, get_else}
 use Rattle.zr_core.proofs.Matches.{Row, was_at, emptied_long, emptied_at}
@@ -174,9 +174,10 @@ zero_is = (
       let e = get_or-replicate 512 k zero d (omega arith) in omega arith,
 )
 
-new_proper : RequestsAreProper → (pages limit : ℕ) (device : DeviceState) → pages ≤ MOST_PAGES
-    → Proper (new_disk pages limit device)
-new_proper law pages limit device most = law (new_disk pages limit device) (λ tag op e. absurd (cc))
+new_proper : RequestsAreProper → (pages limit : ℕ) (device : DeviceState) (x : BlockMap)
+    → pages ≤ MOST_PAGES → Proper (with_map (new_disk pages limit device) x)
+new_proper law pages limit device x most =
+    law (with_map (new_disk pages limit device) x) (λ tag op e. absurd (cc))
     (record { sectors = λ p t s old ok. ok; honest = λ yes p t s old. refl })
     (λ s. zero_is) (λ p k lt e. refl) (λ p lt. omega arith) record {
       some = λ lt. absurd (let none : ⊥ = omega arith in none);
@@ -187,11 +188,10 @@ new_proper law pages limit device most = law (new_disk pages limit device) (λ t
     }
 
 -- its pages were touched at no time after the first
-pub new_time : (pages limit now : ℕ) (device : DeviceState) (cells : Row)
-    → RestsAs (new_disk pages limit device) pages cells → IsTime now cells
-new_time pages limit now device cells rests p e at =
-    let touched = (fits_so (new_disk pages limit device) pages cells rests p e at).touched in
-    omega arith
+pub new_time : (g : Begin) (pages now : ℕ) (cells : Row) → ((p : ℕ) → g.touched p ≡ 0)
+    → RestsAs g pages cells → IsTime now cells
+new_time g pages now cells never rests p e at =
+    let touched = (fits_so g pages cells rests p e at).touched in let none = never p in omega arith
 
 without_new : (g : Begin) (k : ℕ) (v : DiskHeld) → IsNew g k v → IsNew g k (without_calls v)
 without_new g k (holds.Slot e) is =
@@ -201,10 +201,10 @@ without_new g k (holds.Account c) is = is
 without_new g k (holds.Blocks x) is = is
 without_new g k (holds.Device x) is = is
 
-module _ (pages limit : ℕ) (device : DeviceState) (cells : Row)
+module _ (pages limit : ℕ) (device : DeviceState) (x : BlockMap) (cells : Row)
     (are : AreNew (new_disk pages limit device) (pages + 258) cells) where
   abbrev g : Begin
-  g = new_disk pages limit device
+  g = with_map (new_disk pages limit device) x
 
   new_each : (k : ℕ) (v : DiskHeld) → slice_get (without_orders cells) k ≡ Some (Some v)
       → IsNew g k v
@@ -218,14 +218,14 @@ module _ (pages limit : ℕ) (device : DeviceState) (cells : Row)
   pub new_rests : 1 ≤ pages → pages ≤ MOST_PAGES
       → slice_get cells (pages + 255) ≡ Some (Some (holds.Account g.was))
       → slice_get cells (pages + 257) ≡ Some (Some (holds.Device device))
-      → NewIsAtRest → RequestsAreProper → RestsAs g pages cells
-  new_rests some most account at rest law = record {
+      → slice_get cells (pages + 256) ≡ Some (Some (holds.Blocks x)) → NewIsAtRest → RequestsAreProper → RestsAs g pages cells
+  new_rests some most account at map rest law = record {
     size = refl;
     some = some;
     most = most;
     none = refl;
     chain = refl;
-    proper = new_proper law pages limit device most;
+    proper = new_proper law pages limit device x most;
     row = rest g (without_orders cells) (let a = emptied_long cells in let s = are.size in omega arith)
         (λ k lt.
         let x = are.each k (let a = emptied_long cells in let s = are.size in omega arith) in
@@ -233,6 +233,7 @@ module _ (pages limit : ℕ) (device : DeviceState) (cells : Row)
     marks = λ k e at. (new_each k (holds.Slot e) at).4;
     account = account;
     device = at;
+    map = (x, map, record { blocks = refl; budget = refl; budgeted = refl });
   }
 
   order_none : (k : ℕ) (v : DiskHeld) → IsNew g k v → order_in (Some v) ≡ []

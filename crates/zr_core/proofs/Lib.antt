@@ -9,6 +9,7 @@ pub mod Fewer
 pub mod Runs
 pub mod Shown
 pub mod Matches
+pub mod Maps
 pub mod Blanks
 pub mod Rests
 pub mod Counts

@@ -4,7 +4,6 @@ use Rattle.std.specs.BTreeMap.{BTreeMap}
 use Rattle.std.specs.List.{AllByRecursion}
 use mathlib.Core.Logic.{dite}
 use native.Mathlib.Decide.{ℕ_discrete}
-use Rattle.std.proofs.lemmas.Option.{slice_get_within}
 use Rattle.std.proofs.lemmas.List.{length-map}
 use Rattle.std.proofs.lemmas.Bool.{cases_Bool, cases_lt}
 use Rattle.zr_base.specs.declared.op.Op.{Op}
@@ -35,7 +34,6 @@ use Rattle.zr_core.specs.States.{heres, Playing, state_of, AreKept, IsOf, IsPrep
 use Rattle.zr_core.proofs.Blanks.{begins_proper}
 use Rattle.zr_core.proofs.Counts.{pieces_few}
 use Rattle.zr_core.proofs.Ended.{each_same}
-use Rattle.zr_core.proofs.Lists.{there_is}
 use Rattle.zr_core.proofs.Matches.{Row, emptied_at, order_is}
 use Rattle.zr_core.proofs.Noted.{was_in, wasn_t_in, or_false}
 use Rattle.zr_core.proofs.Rests.{rests_on, entry_known, begins}

@@ -19,18 +19,19 @@ use Rattle.slot_entry.specs.Entries.{EntryState, is_wb}
 use Rattle.page_steps.specs.Pages.{new_class}
 use Rattle.page_steps.specs.Steps.{DiskHeld, class_by, entry_in, plan_by}
 use Rattle.joint_rule.specs.Begins.{Begin, finding, found_after, back_at, pieces_each, AreCarried, Proper}
-use Rattle.joint_rule.specs.Ends.{back_in, idle_in, device_in}
+use Rattle.joint_rule.specs.Ends.{back_in, idle_in, device_in, budget_in}
 use Rattle.joint_rule.specs.Joint.{EntryFits, Sound}
 use Rattle.joint_rule.specs.Laws.{RestGoesOn, FinishedIsAtRest, RequestsAreProper}
 use Rattle.joint_rule.specs.Rule.{Rule, owed}
 use Rattle.joint_rule.specs.Stages.{IsBack}
-use Rattle.joint_rule.specs.Starts.{AtRest, Renewed, slots, accounts, pools, maps, devices, IsStart}
+use Rattle.joint_rule.specs.Starts.{AtRest, IsMapOf, Renewed, slots, accounts, pools, maps, devices, IsStart}
 use Rattle.zr_core.specs.Machines.{AllFinished, order_in, order_at, without_calls, without_orders, IsKept, KeepsValues, IsSetUp}
 use Rattle.zr_core.specs.declared.limits.TheConstants.{MOST_CHAIN}
 use Rattle.zr_core.specs.Noted.{HasAllOrders}
-use Rattle.zr_core.specs.Rests.{HasEntries, RestsAs, IsAtRest, begun, with_account, left, touched_in, account_in, account_of}
+use Rattle.zr_core.specs.Rests.{HasEntries, RestsAs, IsAtRest, begun, with_account, with_budget, left, touched_in, account_in, account_of}
 use Rattle.zr_core.proofs.Lists.{get_here, get_else}
-use Rattle.zr_core.proofs.Blanks.{leaves_proper, proper_finding}
+use Rattle.zr_core.proofs.Blanks.{leaves_proper, proper_finding, proper_so}
+use Rattle.zr_core.proofs.Maps.{blocks_kept, limit_kept}
 use Rattle.zr_core.proofs.Matches.{Row, IsWhole, matched, emptied_long, emptied_at, was_at, was_whole, rows_same, order_is}
 
 -- ---- values by their places
@@ -168,13 +169,6 @@ entry_was (holds.Account c) e is = absurd (cc)
 entry_was (holds.Blocks x) e is = absurd (cc)
 entry_was (holds.Device x) e is = absurd (cc)
 
-blocks_was : (v : DiskHeld) (x : BlockMap) → without_calls v ≡ holds.Blocks x → v ≡ holds.Blocks x
-blocks_was (holds.Slot f) x is = absurd (cc)
-blocks_was (holds.Class q) x is = absurd (cc)
-blocks_was (holds.Account c) x is = absurd (cc)
-blocks_was (holds.Blocks y) x is = is
-blocks_was (holds.Device y) x is = absurd (cc)
-
 module _ (g : Begin) (pages : ℕ) (cells : Row) (rests : RestsAs g pages cells) where
   pub rests_long : length cells ≡ pages + 258
   rests_long = let a = emptied_long cells in let b = rests.row.size in let c = rests.size in
@@ -206,17 +200,6 @@ module _ (g : Begin) (pages : ℕ) (cells : Row) (rests : RestsAs g pages cells)
       × (e.touched ≡ g.touched p)
   entry_known p lt = let e = rests_entries.each p lt in (e.0, e.1, (fits_so p e.0 e.1).touched)
 
-  -- the map of blocks is at home
-  pub rests_blocks : (x : BlockMap)
-      × (slice_get cells (pages + 256) ≡ Some (Some (holds.Blocks x)))
-  rests_blocks =
-      let b = blocks_there g (without_orders cells) rests.row in
-      let v = was_at cells (g.given.size + 256) (holds.Blocks b.0) b.1 in (
-        b.0,
-        ap (λ (n : ℕ). slice_get cells (n + 256)) (sym rests.size) ∙ v.1
-            ∙ ap (λ (u : DiskHeld). Some (Some u)) (blocks_was v.0 b.0 v.2),
-      )
-
   pub at_rest : (noted : List ℕ) → HasAllOrders pages noted cells → IsAtRest pages noted cells
   at_rest noted orders = record {
     entries = rests_entries;
@@ -229,7 +212,8 @@ module _ (g : Begin) (pages : ℕ) (cells : Row) (rests : RestsAs g pages cells)
   rests_on after keeps =
       let same = rows_same cells after rests_whole keeps in
       let a = keeps.each (pages + 255) (holds.Account g.was) rests.account in
-      let d = keeps.each (pages + 257) (holds.Device g.device) rests.device in record {
+      let d = keeps.each (pages + 257) (holds.Device g.device) rests.device in
+      let m = keeps.each (pages + 256) (holds.Blocks rests.map.0) rests.map.1 in record {
         size = rests.size;
         some = rests.some;
         most = rests.most;
@@ -241,6 +225,11 @@ module _ (g : Begin) (pages : ℕ) (cells : Row) (rests : RestsAs g pages cells)
             (sym (ap (λ (row : Row). slice_get row k) same) ∙ at);
         account = a.1 ∙ ap (λ (u : DiskHeld). Some (Some u)) a.2;
         device = d.1 ∙ ap (λ (u : DiskHeld). Some (Some u)) d.2;
+        map = (
+          rests.map.0,
+          m.1 ∙ ap (λ (u : DiskHeld). Some (Some u)) m.2,
+          rests.map.2,
+        );
       }
 
   -- ---- what goes on from here
@@ -357,6 +346,19 @@ module _ (g : Begin) (pages : ℕ) (cells : Row) (rests : RestsAs g pages cells)
         ∙ ap (slice_get w.row) e
         ∙ u.1 ∙ ap (λ (x : DiskHeld). Some (Some x)) u.2 in cc
 
+    -- and the map of blocks
+    map_is : (k : ℕ) (x : BlockMap) → slice_get w.row k ≡ Some (Some (holds.Blocks x))
+        → IsMapOf new x
+    map_is k x at =
+        let is : k ≡ g.given.size + 256 = (begins_rest.home k (holds.Blocks x) at).sound in
+        let u = up.row.each (pages + 256) (holds.Blocks rests.map.0) rests.map.1 in
+        let e : k ≡ pages + 256 = (let s = rests.size in omega arith) in
+        let q : Some (Some (holds.Blocks rests.map.0)) ≡ Some (Some (holds.Blocks x)) =
+        ap (λ (y : DiskHeld). Some (Some y)) (sym u.2) ∙ sym u.1 ∙ ap (slice_get w.row) (sym e) ∙ at in
+        let same : rests.map.0 ≡ x = cc in
+        let m = rests.map.2 in
+        subst (IsMapOf new) same (record { blocks = m.blocks; budget = m.budget; budgeted = m.budgeted })
+
     -- the row that is set up is at rest too
     set_up_rests : RestsAs g pages w.row
     set_up_rests = rests_on w.row up.row
@@ -376,6 +378,7 @@ module _ (g : Begin) (pages : ℕ) (cells : Row) (rests : RestsAs g pages cells)
           (emptied_at w.row k (Some (holds.Slot e)) at)).backs);
       account = account_is;
       device = device_is;
+      map = map_is;
       actors = λ a l at. let b = up.begin a l at in record {
         who = b.who;
         ops = b.ops;
@@ -455,21 +458,7 @@ module _ (g : Begin) (pages : ℕ) (cells : Row) (rests : RestsAs g pages cells)
       most = rests.most;
       none = rests.none;
       chain = rests.chain;
-      proper = record {
-        some = rests.proper.some;
-        times = rests.proper.times;
-        blanks = rests.proper.blanks;
-        before = rests.proper.before;
-        puts = rests.proper.puts;
-        finds = record {
-          sectors = rests.proper.finds.sectors;
-          honest = rests.proper.finds.honest;
-        };
-        least = rests.proper.least;
-        most = rests.proper.most;
-        few = rests.proper.few;
-        pieces = rests.proper.pieces;
-      };
+      proper = proper_so g d g.budget g.budgeted false rests.proper;
       row = goes_on (with_account g d) refl refl (λ j. refl) (λ p. refl) (λ p. refl) (λ p. refl) refl
           (λ s. refl) next (without_orders after)
           (set_long (pages + 255) (holds.Account g.was) (holds.Account d) rests.account goes after is)
@@ -481,33 +470,50 @@ module _ (g : Begin) (pages : ℕ) (cells : Row) (rests : RestsAs g pages cells)
       device =
           set_else (pages + 255) (holds.Account g.was) (holds.Account d) rests.account goes after is
           (pages + 257) (λ e. let none : ⊥ = omega arith in none) ∙ rests.device;
+      map = let m = rests.map.2 in (
+        rests.map.0,
+        set_else (pages + 255) (holds.Account g.was) (holds.Account d) rests.account goes after is
+            (pages + 256) (λ e. let none : ⊥ = omega arith in none) ∙ rests.map.1,
+        record { blocks = m.blocks; budget = m.budget; budgeted = m.budgeted },
+      );
     }
 
-  -- another budget of the map of blocks
-  module _ (x y : BlockMap) (there : slice_get cells (pages + 256) ≡ Some (Some (holds.Blocks x)))
-      (same : y.states ≡ x.states) (next : RestGoesOn) (after : Row)
-      (is : after ≡ slice_set cells (pages + 256) (Some (holds.Blocks y))) where
-    maps_go : IsNext (holds.Blocks x) (holds.Blocks y)
-    maps_go = (y, refl, same)
+  -- another limit on writebacks, in the map of blocks
+  module _ (budget : ℕ) (on : Bool) (next : RestGoesOn) (after : Row)
+      (is : after ≡ slice_set cells (pages + 256)
+      (Some (holds.Blocks (record rests.map.0 { budget = budget; enabled = on })))) where
+    abbrev x : BlockMap
+    x = rests.map.0
 
-    pub mapped : RestsAs g pages after
+    abbrev y : BlockMap
+    y = record x { budget = budget; enabled = on }
+
+    maps_go : IsNext (holds.Blocks x) (holds.Blocks y)
+    maps_go = (y, refl, refl)
+
+    pub mapped : RestsAs (with_budget g budget on) pages after
     mapped = record {
       size = rests.size;
       some = rests.some;
       most = rests.most;
       none = rests.none;
       chain = rests.chain;
-      proper = rests.proper;
-      row = goes_on g refl refl (λ j. refl) (λ p. refl) (λ p. refl) (λ p. refl) refl (λ s. refl) next
-          (without_orders after)
-          (set_long (pages + 256) (holds.Blocks x) (holds.Blocks y) there maps_go after is)
-          (set_each (pages + 256) (holds.Blocks x) (holds.Blocks y) there maps_go after is);
-      marks = set_marks (pages + 256) (holds.Blocks x) (holds.Blocks y) there maps_go after is
+      proper = proper_so g g.was budget on g.tight rests.proper;
+      row = goes_on (with_budget g budget on) refl refl (λ j. refl) (λ p. refl) (λ p. refl) (λ p. refl)
+          refl (λ s. refl) next (without_orders after)
+          (set_long (pages + 256) (holds.Blocks x) (holds.Blocks y) rests.map.1 maps_go after is)
+          (set_each (pages + 256) (holds.Blocks x) (holds.Blocks y) rests.map.1 maps_go after is);
+      marks = set_marks (pages + 256) (holds.Blocks x) (holds.Blocks y) rests.map.1 maps_go after is
           (λ e q. cc);
-      account = set_else (pages + 256) (holds.Blocks x) (holds.Blocks y) there maps_go after is
+      account = set_else (pages + 256) (holds.Blocks x) (holds.Blocks y) rests.map.1 maps_go after is
           (pages + 255) (λ e. let none : ⊥ = omega arith in none) ∙ rests.account;
-      device = set_else (pages + 256) (holds.Blocks x) (holds.Blocks y) there maps_go after is
+      device = set_else (pages + 256) (holds.Blocks x) (holds.Blocks y) rests.map.1 maps_go after is
           (pages + 257) (λ e. let none : ⊥ = omega arith in none) ∙ rests.device;
+      map = (
+        y,
+        set_at (pages + 256) (holds.Blocks x) (holds.Blocks y) rests.map.1 maps_go after is,
+        record { blocks = rests.map.2.blocks; budget = refl; budgeted = refl },
+      );
     }
 
 -- the account of a disk with pages
@@ -596,7 +602,8 @@ module _ (g : Begin) (w : State DiskHeld) (proper : Proper g) (rule : Rule g w)
   pub left_rests : RestsAs gone g.given.size w.row
   left_rests =
       let a = account_there gf w.row ends in
-      let d = device_there gf w.row ends in record {
+      let d = device_there gf w.row ends in
+      let m = blocks_there gf w.row ends in record {
         size = refl;
         some = some;
         most = most;
@@ -616,6 +623,16 @@ module _ (g : Begin) (w : State DiskHeld) (proper : Proper g) (rule : Rule g w)
             (get_or_from_slice_get w.row (g.given.size + 255) (Some (holds.Account a.0)) None a.1)));
         device = d.1 ∙ ap (λ (x : DeviceState). Some (Some (holds.Device x)))
             (sym (gone_device d.0 d.1));
+        map = (
+          m.0,
+          m.1,
+          record {
+            blocks = blocks_kept gf w rule.ruled finished ends m.0 m.1;
+            budget = sym (ap (budget_in g.budget)
+                (get_or_from_slice_get w.row (g.given.size + 256) (Some (holds.Blocks m.0)) None m.1));
+            budgeted = limit_kept gf w rule.ruled finished ends m.0 m.1;
+          },
+        );
       }
 
   -- a page on which no piece has events has no order

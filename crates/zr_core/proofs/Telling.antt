@@ -1,5 +1,5 @@
 -- What is told of a disk between two phases.
-use Rattle.std.proofs.Common.{◌≡◌, ℕ, zero, suc, ◌+◌, ◌<◌, ◌≤◌, Bool, cond, List, [], ◌∷◌, get_or, Option, Some, None, slice_get, slice_set, refl, sym, ap, ◌∙◌, arith, ⊎_elim}
+use Rattle.std.proofs.Common.{◌≡◌, ℕ, zero, suc, ◌+◌, ◌<◌, ◌≤◌, Bool, cond, List, get_or, Option, Some, None, slice_get, slice_set, refl, sym, ap, ◌∙◌, subst, arith, ⊎_elim}
 use Rattle.std.proofs.lemmas.Bool.{lt-ltb}
 use Rattle.std.proofs.lemmas.Option.{get_or_from_slice_get}
 use Rattle.mem_account.specs.Counters.{Counters, no_counts}
@@ -14,14 +14,15 @@ use Rattle.page_steps.specs.Steps.{DiskHeld}
 use Rattle.joint_rule.specs.Begins.{Begin}
 use Rattle.joint_rule.specs.Ends.{device_in, device_of}
 use Rattle.joint_rule.specs.Laws.{RestGoesOn}
+use Rattle.joint_rule.specs.Starts.{IsMapOf}
 use Rattle.zr_core.specs.declared.spare.Spare.{Spare}
 use Rattle.zr_core.specs.Noted.{HasAllOrders}
-use Rattle.zr_core.specs.Rests.{names_of, account_in, account_of, pool_in, pool_of, blocks_in, device_by, IsAtRest, RestsAs, with_account}
+use Rattle.zr_core.specs.Rests.{names_of, account_in, account_of, pool_in, pool_of, blocks_in, IsEarly, device_by, blocks_by, IsAtRest, RestsAs, with_account, with_budget}
 use Rattle.zr_core.proofs.Lists.{get_here, get_else}
 use Rattle.zr_core.proofs.Matches.{Row, order_is}
 use Rattle.zr_core.proofs.Names.{cell_at}
-use Rattle.zr_core.proofs.Rests.{account_some, at_rest, rests_blocks, changed, mapped}
-use Rattle.zr_core.proofs.Spares.{home_is, device_same}
+use Rattle.zr_core.proofs.Rests.{account_some, at_rest, changed, mapped}
+use Rattle.zr_core.proofs.Spares.{home_is, device_same, no_pages}
 
 -- ---- the account, the pools and the device
 
@@ -66,6 +67,14 @@ pub blocks_told : (pages : ℕ) (cells : Row) (x : BlockMap)
 blocks_told pages cells x at =
     ap blocks_in (get_or_from_slice_get cells (pages + 256) (Some (holds.Blocks x)) None at)
 
+-- the map that a disk tells is that of its phases
+pub map_known : {D : Type 0} (g : Begin) (pages : ℕ) (cells : Row) (s : Option (Spare D))
+    → IsEarly pages s → RestsAs g pages cells → IsMapOf g (blocks_by s pages cells)
+map_known g pages cells None early rests = subst (IsMapOf g)
+    (sym (blocks_told pages cells rests.map.0 rests.map.1)) rests.map.2
+map_known g pages cells (Some s) early rests = absurd (let none = (no_pages pages (Some s) s early refl).0 in
+    let some = rests.some in let no : ⊥ = omega arith in no)
+
 module _ (pages : ℕ) (noted : List ℕ) (cells : Row) (rest : IsAtRest pages noted cells) where
   -- a disk with pages has its account at home
   pub account_home : 1 ≤ pages
@@ -79,7 +88,7 @@ module _ (pages : ℕ) (noted : List ℕ) (cells : Row) (rest : IsAtRest pages n
       → (x : BlockMap) × (slice_get cells (pages + 256) ≡ Some (Some (holds.Blocks x)))
   blocks_home some = ⊎_elim
       (λ bare. absurd (let e = bare.0 in let none : ⊥ = omega arith in none))
-      (λ r. rests_blocks r.0 pages cells r.1) rest.rests
+      (λ r. (r.1.map.0, r.1.map.1)) rest.rests
 
   pub device_home : 1 ≤ pages
       → (d : DeviceState) × (slice_get cells (pages + 257) ≡ Some (Some (holds.Device d)))
@@ -139,17 +148,15 @@ module _ (pages : ℕ) (noted : List ℕ) (cells : Row) (rest : IsAtRest pages n
       (set : (x : BlockMap) → slice_get cells (pages + 256) ≡ Some (Some (holds.Blocks x))
       → after ≡ slice_set cells (pages + 256)
       (Some (holds.Blocks (record x { budget = budget; enabled = on })))) where
-    pub map_as : (g : Begin) → RestsAs g pages cells → RestsAs g pages after
+    pub map_as : (g : Begin) → RestsAs g pages cells → RestsAs (with_budget g budget on) pages after
     map_as g rests =
-        let b = rests_blocks g pages cells rests in
-        mapped g pages cells rests b.0 (record b.0 { budget = budget; enabled = on }) b.1 refl next
-        after (set b.0 b.1)
+        mapped g pages cells rests budget on next after (set rests.map.0 rests.map.1)
 
     pub map_rests : 1 ≤ pages → IsAtRest pages noted after
     map_rests some =
         let b = blocks_home some in ⊎_elim
         (λ bare. absurd (let e = bare.0 in let none : ⊥ = omega arith in none))
-        (λ r. at_rest r.0 pages after (map_as r.0 r.1) noted
+        (λ r. at_rest (with_budget r.0 budget on) pages after (map_as r.0 r.1) noted
         (orders_too (pages + 256) _ after (omega arith) (set b.0 b.1))) rest.rests
 
     pub map_device : {D : Type 0} (s : Option (Spare D)) → 1 ≤ pages

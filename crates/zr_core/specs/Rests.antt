@@ -14,8 +14,8 @@ use Rattle.lock_row.specs.declared.names.Held.TheVariants as holds
 use Rattle.slot_entry.specs.Entries.{EntryState}
 use Rattle.page_steps.specs.Steps.{DiskHeld, slot}
 use Rattle.joint_rule.specs.Begins.{Begin, found_after, Proper}
-use Rattle.joint_rule.specs.Starts.{AtRest, AreFree}
-use Rattle.joint_rule.specs.Ends.{back_in, idle_in, device_of}
+use Rattle.joint_rule.specs.Starts.{AtRest, IsMapOf, AreFree}
+use Rattle.joint_rule.specs.Ends.{back_in, idle_in, device_of, budget_in}
 use Rattle.zr_base.specs.declared.limits.TheConstants.{MOST_PAGES}
 use Rattle.zr_core.specs.declared.limits.TheConstants.{MOST_CHAIN}
 use Rattle.zr_core.specs.declared.spare.Spare.{Spare}
@@ -127,7 +127,7 @@ blocks_by (Some s) pages cells = s.blocks
 -- ---- between two phases
 
 -- Each value is at home, and these are the disk's pages and marks as the phases so far left them, with
--- every order taken as empty, the account and the device.
+-- every order taken as empty, the account, the device and the map of blocks.
 pub record RestsAs (g : Begin) (pages : ℕ) (cells : List (Option DiskHeld)) : Type 0 where
   pub size : g.given.size ≡ pages
   pub some : 1 ≤ pages
@@ -140,6 +140,8 @@ pub record RestsAs (g : Begin) (pages : ℕ) (cells : List (Option DiskHeld)) : 
       → slice_get (without_orders cells) k ≡ Some (Some (holds.Slot e)) → e.idle ≡ g.idle k
   pub account : slice_get cells (pages + 255) ≡ Some (Some (holds.Account g.was))
   pub device : slice_get cells (pages + 257) ≡ Some (Some (holds.Device g.device))
+  pub map : (x : BlockMap) × (slice_get cells (pages + 256) ≡ Some (Some (holds.Blocks x)))
+      × IsMapOf g x
 
 -- no page was touched after this time
 abbrev pub IsTime : ℕ → List (Option DiskHeld) → Type 0
@@ -164,8 +166,8 @@ pub record IsAtRest (pages : ℕ) (noted : List ℕ) (cells : List (Option DiskH
 
 -- ---- what a phase begins with
 
--- a new disk: zeros, nothing written, the limit, and the device; without actors nothing goes by whether
--- it has a backing
+-- a new disk: zeros, nothing written, the limit, and the device, of which no block is used; without
+-- actors nothing goes by whether it has a backing
 abbrev pub new_disk : ℕ → ℕ → DeviceState → Begin
 new_disk pages limit device = record {
   given = record {
@@ -183,8 +185,15 @@ new_disk pages limit device = record {
   clock = 0;
   was = record no_counts { limit = limit };
   device = device;
+  blocks = 0;
+  budget = 0;
+  budgeted = false;
   tight = false;
 }
+
+-- the disk with this map of blocks
+abbrev pub with_map : Begin → BlockMap → Begin
+with_map g x = record g { blocks = length x.states; budget = x.budget; budgeted = x.enabled }
 
 -- the disk with another account
 abbrev pub with_account : Begin → Counters → Begin
@@ -198,8 +207,15 @@ with_account g c = record {
   clock = g.clock;
   was = c;
   device = g.device;
+  blocks = g.blocks;
+  budget = g.budget;
+  budgeted = g.budgeted;
   tight = false;
 }
+
+-- the disk with another number of writes that are left, where the limit on writebacks is on or off
+abbrev pub with_budget : Begin → ℕ → Bool → Begin
+with_budget g n on = record g { budget = n; budgeted = on }
 
 -- the disk with another limit
 abbrev pub with_limit : Begin → ℕ → Begin
@@ -227,6 +243,9 @@ begun g backed actors now = record {
   clock = now;
   was = g.was;
   device = g.device;
+  blocks = g.blocks;
+  budget = g.budget;
+  budgeted = g.budgeted;
   tight = false;
 }
 
@@ -257,5 +276,8 @@ left g row = record {
   clock = g.clock;
   was = account_of g.was.limit g.given.size row;
   device = device_of g.device g.given.size row;
+  blocks = g.blocks;
+  budget = budget_in g.budget (get_or row (g.given.size + 256) None);
+  budgeted = g.budgeted;
   tight = false;
 }

@@ -7,7 +7,7 @@ ghost use Rattle.mem_account.specs.Counters.{Counters};
 ghost use Rattle.block_map.specs.BlockMap.{BlockMap};
 ghost use Rattle.lock_row.specs.declared.names.Held.TheVariants as holds;
 ghost use Rattle.joint_rule.specs.Begins.{Begin};
-ghost use Rattle.zr_core.specs.Rests.{names_by, no_blocks, IsEarly, device_by, blocks_by, IsAtRest, RestsAs, new_disk, with_limit, with_lowered};
+ghost use Rattle.zr_core.specs.Rests.{names_by, no_blocks, IsEarly, device_by, blocks_by, IsAtRest, RestsAs, new_disk, with_limit, with_lowered, with_budget, with_map};
 ghost use Rattle.zr_core.specs.Rows.{AreNew};
 
 use crate::row::{
@@ -88,8 +88,9 @@ impl<D: Backing> World<D> {
         ensures backed { self.new.backed ≡ self.old.backed }
         ensures values { OnOk result (AreNew (new_disk pages self.old.limit
             (device_by self.old.spare self.old.pages self.old.row.cells)) (pages + 258) self.new.row.cells) }
-        ensures new { OnOk result (RestsAs (new_disk pages self.old.limit
-            (device_by self.old.spare self.old.pages self.old.row.cells)) pages self.new.row.cells) }
+        ensures new { OnOk result (RestsAs (with_map (new_disk pages self.old.limit
+            (device_by self.old.spare self.old.pages self.old.row.cells))
+            (blocks_by self.old.spare self.old.pages self.old.row.cells)) pages self.new.row.cells) }
         ensures device { OnOk result (device_by self.new.spare self.new.pages self.new.row.cells
             ≡ device_by self.old.spare self.old.pages self.old.row.cells) }
         ensures blocks { OnOk result (blocks_by self.new.spare self.new.pages self.new.row.cells
@@ -164,7 +165,7 @@ impl<D: Backing> World<D> {
             (Some (holds.Blocks (record x { budget = budget; enabled = on }))) }
         ensures rest { IsAtRest self.new.pages self.new.noted.items self.new.row.cells }
         ensures rests_as { (g : Begin) → RestsAs g self.old.pages self.old.row.cells
-            → RestsAs g self.new.pages self.new.row.cells }
+            → RestsAs (with_budget g budget on) self.new.pages self.new.row.cells }
     {
         phases_go_on();
         if let Some(spare) = &mut self.spare {
@@ -187,9 +188,16 @@ impl<D: Backing> World<D> {
             ≡ device_by self.old.spare self.old.pages self.old.row.cells }
         ensures blocks { blocks_by self.new.spare self.new.pages self.new.row.cells
             ≡ record (blocks_by self.old.spare self.old.pages self.old.row.cells) { budget = units } }
+        ensures none { self.old.pages ≡ 0 → self.new.row ≡ self.old.row }
+        ensures cells { (x : BlockMap) → slice_get self.old.row.cells (self.old.pages + 256) ≡ Some (Some (holds.Blocks x))
+            → self.new.row.cells ≡ slice_set self.old.row.cells (self.old.pages + 256)
+            (Some (holds.Blocks (record x {
+              budget = units;
+              enabled = (blocks_by self.old.spare self.old.pages self.old.row.cells).enabled;
+            }))) }
         ensures rest { IsAtRest self.new.pages self.new.noted.items self.new.row.cells }
         ensures rests_as { (g : Begin) → RestsAs g self.old.pages self.old.row.cells
-            → RestsAs g self.new.pages self.new.row.cells }
+            → RestsAs (with_budget g units g.budgeted) self.new.pages self.new.row.cells }
     {
         let on = self.blocks().is_enabled();
         self.with_blocks(units, on);
@@ -206,9 +214,16 @@ impl<D: Backing> World<D> {
             ≡ device_by self.old.spare self.old.pages self.old.row.cells }
         ensures blocks { blocks_by self.new.spare self.new.pages self.new.row.cells
             ≡ record (blocks_by self.old.spare self.old.pages self.old.row.cells) { enabled = on } }
+        ensures none { self.old.pages ≡ 0 → self.new.row ≡ self.old.row }
+        ensures cells { (x : BlockMap) → slice_get self.old.row.cells (self.old.pages + 256) ≡ Some (Some (holds.Blocks x))
+            → self.new.row.cells ≡ slice_set self.old.row.cells (self.old.pages + 256)
+            (Some (holds.Blocks (record x {
+              budget = (blocks_by self.old.spare self.old.pages self.old.row.cells).budget;
+              enabled = on;
+            }))) }
         ensures rest { IsAtRest self.new.pages self.new.noted.items self.new.row.cells }
         ensures rests_as { (g : Begin) → RestsAs g self.old.pages self.old.row.cells
-            → RestsAs g self.new.pages self.new.row.cells }
+            → RestsAs (with_budget g g.budget on) self.new.pages self.new.row.cells }
     {
         let budget = self.blocks().budget();
         self.with_blocks(budget, on);

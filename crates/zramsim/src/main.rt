@@ -1,5 +1,6 @@
 //! `zramsim run` reads a job from standard input, runs it over a backing device in memory and writes
-//! its output to standard output. The exit status is the number of the top call's status; where no
+//! its output to standard output. `zramsim gen PAGES SEED` makes a job, and writes the end of its
+//! output. The exit status is the number of the top call's status; where no
 //! memory is found for the words or the device, it is 6.
 #![tactic(auto)]
 

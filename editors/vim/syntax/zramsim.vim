@@ -12,12 +12,15 @@ syntax match zramsimActor /^[ \t]*\zsactor\ze[ \t\r]*\(#.*\)\?$/
 syntax match zramsimRun /^[ \t]*\zsrun\ze[ \t\r]*\(#.*\)\?$/
 syntax match zramsimAttribute /^[ \t]*\zs\(disksize\|mem_limit\)\ze[ \t]/ nextgroup=zramsimSize skipwhite
 syntax match zramsimAttribute /^[ \t]*\zsbacking\ze[ \t]/ nextgroup=zramsimNumber skipwhite
+syntax match zramsimAttribute /^[ \t]*\zswriteback_limit\ze[ \t]/ nextgroup=zramsimNumber skipwhite
+syntax match zramsimAttribute /^[ \t]*\zswriteback_limit_enable\ze[ \t]/ nextgroup=zramsimSwitch skipwhite
 syntax match zramsimAttribute /^[ \t]*\zsmem_used_max\ze[ \t]/ nextgroup=zramsimZero skipwhite
 syntax match zramsimAttribute /^[ \t]*\zsclock\ze[ \t]/ nextgroup=zramsimNumber skipwhite
 syntax match zramsimReport /^[ \t]*\zs\(mm_stat\|io_stat\|bd_stat\|states\|classes\)\ze[ \t\r]*\(#.*\)\?$/
 syntax match zramsimOperation /^[ \t]*\zswrite\ze[ \t]/ nextgroup=zramsimWriteStart skipwhite
 syntax match zramsimOperation /^[ \t]*\zs\(read\|discard\)\ze[ \t]/ nextgroup=zramsimStart skipwhite
 syntax match zramsimOperation /^[ \t]*\zsidle\ze[ \t]/ nextgroup=zramsimAll,zramsimNumber skipwhite
+syntax match zramsimOperation /^[ \t]*\zswriteback\ze[ \t]/ nextgroup=zramsimMode skipwhite
 syntax match zramsimOperation /^[ \t]*\zscompact\ze[ \t\r]*\(#.*\)\?$/
 syntax match zramsimSchedule /^[ \t]*\zsschedule\ze[ \t]/ nextgroup=zramsimTurn skipwhite
 
@@ -25,6 +28,8 @@ syntax match zramsimSchedule /^[ \t]*\zsschedule\ze[ \t]/ nextgroup=zramsimTurn 
 syntax match zramsimSize /\d\+[KMGkmg]\?\ze\([ \t\r#]\|$\)/ contained
 syntax match zramsimNumber /\d\+\ze\([ \t\r#]\|$\)/ contained
 syntax match zramsimAll /all\ze\([ \t\r#]\|$\)/ contained
+syntax match zramsimMode /\(idle\|huge\|huge_idle\)\ze\([ \t\r#]\|$\)/ contained
+syntax match zramsimSwitch /0*[01]\ze\([ \t\r#]\|$\)/ contained
 syntax match zramsimZero /0\+\ze\([ \t\r#]\|$\)/ contained
 syntax match zramsimStart /\d\+\ze[ \t]/ contained nextgroup=zramsimCount skipwhite
 syntax match zramsimCount /\d\+\ze\([ \t\r#]\|$\)/ contained
@@ -53,6 +58,8 @@ highlight default link zramsimHex Type
 highlight default link zramsimSize Number
 highlight default link zramsimNumber Number
 highlight default link zramsimAll Type
+highlight default link zramsimMode Type
+highlight default link zramsimSwitch Number
 highlight default link zramsimZero Number
 highlight default link zramsimStart Number
 highlight default link zramsimCount Number

@@ -25,14 +25,16 @@ returns-then-is_far_half-2-clause-fits c =
 
 pub returns-then-marks_of_halves-ne0-clause-fits : goal.returns-then-marks_of_halves-ne0-clause-fits
 returns-then-marks_of_halves-ne0-clause-fits c =
+    let split = c.part_halves-split in
     sym (ne_eqb _ 0 c.if-marks_of_halves-ne0.true)
-    ∙ near_by_marks c.args.bound (2 ^ 32) c.args.values c.base_of_halves-base.result
-    c.marks_of_halves.result c.deltas_of_halves-deltas.result c.base_of_halves-base.ensures
-    c.deltas_of_halves-deltas.ensures c.marks_of_halves.ensures
+    ∙ near_by_marks c.args.bound (2 ^ 32) c.args.values split.result.base
+    c.marks_of_halves.result split.result.deltas split.ensures.base_is
+    split.ensures.deltas_is c.marks_of_halves.ensures
 
 pub returns-clause-fits : goal.returns-clause-fits
 returns-clause-fits c =
+    let split = c.part_halves-split in
     sym (eq-eqb _ 0 c.if-marks_of_halves-ne0.false)
-    ∙ near_by_marks c.args.bound (2 ^ 32) c.args.values c.base_of_halves-base.result
-    c.marks_of_halves.result c.deltas_of_halves-deltas.result c.base_of_halves-base.ensures
-    c.deltas_of_halves-deltas.ensures c.marks_of_halves.ensures
+    ∙ near_by_marks c.args.bound (2 ^ 32) c.args.values split.result.base
+    c.marks_of_halves.result split.result.deltas split.ensures.base_is
+    split.ensures.deltas_is c.marks_of_halves.ensures

@@ -1,4 +1,4 @@
--- No lane is marked exactly where every word is the first.
+-- No lane is marked exactly where every word is the first, and so is the second then.
 use Rattle.std.proofs.Common.{not, eqb, ap, ◌∙◌, lit≤, arith}
 use Rattle.std.proofs.lemmas.Grind.{get_or_default_zero}
 use Rattle.std.proofs.lemmas.Simd.{bitmask_splat}
@@ -10,6 +10,6 @@ pub returns : goal.returns
 returns c =
     let words = c.args.words in
     ap (λ m. eqb m 0)
-    (bitmask_splat w64 (λ a b. not (eqb a b)) words 8 c.index.result.now c.fits-words.0 (lit≤ tt))
+    (bitmask_splat w64 (λ a b. not (eqb a b)) words 8 c.index-3.result.now c.fits-words.0 (lit≤ tt))
     ∙ ap (λ x. is_all x words)
-    (c.index.ensures ∙ get_or_default_zero words 0 _ (omega (arith, c.fits-words.0)))
+    (c.index-3.ensures ∙ get_or_default_zero words 0 _ (omega (arith, c.fits-words.0)))

@@ -25,14 +25,16 @@ returns-then-is_far_quarter-2-clause-fits c =
 
 pub returns-then-marks_of_quarters-ne0-clause-fits : goal.returns-then-marks_of_quarters-ne0-clause-fits
 returns-then-marks_of_quarters-ne0-clause-fits c =
+    let split = c.part_quarters-split in
     sym (ne_eqb _ 0 c.if-marks_of_quarters-ne0.true)
-    ∙ near_by_marks c.args.bound (2 ^ 16) c.args.values c.base_of_quarters-base.result
-    c.marks_of_quarters.result c.deltas_of_quarters-deltas.result c.base_of_quarters-base.ensures
-    c.deltas_of_quarters-deltas.ensures c.marks_of_quarters.ensures
+    ∙ near_by_marks c.args.bound (2 ^ 16) c.args.values split.result.base
+    c.marks_of_quarters.result split.result.deltas split.ensures.base_is
+    split.ensures.deltas_is c.marks_of_quarters.ensures
 
 pub returns-clause-fits : goal.returns-clause-fits
 returns-clause-fits c =
+    let split = c.part_quarters-split in
     sym (eq-eqb _ 0 c.if-marks_of_quarters-ne0.false)
-    ∙ near_by_marks c.args.bound (2 ^ 16) c.args.values c.base_of_quarters-base.result
-    c.marks_of_quarters.result c.deltas_of_quarters-deltas.result c.base_of_quarters-base.ensures
-    c.deltas_of_quarters-deltas.ensures c.marks_of_quarters.ensures
+    ∙ near_by_marks c.args.bound (2 ^ 16) c.args.values split.result.base
+    c.marks_of_quarters.result split.result.deltas split.ensures.base_is
+    split.ensures.deltas_is c.marks_of_quarters.ensures

@@ -25,14 +25,16 @@ returns-then-is_far_word-2-clause-fits c =
 
 pub returns-then-marks_of_words-ne0-clause-fits : goal.returns-then-marks_of_words-ne0-clause-fits
 returns-then-marks_of_words-ne0-clause-fits c =
+    let split = c.part_words-split in
     sym (ne_eqb _ 0 c.if-marks_of_words-ne0.true)
-    ∙ near_by_marks c.args.bound (2 ^ 64) c.args.values c.base_of_words-base.result
-    c.marks_of_words.result c.deltas_of_words-deltas.result c.base_of_words-base.ensures
-    c.deltas_of_words-deltas.ensures c.marks_of_words.ensures
+    ∙ near_by_marks c.args.bound (2 ^ 64) c.args.values split.result.base
+    c.marks_of_words.result split.result.deltas split.ensures.base_is
+    split.ensures.deltas_is c.marks_of_words.ensures
 
 pub returns-clause-fits : goal.returns-clause-fits
 returns-clause-fits c =
+    let split = c.part_words-split in
     sym (eq-eqb _ 0 c.if-marks_of_words-ne0.false)
-    ∙ near_by_marks c.args.bound (2 ^ 64) c.args.values c.base_of_words-base.result
-    c.marks_of_words.result c.deltas_of_words-deltas.result c.base_of_words-base.ensures
-    c.deltas_of_words-deltas.ensures c.marks_of_words.ensures
+    ∙ near_by_marks c.args.bound (2 ^ 64) c.args.values split.result.base
+    c.marks_of_words.result split.result.deltas split.ensures.base_is
+    split.ensures.deltas_is c.marks_of_words.ensures

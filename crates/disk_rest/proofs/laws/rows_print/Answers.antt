@@ -18,6 +18,9 @@ returns-clause-pools c r row k st lt =
 pub returns-clause-account : goal.returns-clause-account
 returns-clause-account c r row st = account_tells r row st
 
+pub returns-clause-map : goal.returns-clause-map
+returns-clause-map c r row st = st.map
+
 pub returns-clause-nothing : goal.returns-clause-nothing
 returns-clause-nothing c r empty unused = (
   nothing_counted r empty unused,

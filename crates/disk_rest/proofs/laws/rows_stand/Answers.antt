@@ -1,4 +1,4 @@
-use Rattle.disk_rest.proofs.Onward.{stands_still, clock_stands, limit_stands, max_stands}
+use Rattle.disk_rest.proofs.Onward.{stands_still, clock_stands, limit_stands, max_stands, budget_stands}
 use Rattle.disk_rest.proofs.laws.rows_stand.Goals as goal
 
 pub returns-clause-kept : goal.returns-clause-kept
@@ -8,6 +8,10 @@ returns-clause-kept c r before after st keeps =
 pub returns-clause-limit : goal.returns-clause-limit
 returns-clause-limit c r row n k st at =
     limit_stands r row k c.phases_go_on.ensures.next st at n
+
+pub returns-clause-budget : goal.returns-clause-budget
+returns-clause-budget c r row n on x st at =
+    budget_stands r row n on x c.phases_go_on.ensures.next st at
 
 pub returns-clause-clock : goal.returns-clause-clock
 returns-clause-clock c r row n st le =

@@ -1,11 +1,33 @@
-use Rattle.std.proofs.Common.{◌==◌, rules, tests}
-use Rattle.std.proofs.lemmas.Iterator.Consumers.{map_from_collect}
-use Rattle.std.proofs.lemmas.Iterator.Splits.{YieldsList-from_slice_split}
+use Rattle.std.proofs.Common.{◌+◌, ◌-◌, ◌==◌, ◌++◌, length, map, take, drop, ap, sym, ◌∙◌, arith}
+use Rattle.std.specs.List.{slice_split}
+use Rattle.std.proofs.lemmas.List.{map_push}
+use Rattle.std.proofs.lemmas.List.Quantifiers.{position-Some}
+use Rattle.job_print.proofs.Firsts.{part_within, word_more, word_last}
 use Rattle.job_print.proofs.lines.words.Goals as goal
+
+pub overflow_add-rest : goal.overflow_add-rest
+overflow_add-rest c =
+    let within = c.loop-at.invariant.within in
+    let found =
+    position-Some (λ x. x == 32) c.loop-at.rest.now c.in-Some.at 0 (sym c.in-Some.ensures) in
+    omega (arith, found.0)
+
+pub loop-at-preserved : goal.loop-at-preserved
+loop-at-preserved c =
+    let rest = c.loop-at.rest.now in
+    let at = c.in-Some.at in
+    record {
+      split = c.loop-at.invariant.split
+          ∙ word_more (map (λ word. word.now) c.loop-at.words.items) rest at c.in-Some.ensures
+          ∙ ap (λ ws. ws ++ slice_split (λ x. x == 32) (take (length rest - (at + 1)) (drop (at + 1) rest)))
+          (sym (ap (map (λ word. word.now)) c.in_ok-push.ensures.items
+          ∙ map_push (λ word. word.now) c.loop-at.words.items _));
+      within = part_within _ _ _ rest c.loop-at.invariant.within;
+    }
 
 pub returns : goal.returns
 returns c =
-    map_from_collect _ c.collect.ensures.ran
-    (YieldsList-from_slice_split _ (λ c. c == 32) c.args.line.now
-    c.split.ensures.rest c.split.ensures.done c.split.ensures.closure
-    (λ x b q k. search (rules, tests)))
+    ap (map (λ word. word.now)) c.in_ok-push-2.ensures.items
+    ∙ map_push (λ word. word.now) c.loop-at.words.items _
+    ∙ word_last (map (λ word. word.now) c.loop-at.words.items) c.loop-at.rest.now c.in_default.ensures
+    ∙ sym c.loop-at.invariant.split

@@ -1,6 +1,6 @@
 use Rattle.std.proofs.Common.{Ok, refl, ap}
 use Rattle.job_session.specs.Stepped.{disk_of}
-use Rattle.job_session.proofs.Devices.{is_limited, is_lowered}
+use Rattle.job_session.proofs.Devices.{is_limited, is_lowered, is_budgeted}
 use Rattle.job_session.proofs.Jobs.{attr_told}
 use Rattle.job_session.proofs.Sending.{Tells-none}
 use Rattle.job_session.proofs.items.set_attr.Goals as goal
@@ -23,6 +23,36 @@ returns-in-LimitPages-clause-item g c =
       is_limited clock d.backed m.backed d.spare m.spare d.pages m.pages d.limit m.limit d.row.cells m.row.cells
           set.spare set.pages set.backed c.requires.rest.rests (λ none. ap (λ row. row.cells) (set.none none))
           c.in-LimitPages.pages set.limit set.cells,
+    )
+    (Tells-none c.args.out.now))
+
+pub returns-in-WritebackLimit-clause-item : goal.returns-in-WritebackLimit-clause-item
+returns-in-WritebackLimit-clause-item g c =
+    let d = c.args.world.now in
+    let m = c.set_wb_limit.new.self in
+    let clock = c.args.clock.now in
+    let set = c.set_wb_limit.ensures in
+    rw c.in-WritebackLimit.is
+    (attr_told (disk_of clock d) (disk_of clock m) _ _ c.args.out.now _ (Ok tt) (
+      refl,
+      is_budgeted clock d.backed m.backed d.spare m.spare d.pages m.pages d.limit m.limit d.row.cells
+          m.row.cells c.in-WritebackLimit.units (disk_of clock d).blocks.enabled set.pages set.limit
+          set.backed set.device set.blocks (λ none. ap (λ row. row.cells) (set.none none)) set.cells,
+    )
+    (Tells-none c.args.out.now))
+
+pub returns-in-WritebackLimitEnable-clause-item : goal.returns-in-WritebackLimitEnable-clause-item
+returns-in-WritebackLimitEnable-clause-item g c =
+    let d = c.args.world.now in
+    let m = c.set_wb_enable.new.self in
+    let clock = c.args.clock.now in
+    let set = c.set_wb_enable.ensures in
+    rw c.in-WritebackLimitEnable.is
+    (attr_told (disk_of clock d) (disk_of clock m) _ _ c.args.out.now _ (Ok tt) (
+      refl,
+      is_budgeted clock d.backed m.backed d.spare m.spare d.pages m.pages d.limit m.limit d.row.cells
+          m.row.cells (disk_of clock d).blocks.budget c.in-WritebackLimitEnable.on set.pages set.limit
+          set.backed set.device set.blocks (λ none. ap (λ row. row.cells) (set.none none)) set.cells,
     )
     (Tells-none c.args.out.now))
 

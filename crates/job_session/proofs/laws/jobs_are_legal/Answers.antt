@@ -12,10 +12,12 @@ returns c =
       leaves = c.phases_end.ensures.leaves;
       new = c.disks_begin.ensures;
       limits = c.rows_stand.ensures.limit;
+      budgets = c.rows_stand.ensures.budget;
       clocks = c.rows_stand.ensures.clock;
       max = c.rows_stand.ensures.max;
       reports = c.rows_print.ensures.reports;
       account = c.rows_print.ensures.account;
+      map = c.rows_print.ensures.map;
       nothing = c.rows_print.ensures.nothing;
     } in
     record {

@@ -4,7 +4,6 @@ use Rattle.block_map.specs.BlockMap.{BlockMap}
 use Rattle.lock_row.specs.declared.names.Held.TheVariants as holds
 use Rattle.lock_row.specs.declared.names.LockNo.TheVariants as lock
 use Rattle.lock_row.specs.Rows.{at_home}
-use Rattle.page_steps.specs.Steps.{DiskHeld}
 use Rattle.zr_core.specs.Rests.{blocks_by}
 use Rattle.zr_core.proofs.Names.{cell_at, names_some}
 use Rattle.zr_core.proofs.Spares.{some_pages}

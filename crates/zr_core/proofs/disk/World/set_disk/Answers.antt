@@ -1,8 +1,7 @@
-use Rattle.std.proofs.Common.{◌≡◌, ◌+◌, ℕ, List, Some, slice_get, sym, ap, ◌∙◌, subst}
+use Rattle.std.proofs.Common.{◌≡◌, ◌+◌, ℕ, List, sym, ap, ◌∙◌, subst}
 use Rattle.backing_dev.specs.Dev.{DeviceState}
-use Rattle.lock_row.specs.declared.names.Held.TheVariants as holds
-use Rattle.joint_rule.specs.Laws.{NewIsAtRest, RequestsAreProper}
-use Rattle.zr_core.specs.Rests.{no_device, IsSpare, IsEarly, device_by, blocks_by, IsAtRest, RestsAs, new_disk}
+use Rattle.block_map.specs.BlockMap.{BlockMap}
+use Rattle.zr_core.specs.Rests.{no_device, IsSpare, IsEarly, device_by, blocks_by, IsAtRest, RestsAs, new_disk, with_map}
 use Rattle.zr_core.specs.Rows.{AreNew}
 use Rattle.zr_core.proofs.Fresh.{out_blocks, out_device, device_at, blocks_at, account_at, row_new, new_rests, new_at_rest}
 use Rattle.zr_core.proofs.Names.{names_some}
@@ -35,6 +34,12 @@ beside : (o : _) (c : After-put_device o) → c.in-Some.spare.device
 beside o c = ap (λ s. device_by s c.args.self.now.pages c.args.self.now.row.cells)
     c.in-Some.ensures.value
 
+-- and the map
+map_beside : (o : _) (c : After-put_device o) → c.in-Some.spare.blocks
+    ≡ blocks_by c.args.self.now.spare c.args.self.now.pages c.args.self.now.row.cells
+map_beside o c = ap (λ s. blocks_by s c.args.self.now.pages c.args.self.now.row.cells)
+    c.in-Some.ensures.value
+
 is_spare : (o : _) (c : After-put_device o) → IsSpare c.in-Some.spare
 is_spare o c = (no_pages c.args.self.now.pages c.args.self.now.spare c.in-Some.spare
     c.args.self.now.early c.in-Some.ensures.value).1
@@ -50,17 +55,19 @@ full o c =
     c.put_device.ensures.cells s.free s.fits s.reads s.writes
 
 rests : (o : _) (c : After-put_device o)
-    → RestsAs (new_disk c.args.pages c.args.self.now.limit c.in-Some.spare.device) c.args.pages
-    c.put_device.new.row.cells
+    → RestsAs (with_map (new_disk c.args.pages c.args.self.now.limit c.in-Some.spare.device)
+    c.in-Some.spare.blocks) c.args.pages c.put_device.new.row.cells
 rests o c =
     let f = c.in_ok-row.ensures.cells in
     let d = c.in-Some.spare.device in
     let x = c.in-Some.spare.blocks in
-    new_rests c.args.pages c.args.self.now.limit d c.put_device.new.row.cells (full o c)
+    new_rests c.args.pages c.args.self.now.limit d x c.put_device.new.row.cells (full o c)
     c.requires.some c.requires.most
     (account_at c.args.pages c.args.self.now.limit d x f.0 c.in_ok-row.row.cells
     c.put_device.new.row.cells (f.1 d) f.2 c.put_device.ensures.cells ∙ c.in_ok-row.ensures.account)
     (device_at c.args.pages c.args.self.now.limit d x f.0 c.in_ok-row.row.cells
+    c.put_device.new.row.cells (f.1 d) f.2 c.put_device.ensures.cells)
+    (blocks_at c.args.pages c.args.self.now.limit d x f.0 c.in_ok-row.row.cells
     c.put_device.new.row.cells (f.1 d) f.2 c.put_device.ensures.cells) c.disks_begin.ensures.rest
     c.disks_begin.ensures.proper
 
@@ -73,8 +80,9 @@ returns-clause-values o c =
 pub returns-clause-new : goal.returns-clause-new
 returns-clause-new o c =
     let a = (goal.at.returns-clause-new o c).After-put_device in
-    subst (λ (d : DeviceState). RestsAs (new_disk c.args.pages c.args.self.now.limit d) c.args.pages
-    c.put_device.new.row.cells) (beside o a) (rests o a)
+    subst (λ (s : DeviceState × BlockMap). RestsAs (with_map
+    (new_disk c.args.pages c.args.self.now.limit s.0) s.1) c.args.pages c.put_device.new.row.cells)
+    (λ i. (beside o a i, map_beside o a i)) (rests o a)
 
 pub returns-clause-device : goal.returns-clause-device
 returns-clause-device o c =
@@ -96,12 +104,12 @@ returns-clause-blocks o c =
     ∙ blocks_told c.args.pages c.put_device.new.row.cells x
     (blocks_at c.args.pages c.args.self.now.limit d x f.0 c.in_ok-row.row.cells
     c.put_device.new.row.cells (f.1 d) f.2 c.put_device.ensures.cells)
-    ∙ ap (λ s. blocks_by s c.args.self.now.pages c.args.self.now.row.cells) c.in-Some.ensures.value
+    ∙ map_beside o (goal.at.returns-clause-blocks o c).After-put_device
 
 pub returns-clause-rest : goal.returns-clause-rest
 returns-clause-rest o c =
     let a = (goal.at.returns-clause-rest o c).After-put_device in
     subst (λ (noted : List ℕ). IsAtRest c.args.pages noted c.put_device.new.row.cells)
     (sym c.clear.ensures.items)
-    (new_at_rest c.args.pages c.args.self.now.limit c.in-Some.spare.device
+    (new_at_rest c.args.pages c.args.self.now.limit c.in-Some.spare.device c.in-Some.spare.blocks
     c.put_device.new.row.cells (full o a) (rests o a))

@@ -1,4 +1,4 @@
-use Rattle.std.proofs.Common.{◌≡◌, ◌≤◌, None, sym, ap, ◌∙◌}
+use Rattle.std.proofs.Common.{sym, ap, ◌∙◌}
 use Rattle.block_map.specs.BlockMap.{BlockMap}
 use Rattle.zr_core.specs.Rests.{blocks_by}
 use Rattle.zr_core.proofs.Spares.{some_pages}
