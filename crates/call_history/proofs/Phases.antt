@@ -30,7 +30,7 @@ use Rattle.call_history.proofs.Orders.{Rising, count_is, rises_is, before_is}
 use Rattle.call_history.proofs.Operations.{By, Reads, never_stands, pages_some}
 use Rattle.call_history.proofs.Actors.{stood, actor_noted, actor_ends, actor_reads, stood_rises, stood_once}
 use Rattle.plain_disk.specs.Compactions.{are_tight, MoveNone, moves_after, IsAlone}
-use Rattle.plain_disk.specs.Idles.{Aged, pages_at, pages_after, AreMarked, may_write}
+use Rattle.plain_disk.specs.Idles.{Aged, scope_of, pages_at, pages_after, AreExact}
 use Rattle.call_history.proofs.Alone.{tell}
 use Rattle.call_history.proofs.Marks.{tell_marks}
 use Rattle.call_history.proofs.Sums.{IsSteady, failed_read-is, failed_write-is, starved-is, tells_fault-is, left_back-is, written-is, tried-is, cut_short-is, compacted-is, beyond-is, all_sum}
@@ -387,10 +387,8 @@ module _ (form : List ℕ → Weight) (r : Rest) (actors : List (List Op)) (find
           let tight = are_tight r.set.chain r.used in
           let x = tell t (b 0) 0 ops done tight 0 (some 0 ops named)
           (follows_by 0 ops done named there) in
-          let marks = tell_marks form r finds t (b 0) 0 ops done (pages_at r) (some 0 ops named)
+          let marks = tell_marks form r finds t (b 0) 0 ops done 0 (pages_at r) (some 0 ops named)
           (follows_by 0 ops done named there) in
-          let writes : may_write t.backed (ops ∷ []) ≡ false → may_write t.backed actors ≡ false =
-          λ none. ap (may_write t.backed) one ∙ none in
           let is_es : ends_from t.backed 0 ops done ≡ es =
           (let q : ends_from t.backed 0 ops done ∷ [] ≡ es ∷ [] =
           sym (λ i. ends_each t.backed (one i) (is i)) ∙ ends in cc) in record {
@@ -398,9 +396,12 @@ module _ (form : List ℕ → Weight) (r : Rest) (actors : List (List Op)) (find
             least = λ e. over.least (x.least e);
             few = let le = x.few in let most = over.few in
                 let same = ap (moves_after 0 ops) is_es in omega arith;
-            marks = λ none. subst (AreMarked form r finds 0 (pages_at r) ops) is_es
-                (marks.marks (over.marks (writes none)));
-            idle = λ none p lt. over.idle (writes none) p lt ∙ ap (λ (s : Aged). s.idle)
+            exact = subst (AreExact form (scope_of r) finds 0 0 (pages_at r) ops) is_es
+                (marks.exact over.exact);
+            idle = λ p lt. over.idle p lt ∙ ap (λ (s : Aged). s.idle)
+                (sym (marks.pages_are p) ∙ ap (λ (x : List OpEnd).
+                pages_after form r finds 0 (pages_at r) ops x p) is_es);
+            back = λ p lt. over.back p lt ∙ ap (λ (s : Aged). s.back)
                 (sym (marks.pages_are p) ∙ ap (λ (x : List OpEnd).
                 pages_after form r finds 0 (pages_at r) ops x p) is_es);
           }

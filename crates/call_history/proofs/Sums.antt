@@ -187,7 +187,7 @@ module _ (So : Part → PartEnd → Type 0) (g : Op → OpEnd → ℕ) (w : IsSt
             ∙ sym (ap (g op) (here false e))
 
   -- one that does nothing has no piece
-  op_sum : (pages : ℕ) (backed : Bool) (nr : ℕ) (op : Op) (front : List Done)
+  pub op_sum : (pages : ℕ) (backed : Bool) (nr : ℕ) (op : Op) (front : List Done)
       → Mine So (parts pages backed nr op) front
       → done_sum g front ≡ g op (end_as backed nr op front)
   op_sum pages backed nr op front m = elim (cases_Bool (is_void backed op)) [

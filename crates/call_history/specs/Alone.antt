@@ -1,13 +1,14 @@
 -- What the pieces of a phase's only actor say of its compactions and of its marks.
-use Rattle.std.specs.Prelude.{◌≡◌, ℕ, ◌<◌, ◌≤◌, Bool, true, false, List, [], ◌∷◌, if◌then◌else◌, ⊤}
+use Rattle.std.specs.Prelude.{◌≡◌, ℕ, ◌+◌, ◌<◌, ◌≤◌, Bool, true, List, [], ◌∷◌, if◌then◌else◌, ⊤}
 use Rattle.zr_base.specs.Plain.{Look, Finds}
 use Rattle.mem_account.specs.declared.weight.Weight.{Weight}
 use Rattle.size_class.specs.Classes.{per_of}
 use Rattle.plain_disk.specs.Compactions.{are_tight, IsLeast, tight_by, MovesNone, moves_by, pooled_pages}
-use Rattle.plain_disk.specs.Idles.{Aged, only_tag, accessed, passed, IsMarked, pages_at}
+use Rattle.plain_disk.specs.Idles.{Aged, Scope, only_tag, accessed, passed, IsExact, pages_at, scope_of}
+use Rattle.plain_disk.specs.Ends.{left_back, tried}
 use Rattle.plain_disk.specs.Rests.{Rest}
 use Rattle.call_history.specs.declared.part.Done.{Done}
-use Rattle.call_history.specs.Parts.{op_end, is_on}
+use Rattle.call_history.specs.Parts.{op_end, is_on, piece_gives}
 
 -- whether the classes are tight after some pieces, by whether they are before them
 abbrev pub tight_over : Bool → List Done → Bool
@@ -26,14 +27,15 @@ moves_over n [] = n
 moves_over n (d ∷ ds) = moves_over (moves_by d.part.op (op_end d.end 0) n) ds
 
 -- page p after a piece that is over, which finds this
-abbrev pub aged_over : (List ℕ → Weight) → ℕ → Done → Look → ℕ → Aged → Aged
-aged_over form clock d look p s =
-    if is_on p d then accessed clock d.part.op look s else passed form clock p d.part.op s
+abbrev pub aged_over : (List ℕ → Weight) → ℕ → Done → Look → (ℕ → Aged) → ℕ → Aged
+aged_over form clock d look pages p =
+    if is_on p d then accessed clock d.part.op look (pages p)
+    else passed form clock d.part.op (left_back d.part.op (op_end d.end 0)) pages p
 
 -- all pages after it
 abbrev pub each_over : (List ℕ → Weight) → ℕ → (ℕ → Finds) → Done → (ℕ → Aged) → ℕ → Aged
 each_over form clock finds d pages p =
-    aged_over form clock d (finds p (only_tag d.part.nr)) p (pages p)
+    aged_over form clock d (finds p (only_tag d.part.nr)) pages p
 
 -- the pages after some pieces
 abbrev pub pages_over : (List ℕ → Weight) → ℕ → (ℕ → Finds) → (ℕ → Aged) → List Done → ℕ → Aged
@@ -41,21 +43,25 @@ pages_over form clock finds pages [] p = pages p
 pages_over form clock finds pages (d ∷ ds) p =
     pages_over form clock finds (each_over form clock finds d pages) ds p
 
--- each piece that marks, on a disk of so many pages, has counted the marks that are new
-abbrev pub AreMarkedOver : (List ℕ → Weight) → ℕ → (ℕ → Finds) → ℕ → (ℕ → Aged) → List Done
+-- each piece that marks pages has counted the marks that are new, and each that writes them back tells
+-- exactly what it wrote, where so many writes were tried before them
+abbrev pub AreExactOver : (List ℕ → Weight) → Scope → (ℕ → Finds) → ℕ → (ℕ → Aged) → List Done
     → Type 0
-AreMarkedOver form clock finds size pages [] = ⊤
-AreMarkedOver form clock finds size pages (d ∷ ds) =
-    IsMarked form clock size pages d.part.op (op_end d.end 0)
-    × AreMarkedOver form clock finds size (each_over form clock finds d pages) ds
+AreExactOver form c finds spent pages [] = ⊤
+AreExactOver form c finds spent pages (d ∷ ds) =
+    IsExact form c spent pages d.part.op (op_end d.end 0)
+    × AreExactOver form c finds (spent + piece_gives tried d.part.op d.end)
+    (each_over form c.clock finds d pages) ds
 
--- What the pieces of the only actor that are over leave, where pages may have been written back or not.
+-- What the pieces of the only actor that are over leave.
 pub record IsAloneOver (form : List ℕ → Weight) (r : Rest) (finds : ℕ → Finds)
-    (writes : Bool) (done : List Done) (m : Rest) : Type 0 where
+    (done : List Done) (m : Rest) : Type 0 where
   pub still : MoveNoneOver (are_tight r.set.chain r.used) done
   pub least : tight_over (are_tight r.set.chain r.used) done ≡ true
       → (k : ℕ) → k < 255 → IsLeast (per_of m.set.chain k) (m.used k)
   pub few : moves_over 0 done ≤ pooled_pages form m
-  pub marks : writes ≡ false → AreMarkedOver form r.set.clock finds r.size (pages_at r) done
-  pub idle : writes ≡ false → (p : ℕ) → p < r.size
+  pub exact : AreExactOver form (scope_of r) finds 0 (pages_at r) done
+  pub idle : (p : ℕ) → p < r.size
       → m.idle p ≡ (pages_over form r.set.clock finds (pages_at r) done p).idle
+  pub back : (p : ℕ) → p < r.size
+      → m.back p ≡ (pages_over form r.set.clock finds (pages_at r) done p).back

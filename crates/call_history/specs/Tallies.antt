@@ -8,7 +8,6 @@ use Rattle.plain_disk.specs.Ends.{failed_read, failed_write, starved, left_back,
 use Rattle.plain_disk.specs.Calls.{calls_sum, made_huge, freed, may_fetch}
 use Rattle.plain_disk.specs.Rests.{Rest, kept_pages, frames_of, so_far_of}
 use Rattle.plain_disk.specs.Phases.{Given, calls_on, phase_sum, new_back, set_after, KeepsBudget, IsOnDevice, LeavesPages, LeavesDevice}
-use Rattle.plain_disk.specs.Idles.{may_write}
 use Rattle.call_history.specs.declared.part.Done.{Done}
 use Rattle.call_history.specs.Alone.{IsAloneOver}
 use Rattle.call_history.specs.Parts.{dones_sum}
@@ -41,5 +40,4 @@ pub record Tallies (form : List ℕ → Weight) (r : Rest) (g : Given)
   pub on_device : IsOnDevice m
   pub budget : KeepsBudget r.set (dones_sum tried dones) (dones_sum cut_short dones)
   pub set : m.set ≡ set_after r.set (dones_sum tried dones)
-  pub alone : (done : List Done) → dones ≡ done ∷ [] → IsAloneOver form r g.finds
-      (may_write g.backed g.actors) done m
+  pub alone : (done : List Done) → dones ≡ done ∷ [] → IsAloneOver form r g.finds done m

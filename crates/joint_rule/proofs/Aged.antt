@@ -1,8 +1,8 @@
 -- What a phase's only actor makes of its pages and their marks.
-use Rattle.joint_rule.proofs.Alikes.{arrived_is, visited_is}
-use Rattle.std.proofs.Common.{◌≡◌, ◌≢◌, ◌+◌, ◌<◌, ◌≤◌, ◌∷◌, ◌++◌, ◌∙◌, ◌&&◌, ◌||◌, ◌⊎◌, ℕ, zero, suc, Bool, true, false, not, cond, eqb, ltb, List, [], sum_by, is_none, Option, Some, None, slice_get, slice_set, refl, sym, ap, subst, arith, inl, inr, ⊎_elim}
-use Rattle.call_history.specs.Alone.{AreMarkedOver, aged_over, pages_over, each_over}
-use Rattle.call_history.specs.Parts.{left_by, op_end, stands_so}
+use Rattle.joint_rule.proofs.Trips.{NoTrip}
+use Rattle.std.proofs.Common.{◌≡◌, ◌≢◌, ◌+◌, ◌<◌, ◌≤◌, ◌∷◌, ◌++◌, ◌∙◌, ◌&&◌, ◌||◌, ◌⊎◌, ℕ, zero, suc, Bool, true, false, not, cond, eqb, ltb, List, [], sum_by, is_none, add-zero, if◌then◌else◌, Option, Some, None, slice_get, slice_set, refl, sym, ap, subst, arith, inl, inr, ⊎_elim}
+use Rattle.call_history.specs.Alone.{AreExactOver, aged_over, pages_over, each_over}
+use Rattle.call_history.specs.Parts.{left_by, op_end, stands_so, piece_gives, done_sum}
 use Rattle.call_history.specs.declared.part.Done.{Done}
 use Rattle.call_history.specs.declared.part.Part.{Part}
 use Rattle.call_history.specs.declared.part.PartEnd.{PartEnd}
@@ -10,11 +10,15 @@ use Rattle.call_history.specs.declared.part.PartEnd.TheVariants.{Whole}
 use Rattle.joint_rule.proofs.Gifts.{all}
 use Rattle.joint_rule.proofs.Pages.{after_push, kept_is}
 use Rattle.joint_rule.proofs.Sums.{get_set, gone}
-use Rattle.joint_rule.specs.Alone.{Ages, CountsSo, IsAged, aged_at, aged_done, aged_in, aged_now, scanned_by}
-use Rattle.joint_rule.specs.Begins.{Begin, back_at, form_at, found, found_after, terms}
+use Rattle.joint_rule.specs.Alone.{Ages, CountsSo, IsAged, aged_at, aged_done, aged_in, aged_now, scanned_by, IsAgedBy, but_back, is_going, page_at, scope_at, LeftSo}
+use Rattle.joint_rule.specs.Begins.{Begin, form_at, found, found_after, terms}
 use Rattle.joint_rule.specs.Joint.{Joint}
 use Rattle.joint_rule.specs.Stages.{IsForm, Scans}
-use Rattle.joint_rule.specs.Weights.{HeldAll}
+use Rattle.joint_rule.specs.Weights.{HeldAll, wrote_in}
+use Rattle.plain_disk.specs.Ends.{left_back, tried}
+use Rattle.lock_row.specs.declared.names.Step.{Step}
+use Rattle.lock_row.specs.declared.names.Step.TheVariants as step
+use Rattle.lock_row.specs.declared.names.Trip.{Trip}
 use Rattle.lock_row.specs.declared.names.At.{At}
 use Rattle.lock_row.specs.declared.names.At.TheVariants.{Away, Backed, Both, Counting, Failing, Fetching, Freeing, Giving, Inside, Leaving, Made, Marking, Missed, Moving, Old, Owing, Pinned, Pinning, Ready, Refusing, Releasing, Scanning, Seen, Shrinking, Shrunk, Start, Sweeping, Unpinning, Wanting, Visiting}
 use Rattle.lock_row.specs.declared.names.LockNo.{LockNo}
@@ -26,10 +30,10 @@ use Rattle.mem_account.specs.declared.weight.Weight.{Weight}
 use Rattle.page_steps.specs.Givings.{Notes}
 use Rattle.page_steps.specs.Pages.{next_form}
 use Rattle.page_steps.specs.Scans.{scan_at, with_page}
-use Rattle.page_steps.specs.Steps.{DiskHeld, Here, after_take, begun_at, discard_at, entered_at, entry_in, entry_or, fetched_at, first_at, first_scan, lock_of, made_at, on, part_at, piece_over, pinned_at, plan, quit_at, seen_at, settle_at, slot, spot, taken_at, took, write_at, first_trip}
+use Rattle.page_steps.specs.Steps.{DiskHeld, Here, after_take, begun_at, discard_at, entered_at, entry_in, entry_or, fetched_at, first_at, first_scan, lock_of, made_at, on, part_at, piece_over, pinned_at, plan, quit_at, seen_at, settle_at, slot, spot, taken_at, took, write_at, first_trip, arrived_at, landed_at, visited_at, is_mark_of, mode_of}
 use Rattle.plain_disk.specs.Calls.{after, leave_page, leaves_page}
 use Rattle.plain_disk.specs.Forms.{is_pooled}
-use Rattle.plain_disk.specs.Idles.{Aged, IsMarked, accessed, may_mark as may_mark_page, new_mark, passed, only_tag}
+use Rattle.plain_disk.specs.Idles.{Aged, Scope, IsExact, accessed, may_mark as may_mark_page, new_mark, passed, only_tag}
 use Rattle.slot_entry.specs.Entries.{EntryState, is_new_mark, is_obj, marked, may_mark, is_wb, is_eligible}
 use Rattle.slot_entry.specs.Forms.{Blank, PageForm, Pooled, Word, form_weight, page_weight}
 use Rattle.slot_entry.specs.declared.kept.Kept.{Kept}
@@ -47,64 +51,86 @@ use Rattle.zr_base.specs.declared.op.OpEnd.TheVariants as ends
 
 -- ---- pieces that are over
 
-module _ (form : List ℕ → Weight) (clock : ℕ) (finds : ℕ → Finds) where
+module _ (form : List ℕ → Weight) (c : Scope) (finds : ℕ → Finds) where
   pages_push : (pages : ℕ → Aged) (ds : List Done) (d : Done) (p : ℕ)
-      → pages_over form clock finds pages (ds ++ d ∷ []) p
-      ≡ each_over form clock finds d (λ q. pages_over form clock finds pages ds q) p
+      → pages_over form c.clock finds pages (ds ++ d ∷ []) p
+      ≡ each_over form c.clock finds d (λ q. pages_over form c.clock finds pages ds q) p
   pages_push pages [] d p = refl
-  pages_push pages (x ∷ ds) d p = pages_push (each_over form clock finds x pages) ds d p
+  pages_push pages (x ∷ ds) d p = pages_push (each_over form c.clock finds x pages) ds d p
 
-  marked_push : (size : ℕ) (pages : ℕ → Aged) (ds : List Done) (d : Done)
-      → AreMarkedOver form clock finds size pages ds
-      → IsMarked form clock size (λ q. pages_over form clock finds pages ds q) d.part.op
-      (op_end d.end 0)
-      → AreMarkedOver form clock finds size pages (ds ++ d ∷ [])
-  marked_push size pages [] d all this = (this, tt)
-  marked_push size pages (x ∷ ds) d all this =
-      (all.0, marked_push size (each_over form clock finds x pages) ds d all.1 this)
+  exact_push : (spent : ℕ) (pages : ℕ → Aged) (ds : List Done) (d : Done)
+      → AreExactOver form c finds spent pages ds
+      → IsExact form c (spent + done_sum tried ds)
+      (λ q. pages_over form c.clock finds pages ds q) d.part.op (op_end d.end 0)
+      → AreExactOver form c finds spent pages (ds ++ d ∷ [])
+  exact_push spent pages [] d all this = (
+    subst (λ (n : ℕ). IsExact form c n pages d.part.op (op_end d.end 0)) (add-zero spent) this,
+    tt,
+  )
+  exact_push spent pages (x ∷ ds) d all this = (
+    all.0,
+    exact_push (spent + piece_gives tried x.part.op x.end) (each_over form c.clock finds x pages) ds d
+        all.1
+        (subst (λ (n : ℕ). IsExact form c n (λ q. pages_over form c.clock finds pages (x ∷ ds) q)
+        d.part.op (op_end d.end 0))
+        (let e : spent + (piece_gives tried x.part.op x.end + done_sum tried ds)
+        ≡ spent + piece_gives tried x.part.op x.end + done_sum tried ds = omega arith in e) this),
+  )
+
+-- whether an operation marks pages or writes them back
+abbrev pub ages_some : Op → Bool
+ages_some (Idle age) = true
+ages_some (Writeback mode) = true
+ages_some op = false
 
 module _ (form : List ℕ → Weight) (clock : ℕ) where
-  -- what doesn't mark leaves a page that it isn't on, and tells no marks
-  other_passes : (op : Op) → is_marking op ≡ false → (p : ℕ) (s : Aged) → passed form clock p op s ≡ s
-  other_passes (Write start count stuff) e p s = refl
-  other_passes (Read start count) e p s = refl
-  other_passes (Discard start count) e p s = refl
-  other_passes (Idle age) e p s = absurd (cc)
-  other_passes (Writeback mode) e p s = refl
-  other_passes Compact e p s = refl
+  -- what does neither leaves a page that it isn't on, and tells nothing of either
+  other_passes : (op : Op) → ages_some op ≡ false → (n : ℕ) (pages : ℕ → Aged) (p : ℕ)
+      → passed form clock op n pages p ≡ pages p
+  other_passes (Write start count stuff) e n pages p = refl
+  other_passes (Read start count) e n pages p = refl
+  other_passes (Discard start count) e n pages p = refl
+  other_passes (Idle age) e n pages p = absurd (cc)
+  other_passes (Writeback mode) e n pages p = absurd (cc)
+  other_passes Compact e n pages p = refl
 
-  other_marks : (size : ℕ) (pages : ℕ → Aged) (op : Op) (end : OpEnd) → is_marking op ≡ false
-      → IsMarked form clock size pages op end
-  other_marks size pages (Write start count stuff) end e = tt
-  other_marks size pages (Read start count) end e = tt
-  other_marks size pages (Discard start count) end e = tt
-  other_marks size pages (Idle age) end e = absurd (cc)
-  other_marks size pages (Writeback mode) end e = tt
-  other_marks size pages Compact end e = tt
+  other_exact : (c : Scope) (spent : ℕ) (pages : ℕ → Aged) (op : Op) (end : OpEnd)
+      → ages_some op ≡ false → IsExact form c spent pages op end
+  other_exact c spent pages (Write start count stuff) end e = tt
+  other_exact c spent pages (Read start count) end e = tt
+  other_exact c spent pages (Discard start count) end e = tt
+  other_exact c spent pages (Idle age) end e = absurd (cc)
+  other_exact c spent pages (Writeback mode) end e = absurd (cc)
+  other_exact c spent pages Compact end e = tt
 
-  -- a piece that is on no page, and doesn't mark, leaves each page
-  off_leaves : (d : Done) → is_marking d.part.op ≡ false → stands_so d.part.op d.end ≡ false
-      → (look : Look) (p : ℕ) (s : Aged) → aged_over form clock d look p s ≡ s
-  off_leaves d other off look p s =
-      ap (λ (x : Bool). cond x (accessed clock d.part.op look s) (passed form clock p d.part.op s))
-      (and_right (eqb d.part.page p) (stands_so d.part.op d.end) off)
-      ∙ other_passes d.part.op other p s
+  -- what such a piece leaves where it is on a page, or not
+  abbrev by_on : (d : Done) (look : Look) (pages : ℕ → Aged) (p : ℕ) → Bool → Aged
+  by_on d look pages p x = cond x (accessed clock d.part.op look (pages p))
+      (passed form clock d.part.op (left_back d.part.op (op_end d.end 0)) pages p)
+
+  -- a piece that is on no page, and does neither, leaves each page
+  off_leaves : (d : Done) → ages_some d.part.op ≡ false → stands_so d.part.op d.end ≡ false
+      → (look : Look) (pages : ℕ → Aged) (p : ℕ) → aged_over form clock d look pages p ≡ pages p
+  off_leaves d other off look pages p =
+      ap (by_on d look pages p) (and_right (eqb d.part.page p) (stands_so d.part.op d.end) off)
+      ∙ other_passes d.part.op other (left_back d.part.op (op_end d.end 0)) pages p
 
   -- one that is on a page leaves the other pages
-  else_leaves : (d : Done) → is_marking d.part.op ≡ false → (p : ℕ) → p ≢ d.part.page → (look : Look)
-      (s : Aged) → aged_over form clock d look p s ≡ s
-  else_leaves d other p ne look s =
-      ap (λ (x : Bool). cond (x && stands_so d.part.op d.end) (accessed clock d.part.op look s)
-      (passed form clock p d.part.op s)) (ne_eqb d.part.page p (λ e. ne (sym e)))
-      ∙ other_passes d.part.op other p s
+  else_leaves : (d : Done) → ages_some d.part.op ≡ false → (p : ℕ) → p ≢ d.part.page → (look : Look)
+      (pages : ℕ → Aged) → aged_over form clock d look pages p ≡ pages p
+  else_leaves d other p ne look pages =
+      ap (λ (x : Bool). by_on d look pages p (x && stands_so d.part.op d.end))
+      (ne_eqb d.part.page p (λ e. ne (sym e)))
+      ∙ other_passes d.part.op other (left_back d.part.op (op_end d.end 0)) pages p
 
   -- and its own as after an access
-  here_accessed : (d : Done) → stands_so d.part.op d.end ≡ true → (look : Look) (s : Aged)
-      → aged_over form clock d look d.part.page s ≡ accessed clock d.part.op look s
-  here_accessed d on look s = λ i. cond (eq-eqb d.part.page d.part.page refl i && on i)
-      (accessed clock d.part.op look s) (passed form clock d.part.page d.part.op s)
+  here_accessed : (d : Done) → stands_so d.part.op d.end ≡ true → (look : Look) (pages : ℕ → Aged)
+      → aged_over form clock d look pages d.part.page
+      ≡ accessed clock d.part.op look (pages d.part.page)
+  here_accessed d stands look pages = λ i. by_on d look pages d.part.page
+      (eq-eqb d.part.page d.part.page refl i && stands i)
 
-pub request_other : (op : Op) → is_maintenance op ≡ false → is_marking op ≡ false
+pub request_other : (op : Op) → is_maintenance op ≡ false → ages_some op ≡ false
 request_other (Write start count stuff) e = refl
 request_other (Read start count) e = refl
 request_other (Discard start count) e = refl
@@ -114,9 +140,34 @@ request_other Compact e = refl
 
 -- ---- stages
 
--- the stage is of no scan that has passed a page
+-- the page that a scan or a writeback is at
+abbrev pub pass_at : At → Option ℕ
+pass_at (Scanning x) = Some x.page
+pass_at (Marking x) = Some x.page
+pass_at (Visiting s x) = Some x.page
+pass_at at = None
+
+-- the stage is of neither
 abbrev pub IsStill : At → Type 0
-IsStill at = scan_at at ≡ first_scan
+IsStill at = pass_at at ≡ None
+
+pub still_scan : (at : At) → IsStill at → scan_at at ≡ first_scan
+still_scan (Scanning x) e = absurd (cc)
+still_scan (Marking x) e = absurd (cc)
+still_scan (Visiting s x) e = absurd (cc)
+still_scan at e = refl
+
+pub still_page : (at : At) → IsStill at → page_at at ≡ 0
+still_page (Scanning x) e = absurd (cc)
+still_page (Marking x) e = absurd (cc)
+still_page (Visiting s x) e = absurd (cc)
+still_page at e = refl
+
+pub still_plain : (at : At) → IsStill at → NoTrip at
+still_plain (Scanning x) e = tt
+still_plain (Marking x) e = tt
+still_plain (Visiting s x) e = absurd (cc)
+still_plain at e = tt
 
 pub still_settle : (k : Kept) → IsStill (settle_at k)
 still_settle kept.Empty = refl
@@ -179,107 +230,153 @@ pub still_quit : (x : Option Pin) → IsStill (quit_at x)
 still_quit None = refl
 still_quit (Some x) = refl
 
-still_first : (op : Op) (e : EntryState) → IsStill (first_at op e)
-still_first (Write start count stuff) e = refl
-still_first (Read start count) e = refl
-still_first (Discard start count) e = refl
-still_first (Idle age) e = refl
-still_first (Writeback mode) e =
-    ap scan_at (arrived_is (is_eligible mode e) first_trip).2
-still_first Compact e = refl
+-- The second stage is of the same scan, and of as many pages written back.
+pub record StaysAt (was now : At) : Type 0 where
+  pub scan : scan_at now ≡ scan_at was
+  pub page : page_at now ≡ page_at was
+  pub wrote : wrote_in now ≡ wrote_in was
 
-still_begun : (a b : Bool) (p : Part) (f : PageForm) (e : EntryState)
-    → IsStill (begun_at a b p f e)
-still_begun true b p f e = still_first p.op e
-still_begun false true p f e = refl
-still_begun false false p f e = still_entered p.op p.page f e.kept
+still_wrote : (at : At) → IsStill at → wrote_in at ≡ 0
+still_wrote (Visiting s x) e = absurd (cc)
+still_wrote at e = refl
+
+pub still_stays : (was now : At) → IsStill was → IsStill now → StaysAt was now
+still_stays was now e d = record {
+  scan = still_scan now d ∙ sym (still_scan was e);
+  page = still_page now d ∙ sym (still_page was e);
+  wrote = still_wrote now d ∙ sym (still_wrote was e);
+}
+
+trip_stays : (s t : Step) (x : Trip) → StaysAt (Visiting s x) (Visiting t x)
+trip_stays s t x = record { scan = refl; page = refl; wrote = refl }
+
+arrived_stays : (b : Bool) (x : Trip) → StaysAt (Visiting step.Arriving x) (arrived_at b x)
+arrived_stays true x = trip_stays step.Arriving step.Asking x
+arrived_stays false x = trip_stays step.Arriving step.Passing x
+
+landed_stays : (fail : Option PartEnd) (x : Trip) (e : EntryState)
+    → StaysAt (Visiting step.Landing x) (landed_at fail x e)
+landed_stays None x e = by_mark (is_mark_of x.block e.under) where
+  by_mark : (b : Bool) → StaysAt (Visiting step.Landing x)
+      (if b then Visiting step.Won x else Visiting step.Losing x)
+  by_mark true = trip_stays step.Landing step.Won x
+  by_mark false = trip_stays step.Landing step.Losing x
+landed_stays (Some end) x e = trip_stays step.Landing step.Losing x
+
+visited_stays : (s : Step) (x : Trip) (op : Op) (e : EntryState) (fail : Option PartEnd)
+    → StaysAt (Visiting s x) (visited_at s x op e fail)
+visited_stays step.Arriving x op e fail = arrived_stays (is_eligible (mode_of op) e) x
+visited_stays step.Landing x op e fail = landed_stays fail x e
+visited_stays s x op e fail = record { scan = refl; page = refl; wrote = refl }
+
+first_stays : (op : Op) (e : EntryState) → StaysAt Start (first_at op e)
+first_stays (Write start count stuff) e = still_stays Start _ refl refl
+first_stays (Read start count) e = still_stays Start _ refl refl
+first_stays (Discard start count) e = still_stays Start _ refl refl
+first_stays (Idle age) e = record { scan = refl; page = refl; wrote = refl }
+first_stays (Writeback mode) e =
+    let x = arrived_stays (is_eligible mode e) first_trip in
+    record { scan = x.scan; page = x.page; wrote = x.wrote }
+first_stays Compact e = still_stays Start _ refl refl
+
+begun_stays : (a b : Bool) (p : Part) (f : PageForm) (e : EntryState)
+    → StaysAt Start (begun_at a b p f e)
+begun_stays true b p f e = first_stays p.op e
+begun_stays false true p f e = still_stays Start _ refl refl
+begun_stays false false p f e =
+    still_stays Start _ refl (still_entered p.op p.page f e.kept)
 
 -- a taking leaves the scan where it is
-scan_after : (size : ℕ) (at : At) (p : Part) (f : PageForm) (k : EntryState)
-    (fail : Option PartEnd) → scan_at (after_take size at p f k fail) ≡ scan_at at
-scan_after size Start p f k fail = still_begun (is_maintenance p.op) (is_beyond size p.op) p f k
-scan_after size Refusing p f k fail = refl
-scan_after size Seen p f k fail = refl
-scan_after size Pinning p f k fail = refl
-scan_after size Pinned p f k fail = refl
-scan_after size Unpinning p f k fail = refl
-scan_after size Leaving p f k fail = refl
-scan_after size Away p f k fail = refl
-scan_after size Fetching p f k fail = refl
-scan_after size Failing p f k fail = refl
-scan_after size Counting p f k fail = refl
-scan_after size Missed p f k fail = refl
-scan_after size Wanting p f k fail = refl
-scan_after size Inside p f k fail = refl
-scan_after size Both p f k fail = refl
-scan_after size Made p f k fail = refl
-scan_after size Old p f k fail = refl
-scan_after size Freeing p f k fail = refl
-scan_after size Backed p f k fail = refl
-scan_after size Releasing p f k fail = refl
-scan_after size Owing p f k fail = refl
-scan_after size Giving p f k fail = refl
-scan_after size Ready p f k fail = refl
-scan_after size (Scanning x) p f k fail = refl
-scan_after size (Marking x) p f k fail = refl
-scan_after size (Visiting s x) p f k fail = ap scan_at (visited_is s x p.op k fail).2
-scan_after size (Sweeping x) p f k fail = refl
-scan_after size (Moving x) p f k fail = refl
-scan_after size (Shrunk x) p f k fail = refl
-scan_after size (Shrinking x) p f k fail = refl
+after_stays : (size : ℕ) (at : At) (p : Part) (f : PageForm) (k : EntryState)
+    (fail : Option PartEnd) → StaysAt at (after_take size at p f k fail)
+after_stays size Start p f k fail =
+    begun_stays (is_maintenance p.op) (is_beyond size p.op) p f k
+after_stays size (Scanning x) p f k fail = record { scan = refl; page = refl; wrote = refl }
+after_stays size (Marking x) p f k fail = record { scan = refl; page = refl; wrote = refl }
+after_stays size (Visiting s x) p f k fail = visited_stays s x p.op k fail
+after_stays size at p f k fail = still_stays at _ refl refl
 
-scan_taken : (size : ℕ) (ps : List Part) (at : At) (page : Option (List ℕ)) (k : EntryState)
-    (fail : Option PartEnd) → scan_at (taken_at size ps at page k fail) ≡ scan_at at
-scan_taken size [] at page k fail = refl
-scan_taken size (p ∷ ps) at page k fail =
-    scan_after size at p (next_form p page k.kept) k fail
+pub taken_stays : (size : ℕ) (ps : List Part) (at : At) (page : Option (List ℕ)) (k : EntryState)
+    (fail : Option PartEnd) → StaysAt at (taken_at size ps at page k fail)
+taken_stays size [] at page k fail = record { scan = refl; page = refl; wrote = refl }
+taken_stays size (p ∷ ps) at page k fail =
+    after_stays size at p (next_form p page k.kept) k fail
+
+-- a taking leaves a block given up
+going_taken : (size : ℕ) (ps : List Part) (at : At) (page : Option (List ℕ)) (k : EntryState)
+    (fail : Option PartEnd) → is_going at ≡ true → is_going (taken_at size ps at page k fail) ≡ true
+going_taken size [] at page k fail e = e
+going_taken size (p ∷ ps) Owing page k fail e = refl
+going_taken size (p ∷ ps) Giving page k fail e = refl
+going_taken size (p ∷ ps) Ready page k fail e = refl
+going_taken size (p ∷ ps) at page k fail e = absurd (cc)
 
 module _ (g : Begin) where
-  -- pages and marks by the scan alone
-  same_scanned : (ps : List Part) (x y : At) → scan_at y ≡ scan_at x → (p : ℕ) (s : Aged)
-      → scanned_by g ps y p s ≡ scanned_by g ps x p s
-  same_scanned [] x y e p s = refl
-  same_scanned (q ∷ qs) x y e p s =
-      ap (λ (z : Scan). cond (ltb p z.page) (passed page_weight g.clock p q.op s) s) e
+  -- the page before an operation in work, and after it
+  abbrev by_pass : Op → ℕ → (ℕ → Aged) → ℕ → Bool → Aged
+  by_pass op n pages p b = cond b (passed page_weight g.clock op n pages p) (pages p)
 
-  same_counts : (ps : List Part) (x y : At) (done : List Done) → scan_at y ≡ scan_at x
-      → CountsSo g ps x done → CountsSo g ps y done
-  same_counts [] x y done e c = tt
-  same_counts (q ∷ qs) x y done e c =
-      subst (λ (z : Scan). IsMarked page_weight g.clock z.page (aged_done g done) q.op
-      (ends.Marked z.marked)) (sym e) c
+  -- pages by the scan alone
+  pub same_scanned : (ps : List Part) (x y : At) → page_at y ≡ page_at x → wrote_in y ≡ wrote_in x
+      → (pages : ℕ → Aged) (p : ℕ) → scanned_by g ps y pages p ≡ scanned_by g ps x pages p
+  same_scanned [] x y e d pages p = refl
+  same_scanned (q ∷ qs) x y e d pages p = λ i. by_pass q.op (d i) pages p (ltb p (e i))
 
   -- no page is passed before the first
-  pub first_scanned : (ps : List Part) (x : At) → IsStill x → (p : ℕ) (s : Aged)
-      → scanned_by g ps x p s ≡ s
-  first_scanned [] x e p s = refl
-  first_scanned (q ∷ qs) x e p s =
-      ap (λ (z : Scan). cond (ltb p z.page) (passed page_weight g.clock p q.op s) s) e
-      ∙ ap (λ (b : Bool). cond b (passed page_weight g.clock p q.op s) s)
-      (le-ltb p 0 (omega arith))
+  pub first_scanned : (ps : List Part) (x : At) → IsStill x → (pages : ℕ → Aged) (p : ℕ)
+      → scanned_by g ps x pages p ≡ pages p
+  first_scanned [] x e pages p = refl
+  first_scanned (q ∷ qs) x e pages p =
+      ap (λ (n : ℕ). by_pass q.op (wrote_in x) pages p (ltb p n)) (still_page x e)
+      ∙ ap (by_pass q.op (wrote_in x) pages p) (le-ltb p 0 (omega arith))
 
-  pub first_counts : (ps : List Part) (x : At) (done : List Done) → IsStill x → CountsSo g ps x done
-  first_counts [] x done e = tt
-  first_counts (q ∷ qs) x done e =
-      subst (λ (z : Scan). IsMarked page_weight g.clock z.page (aged_done g done) q.op
-      (ends.Marked z.marked)) (sym e) (none q.op) where
-        none : (op : Op) → IsMarked page_weight g.clock 0 (aged_done g done) op (ends.Marked 0)
-        none (Write start count stuff) = tt
-        none (Read start count) = tt
-        none (Discard start count) = tt
-        none (Idle age) = refl
-        none (Writeback mode) = tt
-        none Compact = tt
+  -- what is no writeback has written nothing
+  pub left_plain : (op : Op) (x : At) (fail : Option PartEnd) (done : List Done) → NoTrip x
+      → LeftSo g op x fail done
+  left_plain (Writeback m) (Visiting s x) fail done i = absurd i
+  left_plain (Writeback m) x fail done i = tt
+  left_plain (Write start count stuff) x fail done i = tt
+  left_plain (Read start count) x fail done i = tt
+  left_plain (Discard start count) x fail done i = tt
+  left_plain (Idle age) x fail done i = tt
+  left_plain Compact x fail done i = tt
+
+  none_marked : (c : Scope) (spent : ℕ) (pages : ℕ → Aged) (op : Op) → c.size ≡ 0
+      → IsExact page_weight c spent pages op (ends.Marked 0)
+  none_marked c spent pages (Write start count stuff) none = tt
+  none_marked c spent pages (Read start count) none = tt
+  none_marked c spent pages (Discard start count) none = tt
+  none_marked c spent pages (Idle age) none =
+      ap (λ (n : ℕ). sum_by (λ p. new_mark page_weight c.clock p age (pages p)) (range_with_len 0 n))
+      (sym none)
+  none_marked c spent pages (Writeback mode) none = tt
+  none_marked c spent pages Compact none = tt
+
+  pub first_marked : (op : Op) (x : At) (done : List Done) → scan_at x ≡ first_scan
+      → IsExact page_weight (scope_at g (scan_at x).page) 0 (aged_done g done) op
+      (ends.Marked (scan_at x).marked)
+  first_marked op x done e =
+      subst (λ (z : Scan). IsExact page_weight (scope_at g z.page) 0 (aged_done g done) op
+      (ends.Marked z.marked)) (sym e)
+      (none_marked (scope_at g 0) 0 (aged_done g done) op refl)
+
+  pub first_counts : (ps : List Part) (x : At) (fail : Option PartEnd) (done : List Done)
+      → IsStill x → CountsSo g ps x fail done
+  first_counts [] x fail done e = tt
+  first_counts (q ∷ qs) x fail done e = (
+    first_marked q.op x done (still_scan x e),
+    left_plain q.op x fail done (still_plain x e),
+  )
 
 -- ---- pages that a scan has passed
 
-below : (q i : ℕ) → q ≢ i → q < i + 1 → q < i
+pub below : (q i : ℕ) → q ≢ i → q < i + 1 → q < i
 below q i ne lt = elim (cases_lt q i) [
   | inl low ↦ low
   | inr high ↦ absurd (ne (omega arith))
 ]
 
-ltb_step : (q i : ℕ) → q ≢ i → ltb q (i + 1) ≡ ltb q i
+pub ltb_step : (q i : ℕ) → q ≢ i → ltb q (i + 1) ≡ ltb q i
 ltb_step q i ne = elim (cases_lt q i) [
   | inl low ↦ lt-ltb q (i + 1) (omega arith) ∙ sym (lt-ltb q i low)
   | inr high ↦ le-ltb q (i + 1) (more high (cases_lt i q)) ∙ sym (le-ltb q i high)
@@ -288,7 +385,7 @@ ltb_step q i ne = elim (cases_lt q i) [
   more high (inl low) = omega arith
   more high (inr not_more) = absurd (ne (omega arith))
 
-range_push : (f : ℕ → ℕ) (a i : ℕ) → sum_by f (range_with_len a (suc i))
+pub range_push : (f : ℕ → ℕ) (a i : ℕ) → sum_by f (range_with_len a (suc i))
     ≡ sum_by f (range_with_len a i) + f (a + i)
 range_push f a zero = sum_by-cons f a []
     ∙ (let q = ap f (let z : a ≡ a + 0 = omega arith in z) in omega arith)
@@ -322,17 +419,12 @@ module _ (g : Begin) (p : ℕ) (e f : EntryState) (k : Kept) (t : Tag) (op : Op)
   found_noted = ap (found_after g p) n.order ∙ after_push g p (found g p) e.order t
       ∙ ap (λ (o : Option Op). after o (g.given.finds p t) (found_after g p e.order)) is
 
-  back_noted : back_at g p f.order ≡ (back_at g p e.order && leaves_page (Some op))
-  back_noted = ap (back_at g p) n.order
-      ∙ ap (λ (b : Bool). g.back p && b) (leave_push g.given.actors e.order t)
-      ∙ and_assoc (g.back p) (leave_page g.given.actors e.order) (leaves_page (named g.given.actors t))
-      ∙ ap (λ (o : Option Op). back_at g p e.order && leaves_page o) is
-
   -- an entry with one call more is as after an access
-  pub noted_aged : aged_in g p f ≡ accessed g.clock op (g.given.finds p t) (aged_in g p e)
-  noted_aged = λ i. record {
+  pub noted_aged : is_wb f.kept ≡ (is_wb e.kept && leaves_page (Some op))
+      → aged_in g p f ≡ accessed g.clock op (g.given.finds p t) (aged_in g p e)
+  noted_aged back = λ i. record {
     found = found_noted i;
-    back = back_noted i;
+    back = back i;
     touched = n.touched i;
     idle = n.idle i;
   }
@@ -359,57 +451,81 @@ obj_pooled chain (Pooled bytes huge) (kept.Obj o) back old i e =
 obj_pooled chain (Pooled bytes huge) (kept.Wb b) back old i e =
     λ j. sym (pooled_weight bytes huge) j && (not (e j) && old)
 
-module _ (g : Begin) (p : ℕ) (e : EntryState) (age : Option ℕ) (under : e.under ≡ None)
-    (stands : IsForm g.chain (form_at g p e.order) e.kept)
-    (backs : is_wb e.kept ≡ back_at g p e.order) where
+module _ (g : Begin) (p : ℕ) (e : EntryState) (under : e.under ≡ None)
+    (stands : IsForm g.chain (form_at g p e.order) e.kept) where
   -- an entry may be marked where its page may
-  may_same : may_mark g.clock age e ≡ may_mark_page page_weight g.clock p age (aged_in g p e)
-  may_same =
-      let old = is_older g.clock age e.touched in
-      ap (λ (o : Option ℕ). is_obj e.kept && (is_none o && old)) under
-      ∙ obj_pooled g.chain (form_at g p e.order) e.kept (back_at g p e.order) old stands backs
-      ∙ ap (λ (x : Weight). is_pooled x && (not (back_at g p e.order) && old))
-      (sym (kept_is g p e.order))
+  module _ (age : Option ℕ) where
+    may_same : may_mark g.clock age e ≡ may_mark_page page_weight g.clock p age (aged_in g p e)
+    may_same =
+        let old = is_older g.clock age e.touched in
+        ap (λ (o : Option ℕ). is_obj e.kept && (is_none o && old)) under
+        ∙ obj_pooled g.chain (form_at g p e.order) e.kept (is_wb e.kept) old stands refl
+        ∙ ap (λ (x : Weight). is_pooled x && (not (is_wb e.kept) && old))
+        (sym (kept_is g p e.order))
 
-  marked_aged : aged_in g p (marked g.clock age e)
-      ≡ passed page_weight g.clock p (Idle age) (aged_in g p e)
-  marked_aged = λ i. record {
-    found = found_after g p e.order;
-    back = back_at g p e.order;
-    touched = e.touched;
-    idle = e.idle || may_same i;
-  }
+    marked_aged : (n : ℕ) (pages : ℕ → Aged) → aged_in g p e ≡ pages p
+        → aged_in g p (marked g.clock age e) ≡ passed page_weight g.clock (Idle age) n pages p
+    marked_aged n pages is =
+        (λ i. record {
+          found = found_after g p e.order;
+          back = is_wb e.kept;
+          touched = e.touched;
+          idle = e.idle || may_same i;
+        })
+        ∙ ap (λ (s : Aged). record s { idle = s.idle || may_mark_page page_weight g.clock p age s }) is
 
-  new_same : cond {A = ℕ} (is_new_mark g.clock age e) 1 0
-      ≡ new_mark page_weight g.clock p age (aged_in g p e)
-  new_same = ap (λ (b : Bool). cond {A = ℕ} (b && not e.idle) 1 0) may_same
+    new_same : cond {A = ℕ} (is_new_mark g.clock age e) 1 0
+        ≡ new_mark page_weight g.clock p age (aged_in g p e)
+    new_same = ap (λ (b : Bool). cond {A = ℕ} (b && not e.idle) 1 0) may_same
 
 -- ---- locals
 
 module _ (g : Begin) where
-  aged_same : (l m : Here) (p : ℕ) (v : DiskHeld) → aged_now g m p ≡ aged_now g l p
-      → IsAged g l p v → IsAged g m p v
-  aged_same l m p (holds.Slot e) same is = is ∙ sym same
-  aged_same l m p (holds.Class x) same is = tt
-  aged_same l m p (holds.Account x) same is = tt
-  aged_same l m p (holds.Blocks x) same is = tt
-  aged_same l m p (holds.Device x) same is = tt
+  aged_by_same : (b : Bool) (l m : Here) (p : ℕ) (v : DiskHeld) → aged_now g m p ≡ aged_now g l p
+      → IsAgedBy b g l p v → IsAgedBy b g m p v
+  aged_by_same b l m p (holds.Slot e) same is = is ∙ ap (but_back b) (sym same)
+  aged_by_same b l m p (holds.Class x) same is = tt
+  aged_by_same b l m p (holds.Account x) same is = tt
+  aged_by_same b l m p (holds.Blocks x) same is = tt
+  aged_by_same b l m p (holds.Device x) same is = tt
 
-  hand_same : (l m : Here) → ((p : ℕ) → aged_now g m p ≡ aged_now g l p)
-      → (xs : List (LockNo × DiskHeld)) → HeldAll g.given.size (IsAged g l) xs
-      → HeldAll g.given.size (IsAged g m) xs
-  hand_same l m same [] all = tt
-  hand_same l m same (x ∷ xs) all = (
-    aged_same l m (spot g.given.size x.0) x.1 (same (spot g.given.size x.0)) all.0,
-    hand_same l m same xs all.1,
+  pub aged_same : (l m : Here) (p : ℕ) (v : DiskHeld) → aged_now g m p ≡ aged_now g l p
+      → IsAged g l p v → IsAged g m p v
+  aged_same l m p v same is = aged_by_same false l m p v same is
+
+  -- what is so exactly is so in any case
+  aged_less : (b c : Bool) (l : Here) → (b ≡ true → c ≡ true) → (p : ℕ) (v : DiskHeld)
+      → IsAgedBy b g l p v → IsAgedBy c g l p v
+  aged_less false c l up p (holds.Slot e) is = ap (but_back c) is
+  aged_less true c l up p (holds.Slot e) is =
+      subst (λ (x : Bool). IsAgedBy x g l p (holds.Slot e)) (sym (up refl)) is
+  aged_less b c l up p (holds.Class x) is = tt
+  aged_less b c l up p (holds.Account x) is = tt
+  aged_less b c l up p (holds.Blocks x) is = tt
+  aged_less b c l up p (holds.Device x) is = tt
+
+  pub hand_less : (b c : Bool) (l : Here) → (b ≡ true → c ≡ true)
+      → (xs : List (LockNo × DiskHeld)) → HeldAll g.given.size (IsAgedBy b g l) xs
+      → HeldAll g.given.size (IsAgedBy c g l) xs
+  hand_less b c l up [] held = tt
+  hand_less b c l up (x ∷ xs) held =
+      (aged_less b c l up (spot g.given.size x.0) x.1 held.0, hand_less b c l up xs held.1)
+
+  hand_same : (b : Bool) (l m : Here) → ((p : ℕ) → aged_now g m p ≡ aged_now g l p)
+      → (xs : List (LockNo × DiskHeld)) → HeldAll g.given.size (IsAgedBy b g l) xs
+      → HeldAll g.given.size (IsAgedBy b g m) xs
+  hand_same b l m same [] held = tt
+  hand_same b l m same (x ∷ xs) held = (
+    aged_by_same b l m (spot g.given.size x.0) x.1 (same (spot g.given.size x.0)) held.0,
+    hand_same b l m same xs held.1,
   )
 
   -- the scan is where it was
-  now_same : (l m : Here) → m.todo ≡ l.todo → m.done ≡ l.done → scan_at m.at ≡ scan_at l.at
+  pub now_same : (l m : Here) → m.todo ≡ l.todo → m.done ≡ l.done → StaysAt l.at m.at
       → (p : ℕ) → aged_now g m p ≡ aged_now g l p
-  now_same l m todo done scan p =
-      (λ i. scanned_by g (todo i) m.at p (aged_done g (done i) p))
-      ∙ same_scanned g l.todo l.at m.at scan p (aged_done g l.done p)
+  now_same l m todo done x p =
+      (λ i. scanned_by g (todo i) m.at (aged_done g (done i)) p)
+      ∙ same_scanned g l.todo l.at m.at x.page x.wrote (aged_done g l.done) p
 
   -- a piece is over
   module _ (l : Here) (p : Part) (end : PartEnd) (got : List (List ℕ)) (rest : List Part) where
@@ -420,16 +536,11 @@ module _ (g : Begin) where
     abbrev look : ℕ → Look
     look q = g.given.finds q (only_tag p.nr)
 
-    now_push : (q : ℕ) → aged_now g (piece_over l p end got rest) q
-        ≡ aged_over page_weight g.clock this (look q) q (aged_done g l.done q)
-    now_push q = first_scanned g (left_by end p.nr rest) Start refl q
-        (aged_done g (l.done ++ this ∷ []) q)
-        ∙ pages_push page_weight g.clock g.given.finds (aged_at g) l.done this q
-
-    now_over : IsStill l.at → (q : ℕ) → aged_now g (piece_over l p end got rest) q
-        ≡ aged_over page_weight g.clock this (look q) q (aged_now g l q)
-    now_over still q = now_push q ∙ ap (aged_over page_weight g.clock this (look q) q)
-        (sym (first_scanned g l.todo l.at still q (aged_done g l.done q)))
+    pub now_push : (q : ℕ) → aged_now g (piece_over l p end got rest) q
+        ≡ aged_over page_weight g.clock this (look q) (aged_done g l.done) q
+    now_push q = first_scanned g (left_by end p.nr rest) Start refl
+        (aged_done g (l.done ++ this ∷ [])) q
+        ∙ pages_push page_weight (scope_at g g.given.size) g.given.finds (aged_at g) l.done this q
 
 -- ---- takings
 
@@ -447,18 +558,22 @@ module _ (g : Begin) (w : State DiskHeld) (a : ℕ) (l : Here)
       (get_set w.row place i None (Some u) (Some v) there at)
 
   pub ages_take : plan (terms g) l ≡ Take k → slice_get w.row place ≡ Some (Some v)
+      → CountsSo g l.todo taker.at l.fail l.done
       → Ages g w l → Ages g (gone g.given.size w a l who k None taker) taker
-  ages_take what there r =
-      let scan = scan_taken g.given.size l.todo l.at l.page (entry_or v (entry_in l.held)) l.fail in
-      let same = now_same g l taker refl refl scan in
+  ages_take what there counts r =
+      let same = now_same g l taker refl refl (taken_stays g.given.size l.todo l.at l.page
+      (entry_or v (entry_in l.held)) l.fail) in
       record {
-        marks = r.marks;
-        counts = same_counts g l.todo l.at taker.at l.done scan r.counts;
+        exact = r.exact;
+        counts = counts;
         home = λ p u at. aged_same g l taker p u (same p) (r.home p u (was_home there p u at));
         hand = (
-          subst (λ (x : LockNo). IsAged g taker (spot g.given.size x) v) (sym (ap lock_of what))
-              (aged_same g l taker place v (same place) (r.home place v there)),
-          hand_same g l taker same l.held r.hand,
+          subst (λ (x : LockNo). IsAgedBy (is_going taker.at) g taker (spot g.given.size x) v) (sym (ap lock_of what))
+              (aged_less g false (is_going taker.at) taker (λ e. absurd (cc)) place v
+              (aged_same g l taker place v (same place) (r.home place v there))),
+          hand_less g (is_going l.at) (is_going taker.at) taker
+              (going_taken g.given.size l.todo l.at l.page (entry_or v (entry_in l.held)) l.fail)
+              l.held (hand_same g (is_going l.at) l taker same l.held r.hand),
         );
       }
 
@@ -485,28 +600,49 @@ module _ (g : Begin) (w : State DiskHeld) (a : ℕ) (l : Here)
       (λ o. others q u o.0 o.1)
       (get_set w.row (spot n k) q (Some v) (Some u) None there at)
 
-  -- the piece goes on, and no entry is given
+  -- what is given, what is left in hand, and the other pages
+  pub given_by : (m : Here)
+      → AreExactOver page_weight (scope_at g n) g.given.finds 0 (aged_at g) m.done
+      → CountsSo g m.todo m.at m.fail m.done
+      → ((q : ℕ) (u : DiskHeld) → q ≢ spot n k → slice_get w.row q ≡ Some (Some u) → IsAged g l q u
+      → IsAged g m q u)
+      → IsAged g m (spot n k) v → HeldAll n (IsAgedBy (is_going m.at) g m) m.held → Given m
+  given_by m exact counts others this held = record {
+    exact = exact;
+    counts = counts;
+    home = home_given m this (λ q u ne at. others q u ne at (r.home q u at));
+    hand = held;
+  }
+
+  -- the piece goes on, and each page stays
+  pub keeps_pages : (m : Here) (xs : List (LockNo × DiskHeld)) (u : DiskHeld) → l.held ≡ xs → v ≡ u
+      → m.done ≡ l.done → m.todo ≡ l.todo → StaysAt l.at m.at
+      → CountsSo g m.todo m.at m.fail m.done
+      → (HeldAll n (IsAgedBy (is_going l.at) g l) xs
+      → IsAged g l (spot n k) u × HeldAll n (IsAgedBy (is_going m.at) g l) m.held)
+      → Given m
+  keeps_pages m xs u held value done todo at counts f =
+      let same = now_same g l m todo done at in
+      let both = f (subst (HeldAll n (IsAgedBy (is_going l.at) g l)) held r.hand) in
+      given_by m
+      (subst (AreExactOver page_weight (scope_at g n) g.given.finds 0 (aged_at g)) (sym done) r.exact)
+      counts (λ q x ne at is. aged_same g l m q x (same q) is)
+      (aged_same g l m (spot n k) v (same (spot n k))
+      (subst (IsAged g l (spot n k)) (sym value) both.0))
+      (hand_same g (is_going m.at) l m same m.held both.1)
+
+  -- where it is at no scan and no writeback
   pub keeps_on : (m : Here) (xs : List (LockNo × DiskHeld)) (u : DiskHeld) → l.held ≡ xs → v ≡ u
       → m.done ≡ l.done → m.todo ≡ l.todo → IsStill l.at → IsStill m.at
-      → (HeldAll n (IsAged g l) xs → IsAged g l (spot n k) u × HeldAll n (IsAged g l) m.held)
+      → (HeldAll n (IsAgedBy (is_going l.at) g l) xs
+      → IsAged g l (spot n k) u × HeldAll n (IsAgedBy (is_going m.at) g l) m.held)
       → Given m
   keeps_on m xs u held value done todo was now f =
-      let same = now_same g l m todo done (now ∙ sym was) in
-      let both = f (subst (HeldAll n (IsAged g l)) held r.hand) in
-      record {
-        marks = subst (AreMarkedOver page_weight g.clock g.given.finds n (aged_at g)) (sym done)
-            r.marks;
-        counts = first_counts g m.todo m.at m.done now;
-        home = home_given m
-            (aged_same g l m (spot n k) v (same (spot n k))
-            (subst (IsAged g l (spot n k)) (sym value) both.0))
-            (λ q x ne at. aged_same g l m q x (same q) (r.home q x at));
-        hand = hand_same g l m same m.held both.1;
-      }
+      keeps_pages m xs u held value done todo (still_stays l.at m.at was now)
+      (first_counts g m.todo m.at m.fail m.done now) f
 
-  -- a piece is over that doesn't mark
-  module _ (p : Part) (end : PartEnd) (got : List (List ℕ)) (rest : List Part)
-      (still : IsStill l.at) (other : is_marking p.op ≡ false) where
+  -- a piece is over
+  module _ (p : Part) (end : PartEnd) (got : List (List ℕ)) (rest : List Part) where
     abbrev d : Done
     d = record { part = p; end = end; got = got }
 
@@ -516,46 +652,52 @@ module _ (g : Begin) (w : State DiskHeld) (a : ℕ) (l : Here)
     abbrev over : Here
     over = piece_over l p end got rest
 
-    over_marks : AreMarkedOver page_weight g.clock g.given.finds n (aged_at g) over.done
-    over_marks = marked_push page_weight g.clock g.given.finds n (aged_at g) l.done d r.marks
-        (other_marks page_weight g.clock n (λ q. aged_done g l.done q) p.op (op_end end 0) other)
+    pub over_given : IsExact page_weight (scope_at g n) (0 + done_sum tried l.done) (aged_done g l.done)
+        p.op (op_end end 0)
+        → ((q : ℕ) (u : DiskHeld) → q ≢ spot n k → slice_get w.row q ≡ Some (Some u)
+        → IsAged g l q u → IsAged g over q u)
+        → IsAged g over (spot n k) v → Given over
+    over_given exact others this = given_by over
+        (exact_push page_weight (scope_at g n) g.given.finds 0 (aged_at g) l.done d r.exact exact)
+        (first_counts g over.todo over.at over.fail over.done refl) others this tt
 
-    -- it is on no page
-    pub keeps_off : stands_so p.op end ≡ false → IsAged g l (spot n k) v → Given over
-    keeps_off off this =
-        let same : (q : ℕ) → aged_now g over q ≡ aged_now g l q = λ q.
-        now_over g l p end got rest still q
-        ∙ off_leaves page_weight g.clock d other off (looks q) q (aged_now g l q) in
-        record {
-          marks = over_marks;
-          counts = first_counts g over.todo over.at over.done refl;
-          home = home_given over (aged_same g l over (spot n k) v (same (spot n k)) this)
-              (λ q x ne at. aged_same g l over q x (same q) (r.home q x at));
-          hand = tt;
-        }
+    -- it neither marks nor writes back
+    module _ (still : IsStill l.at) (other : ages_some p.op ≡ false) where
+      over_exact : IsExact page_weight (scope_at g n) (0 + done_sum tried l.done) (aged_done g l.done)
+          p.op (op_end end 0)
+      over_exact = other_exact page_weight g.clock (scope_at g n) (0 + done_sum tried l.done)
+          (aged_done g l.done) p.op (op_end end 0) other
 
-    -- it is on the page that is given
-    pub keeps_here : stands_so p.op end ≡ true → spot n k ≡ p.page → (e f : EntryState)
-        → v ≡ holds.Slot f → IsAged g l p.page (holds.Slot e)
-        → aged_in g p.page f ≡ accessed g.clock p.op (looks p.page) (aged_in g p.page e) → Given over
-    keeps_here on place e f value was is =
-        let here : aged_now g over p.page ≡ accessed g.clock p.op (looks p.page)
-        (aged_now g l p.page) =
-        now_over g l p end got rest still p.page
-        ∙ here_accessed page_weight g.clock d on (looks p.page) (aged_now g l p.page) in
-        let this : IsAged g over p.page (holds.Slot f) =
-        is ∙ ap (accessed g.clock p.op (looks p.page)) was ∙ sym here in
-        record {
-          marks = over_marks;
-          counts = first_counts g over.todo over.at over.done refl;
-          home = home_given over
-              (subst (λ (x : ℕ × DiskHeld). IsAged g over x.0 x.1) (λ i. (sym place i, sym value i))
-              this)
-              (λ q x ne at. aged_same g l over q x (now_over g l p end got rest still q
-              ∙ else_leaves page_weight g.clock d other q (λ h. ne (h ∙ sym place)) (looks q)
-              (aged_now g l q)) (r.home q x at));
-          hand = tt;
-        }
+      was_done : (q : ℕ) → aged_done g l.done q ≡ aged_now g l q
+      was_done q = sym (first_scanned g l.todo l.at still (aged_done g l.done) q)
+
+      -- it is on no page
+      pub keeps_off : stands_so p.op end ≡ false → IsAged g l (spot n k) v → Given over
+      keeps_off off this =
+          let same : (q : ℕ) → aged_now g over q ≡ aged_now g l q = λ q.
+          now_push g l p end got rest q
+          ∙ off_leaves page_weight g.clock d other off (looks q) (aged_done g l.done) q ∙ was_done q in
+          over_given over_exact (λ q x ne at is. aged_same g l over q x (same q) is)
+          (aged_same g l over (spot n k) v (same (spot n k)) this)
+
+      -- it is on the page that is given
+      pub keeps_here : stands_so p.op end ≡ true → spot n k ≡ p.page → (f : EntryState)
+          → v ≡ holds.Slot f
+          → aged_in g p.page f ≡ accessed g.clock p.op (looks p.page) (aged_now g l p.page)
+          → Given over
+      keeps_here stands place f value is =
+          let here : aged_now g over p.page ≡ accessed g.clock p.op (looks p.page)
+          (aged_now g l p.page) =
+          now_push g l p end got rest p.page
+          ∙ here_accessed page_weight g.clock d stands (looks p.page) (aged_done g l.done)
+          ∙ ap (accessed g.clock p.op (looks p.page)) (was_done p.page) in
+          let this : IsAged g over p.page (holds.Slot f) =
+          is ∙ sym here in
+          over_given over_exact
+          (λ q x ne at is. aged_same g l over q x (now_push g l p end got rest q
+          ∙ else_leaves page_weight g.clock d other q (λ h. ne (h ∙ sym place)) (looks q)
+          (aged_done g l.done) ∙ was_done q) is)
+          (subst (λ (x : ℕ × DiskHeld). IsAged g over x.0 x.1) (λ i. (sym place i, sym value i)) this)
 
   -- ---- a scan
 
@@ -563,8 +705,7 @@ module _ (g : Begin) (w : State DiskHeld) (a : ℕ) (l : Here)
       (e : EntryState) (todo : l.todo ≡ p ∷ rest) (op : p.op ≡ Idle age) (at : l.at ≡ Marking x)
       (held : l.held ≡ (slot x.page, holds.Slot e) ∷ [])
       (value : v ≡ holds.Slot (marked g.clock age e)) (here : spot n k ≡ x.page)
-      (st : Scans g x e) (under : e.under ≡ None)
-      (back : is_wb e.kept ≡ back_at g x.page e.order) where
+      (st : Scans g x e) (under : e.under ≡ None) where
     abbrev next : Scan
     next = with_page x (is_new_mark g.clock age e)
 
@@ -574,21 +715,21 @@ module _ (g : Begin) (w : State DiskHeld) (a : ℕ) (l : Here)
 
     -- and after it
     abbrev new : ℕ → Aged
-    new q = passed page_weight g.clock q (Idle age) (old q)
+    new q = passed page_weight g.clock (Idle age) 0 old q
 
     was_now : (q : ℕ) → aged_now g l q ≡ cond (ltb q x.page) (new q) (old q)
-    was_now q = (λ i. scanned_by g (todo i) (at i) q (old q))
-        ∙ ap (λ (o : Op). cond (ltb q x.page) (passed page_weight g.clock q o (old q)) (old q)) op
+    was_now q = (λ i. scanned_by g (todo i) (at i) old q)
+        ∙ ap (λ (o : Op). cond (ltb q x.page) (passed page_weight g.clock o 0 old q) (old q)) op
 
     -- the page in hand is as it was
     in_hand : aged_in g x.page e ≡ old x.page
-    in_hand = (subst (HeldAll n (IsAged g l)) held r.hand).0 ∙ was_now x.page
+    in_hand = (subst (λ (y : At × List (LockNo × DiskHeld)). HeldAll n (IsAgedBy (is_going y.0) g l) y.1)
+        (λ i. (at i, held i)) r.hand).0 ∙ was_now x.page
         ∙ ap (λ (b : Bool). cond b (new x.page) (old x.page)) (le-ltb x.page x.page (omega arith))
 
     -- and is given as the scan leaves it
     in_home : aged_in g x.page (marked g.clock age e) ≡ new x.page
-    in_home = marked_aged g x.page e age under st.stands back
-        ∙ ap (passed page_weight g.clock x.page (Idle age)) in_hand
+    in_home = marked_aged g x.page e under st.stands age 0 old in_hand
 
     -- ---- new marks
 
@@ -596,13 +737,14 @@ module _ (g : Begin) (w : State DiskHeld) (a : ℕ) (l : Here)
     mark q = new_mark page_weight g.clock q age (old q)
 
     was_marked : x.marked ≡ sum_by mark (range_with_len 0 x.page)
-    was_marked = subst (λ (o : Op). IsMarked page_weight g.clock x.page (λ q. old q) o
+    was_marked = subst (λ (o : Op). IsExact page_weight (scope_at g x.page) 0 old o
         (ends.Marked x.marked)) op
-        (subst (λ (y : List Part × At). CountsSo g y.0 y.1 l.done) (λ i. (todo i, at i)) r.counts)
+        (subst (λ (y : List Part × At). CountsSo g y.0 y.1 l.fail l.done) (λ i. (todo i, at i))
+        r.counts).0
 
     now_marked : next.marked ≡ sum_by mark (range_with_len 0 (x.page + 1))
     now_marked =
-        let one = new_same g x.page e age under st.stands back
+        let one = new_same g x.page e under st.stands age
         ∙ ap (new_mark page_weight g.clock x.page age) in_hand in
         let more = range_push mark 0 x.page in
         let size : x.page + 1 ≡ suc x.page = omega arith in
@@ -610,10 +752,10 @@ module _ (g : Begin) (w : State DiskHeld) (a : ℕ) (l : Here)
         let last = ap mark (let q : 0 + x.page ≡ x.page = omega arith in q) in
         let was = was_marked in omega arith
 
-    op_marked : (size : ℕ) → x.page + 1 ≡ size → IsMarked page_weight g.clock size
-        (λ q. old q) p.op (ends.Marked next.marked)
-    op_marked size is = subst (λ (y : Op × ℕ). IsMarked page_weight g.clock y.1 (λ q. old q) y.0
-        (ends.Marked next.marked)) (λ i. (sym op i, is i)) now_marked
+    op_marked : (size spent : ℕ) → x.page + 1 ≡ size → IsExact page_weight (scope_at g size) spent
+        old p.op (ends.Marked next.marked)
+    op_marked size spent is = subst (λ (y : Op × ℕ). IsExact page_weight (scope_at g y.1) spent
+        old y.0 (ends.Marked next.marked)) (λ i. (sym op i, is i)) now_marked
 
     -- ---- another page is left
 
@@ -621,8 +763,8 @@ module _ (g : Begin) (w : State DiskHeld) (a : ℕ) (l : Here)
     on_next = on l (Scanning next) [] l.fresh l.pin l.owed l.ahead l.behind l.page l.fail
 
     next_now : (q : ℕ) → aged_now g on_next q ≡ cond (ltb q (x.page + 1)) (new q) (old q)
-    next_now q = (λ i. scanned_by g (todo i) (Scanning next) q (old q))
-        ∙ ap (λ (o : Op). cond (ltb q (x.page + 1)) (passed page_weight g.clock q o (old q))
+    next_now q = (λ i. scanned_by g (todo i) (Scanning next) old q)
+        ∙ ap (λ (o : Op). cond (ltb q (x.page + 1)) (passed page_weight g.clock o 0 old q)
         (old q)) op
 
     next_same : (q : ℕ) → q ≢ x.page → aged_now g on_next q ≡ aged_now g l q
@@ -635,17 +777,12 @@ module _ (g : Begin) (w : State DiskHeld) (a : ℕ) (l : Here)
         in_home ∙ sym (next_now x.page
         ∙ ap (λ (b : Bool). cond b (new x.page) (old x.page))
         (lt-ltb x.page (x.page + 1) (omega arith))) in
-        record {
-          marks = r.marks;
-          counts = subst (λ (ps : List Part). CountsSo g ps (Scanning next) l.done) (sym todo)
-              (op_marked (x.page + 1) refl);
-          home = home_given on_next
-              (subst (λ (y : ℕ × DiskHeld). IsAged g on_next y.0 y.1)
-              (λ i. (sym here i, sym value i)) this)
-              (λ q u ne there. aged_same g l on_next q u (next_same q (λ s. ne (s ∙ sym here)))
-              (r.home q u there));
-          hand = tt;
-        }
+        given_by on_next r.exact
+        (subst (λ (ps : List Part). CountsSo g ps (Scanning next) l.fail l.done) (sym todo)
+        (op_marked (x.page + 1) 0 refl, left_plain g p.op (Scanning next) l.fail l.done tt))
+        (λ q u ne there is. aged_same g l on_next q u (next_same q (λ s. ne (s ∙ sym here))) is)
+        (subst (λ (y : ℕ × DiskHeld). IsAged g on_next y.0 y.1)
+        (λ i. (sym here i, sym value i)) this) tt
 
     -- ---- or none
 
@@ -660,8 +797,8 @@ module _ (g : Begin) (w : State DiskHeld) (a : ℕ) (l : Here)
       stop_now q = now_push g l p stop [] rest q
           ∙ ap (λ (b : Bool).
           cond b (accessed g.clock p.op (g.given.finds q (only_tag p.nr)) (old q))
-          (passed page_weight g.clock q p.op (old q))) (and_right (eqb p.page q) false refl)
-          ∙ ap (λ (o : Op). passed page_weight g.clock q o (old q)) op
+          (passed page_weight g.clock p.op 0 old q)) (and_right (eqb p.page q) false refl)
+          ∙ ap (λ (o : Op). passed page_weight g.clock o 0 old q) op
 
       stop_others : (q : ℕ) (u : DiskHeld) → q ≢ x.page → slice_get w.row q ≡ Some (Some u)
           → IsAged g l q u → IsAged g stopped q u
@@ -678,13 +815,7 @@ module _ (g : Begin) (w : State DiskHeld) (a : ℕ) (l : Here)
       keeps_stops =
           let this : IsAged g stopped x.page (holds.Slot (marked g.clock age e)) =
           in_home ∙ sym (stop_now x.page) in
-          record {
-            marks = marked_push page_weight g.clock g.given.finds n (aged_at g) l.done
-                (record { part = p; end = stop; got = [] }) r.marks (op_marked n last);
-            counts = first_counts g (left_by stop p.nr rest) Start stopped.done refl;
-            home = home_given stopped
-                (subst (λ (y : ℕ × DiskHeld). IsAged g stopped y.0 y.1)
-                (λ i. (sym here i, sym value i)) this)
-                (λ q u ne there. stop_others q u (λ s. ne (s ∙ sym here)) there (r.home q u there));
-            hand = tt;
-          }
+          over_given p stop [] rest (op_marked n (0 + done_sum tried l.done) last)
+          (λ q u ne there is. stop_others q u (λ s. ne (s ∙ sym here)) there is)
+          (subst (λ (y : ℕ × DiskHeld). IsAged g stopped y.0 y.1)
+          (λ i. (sym here i, sym value i)) this)

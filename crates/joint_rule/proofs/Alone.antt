@@ -1,5 +1,4 @@
 -- Each turn keeps what the rule says of a phase's only actor.
-use Rattle.plain_disk.specs.Idles.{may_write}
 use Rattle.zr_base.specs.declared.op.OpEnd.{OpEnd}
 use Rattle.lock_row.specs.declared.names.Trip.{Trip}
 use Rattle.lock_row.specs.declared.names.Step.{Step}
@@ -44,13 +43,14 @@ use Rattle.zr_base.specs.declared.op.OpEnd.TheVariants as ends
 
 -- the actor that is left alone by a turn keeps its pages
 abbrev pub KeepsAges : Begin → State DiskHeld → State DiskHeld → Type 0
-KeepsAges g w n = may_write g.given.backed g.given.actors ≡ false → (l m : Here) → w.locals ≡ l ∷ [] → n.locals ≡ m ∷ [] → Ages g w l → Ages g n m
+KeepsAges g w n = (l m : Here) → w.locals ≡ l ∷ [] → n.locals ≡ m ∷ [] → Ages g w l
+    → Ages g n m
 
 swept : (g : Begin) (w : State DiskHeld) (l : Here) → IsOnly g w l → IsSwept g w l
 swept g w l o = record { still = o.still; calm = o.calm; sweeps = o.sweeps }
 
 only_of : (g : Begin) (w : State DiskHeld) (l : Here) → IsSwept g w l
-    → (may_write g.given.backed g.given.actors ≡ false → Ages g w l) → IsOnly g w l
+    → Ages g w l → IsOnly g w l
 only_of g w l o ages = record { still = o.still; calm = o.calm; ages = ages; sweeps = o.sweeps }
 
 -- ---- operations
@@ -136,7 +136,7 @@ module _ (g : Begin) (ok : Known g) (w : State DiskHeld) (j : Joint g w) (a : �
       let left : slice_set w.locals a m ≡ m ∷ [] = e ∙ ap (λ (i : Here). i ∷ []) s.1 in
       subst (IsOnly g next) (sym s.1)
       (only_of g next m (only_take g ok w a l who (swept g w l (r l s.0)) k v what there)
-      (λ none. up none l m s.0 left ((r l s.0).ages none)))
+      (up l m s.0 left (r l s.0).ages))
 
   -- ---- givings
 
@@ -350,4 +350,4 @@ module _ (g : Begin) (ok : Known g) (w : State DiskHeld) (j : Joint g w) (a : �
       let left : slice_set w.locals a m ≡ m ∷ [] = e ∙ ap (λ (i : Here). i ∷ []) s.1 in
       subst (IsOnly g next) (sym s.1)
       (only_of g next m (alone_event m what there s.0 left (swept g w l (r l s.0)) ev)
-      (λ none. up none l m s.0 left ((r l s.0).ages none)))
+      (up l m s.0 left (r l s.0).ages))

@@ -668,17 +668,18 @@ module _ (r : Rest) (actors : List (List Op)) (finds : ℕ → Finds)
       ∙ sym (range_map pooled_one (kept_at page_weight m) 0 size)
 
   alone_is : (done : List Done) → histories w.locals ≡ done ∷ []
-      → IsAloneOver page_weight r finds (may_write g.given.backed actors) done m
+      → IsAloneOver page_weight r finds done m
   alone_is done is =
       let l = lone_history w.locals done is in
       let who : slice_get w.locals 0 ≡ Some l.0 = ap (λ (ls : List Here). slice_get ls 0) l.1 in
       let o = rule.alone l.0 l.1 in
       let c = o.calm (ap (λ (ps : List Part). is_calm ps l.0.at) (over g w rule fin 0 l.0 who)) in
-      subst (λ (ds : List Done). IsAloneOver page_weight r finds (may_write g.given.backed actors) ds m)
+      subst (λ (ds : List Done). IsAloneOver page_weight r finds ds m)
       l.2 (record {
         still = o.still;
-        marks = λ none. (o.ages none).marks;
-        idle = λ none p lt. ages_end g w rule fin l.0 l.1 none p lt;
+        exact = o.ages.exact;
+        idle = λ p lt. (ages_end g w rule fin l.0 l.1 p lt).0;
+        back = λ p lt. (ages_end g w rule fin l.0 l.1 p lt).1;
         least = λ t. class_least (c.tight t);
         few = let e = objects_are in let z = c.few in omega arith;
       })

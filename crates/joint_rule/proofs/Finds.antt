@@ -3,15 +3,15 @@ use Rattle.joint_rule.proofs.Budget.{budget_finding}
 use Rattle.lock_row.specs.declared.names.Step.{Step}
 use Rattle.lock_row.specs.declared.names.Step.TheVariants as step
 use Rattle.lock_row.specs.declared.names.Trip.{Trip}
-use Rattle.std.proofs.Common.{◌≡◌, ◌+◌, ◌*◌, ◌≤◌, ◌∷◌, ◌∙◌, ◌||◌, ℕ, zero, suc, Bool, true, cond, eqb, List, [], map, take, Option, Some, None, slice_get, refl, sym, ap, subst, arith, inl, inr}
-use Rattle.call_history.specs.Alone.{AreMarkedOver, aged_over, each_over, pages_over}
-use Rattle.call_history.specs.Parts.{got_by, is_carried, is_on, stands_so}
+use Rattle.std.proofs.Common.{◌≡◌, ◌+◌, ◌*◌, ◌≤◌, ◌∷◌, ◌∙◌, ◌||◌, ℕ, zero, suc, Bool, true, false, cond, eqb, List, [], map, take, Option, Some, None, slice_get, refl, sym, ap, subst, arith, inl, inr}
+use Rattle.call_history.specs.Alone.{AreExactOver, aged_over, each_over, pages_over}
+use Rattle.call_history.specs.Parts.{got_by, is_carried, is_on, stands_so, piece_gives}
 use Rattle.call_history.specs.Shows.{IsTold, ShowsPage, tag_by}
 use Rattle.call_history.specs.declared.part.Done.{Done}
 use Rattle.call_history.specs.declared.part.Part.{Part}
 use Rattle.call_history.specs.declared.part.PartEnd.{PartEnd}
 use Rattle.call_history.specs.declared.part.PartEnd.TheVariants.{AtLimit, Carried, Eio, NoMemory, Whole}
-use Rattle.joint_rule.specs.Alone.{CountsSo, IsAged, IsOnly, aged_at, aged_done, aged_now, scanned_by}
+use Rattle.joint_rule.specs.Alone.{CountsSo, IsAged, IsOnly, aged_at, aged_done, aged_now, scanned_by, scope_at, LeftSo, IsAgedBy, but_back, is_going}
 use Rattle.joint_rule.specs.Begins.{Begin, FindsRight, back_at, content, ever, finding, form_at, form_by, found, found_after, image}
 use Rattle.joint_rule.specs.Joint.{AtHome, EntryFits, IsActor, Backs, Joint, Sound, Stands, Marks}
 use Rattle.joint_rule.specs.Rule.{FailKeeps, KeepsLimits, Most, OfOrder, Ruled, ShowsOrder, dones, reach_at}
@@ -29,11 +29,11 @@ use Rattle.mem_account.specs.declared.weight.Weight.{Weight}
 use Rattle.page_steps.specs.Scans.{scan_at}
 use Rattle.page_steps.specs.Steps.{DiskHeld, Here, entry_in, entry_or, spot}
 use Rattle.plain_disk.specs.Calls.{Found, after, after_all, calls_sum, ever_pooled, kept_as, may_fetch}
-use Rattle.plain_disk.specs.Ends.{Bounds}
+use Rattle.plain_disk.specs.Ends.{Bounds, tried}
 use Rattle.plain_disk.specs.Forms.{is_pooled, page_bytes}
-use Rattle.plain_disk.specs.Idles.{Aged, IsMarked, only_tag}
+use Rattle.plain_disk.specs.Idles.{Aged, IsExact, only_tag, leaving, may_leave, on_device as device_pages}
 use Rattle.plain_disk.specs.Phases.{calls_on, found_in, held_after}
-use Rattle.slot_entry.specs.Entries.{EntryState}
+use Rattle.slot_entry.specs.Entries.{EntryState, is_wb}
 use Rattle.slot_entry.specs.Forms.{PageForm, bytes_in, form_of, page_weight}
 use Rattle.slot_entry.specs.declared.kept.Kept.{Kept}
 use Rattle.std.proofs.lemmas.Bool.{and_parts, cases_Bool, eqb-true}
@@ -627,7 +627,7 @@ module _ (g : Begin) (finds : ℕ → Finds) where
       → each_over page_weight g.clock g.given.finds d pages
       ≡ each_over page_weight g.clock finds d pages
   over_alike d pages same = fun_ext (λ p. elim (cases_Bool (is_on p d)) [
-    | inl on ↦ ap (λ (look : Look). aged_over page_weight g.clock d look p (pages p)) (same p on)
+    | inl on ↦ ap (λ (look : Look). aged_over page_weight g.clock d look pages p) (same p on)
     | inr off ↦ rw off refl
   ])
 
@@ -640,60 +640,80 @@ module _ (g : Begin) (finds : ℕ → Finds) where
       (over_alike d pages all.0)
       ∙ pages_alike ds (each_over page_weight g.clock finds d pages) p all.1
 
-  marks_alike : (ds : List Done) (pages : ℕ → Aged) → AllByRecursion SameOver ds
-      → AreMarkedOver page_weight g.clock g.given.finds g.given.size pages ds
-      → AreMarkedOver page_weight g.clock finds g.given.size pages ds
-  marks_alike [] pages all m = tt
-  marks_alike (d ∷ ds) pages all m = (
-    m.0,
-    marks_alike ds (each_over page_weight g.clock finds d pages) all.1
-        (subst (λ (q : ℕ → Aged). AreMarkedOver page_weight g.clock g.given.finds g.given.size q ds)
-        (over_alike d pages all.0) m.1),
-  )
+  exact_alike : (spent : ℕ) (ds : List Done) (pages : ℕ → Aged) → AllByRecursion SameOver ds
+      → AreExactOver page_weight (scope_at g g.given.size) g.given.finds spent pages ds
+      → AreExactOver page_weight (scope_at g g.given.size) finds spent pages ds
+  exact_alike spent [] pages all m = tt
+  exact_alike spent (d ∷ ds) pages all m =
+      let gone = spent + piece_gives tried d.part.op d.end in (
+        m.0,
+        exact_alike gone ds (each_over page_weight g.clock finds d pages) all.1
+            (subst (λ (q : ℕ → Aged). AreExactOver page_weight (scope_at g g.given.size)
+            g.given.finds gone q ds) (over_alike d pages all.0) m.1),
+      )
 
   done_alike : (ds : List Done) → AllByRecursion SameOver ds → aged_done g ds ≡ aged_done h ds
   done_alike ds all = fun_ext (λ p. pages_alike ds (aged_at g) p all)
 
-  counts_alike : (ps : List Part) (at : At) (ds : List Done) → AllByRecursion SameOver ds
-      → CountsSo g ps at ds → CountsSo h ps at ds
-  counts_alike [] at ds all c = tt
-  counts_alike (p ∷ ps) at ds all c =
-      subst (λ (pages : ℕ → Aged). IsMarked page_weight g.clock (scan_at at).page pages p.op
-      (ends.Marked (scan_at at).marked)) (done_alike ds all) c
+  left_alike : (op : Op) (at : At) (fail : Option PartEnd) (ds : List Done)
+      → AllByRecursion SameOver ds → LeftSo g op at fail ds → LeftSo h op at fail ds
+  left_alike (Writeback m) (Visiting s x) fail ds all c = record {
+    wrote = c.wrote ∙ ap (λ (q : ℕ → Aged). leaving page_weight m q x.page) (done_alike ds all);
+    chosen = λ b is. ap (λ (q : ℕ → Aged). may_leave page_weight m x.page (q x.page))
+        (sym (done_alike ds all)) ∙ c.chosen b is;
+    full = λ wrote lost is. ap (λ (q : ℕ → Aged). device_pages g.given.size q + x.wrote)
+        (sym (done_alike ds all)) ∙ c.full wrote lost is;
+  }
+  left_alike (Writeback m) at fail ds all c = tt
+  left_alike (Write start count stuff) at fail ds all c = tt
+  left_alike (Read start count) at fail ds all c = tt
+  left_alike (Discard start count) at fail ds all c = tt
+  left_alike (Idle age) at fail ds all c = tt
+  left_alike Compact at fail ds all c = tt
 
-  scanned_alike : (ps : List Part) (at : At) (p : ℕ) (s : Aged)
-      → scanned_by g ps at p s ≡ scanned_by h ps at p s
-  scanned_alike [] at p s = refl
-  scanned_alike (q ∷ qs) at p s = refl
+  counts_alike : (ps : List Part) (at : At) (fail : Option PartEnd) (ds : List Done)
+      → AllByRecursion SameOver ds → CountsSo g ps at fail ds → CountsSo h ps at fail ds
+  counts_alike [] at fail ds all c = tt
+  counts_alike (p ∷ ps) at fail ds all c = (
+    subst (λ (pages : ℕ → Aged). IsExact page_weight (scope_at g (scan_at at).page) 0 pages p.op
+        (ends.Marked (scan_at at).marked)) (done_alike ds all) c.0,
+    left_alike p.op at fail ds all c.1,
+  )
+
+  scanned_alike : (ps : List Part) (at : At) (pages : ℕ → Aged) (p : ℕ)
+      → scanned_by g ps at pages p ≡ scanned_by h ps at pages p
+  scanned_alike [] at pages p = refl
+  scanned_alike (q ∷ qs) at pages p = refl
 
   now_alike : (l : Here) (p : ℕ) → AllByRecursion SameOver l.done
       → aged_now g l p ≡ aged_now h l p
-  now_alike l p all = ap (λ (pages : ℕ → Aged). scanned_by g l.todo l.at p (pages p))
+  now_alike l p all = ap (λ (pages : ℕ → Aged). scanned_by g l.todo l.at pages p)
       (done_alike l.done all)
-      ∙ scanned_alike l.todo l.at p (aged_done h l.done p)
+      ∙ scanned_alike l.todo l.at (aged_done h l.done) p
 
-  aged_alike : (l : Here) → AllByRecursion SameOver l.done → (p : ℕ) (v : DiskHeld) → Own p v
-      → IsAged g l p v → IsAged h l p v
-  aged_alike l all p (holds.Slot e) al is =
-      (λ i. record {
+  aged_alike : (b : Bool) (l : Here) → AllByRecursion SameOver l.done → (p : ℕ) (v : DiskHeld)
+      → Own p v → IsAgedBy b g l p v → IsAgedBy b h l p v
+  aged_alike b l all p (holds.Slot e) al is =
+      ap (but_back b) (λ i. record {
         found = sym (found_alike p e.order al) i;
-        back = back_at g p e.order;
+        back = is_wb e.kept;
         touched = e.touched;
         idle = e.idle;
       })
-      ∙ is ∙ now_alike l p all
-  aged_alike l all p v al is = tt
+      ∙ is ∙ ap (but_back b) (now_alike l p all)
+  aged_alike b l all p v al is = tt
 
   only_alike : (w : State DiskHeld) (l : Here) → Each Own (λ a m. HeldAll g.given.size Own m.held) w
       → slice_get w.locals 0 ≡ Some l → AllByRecursion SameOver l.done → IsOnly g w l → IsOnly h w l
   only_alike w l own who all o = record {
     still = o.still;
     calm = λ is. let c = o.calm is in record { tight = c.tight; few = c.few };
-    ages = λ none. let ages = o.ages none in record {
-      marks = marks_alike l.done (aged_at g) all ages.marks;
-      counts = counts_alike l.todo l.at l.done all ages.counts;
-      home = λ p v e. aged_alike l all p v (own.in_row p v e) (ages.home p v e);
-      hand = held_both g.given.size Own (IsAged g l) (IsAged h l) (aged_alike l all) l.held
+    ages = let ages = o.ages in record {
+      exact = exact_alike 0 l.done (aged_at g) all ages.exact;
+      counts = counts_alike l.todo l.at l.fail l.done all ages.counts;
+      home = λ p v e. aged_alike false l all p v (own.in_row p v e) (ages.home p v e);
+      hand = held_both g.given.size Own (IsAgedBy (is_going l.at) g l)
+          (IsAgedBy (is_going l.at) h l) (aged_alike (is_going l.at) l all) l.held
           (own.in_local 0 l who) ages.hand;
     };
     sweeps = λ x e. let s = o.sweeps x e in record {

@@ -1,9 +1,12 @@
 pub mod Facts
 pub mod Finds
 pub mod Tagged
+pub mod Sent
 pub mod Sums
 pub mod Pages
 pub mod Pools
+pub mod Leaving
+pub mod Lone
 pub mod Lookups
 pub mod Blocks
 pub mod Trips

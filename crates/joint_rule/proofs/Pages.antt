@@ -681,7 +681,7 @@ module _ (actors : List (List Op)) (t : Tag) where
       ap (λ (b : Bool). leaves_page (named actors x) && b) (change_leaves xs e)
       ∙ and_false (leaves_page (named actors x))
 
-change_goes : (op : Op) → Changes op → leaves_page (Some op) ≡ false
+pub change_goes : (op : Op) → Changes op → leaves_page (Some op) ≡ false
 change_goes (Write start count stuff) c = refl
 change_goes (Read start count) c = absurd c
 change_goes (Discard start count) c = refl

@@ -467,7 +467,7 @@ module _ (g : Begin) (ok : Known g) (w : State DiskHeld) (s : IsStart g w) where
             tight = λ t. only loose_pools none (λ a l e. refl) ∙ s.tight t;
             few = omega arith;
           });
-          ages = λ off. ages_start g w l s e;
+          ages = ages_start g w l s e;
           sweeps = λ x at. absurd (let q : compacting l.todo l.at ≡ None =
               ap (compacting l.todo) h.at ∙ no_compaction l.todo in cc);
         };

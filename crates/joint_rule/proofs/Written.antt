@@ -146,7 +146,7 @@ end_one : (a b : ℕ) → a ≡ at_most_end b → at_most_end (a + 1) ≡ at_mos
 end_one a b e = omega arith
 
 -- a piece that looks at its page and isn't refused is a read
-carried_read : (g : Begin) (p : Part) (op : Op) → FailBy g p op None
+pub carried_read : (g : Begin) (p : Part) (op : Op) → FailBy g p op None
     → (start : ℕ) × (count : ℕ) × (op ≡ Read start count)
 carried_read g p (Write start count stuff) f = absurd f
 carried_read g p (Read start count) f = (start, count, refl)
@@ -155,7 +155,7 @@ carried_read g p (Idle age) f = absurd f
 carried_read g p (Writeback mode) f = absurd f
 carried_read g p Compact f = absurd f
 
-read_of : (op : Op) → is_read op ≡ true → (start : ℕ) × (count : ℕ) × (op ≡ Read start count)
+pub read_of : (op : Op) → is_read op ≡ true → (start : ℕ) × (count : ℕ) × (op ≡ Read start count)
 read_of (Write start count stuff) e = absurd (cc)
 read_of (Read start count) e = (start, count, refl)
 read_of (Discard start count) e = absurd (cc)

@@ -1,7 +1,7 @@
 -- What a phase of one actor says of its compactions and of its marks: after the last compaction, where
 -- no write and no discard follows, each class has as few zspages as its objects need; it has moved no
--- more objects than there are; one that finds the classes so moves nothing; and a page is marked idle
--- exactly where it may be.
+-- more objects than there are; one that finds the classes so moves nothing; a page is marked idle
+-- exactly where it may be; and those are written back that may be, in rising order.
 use Rattle.std.specs.Prelude.{◌≡◌, ℕ, ◌<◌, ◌≤◌, ◌==◌, nat_lt, nat_le, max, Bool, true, false, List, [], ◌∷◌, length, sum_by, if◌then◌else◌, ⊤}
 use Rattle.std.specs.List.{range_with_len}
 use Rattle.std.specs.Int.{div_ceil}
@@ -13,8 +13,8 @@ use Rattle.zr_base.specs.Plain.{Finds}
 use Rattle.mem_account.specs.declared.weight.Weight.{Weight}
 use Rattle.size_class.specs.Classes.{per_of}
 use Rattle.plain_disk.specs.Forms.{is_pooled}
-use Rattle.plain_disk.specs.Rests.{Rest, is_backed, kept_pages}
-use Rattle.plain_disk.specs.Idles.{pages_at, pages_after, AreMarked, may_write}
+use Rattle.plain_disk.specs.Rests.{Rest, kept_pages}
+use Rattle.plain_disk.specs.Idles.{pages_at, pages_after, AreExact, scope_of}
 
 -- ---- classes
 
@@ -87,8 +87,10 @@ pub record IsAlone (form : List ℕ → Weight) (r : Rest) (finds : ℕ → Find
   pub least : tight_after (are_tight r.set.chain r.used) ops ≡ true
       → (k : ℕ) → k < 255 → IsLeast (per_of m.set.chain k) (m.used k)
   pub few : moves_after 0 ops es ≤ pooled_pages form m
-  -- where none of them writes back, each mark is counted where it is new, and these pages are idle
-  -- after the last one
-  pub marks : may_write (is_backed r) (ops ∷ []) ≡ false → AreMarked form r finds 0 (pages_at r) ops es
-  pub idle : may_write (is_backed r) (ops ∷ []) ≡ false → (p : ℕ) → p < r.size
+  -- each mark is counted where it is new, each writeback tells exactly what it wrote, and these pages
+  -- are idle and on the device after the last operation
+  pub exact : AreExact form (scope_of r) finds 0 0 (pages_at r) ops es
+  pub idle : (p : ℕ) → p < r.size
       → m.idle p ≡ (pages_after form r finds 0 (pages_at r) ops es p).idle
+  pub back : (p : ℕ) → p < r.size
+      → m.back p ≡ (pages_after form r finds 0 (pages_at r) ops es p).back

@@ -1,15 +1,18 @@
 -- Idle pages: what the operations of a phase's only actor say of them, and what any phase leaves of
 -- them.
-use Rattle.std.specs.Prelude.{◌≡◌, ℕ, ◌+◌, ◌<◌, Bool, true, false, ◌&&◌, ◌||◌, not, List, [], ◌∷◌, Option, Some, sum_by, if◌then◌else◌, ⊤}
+use Rattle.std.specs.Prelude.{◌≡◌, ℕ, ◌+◌, ◌<◌, nat_lt, Bool, true, false, ◌&&◌, ◌||◌, not, List, [], ◌∷◌, Option, Some, sum_by, count_by, if◌then◌else◌, ⊤}
 use Rattle.std.specs.List.{range_with_len}
 use Rattle.zr_base.specs.declared.op.Tag.{Tag}
 use Rattle.zr_base.specs.declared.op.Op.{Op}
-use Rattle.zr_base.specs.declared.op.Op.TheVariants.{Idle}
+use Rattle.zr_base.specs.declared.op.Op.TheVariants.{Idle, Writeback}
+use Rattle.zr_base.specs.declared.op.Mode.{Mode}
+use Rattle.zr_base.specs.declared.op.Mode.TheVariants as mode
 use Rattle.zr_base.specs.declared.op.OpEnd.{OpEnd}
 use Rattle.zr_base.specs.declared.op.OpEnd.TheVariants as ends
 use Rattle.zr_base.specs.Plain.{Look, Finds, is_older, is_marking, is_writeback, stands_on}
 use Rattle.mem_account.specs.declared.weight.Weight.{Weight}
-use Rattle.plain_disk.specs.Forms.{is_pooled}
+use Rattle.plain_disk.specs.Forms.{is_pooled, is_huge}
+use Rattle.plain_disk.specs.Ends.{left_back, tried}
 use Rattle.plain_disk.specs.Calls.{Found, kept_as, after, leaves_page}
 use Rattle.plain_disk.specs.Rests.{Rest, page_of, kept_at}
 
@@ -45,20 +48,49 @@ accessed clock op look s = record {
   idle = false;
 }
 
--- the page after an operation that doesn't: it may be marked
-abbrev pub passed : (List ℕ → Weight) → ℕ → ℕ → Op → Aged → Aged
-passed form clock p (Idle age) s = record s { idle = s.idle || may_mark form clock p age s }
-passed form clock p _ s = s
+-- whether a mode means a page that is idle or not, huge or not
+abbrev pub is_meant : Mode → Bool → Bool → Bool
+is_meant mode.Idle idle huge = idle
+is_meant mode.Huge idle huge = huge
+is_meant mode.HugeIdle idle huge = huge && idle
+
+-- whether page p may be written back by a mode: it is in the pool, not on the device, and meant
+abbrev pub may_leave : (List ℕ → Weight) → Mode → ℕ → Aged → Bool
+may_leave form m p s = is_pooled (kept_as form p s.found)
+    && (not s.back && is_meant m s.idle (is_huge (kept_as form p s.found)))
+
+-- how many of the first n pages may be
+abbrev pub leaving : (List ℕ → Weight) → Mode → (ℕ → Aged) → ℕ → ℕ
+leaving form m pages n = count_by (λ p. may_leave form m p (pages p)) (range_with_len 0 n)
+
+-- whether page p is one of the first n that may be
+abbrev pub leaves_now : (List ℕ → Weight) → Mode → ℕ → (ℕ → Aged) → ℕ → Bool
+leaves_now form m n pages p =
+    may_leave form m p (pages p) && nat_lt (leaving form m pages p) n
+
+-- the page after it was written back
+abbrev pub sent : Aged → Aged
+sent s = record s { back = true; idle = false }
+
+-- the page after an operation that is no access: it may be marked, or written back, where the first n
+-- that may be are
+abbrev pub passed : (List ℕ → Weight) → ℕ → Op → ℕ → (ℕ → Aged) → ℕ → Aged
+passed form clock (Idle age) n pages p =
+    record (pages p) { idle = (pages p).idle || may_mark form clock p age (pages p) }
+passed form clock (Writeback m) n pages p =
+    if leaves_now form m n pages p then sent (pages p) else pages p
+passed form clock _ n pages p = pages p
 
 -- the page after an operation with this end, which finds this
-abbrev pub aged_by : (List ℕ → Weight) → ℕ → Op → OpEnd → Look → ℕ → Aged → Aged
-aged_by form clock op end look p s =
-    if stands_on op end p then accessed clock op look s else passed form clock p op s
+abbrev pub aged_by : (List ℕ → Weight) → ℕ → Op → OpEnd → Look → (ℕ → Aged) → ℕ → Aged
+aged_by form clock op end look pages p =
+    if stands_on op end p then accessed clock op look (pages p)
+    else passed form clock op (left_back op end) pages p
 
 -- all pages after an operation, which is the nr-th
 abbrev pub each_by : (List ℕ → Weight) → ℕ → (ℕ → Finds) → ℕ → Op → OpEnd → (ℕ → Aged) → ℕ → Aged
 each_by form clock finds nr op end pages p =
-    aged_by form clock op end (finds p (only_tag nr)) p (pages p)
+    aged_by form clock op end (finds p (only_tag nr)) pages p
 
 -- the pages after some operations, of which the first is the nr-th
 abbrev pub pages_after : (List ℕ → Weight) → Rest → (ℕ → Finds) → ℕ → (ℕ → Aged) → List Op
@@ -68,20 +100,59 @@ pages_after form r finds nr pages (op ∷ ops) [] p = pages p
 pages_after form r finds nr pages (op ∷ ops) (end ∷ es) p = pages_after form r finds (nr + 1)
     (each_by form r.set.clock finds nr op end pages) ops es p
 
--- an operation that marks has counted the marks that are new, on a disk of so many pages
-abbrev pub IsMarked : (List ℕ → Weight) → ℕ → ℕ → (ℕ → Aged) → Op → OpEnd → Type 0
-IsMarked form clock size pages (Idle age) (ends.Marked n) =
-    n ≡ sum_by (λ p. new_mark form clock p age (pages p)) (range_with_len 0 size)
-IsMarked form clock size pages op end = ⊤
+-- What the only actor's operations are counted by: the disk's pages, the time, the blocks that are used
+-- of the device, and the writes that the limit on writebacks had left before them.
+pub record Scope : Type 0 where
+  pub size : ℕ
+  pub clock : ℕ
+  pub blocks : ℕ
+  pub budget : ℕ
+
+-- how many pages are on the device
+abbrev pub on_device : ℕ → (ℕ → Aged) → ℕ
+on_device size pages = count_by (λ p. (pages p).back) (range_with_len 0 size)
+
+-- A writeback tells exactly what it wrote, where so many writes were tried before it: none is lost, all
+-- pages that may be written back were, or fewer where no write was left, no block was free, or the
+-- device failed.
+abbrev pub IsExactWrite : (List ℕ → Weight) → Scope → ℕ → (ℕ → Aged) → Mode → OpEnd → Type 0
+IsExactWrite form c spent pages m (ends.Written wrote lost) =
+    (lost ≡ 0) × (wrote ≡ leaving form m pages c.size)
+IsExactWrite form c spent pages m (ends.Budget wrote lost) =
+    (lost ≡ 0) × (wrote < leaving form m pages c.size) × (spent + wrote ≡ c.budget)
+IsExactWrite form c spent pages m (ends.NoBlock wrote lost) =
+    (lost ≡ 0) × (wrote < leaving form m pages c.size)
+    × (on_device c.size pages + wrote ≡ c.blocks)
+IsExactWrite form c spent pages m (ends.WriteEio fault wrote lost) =
+    (lost ≡ 0) × (wrote < leaving form m pages c.size)
+IsExactWrite form c spent pages m end = ⊤
+
+-- an operation that marks pages has counted the marks that are new, and one that writes them back tells
+-- exactly what it wrote, where so many writes were tried before it
+abbrev pub IsExact : (List ℕ → Weight) → Scope → ℕ → (ℕ → Aged) → Op → OpEnd → Type 0
+IsExact form c spent pages (Idle age) (ends.Marked n) =
+    n ≡ sum_by (λ p. new_mark form c.clock p age (pages p)) (range_with_len 0 c.size)
+IsExact form c spent pages (Writeback m) end = IsExactWrite form c spent pages m end
+IsExact form c spent pages op end = ⊤
 
 -- and so has each
-abbrev pub AreMarked : (List ℕ → Weight) → Rest → (ℕ → Finds) → ℕ → (ℕ → Aged) → List Op
+abbrev pub AreExact : (List ℕ → Weight) → Scope → (ℕ → Finds) → ℕ → ℕ → (ℕ → Aged) → List Op
     → List OpEnd → Type 0
-AreMarked form r finds nr pages [] es = ⊤
-AreMarked form r finds nr pages (op ∷ ops) [] = ⊤
-AreMarked form r finds nr pages (op ∷ ops) (end ∷ es) =
-    IsMarked form r.set.clock r.size pages op end
-    × AreMarked form r finds (nr + 1) (each_by form r.set.clock finds nr op end pages) ops es
+AreExact form c finds nr spent pages [] es = ⊤
+AreExact form c finds nr spent pages (op ∷ ops) [] = ⊤
+AreExact form c finds nr spent pages (op ∷ ops) (end ∷ es) =
+    IsExact form c spent pages op end
+    × AreExact form c finds (nr + 1) (spent + tried op end)
+    (each_by form c.clock finds nr op end pages) ops es
+
+-- what those of a phase are counted by
+abbrev pub scope_of : Rest → Scope
+scope_of r = record {
+  size = r.size;
+  clock = r.set.clock;
+  blocks = r.set.backing;
+  budget = r.set.budget;
+}
 
 -- the pages as a phase finds them
 abbrev pub pages_at : Rest → ℕ → Aged
